@@ -1,0 +1,13 @@
+//! The unit that is inferred: functions in typed single-assignment control flow, their tables, and the
+//! rules of a well-formed unit.
+#![tactic(auto)]
+
+pub mod effect;
+pub mod env;
+pub mod error;
+pub mod hir;
+pub mod place;
+pub mod report;
+pub mod terminal;
+pub mod types;
+pub mod value;

@@ -1,0 +1,33 @@
+//! Places: identifiers as they stand in a function.
+
+use alias_base::IdentifierId;
+
+/// A range of the source text, in the units of whoever made the unit.
+#[derive(Clone, Copy, Debug, PartialEq, Eq)]
+pub struct Span {
+    pub start: u32,
+    pub end: u32,
+}
+
+/// What an instruction does with an operand. `Unknown` until it is inferred.
+#[derive(Clone, Copy, Debug, Default, PartialEq, Eq)]
+pub enum Effect {
+    #[default]
+    Unknown,
+    Freeze,
+    Read,
+    Capture,
+    ConditionallyMutateIterator,
+    ConditionallyMutate,
+    Mutate,
+    Store,
+}
+
+/// An identifier where it stands. Of a place the rules read the identifier and the span.
+#[derive(Clone, Copy, Debug, Default, PartialEq, Eq)]
+pub struct Place {
+    pub identifier: IdentifierId,
+    pub effect: Effect,
+    pub reactive: bool,
+    pub span: Option<Span>,
+}
