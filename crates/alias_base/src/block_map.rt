@@ -25,7 +25,9 @@ impl<V> Model for BlockMap<V> {
 
 impl<V> BlockMap<V> {
     ghost use Rattle.std.specs.Borrow.{sem};
-    ghost use Rattle.alias_base.specs.Find.{value_at, with_value};
+    ghost use Rattle.std.specs.Map.{keys_of};
+    ghost use Rattle.std.specs.Prelude.{position};
+    ghost use Rattle.alias_base.specs.Find.{same_block, value_at, with_value};
     ghost use Rattle.alias_base.specs.Lending.{LendsValueIf};
 
     /// The empty map. Takes no memory.
@@ -56,6 +58,13 @@ impl<V> BlockMap<V> {
         ensures { option_map (λ p. (p.0.now, p.1.now)) result ≡ slice_get self.now index }
     {
         self.map.get_index(index)
+    }
+
+    /// The position of a block in the order of insertion, or `None` where it has no entry.
+    pub fn position(&self, id: BlockId) -> Option<usize>
+        ensures { result ≡ position (same_block id) (keys_of self.now) }
+    {
+        self.map.get_index_of(&id)
     }
 
     /// The entries in their order.

@@ -1,0 +1,139 @@
+-- The step of a block, and a function as a flow over its blocks.
+use Rattle.std.specs.Prelude.{Bool, true, false, List, [], ◌∷◌, ◌++◌, Option, Some, None, Result, Ok, Err, slice_get, if◌then◌else◌}
+use Rattle.std.specs.Option.{is_some}
+use Rattle.alias_base.specs.Answer.{◌>>=◌}
+use Rattle.alias_base.specs.Find.{value_at}
+use Rattle.alias_base.specs.declared.ids.BlockId.{BlockId}
+use Rattle.alias_base.specs.declared.ids.IdentifierId.{IdentifierId}
+use Rattle.alias_base.specs.declared.ids.InstructionId.{InstructionId}
+use Rattle.alias_hir.specs.declared.effect.AliasingEffect.{AliasingEffect}
+use Rattle.alias_hir.specs.declared.effect.AliasingEffect.TheVariants.{Freeze}
+use Rattle.alias_hir.specs.declared.effect.ValueReason.TheVariants.{JsxCaptured}
+use Rattle.alias_hir.specs.declared.env.Environment.{Environment}
+use Rattle.alias_hir.specs.declared.hir.BasicBlock.{BasicBlock}
+use Rattle.alias_hir.specs.declared.hir.HirFunction.{HirFunction}
+use Rattle.alias_hir.specs.declared.hir.Instruction.{Instruction}
+use Rattle.alias_hir.specs.declared.terminal.Terminal.{Terminal}
+use Rattle.alias_hir.specs.declared.terminal.Terminal.TheVariants.{Return}
+use Rattle.alias_lattice.specs.declared.site.Site.TheVariants.{Default}
+use Rattle.alias_lattice.specs.declared.state.MissingLook.{MissingLook}
+use Rattle.alias_lattice.specs.States.{State, empty_state, sites_of, defined, defaulted}
+use Rattle.alias_lattice.specs.Flows.{Flow, Outcome, Stepped, Refused}
+use Rattle.alias_effects.specs.declared.faults.StepFault.{StepFault}
+use Rattle.alias_effects.specs.declared.faults.StepFault.TheVariants as step
+use Rattle.alias_effects.specs.declared.faults.BlockFault.{BlockFault}
+use Rattle.alias_effects.specs.declared.faults.BlockFault.TheVariants.{Reinitialized, Uninitialized, Memory}
+use Rattle.alias_effects.specs.declared.solved.InstructionEffects.{InstructionEffects}
+use Rattle.alias_effects.specs.declared.solved.TerminalEffects.{TerminalEffects}
+use Rattle.alias_effects.specs.declared.spot.Spot.{Spot}
+use Rattle.alias_effects.specs.declared.block.Stand.{Stand}
+use Rattle.alias_effects.specs.declared.block.BlockEffects.{BlockEffects}
+use Rattle.alias_effects.specs.Signatures.{raised_effects}
+use Rattle.alias_effects.specs.Rows.{rows}
+
+-- an instruction begins with nothing made and nothing recorded
+abbrev pub spot_at : Stand → Spot
+spot_at s = record { state = s.state; made = []; recorded = []; missing = s.missing }
+
+-- an identifier without sites gets one of its own, which reads Mutable {Other}
+abbrev pub with_default : Bool → IdentifierId → State → State
+with_default true x s = s
+with_default false x s = defined x (Default x) (defaulted (Default x) s)
+
+-- what was recorded of the instruction, if anything was
+abbrev pub recorded_as : InstructionId → List AliasingEffect → List InstructionEffects
+recorded_as i [] = []
+recorded_as i (e ∷ es) = record { instruction = i; effects = e ∷ es } ∷ []
+
+-- after the list of an instruction: its result has a value
+abbrev pub after_list : InstructionId → IdentifierId → List InstructionEffects → Spot → Stand
+after_list i result effects s = record {
+  state = with_default (is_some (sites_of s.state result)) result s.state;
+  effects = effects ++ recorded_as i s.recorded;
+  missing = s.missing;
+}
+
+-- a fault of an instruction's step, as one of its block's
+abbrev pub fault_at : InstructionId → StepFault → BlockFault
+fault_at i (step.Reinitialized x) = Reinitialized i x
+fault_at i (step.Memory e) = Memory e
+
+abbrev pub in_block : {A : Type 0} → InstructionId → Result A StepFault → Result A BlockFault
+in_block i (Ok x) = Ok x
+in_block i (Err e) = Err (fault_at i e)
+
+-- the step of an instruction: its list, and then a value for its result
+abbrev pub instruction_step : Environment → InstructionId → Instruction → Stand → Result Stand BlockFault
+instruction_step env i x s = do
+  u ← in_block i (rows (raised_effects env x) (spot_at s))
+  Ok (after_list i x.lvalue.identifier s.effects u)
+
+-- by the instruction's number in its function; nothing is done where there is none
+abbrev pub numbered_step : Environment → InstructionId → Option Instruction → Stand → Result Stand BlockFault
+numbered_step env i None s = Ok s
+numbered_step env i (Some x) s = instruction_step env i x s
+
+abbrev pub instruction_steps : Environment → List Instruction → List InstructionId → Stand → Result Stand BlockFault
+instruction_steps env instructions [] s = Ok s
+instruction_steps env instructions (i ∷ is) s =
+  numbered_step env i (slice_get instructions i.0) s >>= instruction_steps env instructions is
+
+-- a block begins with nothing recorded and no look missed
+abbrev pub stand_of : State → Stand
+stand_of x = record { state = x; effects = []; missing = None }
+
+-- what is recorded of a terminal: what is returned from a component or hook is frozen
+abbrev pub return_effects : Bool → Terminal → List AliasingEffect
+return_effects true (Return id value effects) = []
+return_effects false (Return id value effects) = Freeze value JsxCaptured ∷ []
+
+abbrev pub terminal_recorded_as : BlockId → List AliasingEffect → List TerminalEffects
+terminal_recorded_as b [] = []
+terminal_recorded_as b (e ∷ es) = record { block = b; effects = e ∷ es } ∷ []
+
+abbrev pub terminal_effects : Bool → BlockId → Terminal → List TerminalEffects
+terminal_effects is_function_expression b t = terminal_recorded_as b (return_effects is_function_expression t)
+
+-- the end of a block's step: a missing look refuses it
+abbrev pub finished : Option MissingLook → List TerminalEffects → Stand → Result (State × BlockEffects) BlockFault
+finished (Some m) terminal s = Err (Uninitialized m)
+finished None terminal s = Ok (s.state, record { instructions = s.effects; terminal = terminal })
+
+-- the step of a block from a state: the state after it, and what was recorded
+abbrev pub block_step : Environment → List Instruction → Bool → BlockId → BasicBlock → State → Result (State × BlockEffects) BlockFault
+block_step env instructions is_function_expression b block x = do
+  s ← instruction_steps env instructions block.instructions (stand_of x)
+  finished s.missing (terminal_effects is_function_expression b block.terminal) s
+
+abbrev pub outcome_of : Result (State × BlockEffects) BlockFault → Outcome State (Unit {0}) BlockEffects BlockFault
+outcome_of (Ok r) = Stepped r.0 tt r.1
+outcome_of (Err e) = Refused e
+
+abbrev pub no_effects : BlockEffects
+no_effects = record { instructions = []; terminal = [] }
+
+-- a block that isn't there does nothing
+abbrev pub outcome_at : Environment → List Instruction → Bool → BlockId → Option BasicBlock → State → Outcome State (Unit {0}) BlockEffects BlockFault
+outcome_at env instructions is_function_expression b None x = Stepped x tt no_effects
+outcome_at env instructions is_function_expression b (Some block) x = outcome_of (block_step env instructions is_function_expression b block x)
+
+-- the blocks that a terminal may lead to
+abbrev pub successors : Terminal → List BlockId
+successors (Return id value effects) = []
+
+abbrev pub successors_at : Option BasicBlock → List BlockId
+successors_at None = []
+successors_at (Some b) = successors b.terminal
+
+-- a function has no parameters and no context yet: its entry begins with nothing
+abbrev pub initial_state : HirFunction → State
+initial_state func = empty_state
+
+-- a function as a flow over its blocks; there are no tables yet
+abbrev pub flow_of : Environment → HirFunction → Bool → Flow BlockId State (Unit {0}) BlockEffects BlockFault
+flow_of env func is_function_expression = record {
+  entry = func.body.entry;
+  initial = initial_state func;
+  edges = λ b. successors_at (value_at func.body.blocks b);
+  step = λ tables b x. outcome_at env func.instructions is_function_expression b (value_at func.body.blocks b) x;
+}

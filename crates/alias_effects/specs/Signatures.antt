@@ -1,0 +1,66 @@
+-- The effects that each kind of instruction raises, in order.
+use Rattle.std.specs.Prelude.{ℕ, Bool, false, ◌&&◌, nat_eq, List, [], ◌∷◌, Option, Some, None, codes, if◌then◌else◌}
+use Rattle.std.specs.Cmp.Lexicographic.{pointwise}
+use Rattle.alias_hir.specs.declared.place.Place.{Place}
+use Rattle.alias_hir.specs.declared.effect.ValueKind.TheVariants.{Primitive, Mutable}
+use Rattle.alias_hir.specs.declared.effect.ValueReason.TheVariants.{Other}
+use Rattle.alias_hir.specs.declared.effect.MutationReason.{MutationReason}
+use Rattle.alias_hir.specs.declared.effect.MutationReason.TheVariants.{AssignCurrentProperty}
+use Rattle.alias_hir.specs.declared.effect.AliasingEffect.{AliasingEffect}
+use Rattle.alias_hir.specs.declared.effect.AliasingEffect.TheVariants.{Create, CreateFrom, Assign, Capture, Mutate}
+use Rattle.alias_hir.specs.declared.env.Environment.{Environment}
+use Rattle.alias_hir.specs.declared.hir.Instruction.{Instruction}
+use Rattle.alias_hir.specs.declared.value.LValue.{LValue}
+use Rattle.alias_hir.specs.declared.value.PropertyLiteral.{PropertyLiteral}
+use Rattle.alias_hir.specs.declared.value.PropertyLiteral.TheVariants as property
+use Rattle.alias_hir.specs.declared.value.InstructionValue.{InstructionValue}
+use Rattle.alias_hir.specs.declared.value.InstructionValue.TheVariants as value
+use Rattle.alias_hir.specs.Types.{is_primitive_at, is_untyped_at}
+
+-- a new primitive value
+abbrev pub primitive_effects : Place → List AliasingEffect
+primitive_effects l = Create l Primitive Other ∷ []
+
+-- a new object
+abbrev pub object_expression_effects : Place → List AliasingEffect
+object_expression_effects l = Create l Mutable Other ∷ []
+
+-- a part of the object, which is primitive where its type says so
+abbrev pub property_load_effects : Environment → Place → Place → List AliasingEffect
+property_load_effects env l object =
+  if is_primitive_at env l.identifier then Create l Primitive Other ∷ [] else CreateFrom object l ∷ []
+
+-- the property `current`
+abbrev pub is_current : PropertyLiteral → Bool
+is_current (property.String name) = pointwise nat_eq name (codes "current")
+is_current property.Number = false
+
+-- a write of `current` of an object of which nothing is known
+abbrev pub mutation_reason : Environment → Place → PropertyLiteral → Option MutationReason
+mutation_reason env object p =
+  if is_current p && is_untyped_at env object.identifier then Some AssignCurrentProperty else None
+
+-- the object is written and takes the value in; the result is primitive
+abbrev pub property_store_effects : Environment → Place → Place → PropertyLiteral → Place → List AliasingEffect
+property_store_effects env l object p v =
+  Mutate object (mutation_reason env object p) ∷ Capture v object ∷ Create l Primitive Other ∷ []
+
+-- the same value again
+abbrev pub load_local_effects : Place → Place → List AliasingEffect
+load_local_effects l place = Assign place l ∷ []
+
+-- the variable and the result are the value
+abbrev pub store_local_effects : Place → LValue → Place → List AliasingEffect
+store_local_effects l variable v = Assign v variable.place ∷ Assign v l ∷ []
+
+abbrev pub value_effects : Environment → Place → InstructionValue → List AliasingEffect
+value_effects env l value.ObjectExpression = object_expression_effects l
+value_effects env l (value.PropertyLoad object) = property_load_effects env l object
+value_effects env l (value.PropertyStore object p v) = property_store_effects env l object p v
+value_effects env l (value.LoadLocal place) = load_local_effects l place
+value_effects env l (value.StoreLocal variable v) = store_local_effects l variable v
+value_effects env l value.Primitive = primitive_effects l
+
+-- the effects that an instruction raises
+abbrev pub raised_effects : Environment → Instruction → List AliasingEffect
+raised_effects env i = value_effects env i.lvalue i.value

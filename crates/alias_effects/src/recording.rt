@@ -1,0 +1,70 @@
+//! What was recorded of a function, on its instructions and terminals.
+ghost use Rattle.std.specs.Prelude.{◌≡◌};
+ghost use Rattle.alias_effects.specs.Recording.{with_recorded, recorded_instructions, terminal_with, with_terminal_at, with_terminal, recorded_terminals};
+
+use crate::solved::{InstructionEffects, TerminalEffects};
+use alias_base::{BlockMap, List};
+use alias_hir::effect::AliasingEffects;
+use alias_hir::hir::{BasicBlock, Instruction};
+use alias_hir::terminal::Terminal;
+
+fn record_instruction(instructions: &mut List<Instruction>, recorded: InstructionEffects)
+    ensures { instructions.new ≡ with_recorded recorded instructions.old }
+{
+    let InstructionEffects {
+        instruction,
+        effects,
+    } = recorded;
+    let index = instruction.0 as usize;
+    if index < instructions.len() {
+        instructions.item_mut(index).effects = Some(effects);
+    }
+}
+
+/// The instructions carry what was recorded of them.
+pub fn record_instructions(
+    instructions: &mut List<Instruction>,
+    recorded: List<InstructionEffects>,
+)
+    ensures { instructions.new ≡ recorded_instructions recorded instructions.old }
+{
+    let mut left = recorded;
+    'left: while let Some(last) = left.pop() {
+        record_instruction(instructions, last);
+    }
+}
+
+fn put_effects(terminal: &mut Terminal, effects: AliasingEffects)
+    ensures { terminal.new ≡ terminal_with terminal.old effects }
+{
+    match terminal {
+        Terminal::Return { effects: place, .. } => *place = Some(effects),
+    }
+}
+
+fn record_terminal_at(blocks: &mut BlockMap<BasicBlock>, index: usize, effects: AliasingEffects)
+    ensures { blocks.new ≡ with_terminal_at effects blocks.old index }
+{
+    if let Some(block) = blocks.get_index_mut(index) {
+        put_effects(&mut block.terminal, effects);
+    }
+}
+
+fn record_terminal(blocks: &mut BlockMap<BasicBlock>, recorded: TerminalEffects)
+    ensures { blocks.new ≡ with_terminal recorded blocks.old }
+{
+    let TerminalEffects { block, effects } = recorded;
+    if let Some(index) = blocks.position(block) {
+        record_terminal_at(blocks, index, effects);
+    }
+}
+
+/// The terminals carry what was recorded of them.
+pub fn record_terminals(blocks: &mut BlockMap<BasicBlock>, recorded: List<TerminalEffects>)
+    ensures { blocks.new ≡ recorded_terminals recorded blocks.old }
+{
+    let mut left = recorded;
+    'left: while let Some(last) = left.pop() {
+        record_terminal(blocks, last);
+    }
+}

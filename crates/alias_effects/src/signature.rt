@@ -1,0 +1,176 @@
+//! The effects that each kind of instruction raises.
+ghost use Rattle.std.specs.Prelude.{◌≡◌, ◌++◌, OnOk, IfOk};
+ghost use Rattle.alias_hir.specs.declared.effect.AliasingEffect.TheVariants.{Create};
+ghost use Rattle.alias_hir.specs.declared.effect.ValueReason.TheVariants.{Other};
+ghost use Rattle.alias_effects.specs.Signatures.{primitive_effects, object_expression_effects, property_load_effects, is_current, mutation_reason, property_store_effects, load_local_effects, store_local_effects, value_effects, raised_effects};
+
+use alias_base::List;
+use alias_hir::effect::{
+    AliasingEffect, AliasingEffects, MutationReason, ValueKind, ValueReason,
+};
+use alias_hir::env::Environment;
+use alias_hir::hir::Instruction;
+use alias_hir::place::Place;
+use alias_hir::types::{is_primitive_at, is_untyped_at};
+use alias_hir::value::{InstructionValue, LValue, PropertyLiteral};
+use std::alloc::{AllocError, Global};
+
+fn created(into: &Place, value: ValueKind) -> AliasingEffect
+    ensures { result ≡ Create into.now value Other }
+{
+    AliasingEffect::Create {
+        into: *into,
+        value,
+        reason: ValueReason::Other,
+    }
+}
+
+fn push_primitive(effects: &mut AliasingEffects, lvalue: &Place) -> Result<(), AllocError>
+    ensures { OnOk result (effects.new ≡ effects.old ++ primitive_effects lvalue.now) }
+{
+    effects.push(created(lvalue, ValueKind::Primitive))?;
+    Ok(())
+}
+
+fn push_object_expression(effects: &mut AliasingEffects, lvalue: &Place) -> Result<(), AllocError>
+    ensures { OnOk result (effects.new ≡ effects.old ++ object_expression_effects lvalue.now) }
+{
+    effects.push(created(lvalue, ValueKind::Mutable))?;
+    Ok(())
+}
+
+fn push_property_load(
+    effects: &mut AliasingEffects,
+    env: &Environment,
+    lvalue: &Place,
+    object: &Place,
+) -> Result<(), AllocError>
+    ensures { OnOk result (effects.new ≡ effects.old ++ property_load_effects env.now lvalue.now object.now) }
+{
+    if is_primitive_at(env, lvalue.identifier) {
+        return push_primitive(effects, lvalue);
+    }
+    effects.push(AliasingEffect::CreateFrom {
+        from: *object,
+        into: *lvalue,
+    })?;
+    Ok(())
+}
+
+fn is_current(property: &PropertyLiteral) -> bool
+    ensures { result ≡ is_current property.now }
+{
+    match property {
+        PropertyLiteral::String(name) => name.as_str() == "current",
+        PropertyLiteral::Number => false,
+    }
+}
+
+fn mutation_reason(
+    env: &Environment,
+    object: &Place,
+    property: &PropertyLiteral,
+) -> Option<MutationReason>
+    ensures { result ≡ mutation_reason env.now object.now property.now }
+{
+    if is_current(property) && is_untyped_at(env, object.identifier) {
+        Some(MutationReason::AssignCurrentProperty)
+    } else {
+        None
+    }
+}
+
+fn push_property_store(
+    effects: &mut AliasingEffects,
+    env: &Environment,
+    lvalue: &Place,
+    object: &Place,
+    property: &PropertyLiteral,
+    value: &Place,
+) -> Result<(), AllocError>
+    ensures { OnOk result (effects.new ≡ effects.old ++ property_store_effects env.now lvalue.now object.now property.now value.now) }
+{
+    effects.push(AliasingEffect::Mutate {
+        value: *object,
+        reason: mutation_reason(env, object, property),
+    })?;
+    effects.push(AliasingEffect::Capture {
+        from: *value,
+        into: *object,
+    })?;
+    effects.push(created(lvalue, ValueKind::Primitive))?;
+    Ok(())
+}
+
+fn push_load_local(
+    effects: &mut AliasingEffects,
+    lvalue: &Place,
+    place: &Place,
+) -> Result<(), AllocError>
+    ensures { OnOk result (effects.new ≡ effects.old ++ load_local_effects lvalue.now place.now) }
+{
+    effects.push(AliasingEffect::Assign {
+        from: *place,
+        into: *lvalue,
+    })?;
+    Ok(())
+}
+
+fn push_store_local(
+    effects: &mut AliasingEffects,
+    lvalue: &Place,
+    variable: &LValue,
+    value: &Place,
+) -> Result<(), AllocError>
+    ensures { OnOk result (effects.new ≡ effects.old ++ store_local_effects lvalue.now variable.now value.now) }
+{
+    effects.push(AliasingEffect::Assign {
+        from: *value,
+        into: variable.place,
+    })?;
+    effects.push(AliasingEffect::Assign {
+        from: *value,
+        into: *lvalue,
+    })?;
+    Ok(())
+}
+
+fn push_value_effects(
+    effects: &mut AliasingEffects,
+    env: &Environment,
+    lvalue: &Place,
+    value: &InstructionValue,
+) -> Result<(), AllocError>
+    ensures { OnOk result (effects.new ≡ effects.old ++ value_effects env.now lvalue.now value.now) }
+{
+    match value {
+        InstructionValue::ObjectExpression => push_object_expression(effects, lvalue),
+        InstructionValue::PropertyLoad { object } => {
+            push_property_load(effects, env, lvalue, object)
+        }
+        InstructionValue::PropertyStore {
+            object,
+            property,
+            value,
+        } => push_property_store(effects, env, lvalue, object, property, value),
+        InstructionValue::LoadLocal { place } => push_load_local(effects, lvalue, place),
+        InstructionValue::StoreLocal {
+            lvalue: variable,
+            value,
+        } => push_store_local(effects, lvalue, variable, value),
+        InstructionValue::Primitive => push_primitive(effects, lvalue),
+    }
+}
+
+/// The effects that an instruction raises, in order.
+pub fn raised_effects(
+    alloc: Global,
+    env: &Environment,
+    instruction: &Instruction,
+) -> Result<AliasingEffects, AllocError>
+    ensures { IfOk result (λ effects. effects ≡ raised_effects env.now instruction.now) }
+{
+    let mut effects = List::new(alloc);
+    push_value_effects(&mut effects, env, &instruction.lvalue, &instruction.value)?;
+    Ok(effects)
+}
