@@ -16,7 +16,7 @@ use Rattle.alias_hir.specs.declared.hir.Instruction.{Instruction}
 use Rattle.alias_hir.specs.declared.terminal.Terminal.{Terminal}
 use Rattle.alias_hir.specs.declared.terminal.Terminal.TheVariants.{Return}
 use Rattle.alias_lattice.specs.declared.site.Site.TheVariants.{Default}
-use Rattle.alias_lattice.specs.declared.state.MissingLook.{MissingLook}
+use Rattle.alias_lattice.specs.declared.look.MissingLook.{MissingLook}
 use Rattle.alias_lattice.specs.States.{State, empty_state, sites_of, defined, defaulted}
 use Rattle.alias_lattice.specs.Flows.{Flow, Outcome, Stepped, Refused}
 use Rattle.alias_effects.specs.declared.faults.StepFault.{StepFault}

@@ -4,7 +4,7 @@ use Rattle.std.specs.List.{list_any}
 use Rattle.alias_base.specs.declared.ids.IdentifierId.{IdentifierId}
 use Rattle.alias_hir.specs.declared.place.Span.{Span}
 use Rattle.alias_hir.specs.declared.effect.AliasingEffect.{AliasingEffect}
-use Rattle.alias_lattice.specs.declared.state.MissingLook.{MissingLook}
+use Rattle.alias_lattice.specs.declared.look.MissingLook.{MissingLook}
 use Rattle.alias_lattice.specs.States.{State, missing_look}
 use Rattle.alias_effects.specs.declared.spot.Spot.{Spot}
 use Rattle.alias_effects.specs.declared.faults.StepFault.{StepFault}

@@ -22,6 +22,7 @@ fn record_instruction(instructions: &mut List<Instruction>, recorded: Instructio
 }
 
 /// The instructions carry what was recorded of them.
+#[tactic(auto, using(crate::proofs::Recordings::recorded_instructions_append))]
 pub fn record_instructions(
     instructions: &mut List<Instruction>,
     recorded: List<InstructionEffects>,
@@ -60,6 +61,7 @@ fn record_terminal(blocks: &mut BlockMap<BasicBlock>, recorded: TerminalEffects)
 }
 
 /// The terminals carry what was recorded of them.
+#[tactic(auto, using(crate::proofs::Recordings::recorded_terminals_append))]
 pub fn record_terminals(blocks: &mut BlockMap<BasicBlock>, recorded: List<TerminalEffects>)
     ensures { blocks.new ≡ recorded_terminals recorded blocks.old }
 {

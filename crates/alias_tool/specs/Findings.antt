@@ -1,0 +1,40 @@
+-- Why a run comes to a status.
+use Rattle.std.specs.Prelude.{◌≡◌, ℕ, ◌<◌, ◌≤◌, true, false, List, length, Option, Some, None, Result, Ok, Err}
+use Rattle.alias_hir.specs.Rules.{rules_hold}
+use Rattle.alias_hir.specs.declared.env.Unit.{Unit as HirUnit}
+use Rattle.alias_text.specs.Units.{UnitReading}
+use Rattle.alias_text.specs.Streams.{IsAllOf, IfTold}
+use Rattle.alias_text.specs.declared.TheConstants.{LIMIT}
+use Rattle.alias_tool.specs.declared.status.Status.{Status}
+use Rattle.alias_tool.specs.declared.status.Status.TheVariants.{Done, Words, Unfit, Refused, ReadFault, WriteFault, TooLong, Memory, NotBuilt}
+use Rattle.alias_tool.specs.declared.inferred.Inferred.{Inferred}
+use Rattle.alias_tool.specs.Inferences.{inferred_unit}
+use Rattle.alias_tool.specs.Words.{is_command}
+
+-- what a unit that keeps the rules leads to
+abbrev pub IsInferred : HirUnit → Status → Option Inferred → Type 0
+IsInferred u Done (Some i) = inferred_unit u ≡ Ok i
+IsInferred u (Refused e) None = inferred_unit u ≡ Err e
+IsInferred u Memory None = Unit {0}
+IsInferred u status i = ⊥
+
+-- what a unit leads to: it breaks this rule first, or it breaks none and is inferred
+abbrev pub IsChecked : HirUnit → Status → Option Inferred → Type 0
+IsChecked u (Unfit fault) i = (rules_hold u ≡ Err fault) × (i ≡ None)
+IsChecked u status i = (rules_hold u ≡ Ok tt) × IsInferred u status i
+
+-- what the bytes of the whole input lead to: they are the JSON of no unit of built forms, or of one
+abbrev pub IsJudged : List ℕ → Status → Option Inferred → Type 0
+IsJudged bytes NotBuilt i = ((u : HirUnit) → UnitReading bytes u → ⊥) × (i ≡ None)
+IsJudged bytes Memory i = i ≡ None
+IsJudged bytes status i = (u : HirUnit) × UnitReading bytes u × IsChecked u status i
+
+-- What the words and a source lead to, before anything is written. `told` is what the source had at the call, where it
+-- tells, and `failed` says that its count of faults rose.
+abbrev pub IsFound : List (List ℕ) → Option (List ℕ) → Type 0 → Status → Option Inferred → Type 0
+IsFound words told failed Words i = (is_command words ≡ false) × (i ≡ None)
+IsFound words told failed ReadFault i = (is_command words ≡ true) × failed × (i ≡ None)
+IsFound words told failed TooLong i = (is_command words ≡ true) × IfTold told (λ all. LIMIT < length all) × (i ≡ None)
+IsFound words told failed Memory i = i ≡ None
+IsFound words told failed status i =
+  (is_command words ≡ true) × (bytes : List ℕ) × IsAllOf told bytes × (length bytes ≤ LIMIT) × IsJudged bytes status i

@@ -1,0 +1,67 @@
+//! Standard input as a source, and standard output as a sink. Nothing is told of what they hold.
+ghost use Rattle.std.specs.Prelude.{None, ◌==◌};
+
+use alias_text::stream::{Failed, Sink, SinkStop, Source};
+use std::io::{Read, Write};
+
+/// A reader as a source.
+#[derive(Drop)]
+pub struct ReaderSource<R: Read + Drop> {
+    reader: R,
+    faults: u64,
+}
+
+impl<R: Read + Drop> ReaderSource<R> {
+    pub fn new(reader: R) -> Self {
+        ReaderSource { reader, faults: 0 }
+    }
+}
+
+impl<R: Read + Drop> Source for ReaderSource<R> {
+    ghost left = { λ _. None };
+
+    ghost faults = { λ s. s.faults };
+
+    ghost at_last = { λ s. s.faults == 18446744073709551615 };
+
+    fn read(&mut self, buf: &mut [u8]) -> Result<usize, Failed> {
+        match self.reader.read(buf) {
+            Ok(count) => Ok(count),
+            Err(_) => {
+                self.faults = self.faults.saturating_add(1);
+                Err(Failed)
+            }
+        }
+    }
+}
+
+/// A writer as a sink. A writer that takes nothing of a piece has failed.
+#[derive(Drop)]
+pub struct WriterSink<W: Write + Drop> {
+    writer: W,
+    faults: u64,
+}
+
+impl<W: Write + Drop> WriterSink<W> {
+    pub fn new(writer: W) -> Self {
+        WriterSink { writer, faults: 0 }
+    }
+}
+
+impl<W: Write + Drop> Sink for WriterSink<W> {
+    ghost held = { λ _. None };
+
+    ghost faults = { λ s. s.faults };
+
+    ghost at_last = { λ s. s.faults == 18446744073709551615 };
+
+    fn write(&mut self, piece: &[u8]) -> Result<usize, SinkStop> {
+        match self.writer.write(piece) {
+            Ok(count) if count > 0 || piece.is_empty() => Ok(count),
+            _ => {
+                self.faults = self.faults.saturating_add(1);
+                Err(SinkStop::Failed)
+            }
+        }
+    }
+}

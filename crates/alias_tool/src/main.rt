@@ -1,0 +1,40 @@
+//! The program: `alias infer < unit.json`.
+#![tactic(auto)]
+
+mod adapters;
+mod finding;
+mod inferred;
+mod run;
+mod status;
+#[cfg(test)]
+mod tests;
+mod text;
+mod words;
+
+use adapters::{ReaderSource, WriterSink};
+use alias_base::Text;
+use run::run_alias;
+use std::alloc::Global;
+use std::io;
+use std::process::ExitCode;
+use std::rt::Env;
+
+/// The words of the command line, without the program's name.
+fn words_of(rt: &impl Env, alloc: Global) -> io::Result<Vec<Text>> {
+    let mut words = Vec::new(alloc);
+    for word in std::env::args(rt)?.skip(1) {
+        words.push(Text::from_string(word))?;
+    }
+    Ok(words)
+}
+
+fn main(rt: HostRuntime) -> ExitCode {
+    let alloc = rt.alloc();
+    let Ok(words) = words_of(&rt, alloc) else {
+        return ExitCode::from(1);
+    };
+    let mut source = ReaderSource::new(rt.stdin());
+    let mut sink = WriterSink::new(rt.stdout());
+    let outcome = run_alias(alloc, &words, &mut source, &mut sink);
+    ExitCode::from(outcome.status.code())
+}
