@@ -61,12 +61,7 @@ fn terminal_is_bare(terminal: &Terminal) -> bool
 fn instructions_are_bare(instructions: &[Instruction]) -> bool
     ensures { result ≡ list_all instruction_is_bare instructions.now }
 {
-    for instruction in instructions {
-        if !instruction_is_bare(instruction) {
-            return false;
-        }
-    }
-    true
+    instructions.iter().all(|instruction| instruction_is_bare(instruction))
 }
 
 fn terminals_are_bare(body: &Hir) -> bool
@@ -92,12 +87,7 @@ fn function_is_bare(func: &HirFunction) -> bool
 fn identifiers_are_bare(identifiers: &[Identifier]) -> bool
     ensures { result ≡ list_all identifier_is_bare identifiers.now }
 {
-    for identifier in identifiers {
-        if !identifier_is_bare(identifier) {
-            return false;
-        }
-    }
-    true
+    identifiers.iter().all(|identifier| identifier_is_bare(identifier))
 }
 
 fn environment_is_bare(env: &Environment) -> bool

@@ -17,12 +17,9 @@ use std::alloc::{AllocError, Global};
 fn tells_invariant(reports: &[Report]) -> bool
     ensures { result ≡ tells_invariant reports.now }
 {
-    for report in reports {
-        if matches!(report.category, ErrorCategory::Invariant) {
-            return true;
-        }
-    }
-    false
+    reports
+        .iter()
+        .any(|report| matches!(report.category, ErrorCategory::Invariant))
 }
 
 /// The first rule of a function that is broken, whether it is inferred or not.
