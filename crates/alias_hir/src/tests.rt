@@ -105,19 +105,29 @@ fn unit(
     })
 }
 
-fn refusal(rt: &impl Abort, alloc: Global, unit: Unit) -> Option<UnitFault> {
+fn refusal(
+    rt: &impl Abort,
+    alloc: Global,
+    type_: u32,
+    standing: &[u32],
+    entry: u32,
+    order: u32,
+) -> Result<Option<UnitFault>, AllocError> {
+    let unit = unit(alloc, type_, standing, entry, order)?;
     assert!(rt; unit.function.instructions.len() == 4);
-    match check_unit(alloc, unit) {
-        Ok(_) => None,
-        Err(fault) => Some(fault),
-    }
+    Ok(check_unit(alloc, unit).err())
+}
+
+/// Whether the inference takes the function.
+fn is_taken(alloc: Global, standing: &[u32]) -> Result<bool, AllocError> {
+    let unit = unit(alloc, 0, standing, 0, 5)?;
+    check_function(alloc, &unit.function, &unit.env)
 }
 
 #[test]
 fn accepts_a_well_formed_unit(rt: HostRuntime) -> Result<(), Fail> {
     let alloc = rt.alloc();
     let unit = unit(alloc, 0, &[0, 1, 2, 3], 0, 5)?;
-    assert!(rt; check_function(alloc, &unit.function, &unit.env)?);
     assert!(rt; unit.function.instructions.len() == 4);
     match check_unit(alloc, unit) {
         Ok(checked) => {
@@ -130,50 +140,57 @@ fn accepts_a_well_formed_unit(rt: HostRuntime) -> Result<(), Fail> {
 }
 
 #[test]
+fn takes_a_function(rt: HostRuntime) -> Result<(), Fail> {
+    assert!(rt; is_taken(rt.alloc(), &[0, 1, 2])?);
+    assert!(rt; !is_taken(rt.alloc(), &[0, 1, 0])?);
+    Ok(())
+}
+
+#[test]
 fn names_the_first_broken_rule(rt: HostRuntime) -> Result<(), Fail> {
     let alloc = rt.alloc();
-    let refused = unit(alloc, 9, &[0, 1, 2], 5, 0)?;
     assert!(rt;
         matches!(
-            refusal(&rt, alloc, refused),
+            refusal(&rt, alloc, 9, &[0, 1, 2], 5, 0)?,
             Some(UnitFault::IdOutOfRange {
                 table: Table::Types,
                 number: 9,
             })
         )
     );
-    let refused = unit(alloc, 0, &[0, 1, 2], 5, 0)?;
     assert!(rt;
         matches!(
-            refusal(&rt, alloc, refused),
+            refusal(&rt, alloc, 0, &[0, 1, 2], 5, 0)?,
             Some(UnitFault::EntryMissing { function: None })
         )
     );
-    let refused = unit(alloc, 0, &[0, 1, 2], 0, 0)?;
     assert!(rt;
         matches!(
-            refusal(&rt, alloc, refused),
+            refusal(&rt, alloc, 0, &[0, 1, 2], 0, 0)?,
             Some(UnitFault::InstructionMissing {
                 function: None,
                 instruction: InstructionId(3),
             })
         )
     );
-    let refused = unit(alloc, 0, &[0, 3, 1, 3, 2, 1], 0, 0)?;
-    assert!(rt; !check_function(alloc, &refused.function, &refused.env)?);
+    Ok(())
+}
+
+#[test]
+fn names_the_later_rules(rt: HostRuntime) -> Result<(), Fail> {
+    let alloc = rt.alloc();
     assert!(rt;
         matches!(
-            refusal(&rt, alloc, refused),
+            refusal(&rt, alloc, 0, &[0, 3, 1, 3, 2, 1], 0, 0)?,
             Some(UnitFault::InstructionTwice {
                 function: None,
                 instruction: InstructionId(3),
             })
         )
     );
-    let refused = unit(alloc, 0, &[0, 1, 2, 3], 0, 0)?;
     assert!(rt;
         matches!(
-            refusal(&rt, alloc, refused),
+            refusal(&rt, alloc, 0, &[0, 1, 2, 3], 0, 0)?,
             Some(UnitFault::OrderOutOfRange {
                 function: None,
                 order: EvaluationOrder(0),
@@ -195,26 +212,31 @@ fn asks_of_types(rt: HostRuntime) -> Result<(), Fail> {
 
 #[test]
 fn writes_reports(rt: HostRuntime) -> Result<(), Fail> {
-    let alloc = rt.alloc();
-    let env = environment(alloc, 0)?;
-    let named = uninitialized_report(alloc, &env, IdentifierId(0), None)?;
-    assert_eq!(rt; named.category, ErrorCategory::Invariant);
+    let env = environment(rt.alloc(), 0)?;
+    let report = uninitialized_report(rt.alloc(), &env, IdentifierId(0), None)?;
+    assert_eq!(rt; report.category, ErrorCategory::Invariant);
     assert_eq!(rt;
-        named.message.as_str(),
+        report.message.as_str(),
         "[InferMutationAliasingEffects] Expected value kind to be initialized"
     );
     assert_eq!(rt;
-        named.help.as_ref().map(|help| help.as_str()),
+        report.help.as_ref().map(|help| help.as_str()),
         Some("<unknown> x$0")
     );
-    assert_eq!(rt; named.labels.len(), 1);
-    assert_eq!(rt; named.labels.item(0).span, Span { start: 4, end: 5 });
-    let unknown = uninitialized_report(alloc, &env, IdentifierId(12), None)?;
+    assert_eq!(rt; report.labels.len(), 1);
+    assert_eq!(rt; report.labels.item(0).span, Span { start: 4, end: 5 });
+    Ok(())
+}
+
+#[test]
+fn writes_reports_of_what_is_in_no_table(rt: HostRuntime) -> Result<(), Fail> {
+    let env = environment(rt.alloc(), 0)?;
+    let report = uninitialized_report(rt.alloc(), &env, IdentifierId(12), None)?;
     assert_eq!(rt;
-        unknown.help.as_ref().map(|help| help.as_str()),
+        report.help.as_ref().map(|help| help.as_str()),
         Some("<unknown> $12")
     );
-    assert_eq!(rt; unknown.labels.len(), 0);
+    assert_eq!(rt; report.labels.len(), 0);
     Ok(())
 }
 
