@@ -8,6 +8,9 @@ pub mod error;
 pub mod hir;
 pub mod place;
 pub mod report;
+pub mod rules;
 pub mod terminal;
+#[cfg(test)]
+mod tests;
 pub mod types;
 pub mod value;
