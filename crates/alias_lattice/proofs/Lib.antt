@@ -1,3 +1,4 @@
 pub mod Walks
 pub mod MergeJoins
 pub mod Places
+pub mod FirstReasons
