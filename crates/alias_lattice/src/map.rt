@@ -137,9 +137,10 @@ pub fn set_both<K: PlainKey, V: Lattice + Drop, L: PlainKey, W: Lattice + Drop>(
     ensures err { OnErr result (first.new ≡ first.old) }
     ensures second_err { OnErr result (second.new ≡ second.old) }
 {
+    second_value.known();
     second.items.reserve(1)?;
     first.set(key, value)?;
-    second.set(second_key, second_value)
+    put(&mut second.items, second_key, second_value)
 }
 
 /// Where the key stands, or else where it would. Halves the list until it is found.
