@@ -18,7 +18,7 @@ use Rattle.alias_lattice.specs.declared.site.Site.{Site}
 use Rattle.alias_base.specs.declared.ids.IdentifierId.{IdentifierId}
 use Rattle.alias_lattice.specs.Keys.{id_cmp, ids_apart, ids_total}
 use Rattle.alias_lattice.specs.SiteOrder.{site_cmp, sites_apart, sites_total}
-use Rattle.alias_lattice.specs.States.{State, Sites, state_join, state_below, sites_join, union_over}
+use Rattle.alias_lattice.specs.States.{State, Sites, state_join, state_below, sites_join, both_sites, union_over}
 use Rattle.alias_lattice.specs.Standing.{is_full, AreValued, Stands, SitesProper, StateProper}
 
 abbrev sites_laws : LatticeLaws SitesProper (list_join site_cmp unit_join) (list_below site_cmp unit_below)
@@ -136,10 +136,15 @@ join_good m None p h g = g
 join_good m (Some t) None h g = h
 join_good m (Some t) (Some u) h g = (sites_laws.closed t u h.0 g.0, valued-join m t u h.0 g.0 h.1 g.1)
 
-sites_good_at : (s : State) → StateProper s → (x : IdentifierId) (o : Option Sites) → find id_cmp x s.variables ≡ o → IfGood s.values o
-sites_good_at s h x None e = tt
-sites_good_at s h x (Some t) e = (subst (ProperOption SitesProper) e (proper_found id_cmp SitesProper s.variables h.variables x), h.stands x t e)
+pub sites_good : (s : State) → StateProper s → (x : IdentifierId) (o : Option Sites) → find id_cmp x s.variables ≡ o → IfGood s.values o
+sites_good s h x None e = tt
+sites_good s h x (Some t) e = (subst (ProperOption SitesProper) e (proper_found id_cmp SitesProper s.variables h.variables x), h.stands x t e)
+
+pub both_good : (m : List (Site × AbstractValue)) (o p : Option Sites) → IfGood m o → IfGood m p → IfGood m (both_sites o p)
+both_good m None p h g = tt
+both_good m (Some t) None h g = tt
+both_good m (Some t) (Some u) h g = (sites_laws.closed t u h.0 g.0, valued-join m t u h.0 g.0 h.1 g.1)
 
 pub union_good : (s : State) → StateProper s → (xs : List IdentifierId) (o : Option Sites) → IfGood s.values o → IfGood s.values (union_over s.variables xs o)
 union_good s h [] o g = g
-union_good s h (x ∷ xs) o g = union_good s h xs (join_option sites_join o (find id_cmp x s.variables)) (join_good s.values o (find id_cmp x s.variables) g (sites_good_at s h x (find id_cmp x s.variables) refl))
+union_good s h (x ∷ xs) o g = union_good s h xs (join_option sites_join o (find id_cmp x s.variables)) (join_good s.values o (find id_cmp x s.variables) g (sites_good s h x (find id_cmp x s.variables) refl))

@@ -1,6 +1,6 @@
 -- Each site in a set has a value, and what keeps this.
 use Rattle.std.specs.Prelude.{◌≡◌, ◌↔◌, ℕ, ◌<◌, ◌^◌, Bool, true, false, cond, ◌&&◌, ◌||◌, IsTrue, List, [], ◌∷◌, Option, Some, None, refl}
-use Rattle.std.proofs.Common.{ap, sym, ◌∙◌, subst, ◌+◌, length, get_or, drop}
+use Rattle.std.proofs.Common.{ap, sym, ◌∙◌, subst, ◌+◌, length, get_or, drop, zero, suc, arith}
 use Rattle.std.proofs.lemmas.List.{at_drop_more}
 use Rattle.std.proofs.Math.Dec.{T}
 use Rattle.std.specs.Option.{is_some}
@@ -20,7 +20,7 @@ use Rattle.alias_lattice.specs.declared.site.Site.{Site}
 use Rattle.alias_base.specs.declared.ids.IdentifierId.{IdentifierId}
 use Rattle.alias_lattice.specs.Keys.{id_cmp, ids_apart, ids_total}
 use Rattle.alias_lattice.specs.SiteOrder.{site_cmp, sites_apart, sites_total}
-use Rattle.alias_lattice.specs.States.{State, Sites, state_join, state_below, value_at, sites_of, initialized, defined_as, defined, one_site, defaulted, defaulted_at, mutable_other, all_set}
+use Rattle.alias_lattice.specs.States.{State, Sites, state_join, state_below, value_at, sites_of, initialized, defined_as, defined, one_site, defaulted, defaulted_at, mutable_other, all_set, frozen_at}
 
 abbrev pub is_full : Sites → Bool
 is_full [] = false
@@ -116,3 +116,35 @@ all_set_more v sites i d m n h e = ap (all_set v (drop (i + 1) sites)) e ∙ sym
 
 pub has_value-initialized : (k : Site) (v : AbstractValue) (s : State) → IsTrue (is_some (value_at (initialized k v s) k))
 has_value-initialized k v s = ap is_some (find-put site_cmp sites_total k k v s.values) ∙ ap (λ r. is_some (cond (is_eq r) (Some v) (find site_cmp k s.values))) (tied_itself sites_total k)
+
+-- a site of the set is found in it
+in_set : (sites : Sites) (i : ℕ) (d : Site × Unit {0}) → i < length sites → IsTrue (is_some (find site_cmp (get_or sites i d).0 sites))
+in_set [] i d h = let no : ⊥ = omega arith in absurd no
+in_set (e ∷ es) zero d h = ap (λ r. is_some (cond (is_eq r) (Some e.1) (find site_cmp e.0 es))) (tied_itself sites_total e.0)
+in_set (e ∷ es) (suc i) d h = hit_true (eq_by_cmp site_cmp (get_or es i d).0 e.0) e.1 (find site_cmp (get_or es i d).0 es) (in_set es i d (omega arith))
+
+picked : {X : Type 0} (b : Bool) (x y z : X) → IsTrue b → z ≡ cond b x y → z ≡ x
+picked true x y z h e = e
+picked false x y z h e = cc
+
+-- one more of the sites is set, where it has a value
+pub set_next : (v : AbstractValue) (sites : Sites) (i : ℕ) (d : Site × Unit {0}) (m n : List (Site × AbstractValue)) → i < length sites → AreValued m sites
+    → n ≡ cond (is_some (find site_cmp (get_or sites i d).0 m)) (put site_cmp (get_or sites i d).0 v m) m
+    → (all_set v (drop (i + 1) sites) n ≡ all_set v (drop i sites) m) × AreValued n sites
+set_next v sites i d m n h a e =
+    let k = (get_or sites i d).0 in
+    let now : n ≡ put site_cmp k v m = picked (is_some (find site_cmp k m)) (put site_cmp k v m) m n (a.valued k (in_set sites i d h)) e in (
+      all_set_more v sites i d m n h now,
+      record { full = a.full; valued = λ q f. subst (λ x. IsTrue (is_some (find site_cmp q x))) (sym now) (still_valued k v m q (a.valued q f)) },
+    )
+
+keeps-all_set : (v : AbstractValue) (sites : Sites) (m : List (Site × AbstractValue)) → Keeps m (all_set v sites m)
+keeps-all_set v [] m q h = h
+keeps-all_set v (e ∷ es) m q h = keeps-all_set v es (put site_cmp e.0 v m) q (still_valued e.0 v m q h)
+
+pub keeps-frozen : (v : AbstractValue) (b : Bool) (sites : Sites) (m : List (Site × AbstractValue)) → Keeps m (frozen_at v b (Some sites) m)
+keeps-frozen v true sites m q h = keeps-all_set v sites m q h
+keeps-frozen v false sites m q h = h
+
+pub stands-given : (x : IdentifierId) (k : Site) (v : AbstractValue) (s : State) → Stands s → Stands (defined x k (initialized k v s))
+stands-given x k v s h = stands-defined_as x (one_site k) (initialized k v s) (stands-initialized k v s h) (valued-one k (put site_cmp k v s.values) (has_value-initialized k v s))

@@ -268,9 +268,12 @@ impl InferenceState {
     ) -> Result<Option<SiteSet>, AllocError>
         ensures { IfOk result (λ sites. sites ≡ both_sites (sites_of self.now place) (sites_of self.now value)) }
     {
-        match (self.variables.get(place), self.variables.get(value)) {
-            (Some(sites), Some(more)) => Ok(Some(sites.joined(more)?)),
-            _ => Ok(None),
+        match self.variables.get(place) {
+            Some(sites) => match self.variables.get(value) {
+                Some(more) => Ok(Some(sites.joined(more)?)),
+                None => Ok(None),
+            },
+            None => Ok(None),
         }
     }
 
