@@ -1,5 +1,5 @@
 -- Each site in a set has a value, and what keeps this.
-use Rattle.std.specs.Prelude.{◌≡◌, ◌↔◌, ℕ, ◌<◌, ◌^◌, Bool, true, false, cond, ◌&&◌, ◌||◌, IsTrue, List, [], ◌∷◌, Option, Some, None, refl}
+use Rattle.std.specs.Prelude.{◌≡◌, ◌↔◌, ℕ, ◌<◌, ◌^◌, Bool, true, false, cond, ◌&&◌, ◌||◌, IsTrue, List, [], ◌∷◌, Option, Some, None, MatchOption, refl}
 use Rattle.std.proofs.Common.{ap, sym, ◌∙◌, subst, ◌+◌, length, get_or, drop, zero, suc, arith}
 use Rattle.std.proofs.lemmas.List.{at_drop_more}
 use Rattle.std.proofs.Math.Dec.{T}
@@ -20,7 +20,7 @@ use Rattle.alias_lattice.specs.declared.site.Site.{Site}
 use Rattle.alias_base.specs.declared.ids.IdentifierId.{IdentifierId}
 use Rattle.alias_lattice.specs.Keys.{id_cmp, ids_apart, ids_total}
 use Rattle.alias_lattice.specs.SiteOrder.{site_cmp, sites_apart, sites_total}
-use Rattle.alias_lattice.specs.States.{State, Sites, state_join, state_below, value_at, sites_of, initialized, defined_as, defined, one_site, defaulted, defaulted_at, mutable_other, all_set, frozen_at}
+use Rattle.alias_lattice.specs.States.{State, Sites, state_join, state_below, value_at, sites_of, initialized, defined_as, defined, one_site, defaulted, defaulted_at, mutable_other, all_set, frozen_at, both_sites}
 
 abbrev pub is_full : Sites → Bool
 is_full [] = false
@@ -148,3 +148,11 @@ keeps-frozen v false sites m q h = h
 
 pub stands-given : (x : IdentifierId) (k : Site) (v : AbstractValue) (s : State) → Stands s → Stands (defined x k (initialized k v s))
 stands-given x k v s h = stands-defined_as x (one_site k) (initialized k v s) (stands-initialized k v s h) (valued-one k (put site_cmp k v s.values) (has_value-initialized k v s))
+
+pub is_some-matched : {A B : Type 0} (r : Option A) (f : A → B) (o : Option B) → MatchOption r (o ≡ None) (λ x. o ≡ Some (f x)) → is_some r ≡ is_some o
+is_some-matched None f o h = sym (ap is_some h)
+is_some-matched (Some x) f o h = sym (ap is_some h)
+
+pub both_none : (o : Option Sites) → both_sites o None ≡ None
+both_none None = refl
+both_none (Some t) = refl

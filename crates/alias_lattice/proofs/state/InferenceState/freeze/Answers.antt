@@ -4,6 +4,9 @@ use Rattle.alias_lattice.specs.States.{State, frozen, frozen_at, does_freeze, do
 use Rattle.alias_lattice.specs.Standing.{Keeps, stands-kept, keeps-frozen}
 use Rattle.alias_lattice.proofs.state.InferenceState.freeze.Goals as goal
 
+pub freeze_sites-requires : goal.freeze_sites-requires
+freeze_sites-requires c = c.self.invariant c.args.place c.in-Some.sites.now c.in-Some.ensures
+
 pub invariant_of-self : goal.invariant_of-self
 invariant_of-self c =
     let m = c.self.inside.values in
