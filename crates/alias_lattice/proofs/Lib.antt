@@ -1,0 +1,4 @@
+pub mod Walks
+pub mod MergeJoins
+pub mod Places
+pub mod FirstReasons
