@@ -12,10 +12,14 @@ use Rattle.alias_hir.specs.declared.hir.BasicBlock.{BasicBlock}
 use Rattle.alias_hir.specs.declared.hir.HirFunction.{HirFunction}
 use Rattle.alias_hir.specs.declared.terminal.Terminal.{Terminal}
 use Rattle.alias_hir.specs.declared.terminal.Terminal.TheVariants.{Return}
-use Rattle.alias_lattice.specs.Flows.{Outcome, Stepped, Refused, IsOneOf, IsReached, at_entry, by_edge, IsAbove, IsSolution, AreJoins}
+use Rattle.alias_lattice.specs.Flows.{Flow, Outcome, Stepped, Refused, IsOneOf, IsReached, at_entry, by_edge, IsAbove, IsSolution, AreJoins}
 use Rattle.alias_lattice.specs.Laws.{below_self}
 use Rattle.alias_lattice.specs.Joins.{state_laws}
-use Rattle.alias_lattice.specs.Standing.{StateProper, proper-empty}
+use Rattle.alias_lattice.specs.Standing.{StateProper, SitesProper}
+use Rattle.alias_lattice.specs.Puts.{proper_nil}
+use Rattle.alias_lattice.specs.AbstractValues.{AbstractProper}
+use Rattle.alias_lattice.specs.Keys.{id_cmp}
+use Rattle.alias_lattice.specs.SiteOrder.{site_cmp}
 use Rattle.alias_lattice.specs.States.{State, empty_state, state_below}
 use Rattle.alias_effects.specs.declared.block.BlockEffects.{BlockEffects}
 use Rattle.alias_effects.specs.declared.faults.BlockFault.{BlockFault}
@@ -23,6 +27,9 @@ use Rattle.alias_effects.specs.declared.solved.BlockEntry.{BlockEntry}
 use Rattle.alias_effects.specs.Blocks.{successors, successors_at, flow_of}
 use Rattle.alias_effects.specs.Inference.{solved_by, entry_answer, entry_effects}
 use Rattle.alias_effects.specs.Solutions.{IsSubsequence, IsSolved, IsForward, entry_state, effects_recorded, recorded_from}
+
+proper-empty : StateProper empty_state
+proper-empty = record { values = proper_nil site_cmp AbstractProper; variables = proper_nil id_cmp SitesProper; stands = λ x t e. cc }
 
 same_is : (a b : BlockId) → same_block a b ≡ true → a ≡ b
 same_is a b h = ap (λ n. let x : BlockId = record { 0 = n } in x) (eqb→eq a.0 b.0 (subst T (sym h) tt))
@@ -48,7 +55,8 @@ key_stands (e ∷ es) k h =
     ] refl h
 
 module _ (env : Environment) (func : HirFunction) (is_function_expression : Bool) (recorded : BlockEffects) (y : State) where
-  abbrev flow = flow_of env func is_function_expression
+  abbrev flow : Flow BlockId State (Unit {0}) BlockEffects BlockFault
+  flow = flow_of env func is_function_expression
 
   abbrev entry : BlockId
   entry = func.body.entry
@@ -79,9 +87,12 @@ module _ (env : Environment) (func : HirFunction) (is_function_expression : Bool
       reached = has_state;
       only_reached = λ b s h. is_reached b (only b s h).0;
       initial = (empty_state, at_start, below_self state_laws empty_state proper-empty);
-      steps = λ b s h. (y, recorded,
-          ap (λ z. flow.step tt z s) (only b s h).0 ∙ ap (flow.step tt entry) (only b s h).1 ∙ stepped,
-          subst (AllByRecursion (IsAbove state_below flow (entry_state entries) y)) (sym (no_edges (value_at func.body.blocks b))) tt);
+      steps = λ b s h. (
+        y,
+        recorded,
+        ap (λ z. flow.step tt z s) (only b s h).0 ∙ ap (flow.step tt entry) (only b s h).1 ∙ stepped,
+        subst (AllByRecursion (IsAbove state_below flow (entry_state entries) y)) (sym (no_edges (value_at func.body.blocks b))) tt,
+      );
     };
     effects = sym (ap (λ o. (effects_recorded o).instructions ++ []) stepped ∙ append-nil recorded.instructions);
     terminal_effects = sym (ap (λ o. (effects_recorded o).terminal ++ []) stepped ∙ append-nil recorded.terminal);

@@ -76,7 +76,7 @@ numbered_step env i (Some x) s = instruction_step env i x s
 abbrev pub instruction_steps : Environment → List Instruction → List InstructionId → Stand → Result Stand BlockFault
 instruction_steps env instructions [] s = Ok s
 instruction_steps env instructions (i ∷ is) s =
-  numbered_step env i (slice_get instructions i.0) s >>= instruction_steps env instructions is
+    numbered_step env i (slice_get instructions i.0) s >>= instruction_steps env instructions is
 
 -- a block begins with nothing recorded and no look missed
 abbrev pub stand_of : State → Stand

@@ -38,7 +38,7 @@ entry_answer env func (Refused fault) = Err (refusal env func.body.entry fault)
 -- what the entry's step records from the initial state, or its refusal
 abbrev pub entry_effects : Environment → HirFunction → Bool → Result BlockEffects InferError
 entry_effects env func is_function_expression =
-  entry_answer env func ((flow_of env func is_function_expression).step tt func.body.entry (initial_state func))
+    entry_answer env func ((flow_of env func is_function_expression).step tt func.body.entry (initial_state func))
 
 -- the solution of the function, or the refusal of its one visit
 abbrev pub inferred : Environment → HirFunction → Bool → Result Solved InferError

@@ -58,7 +58,7 @@ create_row x k r s = do
 -- ImmutableCapture: recorded unless the source is constant
 abbrev pub immutable_capture_row : Place → Place → Spot → Spot
 immutable_capture_row a x s =
-  if is_constant (kind_at a s) then looked_at a s else record_of (effect.ImmutableCapture a x) (looked_at a s)
+    if is_constant (kind_at a s) then looked_at a s else record_of (effect.ImmutableCapture a x) (looked_at a s)
 
 -- what CreateFrom records, by the kind of its source
 abbrev pub created_from_as : ValueKind → ValueReason → Place → Place → Spot → Spot
@@ -77,9 +77,9 @@ create_from_row a x s = do
 -- what Assign does, by the value of its source
 abbrev pub assigned_as : AbstractValue → Place → Place → Spot → Spot
 assigned_as v a x s =
-  if is_frozen v.kind then (let u = immutable_capture_row a x s in with_state (given x.identifier (AssignFrozen a.identifier x.identifier) v u.state) u)
-  else (if is_constant v.kind then with_state (given x.identifier (AssignCopy a.identifier x.identifier) v s.state) s
-  else record_of (effect.Assign a x) (with_state (assigned x.identifier a.identifier s.state) s))
+    if is_frozen v.kind then (let u = immutable_capture_row a x s in with_state (given x.identifier (AssignFrozen a.identifier x.identifier) v u.state) u)
+    else (if is_constant v.kind then with_state (given x.identifier (AssignCopy a.identifier x.identifier) v s.state) s
+    else record_of (effect.Assign a x) (with_state (assigned x.identifier a.identifier s.state) s))
 
 -- Assign: the target gets the source's sites, or a copy where nothing can be written
 abbrev pub assign_row : Place → Place → Spot → Result Spot StepFault
@@ -103,16 +103,16 @@ may_alias k l = false
 
 abbrev pub maybe_alias_row : Place → Place → Spot → Spot
 maybe_alias_row a x s =
-  let u = looked_with_span a (looked_with_span x s) in
-  if may_be_frozen (kind_at a s) then immutable_capture_row a x u else record_of (effect.MaybeAlias a x) u
+    let u = looked_with_span a (looked_with_span x s) in
+    if may_be_frozen (kind_at a s) then immutable_capture_row a x u else record_of (effect.MaybeAlias a x) u
 
 -- Capture: by the kinds of source and target
 abbrev pub capture_row : Place → Place → Spot → Spot
 capture_row a x s =
-  let u = looked_with_span a (looked_with_span x s) in
-  if may_be_frozen (kind_at a s) then immutable_capture_row a x u
-  else (if captures (kind_at a s) (kind_at x s) then record_of (effect.Capture a x) u
-  else (if may_alias (kind_at a s) (kind_at x s) then maybe_alias_row a x u else u))
+    let u = looked_with_span a (looked_with_span x s) in
+    if may_be_frozen (kind_at a s) then immutable_capture_row a x u
+    else (if captures (kind_at a s) (kind_at x s) then record_of (effect.Capture a x) u
+    else (if may_alias (kind_at a s) (kind_at x s) then maybe_alias_row a x u else u))
 
 -- what a definite mutation records, by the kind of what it writes
 abbrev pub mutated_as : ValueKind → Place → Option MutationReason → Spot → Spot
@@ -129,8 +129,8 @@ mutate_row v r s = mutated_as (kind_at v s) v r (looked_with_span v s)
 -- Freeze: recorded where it acts
 abbrev pub freeze_row : Place → ValueReason → Spot → Spot
 freeze_row v r s =
-  let u = with_state (frozen v.identifier r s.state) s in
-  if does_freeze s.state v.identifier then record_of (effect.Freeze v r) u else u
+    let u = with_state (frozen v.identifier r s.state) s in
+    if does_freeze s.state v.identifier then record_of (effect.Freeze v r) u else u
 
 -- the step of one effect
 abbrev pub row : AliasingEffect → Spot → Result Spot StepFault

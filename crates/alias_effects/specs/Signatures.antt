@@ -28,7 +28,7 @@ object_expression_effects l = Create l Mutable Other ∷ []
 -- a part of the object, which is primitive where its type says so
 abbrev pub property_load_effects : Environment → Place → Place → List AliasingEffect
 property_load_effects env l object =
-  if is_primitive_at env l.identifier then Create l Primitive Other ∷ [] else CreateFrom object l ∷ []
+    if is_primitive_at env l.identifier then Create l Primitive Other ∷ [] else CreateFrom object l ∷ []
 
 -- the property `current`
 abbrev pub is_current : PropertyLiteral → Bool
@@ -38,12 +38,12 @@ is_current property.Number = false
 -- a write of `current` of an object of which nothing is known
 abbrev pub mutation_reason : Environment → Place → PropertyLiteral → Option MutationReason
 mutation_reason env object p =
-  if is_current p && is_untyped_at env object.identifier then Some AssignCurrentProperty else None
+    if is_current p && is_untyped_at env object.identifier then Some AssignCurrentProperty else None
 
 -- the object is written and takes the value in; the result is primitive
 abbrev pub property_store_effects : Environment → Place → Place → PropertyLiteral → Place → List AliasingEffect
 property_store_effects env l object p v =
-  Mutate object (mutation_reason env object p) ∷ Capture v object ∷ Create l Primitive Other ∷ []
+    Mutate object (mutation_reason env object p) ∷ Capture v object ∷ Create l Primitive Other ∷ []
 
 -- the same value again
 abbrev pub load_local_effects : Place → Place → List AliasingEffect

@@ -120,7 +120,7 @@ fn numbered_step(
     instruction: Option<&Instruction>,
     stand: Stand,
 ) -> Result<Stand, BlockFault>
-    ensures { StandFollows (numbered_step env.now id (option_map (λ i. i.now) instruction) stand) result }
+    ensures { StandFollows (numbered_step env.now id (option_map (λ i. i.now) instruction.entry) stand) result }
 {
     match instruction {
         Some(instruction) => instruction_step(alloc, env, id, instruction, stand),

@@ -23,10 +23,7 @@ fn record_instruction(instructions: &mut List<Instruction>, recorded: Instructio
 
 /// The instructions carry what was recorded of them.
 #[tactic(auto, using(crate::proofs::Recordings::recorded_instructions_append))]
-pub fn record_instructions(
-    instructions: &mut List<Instruction>,
-    recorded: List<InstructionEffects>,
-)
+pub fn record_instructions(instructions: &mut List<Instruction>, recorded: List<InstructionEffects>)
     ensures { instructions.new ≡ recorded_instructions recorded instructions.old }
 {
     let mut left = recorded;

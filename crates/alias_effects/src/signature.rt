@@ -5,9 +5,7 @@ ghost use Rattle.alias_hir.specs.declared.effect.ValueReason.TheVariants.{Other}
 ghost use Rattle.alias_effects.specs.Signatures.{primitive_effects, object_expression_effects, property_load_effects, is_current, mutation_reason, property_store_effects, load_local_effects, store_local_effects, value_effects, raised_effects};
 
 use alias_base::List;
-use alias_hir::effect::{
-    AliasingEffect, AliasingEffects, MutationReason, ValueKind, ValueReason,
-};
+use alias_hir::effect::{AliasingEffect, AliasingEffects, MutationReason, ValueKind, ValueReason};
 use alias_hir::env::Environment;
 use alias_hir::hir::Instruction;
 use alias_hir::place::Place;

@@ -17,3 +17,4 @@ pub mod SiteOrder
 pub mod States
 pub mod Standing
 pub mod Joins
+pub mod Flows
