@@ -1,3 +1,9 @@
+pub mod Effects
+pub mod Fault
+pub mod Fitting
+pub mod Reports
+pub mod Rules
 pub mod Tables
 pub mod Terminals
 pub mod Types
+pub mod Values

@@ -8,6 +8,7 @@ pub mod error;
 pub mod hir;
 pub mod place;
 pub mod report;
+pub mod rules;
 pub mod terminal;
 pub mod types;
 pub mod value;

@@ -1,7 +1,13 @@
 //! Reports: what is told to the author of the code.
 
+ghost use Rattle.std.specs.Prelude.{◌≡◌, ◌++◌, option_map, slice_get, IfOk, OnOk};
+ghost use Rattle.alias_hir.specs.Reports.{name_text, printed_type, printed_identifier, identifier_name, identifier_span, either_span, uninitialized_labels, uninitialized_report};
+
+use crate::env::{Environment, Identifier, IdentifierName};
 use crate::place::Span;
-use alias_base::{List, Text};
+use crate::types::{Ty, type_of};
+use alias_base::{IdentifierId, List, Text};
+use std::alloc::{AllocError, Global};
 
 /// What a report is about.
 #[derive(Clone, Copy, Debug, PartialEq, Eq)]
@@ -28,4 +34,97 @@ pub struct Report {
     pub message: Text,
     pub help: Option<Text>,
     pub labels: List<Label>,
+}
+
+fn name_text(name: &IdentifierName) -> &str
+    ensures { result.now ≡ name_text name.now }
+{
+    match name {
+        IdentifierName::Named(text) | IdentifierName::Promoted(text) => text.as_str(),
+    }
+}
+
+/// Appends the identifier's name, or nothing where there is none.
+fn push_name(text: &mut Text, identifier: Option<&Identifier>) -> Result<(), AllocError>
+    ensures { OnOk result (text.new ≡ text.old ++ identifier_name (option_map (λ i. i.now) identifier.entry)) }
+{
+    match identifier {
+        Some(known) => match &known.name {
+            Some(name) => text.push_str(name_text(name)),
+            None => Ok(()),
+        },
+        None => Ok(()),
+    }
+}
+
+fn printed_type(ty: &Ty) -> &'static str
+    ensures { result.now ≡ printed_type ty.now }
+{
+    match ty {
+        Ty::Primitive | Ty::Var => "",
+    }
+}
+
+/// Appends the identifier's name, `$`, its number and its type.
+fn push_identifier(
+    text: &mut Text,
+    env: &Environment,
+    identifier: IdentifierId,
+) -> Result<(), AllocError>
+    ensures { OnOk result (text.new ≡ text.old ++ printed_identifier env.now identifier) }
+{
+    push_name(text, env.identifiers.get(identifier.0 as usize))?;
+    text.push_str("$")?;
+    text.push_number(identifier.0 as u64)?;
+    match type_of(env, identifier) {
+        Some(ty) => text.push_str(printed_type(ty)),
+        None => Ok(()),
+    }
+}
+
+/// The given span, or else the identifier's own.
+fn span_of(env: &Environment, identifier: IdentifierId, span: Option<Span>) -> Option<Span>
+    ensures { result ≡ either_span span (identifier_span (slice_get env.now.identifiers identifier.0)) }
+{
+    match span {
+        Some(given) => Some(given),
+        None => match env.identifiers.get(identifier.0 as usize) {
+            Some(known) => known.span,
+            None => None,
+        },
+    }
+}
+
+fn uninitialized_labels(alloc: Global, span: Option<Span>) -> Result<List<Label>, AllocError>
+    ensures { IfOk result (λ l. l ≡ uninitialized_labels span) }
+{
+    let mut labels = List::new(alloc);
+    if let Some(span) = span {
+        let text = Some(Text::from_str(alloc, "this is uninitialized")?);
+        labels.push(Label { span, text })?;
+    }
+    Ok(labels)
+}
+
+/// What is told where an identifier is read that has no value. It points at the given span, or else at the
+/// identifier's own, or at nothing where neither is there. The one error is want of memory.
+pub fn uninitialized_report(
+    alloc: Global,
+    env: &Environment,
+    identifier: IdentifierId,
+    span: Option<Span>,
+) -> Result<Report, AllocError>
+    ensures { IfOk result (λ r. r ≡ uninitialized_report env.now identifier span) }
+{
+    let mut help = Text::from_str(alloc, "<unknown> ")?;
+    push_identifier(&mut help, env, identifier)?;
+    Ok(Report {
+        category: ErrorCategory::Invariant,
+        message: Text::from_str(
+            alloc,
+            "[InferMutationAliasingEffects] Expected value kind to be initialized",
+        )?,
+        help: Some(help),
+        labels: uninitialized_labels(alloc, span_of(env, identifier, span))?,
+    })
 }

@@ -1,0 +1,11 @@
+//! The rules of a well-formed unit.
+
+mod bare;
+mod blocks;
+pub mod check;
+mod effects;
+pub mod fault;
+pub mod function;
+mod ids;
+mod orders;
+mod standing;

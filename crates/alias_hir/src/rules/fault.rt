@@ -1,0 +1,51 @@
+//! Why a unit is refused.
+ghost use Rattle.std.specs.Prelude.{◌≡◌};
+ghost use Rattle.alias_hir.specs.declared.rules.fault.UnitFault.TheVariants.{Memory};
+
+use alias_base::{EvaluationOrder, FunctionId, InstructionId};
+use std::alloc::{AllocError, AllocFailed};
+
+/// A table that numbers refer to. A declaration's number is below the number of identifiers.
+#[derive(Clone, Copy, Debug, PartialEq, Eq)]
+pub enum Table {
+    Identifiers,
+    Types,
+    Instructions,
+    Declarations,
+}
+
+/// The rule that a unit breaks, or want of memory. `function` is `None` for the root.
+#[derive(Clone, Copy, Debug)]
+pub enum UnitFault {
+    /// A number is not below the length of its table.
+    IdOutOfRange { table: Table, number: u32 },
+    /// The entry is not a block.
+    EntryMissing { function: Option<FunctionId> },
+    /// An instruction of the function's list stands in no block: the one with the smallest number.
+    InstructionMissing {
+        function: Option<FunctionId>,
+        instruction: InstructionId,
+    },
+    /// An instruction stands a second time: the earliest such, over the blocks in stored order.
+    InstructionTwice {
+        function: Option<FunctionId>,
+        instruction: InstructionId,
+    },
+    /// The order of an instruction or a terminal is 0 or 4,294,967,295.
+    OrderOutOfRange {
+        function: Option<FunctionId>,
+        order: EvaluationOrder,
+    },
+    /// A range, a scope, effects or a report is there before the inference.
+    SomethingInferred,
+    /// Want of memory, which can come at any growth.
+    Memory(AllocError),
+}
+
+impl From<AllocError> for UnitFault {
+    ghost from_gives = { λ e f. f ≡ Memory e };
+
+    fn from(e: AllocError) -> UnitFault {
+        UnitFault::Memory(e)
+    }
+}
