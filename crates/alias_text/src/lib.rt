@@ -1,0 +1,4 @@
+//! Bytes in and out of the program, and what it prints.
+#![tactic(auto)]
+
+pub mod stream;
