@@ -1,9 +1,8 @@
 //! Reading to the end, and writing all.
-ghost use Rattle.std.specs.Prelude.{ℕ, ◌≡◌, ◌<◌, ◌≤◌, Err, length, take, IfOk, OnOk, OnErr};
+ghost use Rattle.std.specs.Prelude.{ℕ, ◌≡◌, ◌<◌, ◌≤◌, Err, vec_len, length, take, IfOk, OnOk, OnErr};
 ghost use Rattle.alias_text.specs.Streams.{Adds, HasFailed, IsAllOf, IfTold};
 ghost use Rattle.alias_text.specs.declared.stream.whole.ReadStop.{ReadStop};
 ghost use Rattle.alias_text.specs.declared.stream.sink.SinkStop.{SinkStop};
-ghost use Rattle.alias_text.specs.declared.stream.whole.ReadStop.TheVariants as stop;
 
 use crate::stream::sink::{Sink, SinkStop};
 use crate::stream::source::{Failed, Source};
@@ -28,7 +27,7 @@ pub enum ReadStop {
 }
 
 impl From<Failed> for ReadStop {
-    ghost from_gives = { λ _ s. s ≡ stop.Failed };
+    ghost from_gives = { λ _ s. s ≡ ReadStop.Failed };
 
     fn from(_e: Failed) -> ReadStop {
         ReadStop::Failed
@@ -36,11 +35,18 @@ impl From<Failed> for ReadStop {
 }
 
 impl From<AllocError> for ReadStop {
-    ghost from_gives = { λ e s. s ≡ stop.Memory e };
+    ghost from_gives = { λ e s. s ≡ ReadStop.Memory e };
 
     fn from(e: AllocError) -> ReadStop {
         ReadStop::Memory(e)
     }
+}
+
+/// Room for one read.
+fn new_chunk(alloc: Global) -> Result<Vec<u8>, AllocError>
+    ensures { IfOk result (λ v. vec_len v ≡ CHUNK) }
+{
+    vec![in alloc; 0; CHUNK]
 }
 
 /// Reads to the end, and gives all the bytes. An `Err` says that a read failed, that there are more than
@@ -51,7 +57,7 @@ pub fn read_whole<S: Source>(alloc: Global, source: &mut S) -> Result<List<u8>, 
     ensures too_long { result ≡ Err ReadStop.TooLong → IfTold (S.left source.old) (λ all. LIMIT < length all) }
     ensures faults { S.faults source.old ≤ S.faults source.new }
 {
-    let mut chunk = vec![in alloc; 0u8; CHUNK]?;
+    let mut chunk = new_chunk(alloc)?;
     let mut bytes = Vec::new(alloc);
     loop {
         let buf = chunk.as_mut_slice();
