@@ -2,6 +2,7 @@ pub mod Effects
 pub mod Fault
 pub mod Fitting
 pub mod Reports
+pub mod RuleFacts
 pub mod Rules
 pub mod Tables
 pub mod Terminals

@@ -50,8 +50,8 @@ uninitialized_labels (Some s) = record { span = s; text = Some (codes "this is u
 -- what is told where an identifier is read that has no value
 abbrev pub uninitialized_report : Environment → IdentifierId → Option Span → Report
 uninitialized_report env id span = record {
-    category = Invariant;
-    message = codes "[InferMutationAliasingEffects] Expected value kind to be initialized";
-    help = Some (codes "<unknown> " ++ printed_identifier env id);
-    labels = uninitialized_labels (either_span span (identifier_span (slice_get env.identifiers id.0)))
-  }
+  category = Invariant;
+  message = codes "[InferMutationAliasingEffects] Expected value kind to be initialized";
+  help = Some (codes "<unknown> " ++ printed_identifier env id);
+  labels = uninitialized_labels (either_span span (identifier_span (slice_get env.identifiers id.0)));
+}

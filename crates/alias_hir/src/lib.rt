@@ -10,5 +10,7 @@ pub mod place;
 pub mod report;
 pub mod rules;
 pub mod terminal;
+#[cfg(test)]
+mod tests;
 pub mod types;
 pub mod value;

@@ -61,7 +61,9 @@ fn terminal_is_bare(terminal: &Terminal) -> bool
 fn instructions_are_bare(instructions: &[Instruction]) -> bool
     ensures { result ≡ list_all instruction_is_bare instructions.now }
 {
-    instructions.iter().all(|instruction| instruction_is_bare(instruction))
+    instructions
+        .iter()
+        .all(|instruction| instruction_is_bare(instruction))
 }
 
 fn terminals_are_bare(body: &Hir) -> bool
@@ -87,7 +89,9 @@ fn function_is_bare(func: &HirFunction) -> bool
 fn identifiers_are_bare(identifiers: &[Identifier]) -> bool
     ensures { result ≡ list_all identifier_is_bare identifiers.now }
 {
-    identifiers.iter().all(|identifier| identifier_is_bare(identifier))
+    identifiers
+        .iter()
+        .all(|identifier| identifier_is_bare(identifier))
 }
 
 fn environment_is_bare(env: &Environment) -> bool

@@ -18,9 +18,14 @@ pub enum Table {
 #[derive(Clone, Copy, Debug)]
 pub enum UnitFault {
     /// A number is not below the length of its table.
-    IdOutOfRange { table: Table, number: u32 },
+    IdOutOfRange {
+        table: Table,
+        number: u32,
+    },
     /// The entry is not a block.
-    EntryMissing { function: Option<FunctionId> },
+    EntryMissing {
+        function: Option<FunctionId>,
+    },
     /// An instruction of the function's list stands in no block: the one with the smallest number.
     InstructionMissing {
         function: Option<FunctionId>,

@@ -17,9 +17,7 @@ use std::alloc::{AllocError, Global};
 fn tells_invariant(reports: &[Report]) -> bool
     ensures { result ≡ tells_invariant reports.now }
 {
-    reports
-        .iter()
-        .any(|report| matches!(report.category, ErrorCategory::Invariant))
+    reports.iter().any(|report| matches!(report.category, ErrorCategory::Invariant))
 }
 
 /// The first rule of a function that is broken, whether it is inferred or not.
