@@ -1,5 +1,6 @@
 //! A source and a sink in memory, in pieces and with failures as planned.
-ghost use Rattle.std.specs.Prelude.{ℕ, ◌≡◌, ◌+◌, ◌<◌, ◌≤◌, Bool, false, List, [], Option, Some, Err, length, take, IfOk, OnErr, is_err};
+ghost use Rattle.std.specs.Prelude.{ℕ, ◌≡◌, ◌+◌, ◌<◌, ◌≤◌, ◌↔◌, ◌++◌, min, Bool, false, List, [], Option, Some, Err, length, take, IfOk, OnErr, IsTrue, is_err};
+ghost use Rattle.alias_text.specs.declared.stream.sink.SinkStop.{SinkStop};
 ghost use Rattle.alias_text.specs.Streams.{Takes, IsAtEnd, Adds, HasFailed};
 ghost use Rattle.alias_text.specs.Memory.{Plan, Feed, Store, new_plan, fails_now, called};
 
@@ -99,7 +100,18 @@ impl Source for MemorySource {
 
     ghost at_last = { λ _. false };
 
-    fn read(&mut self, buf: &mut [u8]) -> Result<usize, Failed> {
+    /// Takes as many bytes as there are, as `buf` has room for, and as a piece has. The reads that are planned
+    /// to fail fail, and no others.
+    fn read(&mut self, buf: &mut [u8]) -> Result<usize, Failed>
+        ensures fails { is_err result ≡ fails_now self.old.plan }
+        ensures counted { self.new.plan ≡ called self.old.plan }
+        ensures piece { self.new.piece ≡ self.old.piece }
+        ensures most { IfOk result (λ n. n ≡ min (min (length buf.old) self.old.piece) (length self.old.left)) }
+        ensures count { IfOk result (λ n. n ≤ length buf.new) }
+        ensures taken { IfOk result (λ n. Takes (Some self.old.left) (take n buf.new) (Some self.new.left)) }
+        ensures end { IfOk result (λ n. n ≡ 0 → 0 < length buf.new → self.old.left ≡ []) }
+        ensures kept { OnErr result (self.new.left ≡ self.old.left) }
+    {
         if self.calls.fails_now() {
             return Err(Failed);
         }
@@ -161,7 +173,17 @@ impl Sink for MemorySink {
 
     ghost at_last = { λ _. false };
 
-    fn write(&mut self, piece: &[u8]) -> Result<usize, SinkStop> {
+    /// Adds as many bytes as there are and as a piece has. The writes that are planned to fail fail, and of
+    /// the others only those that want memory.
+    fn write(&mut self, piece: &[u8]) -> Result<usize, SinkStop>
+        ensures fails { IsTrue (fails_now self.old.plan) ↔ (result ≡ Err SinkStop.Failed) }
+        ensures counted { self.new.plan ≡ called self.old.plan }
+        ensures piece { self.new.piece ≡ self.old.piece }
+        ensures most { IfOk result (λ n. n ≡ min (length piece.now) self.old.piece) }
+        ensures some { IfOk result (λ n. 0 < length piece.now → 0 < n) }
+        ensures added { IfOk result (λ n. self.new.held ≡ self.old.held ++ take n piece.now) }
+        ensures kept { OnErr result (self.new.held ≡ self.old.held) }
+    {
         if self.calls.fails_now() {
             return Err(SinkStop::Failed);
         }
