@@ -3,6 +3,8 @@
 pub mod memory;
 pub mod sink;
 pub mod source;
+#[cfg(test)]
+mod tests;
 pub mod whole;
 
 pub use memory::{MemorySink, MemorySource};
