@@ -1,4 +1,5 @@
 //! Bytes in and out of the program, and what it prints.
 #![tactic(auto)]
 
+pub mod print;
 pub mod stream;
