@@ -47,13 +47,16 @@ abbrev pub mutation_text : Option MutationReason → List ℕ
 mutation_text None = []
 mutation_text (Some AssignCurrentProperty) = codes " AssignCurrentProperty"
 
+abbrev pub spaced : ℕ → List ℕ
+spaced n = codes " " ++ decimal n
+
 -- a name and one identifier
 abbrev pub one_text : List ℕ → Place → List ℕ
-one_text name place = name ++ codes " " ++ decimal place.identifier.0
+one_text name place = name ++ spaced place.identifier.0
 
 -- a name and two identifiers
 abbrev pub pair_text : List ℕ → Place → Place → List ℕ
-pair_text name from into = one_text name from ++ codes " " ++ decimal into.identifier.0
+pair_text name from into = one_text name from ++ spaced into.identifier.0
 
 abbrev pub create_text : Place → ValueKind → ValueReason → List ℕ
 create_text into value reason = one_text (codes "Create") into ++ codes " " ++ kind_word value ++ codes " " ++ reason_word reason

@@ -22,10 +22,10 @@ fails_now p = nat_lt (next_call p) 18446744073709551615 && list_any (λ k. nat_e
 -- after the next call
 abbrev pub called : Plan → Plan
 called p = record {
-    fails = p.fails;
-    calls = next_call p;
-    faults = if fails_now p then p.faults + 1 else p.faults
-  }
+  fails = p.fails;
+  calls = next_call p;
+  faults = if fails_now p then p.faults + 1 else p.faults;
+}
 
 -- a source: what is left, and how much a read takes at most
 pub record Feed : Type 0 where

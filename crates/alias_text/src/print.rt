@@ -3,3 +3,5 @@
 pub mod effects;
 pub mod functions;
 pub mod refusals;
+#[cfg(test)]
+mod tests;

@@ -1,6 +1,6 @@
 //! Effects as text.
 ghost use Rattle.std.specs.Prelude.{◌≡◌, ◌++◌, OnOk, IfOk};
-ghost use Rattle.alias_text.specs.Lines.{kind_word, reason_word, mutation_text, one_text, pair_text, create_text, freeze_text, mutate_text, effect_text};
+ghost use Rattle.alias_text.specs.Lines.{kind_word, reason_word, mutation_text, spaced, one_text, pair_text, create_text, freeze_text, mutate_text, effect_text};
 
 use alias_base::Text;
 use alias_hir::effect::{AliasingEffect, MutationReason, ValueKind, ValueReason};
@@ -39,13 +39,20 @@ fn reason_word(reason: ValueReason) -> &'static str
     }
 }
 
+/// Appends a space and a number.
+pub(super) fn push_spaced(out: &mut Text, number: u32) -> Result<(), AllocError>
+    ensures { OnOk result (out.new ≡ out.old ++ spaced number) }
+{
+    out.push_str(" ")?;
+    out.push_number(number as u64)
+}
+
 /// Appends a name and one identifier.
 fn push_one(out: &mut Text, name: &str, place: &Place) -> Result<(), AllocError>
     ensures { OnOk result (out.new ≡ out.old ++ one_text name.now place.now) }
 {
     out.push_str(name)?;
-    out.push_str(" ")?;
-    out.push_number(place.identifier.0 as u64)
+    push_spaced(out, place.identifier.0)
 }
 
 /// Appends a name and two identifiers.
@@ -53,8 +60,7 @@ fn push_pair(out: &mut Text, name: &str, from: &Place, into: &Place) -> Result<(
     ensures { OnOk result (out.new ≡ out.old ++ pair_text name.now from.now into.now) }
 {
     push_one(out, name, from)?;
-    out.push_str(" ")?;
-    out.push_number(into.identifier.0 as u64)
+    push_spaced(out, into.identifier.0)
 }
 
 fn push_create(
@@ -80,6 +86,15 @@ fn push_freeze(out: &mut Text, value: &Place, reason: ValueReason) -> Result<(),
     out.push_str(reason_word(reason))
 }
 
+fn push_mutation(out: &mut Text, reason: Option<MutationReason>) -> Result<(), AllocError>
+    ensures { OnOk result (out.new ≡ out.old ++ mutation_text reason) }
+{
+    match reason {
+        Some(MutationReason::AssignCurrentProperty) => out.push_str(" AssignCurrentProperty"),
+        None => Ok(()),
+    }
+}
+
 fn push_mutate(
     out: &mut Text,
     value: &Place,
@@ -88,10 +103,7 @@ fn push_mutate(
     ensures { OnOk result (out.new ≡ out.old ++ mutate_text value.now reason) }
 {
     push_one(out, "Mutate", value)?;
-    match reason {
-        Some(MutationReason::AssignCurrentProperty) => out.push_str(" AssignCurrentProperty"),
-        None => Ok(()),
-    }
+    push_mutation(out, reason)
 }
 
 /// Appends the effect: its name, and then its fields in their order. An `Err` is want of memory, and leaves

@@ -10,11 +10,7 @@ use alias_hir::hir::{BasicBlock, HirFunction, Instruction};
 use alias_hir::terminal::Terminal;
 use std::alloc::AllocError;
 
-fn push_effect_line(
-    out: &mut Text,
-    number: u32,
-    effect: &AliasingEffect,
-) -> Result<(), AllocError>
+fn push_effect_line(out: &mut Text, number: u32, effect: &AliasingEffect) -> Result<(), AllocError>
     ensures { OnOk result (out.new ≡ out.old ++ effect_line number effect.now) }
 {
     out.push_number(number as u64)?;

@@ -1,44 +1,67 @@
 //! Why a unit or a function is refused, as lines.
 ghost use Rattle.std.specs.Prelude.{◌≡◌, ◌++◌, OnOk};
-ghost use Rattle.alias_text.specs.Refusals.{uninitialized_text, reinitialized_text, refused_text, table_word, out_of_table_text, at_function_text, in_function_text, unfit_text};
+ghost use Rattle.alias_text.specs.Refusals.{refused_head, at_function_text, at_number_text, at_numbers_text, refused_text, table_word, out_of_table_text, unfit_text};
 
+use crate::print::effects::push_spaced;
 use crate::print::functions::push_function_name;
-use alias_base::{BlockId, FunctionId, IdentifierId, InstructionId, Text};
+use alias_base::{FunctionId, Text};
 use alias_hir::error::InferError;
 use alias_hir::rules::fault::{Table, UnitFault};
 use std::alloc::AllocError;
 
-fn push_uninitialized(
+/// Appends what is refused, and the function.
+fn push_refused_head(
     out: &mut Text,
+    name: &str,
     function: Option<FunctionId>,
-    block: BlockId,
-    identifier: IdentifierId,
 ) -> Result<(), AllocError>
-    ensures { OnOk result (out.new ≡ out.old ++ uninitialized_text function block identifier) }
+    ensures { OnOk result (out.new ≡ out.old ++ refused_head name.now function) }
 {
-    out.push_str("refused Uninitialized ")?;
-    push_function_name(out, function)?;
+    out.push_str("refused ")?;
+    out.push_str(name)?;
     out.push_str(" ")?;
-    out.push_number(block.0 as u64)?;
-    out.push_str(" ")?;
-    out.push_number(identifier.0 as u64)?;
+    push_function_name(out, function)
+}
+
+/// Appends the line of a refusal of a function.
+fn push_at_function(
+    out: &mut Text,
+    name: &str,
+    function: Option<FunctionId>,
+) -> Result<(), AllocError>
+    ensures { OnOk result (out.new ≡ out.old ++ at_function_text name.now function) }
+{
+    push_refused_head(out, name, function)?;
     out.push_str("\n")
 }
 
-fn push_reinitialized(
+/// Appends the line of a refusal at one number of a function.
+fn push_at_number(
     out: &mut Text,
+    name: &str,
     function: Option<FunctionId>,
-    instruction: InstructionId,
-    identifier: IdentifierId,
+    number: u32,
 ) -> Result<(), AllocError>
-    ensures { OnOk result (out.new ≡ out.old ++ reinitialized_text function instruction identifier) }
+    ensures { OnOk result (out.new ≡ out.old ++ at_number_text name.now function number) }
 {
-    out.push_str("refused Reinitialized ")?;
-    push_function_name(out, function)?;
-    out.push_str(" ")?;
-    out.push_number(instruction.0 as u64)?;
-    out.push_str(" ")?;
-    out.push_number(identifier.0 as u64)?;
+    push_refused_head(out, name, function)?;
+    push_spaced(out, number)?;
+    out.push_str("\n")
+}
+
+/// Appends the line of a refusal at two numbers of a function.
+fn push_at_numbers(
+    out: &mut Text,
+    name: &str,
+    function: Option<FunctionId>,
+    first: u32,
+    second: u32,
+) -> Result<(), AllocError>
+    ensures { OnOk result (out.new ≡ out.old ++ at_numbers_text name.now function first second) }
+{
+    push_refused_head(out, name, function)?;
+    push_spaced(out, first)?;
+    push_spaced(out, second)?;
     out.push_str("\n")
 }
 
@@ -53,12 +76,12 @@ pub fn push_refusal(out: &mut Text, error: &InferError) -> Result<(), AllocError
             block,
             identifier,
             ..
-        } => push_uninitialized(out, *function, *block, *identifier),
+        } => push_at_numbers(out, "Uninitialized", *function, block.0, identifier.0),
         InferError::Reinitialized {
             function,
             instruction,
             identifier,
-        } => push_reinitialized(out, *function, *instruction, *identifier),
+        } => push_at_numbers(out, "Reinitialized", *function, instruction.0, identifier.0),
         InferError::Memory(_) => Ok(()),
     }
 }
@@ -80,41 +103,7 @@ fn push_out_of_table(out: &mut Text, table: Table, number: u32) -> Result<(), Al
 {
     out.push_str("refused Unfit 1 ")?;
     out.push_str(table_word(table))?;
-    out.push_str(" ")?;
-    out.push_number(number as u64)?;
-    out.push_str("\n")
-}
-
-/// Appends the line of a rule that a function breaks.
-fn push_at_function(
-    out: &mut Text,
-    rule: &str,
-    function: Option<FunctionId>,
-) -> Result<(), AllocError>
-    ensures { OnOk result (out.new ≡ out.old ++ at_function_text rule.now function) }
-{
-    out.push_str("refused Unfit ")?;
-    out.push_str(rule)?;
-    out.push_str(" ")?;
-    push_function_name(out, function)?;
-    out.push_str("\n")
-}
-
-/// Appends the line of a rule that a number of a function breaks.
-fn push_in_function(
-    out: &mut Text,
-    rule: &str,
-    function: Option<FunctionId>,
-    number: u32,
-) -> Result<(), AllocError>
-    ensures { OnOk result (out.new ≡ out.old ++ in_function_text rule.now function number) }
-{
-    out.push_str("refused Unfit ")?;
-    out.push_str(rule)?;
-    out.push_str(" ")?;
-    push_function_name(out, function)?;
-    out.push_str(" ")?;
-    out.push_number(number as u64)?;
+    push_spaced(out, number)?;
     out.push_str("\n")
 }
 
@@ -125,17 +114,17 @@ pub fn push_unfit(out: &mut Text, fault: UnitFault) -> Result<(), AllocError>
 {
     match fault {
         UnitFault::IdOutOfRange { table, number } => push_out_of_table(out, table, number),
-        UnitFault::EntryMissing { function } => push_at_function(out, "2", function),
+        UnitFault::EntryMissing { function } => push_at_function(out, "Unfit 2", function),
         UnitFault::InstructionMissing {
             function,
             instruction,
-        } => push_in_function(out, "7", function, instruction.0),
+        } => push_at_number(out, "Unfit 7", function, instruction.0),
         UnitFault::InstructionTwice {
             function,
             instruction,
-        } => push_in_function(out, "8", function, instruction.0),
+        } => push_at_number(out, "Unfit 8", function, instruction.0),
         UnitFault::OrderOutOfRange { function, order } => {
-            push_in_function(out, "11", function, order.0)
+            push_at_number(out, "Unfit 11", function, order.0)
         }
         UnitFault::SomethingInferred => out.push_str("refused Unfit 12\n"),
         UnitFault::Memory(_) => Ok(()),

@@ -13,7 +13,13 @@ fn reads_in_pieces_and_fails_as_planned(rt: HostRuntime) -> Result<(), Fail> {
     let fails = List::from_slice(rt.alloc(), &[2u64])?;
     let mut source = MemorySource::new(bytes, 1, fails);
     let mut buf = [0u8; 4];
-    for (want, byte) in [(Some(1), b'a'), (None, b'a'), (Some(1), b'b'), (Some(1), b'c'), (Some(0), b'c')] {
+    for (want, byte) in [
+        (Some(1), b'a'),
+        (None, b'a'),
+        (Some(1), b'b'),
+        (Some(1), b'c'),
+        (Some(0), b'c'),
+    ] {
         assert_eq!(rt; source.read(&mut buf).ok(), want);
         assert_eq!(rt; buf[0], byte);
     }

@@ -4,10 +4,10 @@ use Rattle.alias_text.proofs.stream.whole.write_whole.Given as goal
 
 abbrev pub invariant-loop-written : goal.invariant-loop-written
 invariant-loop-written g l = record {
-    within : l.written ≤ length l.text;
-    added : Adds (g.K.Sink.held l.initial.sink) (take l.written l.text) (g.K.Sink.held l.sink);
-    faults : g.K.Sink.faults l.initial.sink ≤ g.K.Sink.faults l.sink
-  }
+  within : l.written ≤ length l.text;
+  added : Adds (g.K.Sink.held l.initial.sink) (take l.written l.text) (g.K.Sink.held l.sink);
+  faults : g.K.Sink.faults l.initial.sink ≤ g.K.Sink.faults l.sink;
+}
 
 abbrev pub decreases-loop-written : goal.decreases-loop-written
 decreases-loop-written g l = length l.text - l.written
