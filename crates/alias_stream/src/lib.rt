@@ -1,0 +1,14 @@
+//! Bytes that come from somewhere and go somewhere, where each call may fail.
+#![tactic(auto)]
+
+pub mod memory;
+pub mod sink;
+pub mod source;
+#[cfg(test)]
+mod tests;
+pub mod whole;
+
+pub use memory::{MemorySink, MemorySource};
+pub use sink::{Sink, SinkStop};
+pub use source::{Failed, Source};
+pub use whole::{LIMIT, ReadStop, read_whole, write_whole};

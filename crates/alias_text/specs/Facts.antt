@@ -1,0 +1,42 @@
+-- What follows for a unit that was read.
+use Rattle.std.specs.Prelude.{refl, ◌≡◌, ℕ, ◌^◌, ◌<◌, Bool, true, false, ◌&&◌, ◌==◌, List, [], length, Some, Result, Ok, Err, if◌then◌else◌}
+use Rattle.std.proofs.Common.{sym, ◌∙◌}
+use Rattle.std.proofs.lemmas.Bool.{ltb-true}
+use Rattle.alias_base.specs.Answer.{◌>>=◌}
+use Rattle.serde_json.specs.Data.{Data}
+use Rattle.alias_hir.specs.declared.env.Unit.{Unit as HirUnit}
+use Rattle.alias_text.specs.Fault.{refusal}
+use Rattle.alias_text.specs.Built.{built, fits}
+use Rattle.alias_text.specs.Units.{unit_at, unit_of, if_built, IsReading}
+use Rattle.alias_text.specs.declared.read.fault.TextFault.{TextFault}
+use Rattle.alias_text.specs.declared.read.fault.TextRule.TheVariants.{NotBuilt}
+
+-- bytes have one reading at most
+pub one_reading : (bytes : List ℕ) (d e : Data) → IsReading bytes d → IsReading bytes e → d ≡ e
+one_reading bytes d e r s = let both : Some d ≡ Some e = sym r.tree ∙ s.tree in cc
+
+built_by : (b : Bool) (v u : HirUnit) → built v ≡ b → (if b then Ok v else refusal [] NotBuilt) ≡ Ok u → built u ≡ true
+built_by true v u is e = cc
+built_by false v u is e = cc
+
+built_after : (r : Result HirUnit TextFault) (u : HirUnit) → (r >>= if_built) ≡ Ok u → built u ≡ true
+built_after (Ok v) u e = built_by (built v) v u refl e
+built_after (Err x) u e = cc
+
+-- a unit that was read is built
+pub unit_is_built : (d : Data) (u : HirUnit) → unit_of d ≡ Ok u → built u ≡ true
+unit_is_built d u e = built_after (unit_at [] d) u e
+
+both_true : (a b : Bool) → (a && b) ≡ true → (a ≡ true) × (b ≡ true)
+both_true true b e = (refl, e)
+both_true false b e = cc
+
+-- 32 bits count the instructions of a built unit
+pub built_fits : (u : HirUnit) → built u ≡ true → length u.function.instructions < 2 ^ 32
+built_fits u e =
+    let first : ((length u.function.body.blocks == 1) && fits u.env.identifiers && fits u.env.types && fits u.function.instructions) ≡ true = (both_true _ _ e).0 in
+    let fit : fits u.function.instructions ≡ true = (both_true _ _ first).1 in
+    ltb-true (length u.function.instructions) (2 ^ 32) fit
+
+pub instructions_fit : (d : Data) (u : HirUnit) → unit_of d ≡ Ok u → length u.function.instructions < 2 ^ 32
+instructions_fit d u e = built_fits u (unit_is_built d u e)

@@ -1,0 +1,10 @@
+pub mod Built
+pub mod Facts
+pub mod Fault
+pub mod Functions
+pub mod Lines
+pub mod Pointer
+pub mod Reading
+pub mod Refusals
+pub mod Units
+pub mod Values

@@ -1,0 +1,18 @@
+//! Reads a unit, which is written as JSON.
+
+pub mod built;
+pub mod fault;
+pub mod functions;
+pub mod json;
+pub mod only;
+pub mod path;
+pub mod tables;
+pub mod terminals;
+pub mod unit;
+pub mod values;
+
+#[cfg(test)]
+mod tests;
+
+pub use fault::{TextFault, TextRule};
+pub use unit::read_unit;
