@@ -8,11 +8,10 @@ pub mod only;
 pub mod path;
 pub mod tables;
 pub mod terminals;
-pub mod unit;
-pub mod values;
-
 #[cfg(test)]
 mod tests;
+pub mod unit;
+pub mod values;
 
 pub use fault::{TextFault, TextRule};
 pub use unit::read_unit;

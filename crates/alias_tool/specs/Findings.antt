@@ -2,9 +2,9 @@
 use Rattle.std.specs.Prelude.{◌≡◌, ℕ, ◌<◌, ◌≤◌, true, false, List, length, Option, Some, None, Result, Ok, Err}
 use Rattle.alias_hir.specs.Rules.{rules_hold}
 use Rattle.alias_hir.specs.declared.env.Unit.{Unit as HirUnit}
-use Rattle.alias_text.specs.Units.{UnitReading}
-use Rattle.alias_text.specs.Streams.{IsAllOf, IfTold}
-use Rattle.alias_text.specs.declared.TheConstants.{LIMIT}
+use Rattle.alias_text.specs.Units.{UnitReading, NoUnit}
+use Rattle.alias_stream.specs.Streams.{IsAllOf, IfTold}
+use Rattle.alias_stream.specs.declared.TheConstants.{LIMIT}
 use Rattle.alias_tool.specs.declared.status.Status.{Status}
 use Rattle.alias_tool.specs.declared.status.Status.TheVariants.{Done, Words, Unfit, Refused, ReadFault, WriteFault, TooLong, Memory, NotBuilt}
 use Rattle.alias_tool.specs.declared.inferred.Inferred.{Inferred}
@@ -25,7 +25,7 @@ IsChecked u status i = (rules_hold u ≡ Ok tt) × IsInferred u status i
 
 -- what the bytes of the whole input lead to: they are the JSON of no unit of built forms, or of one
 abbrev pub IsJudged : List ℕ → Status → Option Inferred → Type 0
-IsJudged bytes NotBuilt i = ((u : HirUnit) → UnitReading bytes u → ⊥) × (i ≡ None)
+IsJudged bytes NotBuilt i = NoUnit bytes × (i ≡ None)
 IsJudged bytes Memory i = i ≡ None
 IsJudged bytes status i = (u : HirUnit) × UnitReading bytes u × IsChecked u status i
 
@@ -37,4 +37,4 @@ IsFound words told failed ReadFault i = (is_command words ≡ true) × failed ×
 IsFound words told failed TooLong i = (is_command words ≡ true) × IfTold told (λ all. LIMIT < length all) × (i ≡ None)
 IsFound words told failed Memory i = i ≡ None
 IsFound words told failed status i =
-  (is_command words ≡ true) × (bytes : List ℕ) × IsAllOf told bytes × (length bytes ≤ LIMIT) × IsJudged bytes status i
+    (is_command words ≡ true) × (bytes : List ℕ) × IsAllOf told bytes × (length bytes ≤ LIMIT) × IsJudged bytes status i

@@ -2,7 +2,7 @@
 use Rattle.std.specs.Prelude.{◌≡◌, ℕ, List, take, Option, Some, None, Ok}
 use Rattle.alias_hir.specs.Rules.{rules_hold}
 use Rattle.alias_hir.specs.declared.env.Unit.{Unit as HirUnit}
-use Rattle.alias_text.specs.Streams.{Adds, IfTold}
+use Rattle.alias_stream.specs.Streams.{Adds, IfTold}
 use Rattle.alias_text.specs.Units.{UnitReading}
 use Rattle.alias_tool.specs.declared.status.Status.{Status}
 use Rattle.alias_tool.specs.declared.status.Status.TheVariants.{Done, Words, Unfit, Refused, ReadFault, WriteFault, TooLong, Memory, NotBuilt}
@@ -27,7 +27,7 @@ module _ (words : List (List ℕ)) (told : Option (List ℕ)) (read_failed write
 abbrev pub IsHeadlineOf : Option (List ℕ) → Option (List ℕ) → Option (List ℕ) → Option Inferred → Type 0
 IsHeadlineOf told held held' None = ⊥
 IsHeadlineOf told held held' (Some i) =
-  (u : HirUnit) × IfTold told (λ bytes. UnitReading bytes u) × (rules_hold u ≡ Ok tt) × AreSolved u.env (functions_of u) i.solved × Adds held (result_text i) held'
+    (u : HirUnit) × IfTold told (λ bytes. UnitReading bytes u) × (rules_hold u ≡ Ok tt) × AreSolved u.env (functions_of u) i.solved × Adds held (result_text i) held'
 
 abbrev pub IsHeadline : Option (List ℕ) → Option (List ℕ) → Option (List ℕ) → Status → Option Inferred → Type 0
 IsHeadline told held held' Done i = IsHeadlineOf told held held' i

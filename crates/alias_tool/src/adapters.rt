@@ -1,7 +1,7 @@
 //! Standard input as a source, and standard output as a sink. Nothing is told of what they hold.
 ghost use Rattle.std.specs.Prelude.{None, ◌==◌};
 
-use alias_text::stream::{Failed, Sink, SinkStop, Source};
+use alias_stream::{Failed, Sink, SinkStop, Source};
 use std::io::{Read, Write};
 
 /// A reader as a source.

@@ -1,16 +1,17 @@
 //! What the words and the input lead to, before anything is written.
 ghost use Rattle.std.specs.Prelude.{◌≡◌, ◌≤◌, length};
-ghost use Rattle.alias_text.specs.Streams.{HasFailed};
-ghost use Rattle.alias_tool.specs.Findings.{IsFound, IsJudged};
+ghost use Rattle.alias_stream.specs.Streams.{HasFailed};
+ghost use Rattle.alias_tool.specs.Findings.{IsFound, IsJudged, IsInferred};
 
 use crate::inferred::{Inferred, infer_unit};
 use crate::status::Status;
 use crate::words::is_command;
 use alias_base::Text;
 use alias_hir::error::InferError;
-use alias_hir::rules::{Checked, UnitFault, check_unit};
+use alias_hir::rules::check::{Checked, check_unit};
+use alias_hir::rules::fault::UnitFault;
+use alias_stream::{ReadStop, Source, read_whole};
 use alias_text::read::{TextFault, read_unit};
-use alias_text::stream::{ReadStop, Source, read_whole};
 use std::alloc::Global;
 
 /// A status, and what was inferred where the status is `Done`.

@@ -1,6 +1,6 @@
 //! A whole run: words and a source in, a status and a text out.
 ghost use Rattle.std.specs.Prelude.{◌≡◌, ◌≤◌};
-ghost use Rattle.alias_text.specs.Streams.{HasFailed};
+ghost use Rattle.alias_stream.specs.Streams.{HasFailed};
 ghost use Rattle.alias_tool.specs.Runs.{IsRun, IsHeadline};
 
 use crate::finding::{Finding, find};
@@ -8,7 +8,7 @@ use crate::inferred::Inferred;
 use crate::status::Status;
 use crate::text::text_of;
 use alias_base::Text;
-use alias_text::stream::{Sink, SinkStop, Source, write_whole};
+use alias_stream::{Sink, SinkStop, Source, write_whole};
 use std::alloc::Global;
 
 /// How a run ended, and what was inferred where the status is `Done`.
@@ -37,11 +37,9 @@ pub fn run_alias<S: Source, K: Sink>(
     source: &mut S,
     sink: &mut K,
 ) -> Outcome
-    ensures run {
-        let read_failed = HasFailed (S.faults source.old) (S.faults source.new) (S.at_last source.new) in
+    ensures run { let read_failed = HasFailed (S.faults source.old) (S.faults source.new) (S.at_last source.new) in
         let write_failed = HasFailed (K.faults sink.old) (K.faults sink.new) (K.at_last sink.new) in
-        IsRun words.now (S.left source.old) read_failed write_failed (K.held sink.old) (K.held sink.new) result.status result.inferred
-    }
+        IsRun words.now (S.left source.old) read_failed write_failed (K.held sink.old) (K.held sink.new) result.status result.inferred }
     ensures headline { IsHeadline (S.left source.old) (K.held sink.old) (K.held sink.new) result.status result.inferred }
 {
     let finding = find(alloc, words, source);

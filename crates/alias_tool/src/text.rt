@@ -9,7 +9,8 @@ use crate::status::Status;
 use alias_base::Text;
 use alias_effects::Solved;
 use alias_hir::hir::HirFunction;
-use alias_text::print::{push_block, push_function_head, push_refused, push_unfit};
+use alias_text::print::functions::{push_block, push_function_head};
+use alias_text::print::refusals::{push_refusal as push_refused, push_unfit};
 use std::alloc::{AllocError, Global};
 
 fn push_function(out: &mut Text, func: &HirFunction, solved: &Solved) -> Result<(), AllocError>
@@ -36,7 +37,7 @@ fn push_refusal(out: &mut Text, status: &Status) -> Result<(), AllocError>
 {
     match status {
         Status::Words => out.push_str("refused Words\n"),
-        Status::Unfit(fault) => push_unfit(out, fault),
+        Status::Unfit(fault) => push_unfit(out, *fault),
         Status::Refused(error) => push_refused(out, error),
         Status::ReadFault => out.push_str("refused ReadFault\n"),
         Status::TooLong => out.push_str("refused TooLong\n"),
