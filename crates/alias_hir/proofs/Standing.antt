@@ -1,12 +1,12 @@
 -- A set of numbers stands for a list of them.
-use Rattle.std.proofs.Common.{◌≡◌, ℕ, ◌+◌, ◌<◌, ◌≤◌, ◌-◌, ◌≢◌, ◌⊎◌, inl, inr, Bool, true, false, cond, ◌||◌, List, [], ◌∷◌, ◌++◌, drop, length, refl, sym, ◌∙◌, ap, arith, nat_eq, get_or, drop-cons, add-one}
-use Rattle.std.specs.Prelude.{not, Option, Some, None}
-use Rattle.std.specs.List.{list_any, find, range_with_len}
+use Rattle.std.proofs.Common.{◌≡◌, ℕ, ◌+◌, ◌<◌, ◌≤◌, ◌-◌, true, false, cond, ◌||◌, List, [], ◌∷◌, drop, length, ◌∙◌, ap, arith, nat_eq, get_or, drop-cons, add-one}
+use Rattle.std.specs.Prelude.{not}
+use Rattle.std.specs.List.{find, range_with_len}
 use Rattle.std.specs.Ordering.{nat_cmp}
 use Rattle.std.specs.BTreeSet.{BTreeSet, contains, Updates, IsEmpty}
 use Rattle.std.specs.BTreeMap.{is_at}
 use Rattle.std.proofs.lemmas.Grind.{common_steps}
-use Rattle.alias_hir.specs.Rules.{stands_in, first_again, first_missing}
+use Rattle.alias_hir.specs.Rules.{stands_in, first_again}
 
 -- the set has what stands in xs
 abbrev pub Has : BTreeSet ℕ → List ℕ → Type 0
@@ -24,18 +24,12 @@ has_none s e q = grind (arith, common_steps)
 pub has_more : (s n : BTreeSet ℕ) (xs : List ℕ) (k : ℕ) → Has s xs → Updates nat_cmp s n k true → Has n (k ∷ xs)
 has_more s n xs k h u q = let a : contains nat_cmp n q ≡ cond (is_at (nat_cmp k) q) true (contains nat_cmp s q) = u.0 q in let b : contains nat_cmp s q ≡ stands_in xs q = h q in grind (arith, common_steps, is_at-nat)
 
-pub first_again_seen : (seen xs ys : List ℕ) (x : ℕ) → ys ≡ x ∷ xs → stands_in seen x ≡ true → first_again seen ys ≡ Some x
-first_again_seen seen xs ys x e h = grind (arith, common_steps)
-
 pub first_again_new : (seen xs ys : List ℕ) (x : ℕ) → ys ≡ x ∷ xs → stands_in seen x ≡ false → first_again seen ys ≡ first_again (x ∷ seen) xs
 first_again_new seen xs ys x e h = grind (arith, common_steps)
 
 pub has_next : (s n : BTreeSet ℕ) (xs ys : List ℕ) (x q : ℕ) → xs ≡ x ∷ ys → Updates nat_cmp s n x true
     → (contains nat_cmp s q || stands_in xs q) ≡ (contains nat_cmp n q || stands_in ys q)
 has_next s n xs ys x q e u = let a : contains nat_cmp n q ≡ cond (is_at (nat_cmp x) q) true (contains nat_cmp s q) = u.0 q in grind (arith, common_steps, is_at-nat)
-
-pub first_missing_here : (xs : List ℕ) (k m : ℕ) → 1 ≤ m → stands_in xs k ≡ false → find (λ j. not (stands_in xs j)) (range_with_len k m) ≡ Some k
-first_missing_here xs k m h e = grind (arith, common_steps)
 
 pub first_missing_later : (xs : List ℕ) (k m : ℕ) → 1 ≤ m → stands_in xs k ≡ true → find (λ j. not (stands_in xs j)) (range_with_len k m) ≡ find (λ j. not (stands_in xs j)) (range_with_len (k + 1) (m - 1))
 first_missing_later xs k m h e = grind (arith, common_steps)

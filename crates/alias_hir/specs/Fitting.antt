@@ -1,8 +1,7 @@
 -- What the inference asks of a function that may be inferred already.
-use Rattle.std.specs.Prelude.{Bool, true, false, not, ◌&&◌, List, [], ◌∷◌, ◌++◌, Option, Some, None, Result, Ok, Err, is_ok, ⊤}
+use Rattle.std.specs.Prelude.{Bool, true, false, not, ◌&&◌, List, Option, Some, None, Result, Ok, is_ok, ⊤}
 use Rattle.std.specs.List.{list_any}
 use Rattle.alias_base.specs.Answer.{◌>>=◌, all_pass}
-use Rattle.alias_base.specs.declared.ids.FunctionId.{FunctionId}
 use Rattle.alias_hir.specs.Effects.{effect_places}
 use Rattle.alias_hir.specs.Rules.{place_fits, tables_fit, numbers_fit, entry_stands, none_stands_twice, orders_fit}
 use Rattle.alias_hir.specs.Terminals.{terminal_effects}

@@ -1,13 +1,13 @@
 -- What follows for a caller from the rules.
-use Rattle.std.specs.Prelude.{◌≡◌, ℕ, zero, suc, Bool, true, false, not, ◌&&◌, ◌==◌, List, [], ◌∷◌, length, slice_get, is_some, is_none, is_ok, Option, Some, None, Result, Ok, Err, ⊤, if◌then◌else◌}
+use Rattle.std.specs.Prelude.{◌≡◌, ℕ, zero, suc, Bool, true, false, ◌&&◌, ◌==◌, List, [], ◌∷◌, length, slice_get, is_some, is_none, is_ok, Option, Some, None, Result, Ok, Err, ⊤, if◌then◌else◌}
 use Rattle.std.specs.List.{list_all}
-use Rattle.std.proofs.Common.{refl, arith, ap, sym, ◌∙◌, subst}
+use Rattle.std.proofs.Common.{refl, arith}
 use Rattle.std.proofs.lemmas.Grind.{common_steps}
 use Rattle.alias_base.specs.Answer.{◌>>=◌, all_pass}
 use Rattle.alias_base.specs.Find.{value_at}
 use Rattle.alias_base.specs.declared.ids.BlockId.{BlockId}
 use Rattle.alias_hir.specs.Fitting.{recorded_fit, effects_fit, function_rules, tells_invariant, function_fits}
-use Rattle.alias_hir.specs.Rules.{identifier_is_bare, instruction_is_bare, terminal_is_bare, tables_fit, numbers_fit, entry_stands, instructions_stand, none_stands_twice, orders_fit, environment_is_bare, function_is_bare, nothing_inferred, rules_hold}
+use Rattle.alias_hir.specs.Rules.{identifier_is_bare, instruction_is_bare, terminal_is_bare, tables_fit, numbers_fit, entry_stands, instructions_stand, none_stands_twice, orders_fit, environment_is_bare, function_is_bare, rules_hold}
 use Rattle.alias_hir.specs.Terminals.{terminal_effects}
 use Rattle.alias_hir.specs.declared.effect.AliasingEffect.{AliasingEffect}
 use Rattle.alias_hir.specs.declared.env.Environment.{Environment}
@@ -16,7 +16,6 @@ use Rattle.alias_hir.specs.declared.hir.BasicBlock.{BasicBlock}
 use Rattle.alias_hir.specs.declared.hir.HirFunction.{HirFunction}
 use Rattle.alias_hir.specs.declared.hir.Instruction.{Instruction}
 use Rattle.alias_hir.specs.declared.report.Report.{Report}
-use Rattle.alias_hir.specs.declared.rules.fault.UnitFault.{UnitFault}
 
 -- ---- parts of what holds
 
@@ -46,6 +45,7 @@ all_at p [] i x h e = cc
 all_at p (y ∷ ys) zero x h e = let q : y ≡ x = cc in let r : p y ≡ true = (both_true (p y) (list_all p ys) h).0 in cc
 all_at p (y ∷ ys) (suc i) x h e = all_at p ys i x (both_true (p y) (list_all p ys) h).1 e
 
+-- each item of a list that passes
 pub passes_at : {A E : Type 0} (f : A → Result ⊤ E) (xs : List A) (i : ℕ) (x : A) → all_pass f xs ≡ Ok tt → slice_get xs i ≡ Some x → f x ≡ Ok tt
 passes_at f [] i x h e = cc
 passes_at f (y ∷ ys) zero x h e = let p : y ≡ x = cc in let q : f y ≡ Ok tt = (both_pass (f y) (all_pass f ys) h).0 in cc
@@ -125,23 +125,29 @@ kept_function_fits u h =
     let r : tells_invariant u.env.errors ≡ false = no_reports u.env.errors (both_true _ (list_all identifier_is_bare u.env.identifiers) k.environment).0 in
     rw (k.tables, k.numbers, k.entry, k.once, k.orders, e, r) refl
 
+-- the entry is a block
 pub kept_entry : (u : HirUnit) → rules_hold u ≡ Ok tt → is_some (value_at u.function.body.blocks u.function.body.entry) ≡ true
 kept_entry u h = asked _ _ (Ok tt) refl (kept u h).entry
 
+-- no instruction has effects
 pub kept_instruction : (u : HirUnit) (i : ℕ) (x : Instruction) → rules_hold u ≡ Ok tt → slice_get u.function.instructions i ≡ Some x → x.effects ≡ None
 kept_instruction u i x h e = nothing_there _ (instruction_bare x (all_at instruction_is_bare _ i x (bare u.function (kept u h).function).instructions e))
 
+-- no terminal has effects
 pub kept_terminal : (u : HirUnit) (i : ℕ) (b : BlockId × BasicBlock) → rules_hold u ≡ Ok tt → slice_get u.function.body.blocks i ≡ Some b → terminal_effects b.1.terminal ≡ None
 kept_terminal u i b h e = nothing_there _ (terminal_bare b (all_at (λ (e : BlockId × BasicBlock). terminal_is_bare e.1.terminal) _ i b (bare u.function (kept u h).function).terminals e))
 
+-- there is no summary
 pub kept_summary : (u : HirUnit) → rules_hold u ≡ Ok tt → u.function.aliasing_effects ≡ None
 kept_summary u h = nothing_there _ (bare u.function (kept u h).function).summary
 
 -- ---- what a function that the inference takes has
 
+-- the function keeps its rules
 pub fitting_rules : (f : HirFunction) (env : Environment) → function_fits f env ≡ true → function_rules env f ≡ Ok tt
 fitting_rules f env h = passed _ (both_true _ _ h).0
 
+-- the entry is a block
 pub fitting_entry : (f : HirFunction) (env : Environment) → function_fits f env ≡ true → is_some (value_at f.body.blocks f.body.entry) ≡ true
 fitting_entry f env h =
     let a = both_pass (tables_fit env) _ (fitting_rules f env h) in

@@ -1,13 +1,11 @@
 -- The rules of a well-formed unit, in their order. Each is the first fault that it finds.
-use Rattle.std.specs.Prelude.{ℕ, Bool, true, false, not, ◌&&◌, ◌||◌, List, [], ◌∷◌, ◌++◌, length, map, nat_eq, nat_lt, is_some, is_none, ◌==◌, Option, Some, None, Result, Ok, Err, ⊤, if◌then◌else◌}
+use Rattle.std.specs.Prelude.{ℕ, Bool, true, false, not, ◌&&◌, ◌||◌, List, [], ◌∷◌, length, map, nat_eq, nat_lt, is_some, is_none, ◌==◌, Option, Some, None, Result, Ok, Err, ⊤, if◌then◌else◌}
 use Rattle.std.specs.List.{flat_map, range_with_len, find, list_any, list_all}
-use Rattle.std.specs.Option.{option_map_or}
 use Rattle.alias_base.specs.Answer.{◌>>=◌, all_pass}
 use Rattle.alias_base.specs.Find.{value_at}
 use Rattle.alias_base.specs.declared.ids.BlockId.{BlockId}
 use Rattle.alias_base.specs.declared.ids.EvaluationOrder.{EvaluationOrder}
 use Rattle.alias_base.specs.declared.ids.FunctionId.{FunctionId}
-use Rattle.alias_base.specs.declared.ids.InstructionId.{InstructionId}
 use Rattle.alias_hir.specs.Terminals.{evaluation_order, terminal_places, terminal_effects}
 use Rattle.alias_hir.specs.Values.{places_of}
 use Rattle.alias_hir.specs.declared.env.Environment.{Environment}
@@ -31,6 +29,7 @@ use Rattle.alias_hir.specs.declared.terminal.Terminal.{Terminal}
 abbrev pub below : Table → ℕ → ℕ → Result ⊤ UnitFault
 below table len number = if nat_lt number len then Ok tt else Err (IdOutOfRange table number)
 
+-- the identifier is in the table
 abbrev pub place_fits : Environment → Place → Result ⊤ UnitFault
 place_fits env p = below Identifiers (length env.identifiers) p.identifier.0
 
@@ -40,6 +39,7 @@ identifier_fits env i = do
   _ ← below Declarations (length env.identifiers) i.declaration_id.0
   below Types (length env.types) i.type_.0
 
+-- the identifiers, in their order
 abbrev pub tables_fit : Environment → Result ⊤ UnitFault
 tables_fit env = all_pass (identifier_fits env) env.identifiers
 
@@ -67,6 +67,7 @@ numbers_fit env func = do
 abbrev pub is_block : HirFunction → BlockId → Bool
 is_block func b = is_some (value_at func.body.blocks b)
 
+-- the function begins with one of its blocks
 abbrev pub entry_stands : Option FunctionId → HirFunction → Result ⊤ UnitFault
 entry_stands f func = if is_block func func.body.entry then Ok tt else Err (EntryMissing f)
 
@@ -87,6 +88,7 @@ abbrev pub missing : Option FunctionId → Option ℕ → Result ⊤ UnitFault
 missing f None = Ok tt
 missing f (Some k) = Err (InstructionMissing f (record { 0 = k }))
 
+-- each instruction of the list stands in some block; the fault names the smallest that does not
 abbrev pub instructions_stand : Option FunctionId → HirFunction → Result ⊤ UnitFault
 instructions_stand f func = missing f (first_missing (length func.instructions) (standing func))
 
@@ -101,12 +103,13 @@ abbrev pub twice : Option FunctionId → Option ℕ → Result ⊤ UnitFault
 twice f None = Ok tt
 twice f (Some k) = Err (InstructionTwice f (record { 0 = k }))
 
--- the fault names the earliest second standing
+-- no instruction stands in two places of the blocks; the fault names the earliest second standing
 abbrev pub none_stands_twice : Option FunctionId → HirFunction → Result ⊤ UnitFault
 none_stands_twice f func = twice f (first_again [] (standing func))
 
 -- ---- orders are neither unset nor the last number
 
+-- the order is neither 0 nor 4,294,967,295
 abbrev pub order_fits : Option FunctionId → EvaluationOrder → Result ⊤ UnitFault
 order_fits f o = if (o.0 == 0) || (o.0 == 4294967295) then Err (OrderOutOfRange f o) else Ok tt
 
@@ -148,14 +151,17 @@ function_is_bare func =
     is_none func.aliasing_effects && place_is_bare func.returns && list_all instruction_is_bare func.instructions
     && list_all (λ (e : BlockId × BasicBlock). terminal_is_bare e.1.terminal) func.body.blocks
 
+-- no reports, and no identifier has a range or a scope
 abbrev pub environment_is_bare : Environment → Bool
 environment_is_bare env = (length env.errors == 0) && list_all identifier_is_bare env.identifiers
 
+-- neither the tables nor the function say what the inference is to find
 abbrev pub nothing_inferred : HirUnit → Result ⊤ UnitFault
 nothing_inferred u = if environment_is_bare u.env && function_is_bare u.function then Ok tt else Err SomethingInferred
 
 -- ---- all rules, in order
 
+-- the first of the rules that is broken
 abbrev pub rules_hold : HirUnit → Result ⊤ UnitFault
 rules_hold u = do
   _ ← tables_fit u.env

@@ -1,5 +1,5 @@
 -- Types, and the questions that are asked of them.
-use Rattle.std.specs.Prelude.{Bool, true, false, Option, None, Some, slice_get, option_and_then}
+use Rattle.std.specs.Prelude.{Bool, true, false, Option, None, Some, slice_get}
 use Rattle.std.specs.Option.{option_map_or}
 use Rattle.alias_base.specs.declared.ids.IdentifierId.{IdentifierId}
 use Rattle.alias_hir.specs.declared.types.Ty.{Ty}

@@ -1,6 +1,6 @@
 use Rattle.std.proofs.Common.{◌∙◌, sym, ◌∷◌, arith}
 use Rattle.std.proofs.lemmas.Grind.{common_steps}
-use Rattle.alias_hir.proofs.Standing.{from_index, has_more, first_again_seen, first_again_new}
+use Rattle.alias_hir.proofs.Standing.{from_index, has_more, first_again_new}
 use Rattle.alias_hir.proofs.rules.standing.first_again.Goals as goal
 
 pub loop-number-preserved : goal.loop-number-preserved
