@@ -4,16 +4,19 @@ use Rattle.alias_hir.specs.Rules.{rules_hold}
 use Rattle.alias_hir.specs.declared.env.Unit.{Unit as HirUnit}
 use Rattle.alias_text.specs.Units.{UnitReading, NoUnit}
 use Rattle.alias_stream.specs.Streams.{IsAllOf, IfTold}
-use Rattle.alias_stream.specs.declared.TheConstants.{LIMIT}
 use Rattle.alias_tool.specs.declared.status.Status.{Status}
 use Rattle.alias_tool.specs.declared.status.Status.TheVariants.{Done, Words, Unfit, Refused, ReadFault, WriteFault, TooLong, Memory, NotBuilt}
 use Rattle.alias_tool.specs.declared.inferred.Inferred.{Inferred}
-use Rattle.alias_tool.specs.Inferences.{inferred_unit}
+use Rattle.alias_tool.specs.Inferences.{inferred_unit, functions_of, AreSolved}
 use Rattle.alias_tool.specs.Words.{is_command}
 
--- what a unit that keeps the rules leads to
+-- the greatest input, in bytes
+abbrev pub greatest_input : ℕ
+greatest_input = 16777216
+
+-- what a unit that keeps the rules leads to: its functions are solved, or its root is refused
 abbrev pub IsInferred : HirUnit → Status → Option Inferred → Type 0
-IsInferred u Done (Some i) = inferred_unit u ≡ Ok i
+IsInferred u Done (Some i) = (inferred_unit u ≡ Ok i) × AreSolved u.env (functions_of u) i.solved
 IsInferred u (Refused e) None = inferred_unit u ≡ Err e
 IsInferred u Memory None = Unit {0}
 IsInferred u status i = ⊥
@@ -34,7 +37,7 @@ IsJudged bytes status i = (u : HirUnit) × UnitReading bytes u × IsChecked u st
 abbrev pub IsFound : List (List ℕ) → Option (List ℕ) → Type 0 → Status → Option Inferred → Type 0
 IsFound words told failed Words i = (is_command words ≡ false) × (i ≡ None)
 IsFound words told failed ReadFault i = (is_command words ≡ true) × failed × (i ≡ None)
-IsFound words told failed TooLong i = (is_command words ≡ true) × IfTold told (λ all. LIMIT < length all) × (i ≡ None)
+IsFound words told failed TooLong i = (is_command words ≡ true) × IfTold told (λ all. greatest_input < length all) × (i ≡ None)
 IsFound words told failed Memory i = i ≡ None
 IsFound words told failed status i =
-    (is_command words ≡ true) × (bytes : List ℕ) × IsAllOf told bytes × (length bytes ≤ LIMIT) × IsJudged bytes status i
+    (is_command words ≡ true) × (bytes : List ℕ) × IsAllOf told bytes × (length bytes ≤ greatest_input) × IsJudged bytes status i

@@ -51,7 +51,8 @@ fn judge(alloc: Global, bytes: &[u8]) -> Finding
     let unit = match read_unit(alloc, bytes) {
         Ok(unit) => unit,
         Err(TextFault::Memory(_)) => return found(Status::Memory),
-        Err(_) => return found(Status::NotBuilt),
+        Err(TextFault::NotJson) => return found(Status::NotBuilt),
+        Err(TextFault::NotUnit { .. }) => return found(Status::NotBuilt),
     };
     match check_unit(alloc, unit) {
         Ok(checked) => infer_checked(alloc, checked),

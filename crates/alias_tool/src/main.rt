@@ -18,7 +18,7 @@ use std::process::ExitCode;
 use std::rt::Env;
 
 /// The words of the command line, without the program's name.
-fn words_of(rt: &impl Env, alloc: Global) -> io::Result<Vec<Text>> {
+fn words_of(rt: &(impl Env + AllocGlobal), alloc: Global) -> io::Result<Vec<Text>> {
     let mut words = Vec::new(alloc);
     for word in std::env::args(rt)?.skip(1) {
         words.push(Text::from_string(word))?;
