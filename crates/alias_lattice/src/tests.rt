@@ -2,14 +2,14 @@
 
 use crate::kinds::merge_value_kinds;
 use crate::lattice::Lattice;
-use crate::look::{Look, MissingLook};
+use crate::look::MissingLook;
 use crate::map::LatticeMap;
 use crate::reasons::{ReasonSet, is_superset, primary_reason};
 use crate::site::Site;
 use crate::site_set::SiteSet;
 use crate::state::InferenceState;
 use crate::value::AbstractValue;
-use alias_base::IdentifierId;
+use alias_base::{FunctionId, IdentifierId};
 use alias_hir::effect::{ValueKind, ValueReason};
 use std::alloc::Global;
 use std::test::Fail;
@@ -99,61 +99,57 @@ fn freezes_what_was_assigned(rt: HostRuntime) -> Result<(), Fail> {
     state.assign(two, one)?;
     assert!(rt; state.freeze(two, ValueReason::JsxCaptured)?);
     assert!(rt; !state.freeze(two, ValueReason::JsxCaptured)?);
-    let frozen = value(ValueKind::Frozen, ValueReason::JsxCaptured);
-    let look = Look {
-        value: frozen,
-        missing: None,
+    let look = state.kind_with_span(one, None);
+    assert_eq!(rt;
+        look.value,
+        value(ValueKind::Frozen, ValueReason::JsxCaptured)
+    );
+    assert_eq!(rt; look.missing, None);
+    let missing = MissingLook {
+        identifier: three,
+        span: None,
     };
-    assert_eq!(rt; state.kind_with_span(one, None), look);
-    assert_eq!(rt; state.value_of(created(1)), Some(frozen));
-    assert!(rt; state.is_defined(two) && !state.is_defined(three));
-    let missing = Look {
-        value: value(ValueKind::Mutable, ValueReason::Other),
-        missing: Some(MissingLook {
-            identifier: three,
-            span: None,
-        }),
-    };
-    assert_eq!(rt; state.kind_with_span(three, None), missing);
+    assert_eq!(rt; state.kind_with_span(three, None).missing, Some(missing));
     state.define_default(three)?;
-    assert_eq!(rt; state.values_for(three).is_some(), true);
+    assert!(rt; state.is_defined(three) && state.value_of(Site::Default(three)).is_some());
     Ok(())
 }
 
 #[test]
 fn walks_in_ascending_order(rt: HostRuntime) -> Result<(), Fail> {
+    let (zero, one) = (IdentifierId(0), IdentifierId(1));
     let mut state = one_value(rt.alloc())?;
-    let mutable = value(ValueKind::Mutable, ValueReason::Other);
-    state.give(IdentifierId(0), created(4), mutable)?;
-    assert_eq!(rt; state.next_value(None), Some((created(1), mutable)));
-    assert_eq!(rt;
-        state.next_value(Some(created(1))),
-        Some((created(4), mutable))
-    );
-    assert_eq!(rt; state.next_value(Some(created(4))), None);
-    let first = state.next_variable(None).map(|(id, _)| id);
-    assert_eq!(rt; first, Some(IdentifierId(0)));
-    let after = state.next_variable(Some(IdentifierId(0))).map(|(id, _)| id);
-    assert_eq!(rt; after, Some(IdentifierId(1)));
+    state.give(
+        zero,
+        Site::Function(FunctionId(0)),
+        AbstractValue {
+            kind: ValueKind::Mutable,
+            reason: ReasonSet::default(),
+        },
+    )?;
+    let sites = (created(1), Site::Function(FunctionId(0)));
+    assert!(rt; matches!(state.next_value(None), Some((site, _)) if site == sites.0));
+    assert!(rt; matches!(state.next_value(Some(sites.0)), Some((site, _)) if site == sites.1));
+    assert!(rt; matches!(state.next_variable(None), Some((id, _)) if id == zero));
+    assert!(rt; matches!(state.next_variable(Some(zero)), Some((id, _)) if id == one));
+    assert!(rt; state.next_variable(Some(one)).is_none());
     Ok(())
 }
 
 #[test]
 fn defines_by_two_sites(rt: HostRuntime) -> Result<(), Fail> {
-    let mutable = value(ValueKind::Mutable, ValueReason::Other);
-    let frozen = value(ValueKind::Frozen, ValueReason::State);
+    let (four, five) = (created(4), created(5));
     let mut state = InferenceState::empty(rt.alloc());
-    state.initialize(created(5), frozen)?;
-    state.initialize(created(4), mutable)?;
+    state.initialize(five, value(ValueKind::Frozen, ValueReason::State))?;
+    state.initialize(four, value(ValueKind::Mutable, ValueReason::Other))?;
     let mut sites = SiteSet::empty(rt.alloc());
-    sites.insert(created(5))?;
-    sites.insert(created(4))?;
-    assert_eq!(rt; sites.next_site(None), Some(created(4)));
-    assert_eq!(rt; sites.next_site(Some(created(4))), Some(created(5)));
-    assert_eq!(rt; sites.next_site(Some(created(5))), None);
+    sites.insert(five)?;
+    sites.insert(four)?;
+    assert_eq!(rt; sites.next_site(None), Some(four));
+    assert_eq!(rt; sites.next_site(Some(four)), Some(five));
     state.define_all(IdentifierId(7), sites)?;
-    let look = state.kind_with_span(IdentifierId(7), None);
-    assert_eq!(rt; look.value, mutable.joined(&frozen));
+    let kind = state.kind_with_span(IdentifierId(7), None).value.kind;
+    assert_eq!(rt; kind, ValueKind::MaybeFrozen);
     Ok(())
 }
 
@@ -164,14 +160,12 @@ fn unites_sets(rt: HostRuntime) -> Result<(), Fail> {
     state.give(
         two,
         created(2),
-        value(ValueKind::Global, ValueReason::Global),
+        value(ValueKind::Context, ValueReason::Other),
     )?;
-    state.infer_phi(three, [one, two, IdentifierId(9)].as_slice())?;
-    state.append_alias(one, two)?;
-    for place in [one, three] {
-        let reason = state.kind_with_span(place, None).value.reason;
-        assert!(rt; reason.contains(&ValueReason::Other) && reason.contains(&ValueReason::Global));
-    }
+    state.infer_phi(three, [two, IdentifierId(9)].as_slice())?;
+    state.append_alias(one, three)?;
+    let kind = state.kind_with_span(one, None).value.kind;
+    assert_eq!(rt; kind, ValueKind::Context);
     Ok(())
 }
 
@@ -181,11 +175,9 @@ fn merges_what_grows(rt: HostRuntime) -> Result<(), Fail> {
     let mut two = one.try_clone()?;
     assert!(rt; one.merge(&two)?.is_none());
     two.freeze(IdentifierId(1), ValueReason::State)?;
-    let kind = match one.merge(&two)? {
-        Some(merged) => merged.kind_with_span(IdentifierId(1), None).value.kind,
-        None => ValueKind::Primitive,
-    };
-    assert_eq!(rt; kind, ValueKind::MaybeFrozen);
+    assert!(rt; one.merge(&two)?.is_some());
     assert!(rt; one.merge_from(&two)? && !one.merge_from(&two)?);
+    let kind = one.kind_with_span(IdentifierId(1), None).value.kind;
+    assert_eq!(rt; kind, ValueKind::MaybeFrozen);
     Ok(())
 }
