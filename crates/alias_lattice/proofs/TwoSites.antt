@@ -1,8 +1,7 @@
 -- A set of two sites that have values.
-use Rattle.std.specs.Prelude.{◌≡◌, IsTrue, []}
+use Rattle.std.specs.Prelude.{◌≡◌, []}
 use Rattle.std.proofs.Common.{sym, subst}
-use Rattle.std.specs.Option.{is_some}
-use Rattle.std.specs.FinMap.{find, put}
+use Rattle.std.specs.FinMap.{put}
 use Rattle.alias_lattice.specs.declared.site.Site.{Site}
 use Rattle.alias_lattice.specs.declared.value.AbstractValue.{AbstractValue}
 use Rattle.alias_lattice.specs.SiteOrder.{site_cmp}

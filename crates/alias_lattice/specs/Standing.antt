@@ -1,28 +1,26 @@
 -- Each site in a set has a value, and what keeps this.
-use Rattle.std.specs.Prelude.{◌≡◌, ◌↔◌, ℕ, ◌<◌, ◌^◌, Bool, true, false, cond, ◌&&◌, ◌||◌, IsTrue, List, [], ◌∷◌, Option, Some, None, MatchOption, refl}
+use Rattle.std.specs.Prelude.{◌≡◌, ℕ, ◌<◌, Bool, true, false, cond, IsTrue, List, [], ◌∷◌, Option, Some, None, MatchOption, refl}
 use Rattle.std.proofs.Common.{ap, sym, ◌∙◌, subst, ◌+◌, length, get_or, drop, zero, suc, arith}
 use Rattle.std.proofs.lemmas.List.{at_drop_more}
 use Rattle.std.proofs.Math.Dec.{T}
 use Rattle.std.specs.Option.{is_some}
 use Rattle.std.specs.Ordering.{eq_by_cmp, is_eq}
-use Rattle.std.specs.Cmp.{IsTotalOrder, tied_itself}
-use Rattle.std.specs.FinMap.{find, put, is_sorted}
-use Rattle.std.specs.FinMap.Entries.{find-put, is_sorted-put, by_order}
+use Rattle.std.specs.Cmp.{tied_itself}
+use Rattle.std.specs.FinMap.{find, put}
+use Rattle.std.specs.FinMap.Entries.{find-put, by_order}
 use Rattle.std.specs.declared.cmp.Ordering.TheVariants.{Less, Equal, Greater}
-use Rattle.alias_lattice.specs.Laws.{LatticeLaws}
-use Rattle.alias_lattice.specs.Pairs.{and-both, and-first, and-second}
 use Rattle.alias_lattice.specs.declared.value.AbstractValue.{AbstractValue}
-use Rattle.alias_lattice.specs.Maps.{join_option, ProperOption, equal}
-use Rattle.alias_lattice.specs.Units.{unit_join, unit_below, unit_laws}
-use Rattle.alias_lattice.specs.AbstractValues.{abstract_join, abstract_below, AbstractProper, abstract_laws}
-use Rattle.alias_lattice.specs.ListMaps.{list_join, list_below, ListProper, list_laws}
-use Rattle.alias_lattice.specs.Puts.{proper_put, proper_found, proper_nil, find-join}
+use Rattle.alias_lattice.specs.Maps.{equal}
+use Rattle.alias_lattice.specs.AbstractValues.{AbstractProper}
+use Rattle.alias_lattice.specs.ListMaps.{ListProper}
+use Rattle.alias_lattice.specs.Puts.{proper_put}
 use Rattle.alias_lattice.specs.declared.site.Site.{Site}
 use Rattle.alias_base.specs.declared.ids.IdentifierId.{IdentifierId}
-use Rattle.alias_lattice.specs.Keys.{id_cmp, ids_apart, ids_total}
+use Rattle.alias_lattice.specs.Keys.{id_cmp, ids_total}
 use Rattle.alias_lattice.specs.SiteOrder.{site_cmp, sites_apart, sites_total}
-use Rattle.alias_lattice.specs.States.{State, Sites, state_join, state_below, value_at, sites_of, initialized, defined_as, defined, one_site, defaulted, defaulted_at, mutable_other, all_set, frozen_at, both_sites, with_site}
+use Rattle.alias_lattice.specs.States.{State, Sites, value_at, initialized, defined_as, defined, one_site, defaulted, defaulted_at, mutable_other, all_set, frozen_at, both_sites, with_site}
 
+-- whether the set has a site
 abbrev pub is_full : Sites → Bool
 is_full [] = false
 is_full (e ∷ es) = true
@@ -32,15 +30,15 @@ pub record AreValued (values : List (Site × AbstractValue)) (t : Sites) : Type 
   pub full : IsTrue (is_full t)
   pub valued : (k : Site) → IsTrue (is_some (find site_cmp k t)) → IsTrue (is_some (find site_cmp k values))
 
+-- no set is empty, and each site in a set has a value
 abbrev pub Stands : State → Type 0
 Stands s = (x : IdentifierId) (t : Sites) → find id_cmp x s.variables ≡ Some t → AreValued s.values t
 
-abbrev unit_proper : Unit {0} → Type 0
-unit_proper u = Unit {0}
-
+-- the sites ascend
 abbrev pub SitesProper : Sites → Type 0
 SitesProper = ListProper site_cmp (λ (u : Unit {0}). Unit {0})
 
+-- both lists ascend, and each site in a set has a value
 pub record StateProper (s : State) : Type 0 where
   pub values : ListProper site_cmp AbstractProper s.values
   pub variables : ListProper id_cmp SitesProper s.variables
