@@ -6,7 +6,7 @@ use Rattle.std.specs.Ordering.{eq_by_cmp, is_lt, is_eq, ordering_reverse}
 use Rattle.std.specs.declared.cmp.Ordering.{Ordering}
 use Rattle.std.specs.declared.cmp.Ordering.TheVariants.{Less, Equal, Greater}
 use Rattle.std.specs.Cmp.{IsTotalOrder, alike_right}
-use Rattle.std.specs.FinMap.{FinMap, get, find, is_sorted, entries, IsAntisymmetric, same_map, get-from_sorted, entries-from_sorted}
+use Rattle.std.specs.FinMap.{get, find, is_sorted, entries, IsAntisymmetric, same_map, get-from_sorted, entries-from_sorted}
 use Rattle.std.specs.FinMap.Entries.{below_all}
 use Rattle.std.proofs.lemmas.List.{at_drop_more}
 use Rattle.alias_lattice.specs.Maps.{below_option, entries_below, map_below, join_option, join_none, map_join, get-map_join, T-first, T-second, lesser, equal}

@@ -1,5 +1,5 @@
 -- Maps as the lists of their entries in order, for a type that is generic in its keys.
-use Rattle.std.specs.Prelude.{◌≡◌, ◌↔◌, Bool, IsTrue, List, refl}
+use Rattle.std.specs.Prelude.{◌≡◌, Bool, List}
 use Rattle.std.proofs.Common.{ap, sym, ◌∙◌, subst}
 use Rattle.std.proofs.Math.Dec.{T}
 use Rattle.std.specs.declared.cmp.Ordering.{Ordering}
@@ -9,6 +9,7 @@ use Rattle.alias_lattice.specs.Laws.{LatticeLaws}
 use Rattle.alias_lattice.specs.Maps.{map_join, map_below, MapProper, map_laws}
 
 module _ {K X : Type 0} (R : K → K → Ordering) where
+  -- the map that a list stands for
   abbrev pub list_map : List (K × X) → FinMap R X
   list_map es = from_sorted {R = R} es
 
@@ -16,9 +17,11 @@ module _ {K X : Type 0} (R : K → K → Ordering) where
   abbrev pub ListProper : (X → Type 0) → List (K × X) → Type 0
   ListProper p es = T (is_sorted R es) × MapProper R p (list_map es)
 
+  -- at each key the join of what the two lists have
   abbrev pub list_join : (X → X → X) → List (K × X) → List (K × X) → List (K × X)
   list_join j a b = entries (map_join R j (list_map a) (list_map b))
 
+  -- each entry of the first is below what the second has at its key
   abbrev pub list_below : (X → X → Bool) → List (K × X) → List (K × X) → Bool
   list_below b x y = map_below R b (list_map x) (list_map y)
 

@@ -1,27 +1,26 @@
 -- Each site in a set has a value, and what keeps this.
-use Rattle.std.specs.Prelude.{◌≡◌, ◌↔◌, ℕ, ◌<◌, ◌^◌, Bool, true, false, cond, ◌&&◌, ◌||◌, IsTrue, List, [], ◌∷◌, Option, Some, None, MatchOption, refl}
+use Rattle.std.specs.Prelude.{◌≡◌, ℕ, ◌<◌, Bool, true, false, cond, IsTrue, List, [], ◌∷◌, Option, Some, None, MatchOption, refl}
 use Rattle.std.proofs.Common.{ap, sym, ◌∙◌, subst, ◌+◌, length, get_or, drop, zero, suc, arith}
 use Rattle.std.proofs.lemmas.List.{at_drop_more}
 use Rattle.std.proofs.Math.Dec.{T}
 use Rattle.std.specs.Option.{is_some}
 use Rattle.std.specs.Ordering.{eq_by_cmp, is_eq}
-use Rattle.std.specs.Cmp.{IsTotalOrder, tied_itself}
-use Rattle.std.specs.FinMap.{find, put, is_sorted}
-use Rattle.std.specs.FinMap.Entries.{find-put, is_sorted-put}
-use Rattle.alias_lattice.specs.Laws.{LatticeLaws}
-use Rattle.alias_lattice.specs.Pairs.{and-both, and-first, and-second}
+use Rattle.std.specs.Cmp.{tied_itself}
+use Rattle.std.specs.FinMap.{find, put}
+use Rattle.std.specs.FinMap.Entries.{find-put, by_order}
+use Rattle.std.specs.declared.cmp.Ordering.TheVariants.{Less, Equal, Greater}
 use Rattle.alias_lattice.specs.declared.value.AbstractValue.{AbstractValue}
-use Rattle.alias_lattice.specs.Maps.{join_option, ProperOption, equal}
-use Rattle.alias_lattice.specs.Units.{unit_join, unit_below, unit_laws}
-use Rattle.alias_lattice.specs.AbstractValues.{abstract_join, abstract_below, AbstractProper, abstract_laws}
-use Rattle.alias_lattice.specs.ListMaps.{list_join, list_below, ListProper, list_laws}
-use Rattle.alias_lattice.specs.Puts.{proper_put, proper_found, proper_nil, find-join}
+use Rattle.alias_lattice.specs.Maps.{equal}
+use Rattle.alias_lattice.specs.AbstractValues.{AbstractProper}
+use Rattle.alias_lattice.specs.ListMaps.{ListProper}
+use Rattle.alias_lattice.specs.Puts.{proper_put}
 use Rattle.alias_lattice.specs.declared.site.Site.{Site}
 use Rattle.alias_base.specs.declared.ids.IdentifierId.{IdentifierId}
-use Rattle.alias_lattice.specs.Keys.{id_cmp, ids_apart, ids_total}
+use Rattle.alias_lattice.specs.Keys.{id_cmp, ids_total}
 use Rattle.alias_lattice.specs.SiteOrder.{site_cmp, sites_apart, sites_total}
-use Rattle.alias_lattice.specs.States.{State, Sites, state_join, state_below, value_at, sites_of, initialized, defined_as, defined, one_site, defaulted, defaulted_at, mutable_other, all_set, frozen_at, both_sites}
+use Rattle.alias_lattice.specs.States.{State, Sites, value_at, initialized, defined_as, defined, one_site, defaulted, defaulted_at, mutable_other, all_set, frozen_at, both_sites, with_site}
 
+-- whether the set has a site
 abbrev pub is_full : Sites → Bool
 is_full [] = false
 is_full (e ∷ es) = true
@@ -31,15 +30,15 @@ pub record AreValued (values : List (Site × AbstractValue)) (t : Sites) : Type 
   pub full : IsTrue (is_full t)
   pub valued : (k : Site) → IsTrue (is_some (find site_cmp k t)) → IsTrue (is_some (find site_cmp k values))
 
+-- no set is empty, and each site in a set has a value
 abbrev pub Stands : State → Type 0
 Stands s = (x : IdentifierId) (t : Sites) → find id_cmp x s.variables ≡ Some t → AreValued s.values t
 
-abbrev unit_proper : Unit {0} → Type 0
-unit_proper u = Unit {0}
-
+-- the sites ascend
 abbrev pub SitesProper : Sites → Type 0
 SitesProper = ListProper site_cmp (λ (u : Unit {0}). Unit {0})
 
+-- both lists ascend, and each site in a set has a value
 pub record StateProper (s : State) : Type 0 where
   pub values : ListProper site_cmp AbstractProper s.values
   pub variables : ListProper id_cmp SitesProper s.variables
@@ -107,15 +106,15 @@ defaulted_case None k s e = ap is_some (find-put site_cmp sites_total k k mutabl
 defaulted_case (Some v) k s e = ap is_some e
 
 -- a site that got a value unless it had one has one
-pub has_value-defaulted : (k : Site) (s : State) → IsTrue (is_some (value_at (defaulted k s) k))
-has_value-defaulted k s = defaulted_case (value_at s k) k s refl
+pub has_value_defaulted : (k : Site) (s : State) → IsTrue (is_some (value_at (defaulted k s) k))
+has_value_defaulted k s = defaulted_case (value_at s k) k s refl
 
 -- one more of the sites is set
 pub all_set_more : (v : AbstractValue) (sites : Sites) (i : ℕ) (d : Site × Unit {0}) (m n : List (Site × AbstractValue)) → i < length sites → n ≡ put site_cmp (get_or sites i d).0 v m → all_set v (drop (i + 1) sites) n ≡ all_set v (drop i sites) m
 all_set_more v sites i d m n h e = ap (all_set v (drop (i + 1) sites)) e ∙ sym (at_drop_more (λ t. all_set v t m) sites i d h)
 
-pub has_value-initialized : (k : Site) (v : AbstractValue) (s : State) → IsTrue (is_some (value_at (initialized k v s) k))
-has_value-initialized k v s = ap is_some (find-put site_cmp sites_total k k v s.values) ∙ ap (λ r. is_some (cond (is_eq r) (Some v) (find site_cmp k s.values))) (tied_itself sites_total k)
+pub has_value_initialized : (k : Site) (v : AbstractValue) (s : State) → IsTrue (is_some (value_at (initialized k v s) k))
+has_value_initialized k v s = ap is_some (find-put site_cmp sites_total k k v s.values) ∙ ap (λ r. is_some (cond (is_eq r) (Some v) (find site_cmp k s.values))) (tied_itself sites_total k)
 
 -- a site of the set is found in it
 in_set : (sites : Sites) (i : ℕ) (d : Site × Unit {0}) → i < length sites → IsTrue (is_some (find site_cmp (get_or sites i d).0 sites))
@@ -147,7 +146,7 @@ keeps-frozen v true sites m q h = keeps-all_set v sites m q h
 keeps-frozen v false sites m q h = h
 
 pub stands-given : (x : IdentifierId) (k : Site) (v : AbstractValue) (s : State) → Stands s → Stands (defined x k (initialized k v s))
-stands-given x k v s h = stands-defined_as x (one_site k) (initialized k v s) (stands-initialized k v s h) (valued-one k (put site_cmp k v s.values) (has_value-initialized k v s))
+stands-given x k v s h = stands-defined_as x (one_site k) (initialized k v s) (stands-initialized k v s h) (valued-one k (put site_cmp k v s.values) (has_value_initialized k v s))
 
 pub is_some-matched : {A B : Type 0} (r : Option A) (f : A → B) (o : Option B) → MatchOption r (o ≡ None) (λ x. o ≡ Some (f x)) → is_some r ≡ is_some o
 is_some-matched None f o h = sym (ap is_some h)
@@ -156,3 +155,25 @@ is_some-matched (Some x) f o h = sym (ap is_some h)
 pub both_none : (o : Option Sites) → both_sites o None ≡ None
 both_none None = refl
 both_none (Some t) = refl
+
+full_put : (k : Site) (t : Sites) → IsTrue (is_full (put site_cmp k tt t))
+full_put k [] = refl
+full_put k (e ∷ es) = elim (site_cmp k e.0) as (λ r. IsTrue (is_full (by_order r ((k, tt) ∷ e ∷ es) ((e.0, tt) ∷ es) (e ∷ put site_cmp k tt es)))) [ Less ↦ refl | Equal ↦ refl | Greater ↦ refl ]
+
+either_way : {X : Type 0} (b : Bool) (v : X) (o : Option X) (P : Type 0) → IsTrue (is_some (cond b (Some v) o)) → (b ≡ true → P) → (IsTrue (is_some o) → P) → P
+either_way true v o P h f g = f refl
+either_way false v o P h f g = g h
+
+-- a set whose sites have values, with one more site that has a value
+pub valued-with : (k : Site) (m : List (Site × AbstractValue)) (t : Sites) → AreValued m t → IsTrue (is_some (find site_cmp k m)) → AreValued m (with_site k t)
+valued-with k m t a h = record {
+  full = full_put k t;
+  valued = λ q i. either_way (eq_by_cmp site_cmp q k) tt (find site_cmp q t) (IsTrue (is_some (find site_cmp q m)))
+      (subst (λ o. IsTrue (is_some o)) (find-put site_cmp sites_total q k tt t) i)
+      (λ e. subst (λ x. IsTrue (is_some (find site_cmp x m))) (sym (sites_apart q k (equal (site_cmp q k) (subst T (sym e) tt)))) h)
+      (λ j. a.valued q j);
+}
+
+-- a set whose sites have values, after a site got one
+pub valued-initialized : (k : Site) (v : AbstractValue) (s : State) (t : Sites) → AreValued s.values t → AreValued (initialized k v s).values t
+valued-initialized k v s t a = record { full = a.full; valued = λ q m. still_valued k v s.values q (a.valued q m) }

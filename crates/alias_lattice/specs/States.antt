@@ -4,7 +4,7 @@ use Rattle.std.specs.Option.{option_map}
 use Rattle.std.specs.FinMap.{find, put}
 use Rattle.alias_base.specs.declared.ids.IdentifierId.{IdentifierId}
 use Rattle.alias_hir.specs.declared.effect.ValueKind.{ValueKind}
-use Rattle.alias_hir.specs.declared.effect.ValueKind.TheVariants.{Primitive, Global, Frozen, Mutable, Context, MaybeFrozen}
+use Rattle.alias_hir.specs.declared.effect.ValueKind.TheVariants.{Frozen, Mutable, Context, MaybeFrozen}
 use Rattle.alias_hir.specs.declared.effect.ValueReason.{ValueReason}
 use Rattle.alias_hir.specs.declared.effect.ValueReason.TheVariants.{Other}
 use Rattle.alias_hir.specs.declared.place.Span.{Span}

@@ -21,3 +21,6 @@ pub use site::Site;
 pub use site_set::SiteSet;
 pub use state::InferenceState;
 pub use value::AbstractValue;
+
+#[cfg(test)]
+mod tests;

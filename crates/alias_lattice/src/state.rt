@@ -94,7 +94,14 @@ impl InferenceState {
         ensures err { OnErr result (self.new ≡ self.old) }
     {
         let set = one_site(self.alloc, site)?;
-        set_both(&mut self.values, site, value, &mut self.variables, place, set)
+        set_both(
+            &mut self.values,
+            site,
+            value,
+            &mut self.variables,
+            place,
+            set,
+        )
     }
 
     /// Makes the site, which gets Mutable {Other} unless it has a value, the place's set.
@@ -376,10 +383,7 @@ fn value_over(
 }
 
 /// The join of the values of the sites, or Mutable {Other} where none has one.
-fn value_of_sites(
-    values: &LatticeMap<Site, AbstractValue>,
-    sites: &[(Site, ())],
-) -> AbstractValue
+fn value_of_sites(values: &LatticeMap<Site, AbstractValue>, sites: &[(Site, ())]) -> AbstractValue
     ensures { result ≡ look_at values.now (Some sites.now) }
 {
     match value_over(values, sites) {

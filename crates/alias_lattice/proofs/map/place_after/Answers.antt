@@ -1,4 +1,4 @@
-use Rattle.std.proofs.Common.{sym, ap, ◌∙◌, Some}
+use Rattle.std.proofs.Common.{ap, ◌∙◌}
 use Rattle.alias_lattice.specs.Nexts.{next_entry}
 use Rattle.alias_lattice.proofs.Places.{next_first, next_place, next_gap}
 use Rattle.alias_lattice.proofs.map.place_after.Goals as goal

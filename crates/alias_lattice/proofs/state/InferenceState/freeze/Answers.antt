@@ -1,6 +1,6 @@
-use Rattle.std.proofs.Common.{◌≡◌, sym, ap, ◌∙◌, subst, Some, None}
+use Rattle.std.proofs.Common.{sym, ap, ◌∙◌, subst, Some}
 use Rattle.alias_hir.specs.declared.effect.ValueKind.TheVariants.{Frozen}
-use Rattle.alias_lattice.specs.States.{State, frozen, frozen_at, does_freeze, does_freeze_at, frozen_for, state_of}
+use Rattle.alias_lattice.specs.States.{frozen, frozen_at, does_freeze, does_freeze_at, frozen_for, state_of}
 use Rattle.alias_lattice.specs.Standing.{Keeps, stands-kept, keeps-frozen}
 use Rattle.alias_lattice.proofs.state.InferenceState.freeze.Goals as goal
 

@@ -1,0 +1,183 @@
+//! What the clauses are to mean, on examples.
+
+use crate::kinds::merge_value_kinds;
+use crate::lattice::Lattice;
+use crate::look::MissingLook;
+use crate::map::LatticeMap;
+use crate::reasons::{ReasonSet, is_superset, primary_reason};
+use crate::site::Site;
+use crate::site_set::SiteSet;
+use crate::state::InferenceState;
+use crate::value::AbstractValue;
+use alias_base::{FunctionId, IdentifierId};
+use alias_hir::effect::{ValueKind, ValueReason};
+use std::alloc::Global;
+use std::test::Fail;
+
+fn value(kind: ValueKind, reason: ValueReason) -> AbstractValue {
+    AbstractValue {
+        kind,
+        reason: ReasonSet::single(reason),
+    }
+}
+
+fn created(into: u32) -> Site {
+    Site::Created {
+        into: IdentifierId(into),
+        kind: ValueKind::Mutable,
+        reason: ValueReason::Other,
+    }
+}
+
+#[test]
+fn merges_kinds(rt: HostRuntime) {
+    for (a, b, want) in [
+        (
+            ValueKind::Mutable,
+            ValueKind::Frozen,
+            ValueKind::MaybeFrozen,
+        ),
+        (ValueKind::Mutable, ValueKind::Context, ValueKind::Context),
+        (
+            ValueKind::Context,
+            ValueKind::Frozen,
+            ValueKind::MaybeFrozen,
+        ),
+        (ValueKind::Frozen, ValueKind::Global, ValueKind::Frozen),
+        (ValueKind::Primitive, ValueKind::Global, ValueKind::Global),
+        (ValueKind::Global, ValueKind::Mutable, ValueKind::Mutable),
+    ] {
+        assert_eq!(rt; merge_value_kinds(a, b), want);
+        assert_eq!(rt; merge_value_kinds(b, a), want);
+    }
+}
+
+#[test]
+fn tells_the_first_reason_before_other(rt: HostRuntime) {
+    let other = ReasonSet::single(ValueReason::Other);
+    let both = other.union(&ReasonSet::single(ValueReason::State));
+    assert_eq!(rt; primary_reason(&both), ValueReason::State);
+    assert_eq!(rt; primary_reason(&other), ValueReason::Other);
+    assert_eq!(rt; primary_reason(&ReasonSet::default()), ValueReason::Other);
+    assert!(rt; is_superset(&both, &other) && !is_superset(&other, &both));
+    assert!(rt; both.contains(&ValueReason::State) && !other.contains(&ValueReason::State));
+}
+
+#[test]
+fn joins_maps_key_by_key(rt: HostRuntime) -> Result<(), Fail> {
+    let mut one: LatticeMap<u32, ValueKind> = LatticeMap::empty(rt.alloc());
+    let mut two: LatticeMap<u32, ValueKind> = LatticeMap::empty(rt.alloc());
+    one.set(3, ValueKind::Global)?;
+    one.set(1, ValueKind::Frozen)?;
+    two.set(1, ValueKind::Mutable)?;
+    assert!(rt; one.join_from(&two)?);
+    assert!(rt; !one.join_from(&two)?);
+    assert_eq!(rt;
+        one.entries(),
+        [(1, ValueKind::MaybeFrozen), (3, ValueKind::Global)].as_slice()
+    );
+    assert!(rt; one.replace(3, ValueKind::Context) && !one.replace(2, ValueKind::Context));
+    assert_eq!(rt; one.get(3).copied(), Some(ValueKind::Context));
+    assert_eq!(rt; one.get(2).copied(), None);
+    Ok(())
+}
+
+fn one_value(alloc: Global) -> Result<InferenceState, Fail> {
+    let mut state = InferenceState::empty(alloc);
+    state.give(
+        IdentifierId(1),
+        created(1),
+        value(ValueKind::Mutable, ValueReason::Other),
+    )?;
+    Ok(state)
+}
+
+#[test]
+fn freezes_what_was_assigned(rt: HostRuntime) -> Result<(), Fail> {
+    let (one, two, three) = (IdentifierId(1), IdentifierId(2), IdentifierId(3));
+    let mut state = one_value(rt.alloc())?;
+    state.assign(two, one)?;
+    assert!(rt; state.freeze(two, ValueReason::JsxCaptured)?);
+    assert!(rt; !state.freeze(two, ValueReason::JsxCaptured)?);
+    let look = state.kind_with_span(one, None);
+    assert_eq!(rt;
+        look.value,
+        value(ValueKind::Frozen, ValueReason::JsxCaptured)
+    );
+    assert_eq!(rt; look.missing, None);
+    let missing = MissingLook {
+        identifier: three,
+        span: None,
+    };
+    assert_eq!(rt; state.kind_with_span(three, None).missing, Some(missing));
+    state.define_default(three)?;
+    assert!(rt; state.is_defined(three) && state.value_of(Site::Default(three)).is_some());
+    Ok(())
+}
+
+#[test]
+fn walks_in_ascending_order(rt: HostRuntime) -> Result<(), Fail> {
+    let (zero, one) = (IdentifierId(0), IdentifierId(1));
+    let mut state = one_value(rt.alloc())?;
+    state.give(
+        zero,
+        Site::Function(FunctionId(0)),
+        AbstractValue {
+            kind: ValueKind::Mutable,
+            reason: ReasonSet::default(),
+        },
+    )?;
+    let sites = (created(1), Site::Function(FunctionId(0)));
+    assert!(rt; matches!(state.next_value(None), Some((site, _)) if site == sites.0));
+    assert!(rt; matches!(state.next_value(Some(sites.0)), Some((site, _)) if site == sites.1));
+    assert!(rt; matches!(state.next_variable(None), Some((id, _)) if id == zero));
+    assert!(rt; matches!(state.next_variable(Some(zero)), Some((id, _)) if id == one));
+    assert!(rt; state.next_variable(Some(one)).is_none());
+    Ok(())
+}
+
+#[test]
+fn defines_by_two_sites(rt: HostRuntime) -> Result<(), Fail> {
+    let (four, five) = (created(4), created(5));
+    let mut state = InferenceState::empty(rt.alloc());
+    state.initialize(five, value(ValueKind::Frozen, ValueReason::State))?;
+    state.initialize(four, value(ValueKind::Mutable, ValueReason::Other))?;
+    let mut sites = SiteSet::empty(rt.alloc());
+    sites.insert(five)?;
+    sites.insert(four)?;
+    assert_eq!(rt; sites.next_site(None), Some(four));
+    assert_eq!(rt; sites.next_site(Some(four)), Some(five));
+    state.define_all(IdentifierId(7), sites)?;
+    let kind = state.kind_with_span(IdentifierId(7), None).value.kind;
+    assert_eq!(rt; kind, ValueKind::MaybeFrozen);
+    Ok(())
+}
+
+#[test]
+fn unites_sets(rt: HostRuntime) -> Result<(), Fail> {
+    let (one, two, three) = (IdentifierId(1), IdentifierId(2), IdentifierId(3));
+    let mut state = one_value(rt.alloc())?;
+    state.give(
+        two,
+        created(2),
+        value(ValueKind::Context, ValueReason::Other),
+    )?;
+    state.infer_phi(three, [two, IdentifierId(9)].as_slice())?;
+    state.append_alias(one, three)?;
+    let kind = state.kind_with_span(one, None).value.kind;
+    assert_eq!(rt; kind, ValueKind::Context);
+    Ok(())
+}
+
+#[test]
+fn merges_what_grows(rt: HostRuntime) -> Result<(), Fail> {
+    let mut one = one_value(rt.alloc())?;
+    let mut two = one.try_clone()?;
+    assert!(rt; one.merge(&two)?.is_none());
+    two.freeze(IdentifierId(1), ValueReason::State)?;
+    assert!(rt; one.merge(&two)?.is_some());
+    assert!(rt; one.merge_from(&two)? && !one.merge_from(&two)?);
+    let kind = one.kind_with_span(IdentifierId(1), None).value.kind;
+    assert_eq!(rt; kind, ValueKind::MaybeFrozen);
+    Ok(())
+}
