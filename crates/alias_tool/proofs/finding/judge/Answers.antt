@@ -1,5 +1,7 @@
 use Rattle.std.proofs.Common.{◌≡◌, ap, sym, subst}
 use Rattle.alias_hir.specs.Rules.{rules_hold}
+use Rattle.alias_text.specs.Fault.{IsMemory}
+use Rattle.alias_text.specs.Units.{NoUnit}
 use Rattle.alias_tool.specs.declared.finding.Finding.{Finding}
 use Rattle.alias_tool.specs.Findings.{IsInferred}
 use Rattle.alias_tool.proofs.Running.{checked_is, judged, judged_none}
@@ -8,7 +10,8 @@ use Rattle.alias_tool.proofs.finding.judge.Goals as goal
 pub returns-in-Err-NotJson : goal.returns-in-Err-NotJson
 returns-in-Err-NotJson c =
     let e = c.found-in-Err-NotJson.ensures in
-    judged_none _ _ _ (ap (λ (f : Finding). f.status) e) (ap (λ (f : Finding). f.inferred) e) (c.in-Err-NotJson.ensures.none (λ x. x))
+    judged_none _ _ _ (ap (λ (f : Finding). f.status) e) (ap (λ (f : Finding). f.inferred) e)
+    (c.in-Err-NotJson.ensures.none (λ m. let P = IsMemory in subst P c.in-Err-NotJson.field-0-is m))
 
 pub returns-in-Ok-check_unit : goal.returns-in-Ok-check_unit
 returns-in-Ok-check_unit c =
