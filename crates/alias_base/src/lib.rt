@@ -4,6 +4,8 @@
 pub mod block_map;
 pub mod ids;
 pub mod list;
+#[cfg(test)]
+mod tests;
 pub mod text;
 pub mod try_clone;
 
