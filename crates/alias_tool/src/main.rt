@@ -6,6 +6,8 @@ mod finding;
 mod inferred;
 mod run;
 mod status;
+#[cfg(test)]
+mod tests;
 mod text;
 mod words;
 
