@@ -1,18 +1,17 @@
 -- The entry alone is reached, and its one visit solves the flow.
 use Rattle.std.proofs.Common.{◌≡◌, ◌⊎◌, inl, inr, Bool, true, false, List, [], ◌∷◌, ◌++◌, Option, Some, None, refl, ap, sym, ◌∙◌, subst, eq-eqb, append-nil}
-use Rattle.std.specs.Prelude.{cond, IsTrue, is_some, Result, Ok, Err}
-use Rattle.std.specs.List.{AllByRecursion, flat_map}
+use Rattle.std.specs.Prelude.{cond, IsTrue, is_some, Ok}
+use Rattle.std.specs.List.{AllByRecursion}
 use Rattle.std.specs.Map.{keys_of}
 use Rattle.std.proofs.Math.Dec.{eqb→eq, T}
 use Rattle.alias_base.specs.Find.{same_block, value_at}
 use Rattle.alias_base.specs.declared.ids.BlockId.{BlockId}
 use Rattle.alias_hir.specs.declared.env.Environment.{Environment}
-use Rattle.alias_hir.specs.declared.error.InferError.{InferError}
 use Rattle.alias_hir.specs.declared.hir.BasicBlock.{BasicBlock}
 use Rattle.alias_hir.specs.declared.hir.HirFunction.{HirFunction}
 use Rattle.alias_hir.specs.declared.terminal.Terminal.{Terminal}
 use Rattle.alias_hir.specs.declared.terminal.Terminal.TheVariants.{Return}
-use Rattle.alias_lattice.specs.Flows.{Flow, Outcome, Stepped, Refused, IsOneOf, IsReached, at_entry, by_edge, IsAbove, IsSolution, AreJoins}
+use Rattle.alias_lattice.specs.Flows.{Flow, Outcome, Stepped, Refused, IsOneOf, IsReached, at_entry, by_edge, IsAbove}
 use Rattle.alias_lattice.specs.Laws.{below_self}
 use Rattle.alias_lattice.specs.Joins.{state_laws}
 use Rattle.alias_lattice.specs.Standing.{StateProper, SitesProper}
@@ -26,7 +25,7 @@ use Rattle.alias_effects.specs.declared.faults.BlockFault.{BlockFault}
 use Rattle.alias_effects.specs.declared.solved.BlockEntry.{BlockEntry}
 use Rattle.alias_effects.specs.Blocks.{successors, successors_at, flow_of}
 use Rattle.alias_effects.specs.Inference.{solved_by, entry_answer, entry_effects}
-use Rattle.alias_effects.specs.Solutions.{IsSubsequence, IsSolved, IsForward, entry_state, effects_recorded, recorded_from}
+use Rattle.alias_effects.specs.Solutions.{IsSubsequence, IsSolved, entry_state, effects_recorded}
 
 proper-empty : StateProper empty_state
 proper-empty = record { values = proper_nil site_cmp AbstractProper; variables = proper_nil id_cmp SitesProper; stands = λ x t e. cc }

@@ -1,5 +1,5 @@
 -- What the effects pass answers for a function.
-use Rattle.std.specs.Prelude.{◌≡◌, Bool, List, [], ◌∷◌, Option, Some, None, Result, Ok, Err, ⊤}
+use Rattle.std.specs.Prelude.{◌≡◌, Bool, [], ◌∷◌, None, Result, Ok, Err, ⊤}
 use Rattle.alias_base.specs.Answer.{◌>>=◌}
 use Rattle.alias_base.specs.declared.ids.BlockId.{BlockId}
 use Rattle.alias_hir.specs.declared.env.Environment.{Environment}

@@ -1,9 +1,7 @@
 -- The step of each effect, a row of the step table each.
-use Rattle.std.specs.Prelude.{Bool, true, false, ◌&&◌, ◌||◌, List, [], ◌∷◌, Option, Some, None, Result, Ok, Err, if◌then◌else◌}
+use Rattle.std.specs.Prelude.{Bool, true, false, List, [], ◌∷◌, Option, None, Result, Ok, if◌then◌else◌}
 use Rattle.alias_base.specs.Answer.{◌>>=◌}
-use Rattle.alias_base.specs.declared.ids.IdentifierId.{IdentifierId}
 use Rattle.alias_hir.specs.declared.place.Place.{Place}
-use Rattle.alias_hir.specs.declared.place.Span.{Span}
 use Rattle.alias_hir.specs.declared.effect.ValueKind.{ValueKind}
 use Rattle.alias_hir.specs.declared.effect.ValueKind.TheVariants.{Primitive, Global, Frozen, Mutable, Context, MaybeFrozen}
 use Rattle.alias_hir.specs.declared.effect.ValueReason.{ValueReason}
@@ -13,7 +11,7 @@ use Rattle.alias_hir.specs.declared.effect.AliasingEffect.TheVariants as effect
 use Rattle.alias_lattice.specs.declared.site.Site.TheVariants.{Created, CreatedFrom, AssignFrozen, AssignCopy}
 use Rattle.alias_lattice.specs.declared.value.AbstractValue.{AbstractValue}
 use Rattle.alias_lattice.specs.Reasons.{single_reason, primary_reason}
-use Rattle.alias_lattice.specs.States.{State, look, given, assigned, frozen, does_freeze}
+use Rattle.alias_lattice.specs.States.{look, given, assigned, frozen, does_freeze}
 use Rattle.alias_effects.specs.declared.spot.Spot.{Spot}
 use Rattle.alias_effects.specs.declared.faults.StepFault.{StepFault}
 use Rattle.alias_effects.specs.Spots.{record_of, with_state, looked, made}

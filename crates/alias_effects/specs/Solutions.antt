@@ -1,7 +1,7 @@
 -- What the effects pass hands out of a function: entry states that solve its flow, and what its blocks record from them.
-use Rattle.std.specs.Prelude.{◌≡◌, ◌⊎◌, Bool, ◌==◌, List, [], ◌∷◌, Option, Some, None, map, cond}
+use Rattle.std.specs.Prelude.{◌≡◌, ◌⊎◌, Bool, List, [], ◌∷◌, Option, Some, None, map, cond}
 use Rattle.std.specs.List.{flat_map, AllByRecursion}
-use Rattle.std.specs.Map.{lookup, keys_of}
+use Rattle.std.specs.Map.{keys_of}
 use Rattle.alias_base.specs.Find.{same_block}
 use Rattle.alias_base.specs.declared.ids.BlockId.{BlockId}
 use Rattle.alias_hir.specs.declared.env.Environment.{Environment}
@@ -12,8 +12,6 @@ use Rattle.alias_lattice.specs.Flows.{Flow, Outcome, Stepped, Refused, IsOneOf, 
 use Rattle.alias_effects.specs.declared.faults.BlockFault.{BlockFault}
 use Rattle.alias_effects.specs.declared.block.BlockEffects.{BlockEffects}
 use Rattle.alias_effects.specs.declared.solved.BlockEntry.{BlockEntry}
-use Rattle.alias_effects.specs.declared.solved.InstructionEffects.{InstructionEffects}
-use Rattle.alias_effects.specs.declared.solved.TerminalEffects.{TerminalEffects}
 use Rattle.alias_effects.specs.declared.solved.Solved.{Solved}
 use Rattle.alias_effects.specs.Blocks.{flow_of, no_effects}
 

@@ -13,3 +13,6 @@ pub mod spot;
 
 pub use infer::infer_effects_certified;
 pub use solved::{BlockEntry, InstructionEffects, Solved, TerminalEffects};
+
+#[cfg(test)]
+mod tests;

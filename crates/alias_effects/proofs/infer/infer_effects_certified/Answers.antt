@@ -1,4 +1,4 @@
-use Rattle.std.proofs.Common.{◌≡◌, sym, subst}
+use Rattle.std.proofs.Common.{sym, subst}
 use Rattle.alias_hir.specs.RuleFacts.{fitting_entry}
 use Rattle.alias_effects.proofs.Solving.{solved_at}
 use Rattle.alias_effects.specs.Solutions.{IsSolved}
