@@ -1,7 +1,8 @@
 -- Why a run comes to a status.
-use Rattle.std.specs.Prelude.{◌≡◌, ℕ, ◌<◌, ◌≤◌, true, false, List, length, Option, Some, None, Result, Ok, Err}
+use Rattle.std.specs.Prelude.{◌≡◌, ℕ, ◌<◌, ◌≤◌, true, false, List, length, Option, Some, None, Result, Ok, Err, ⊤}
 use Rattle.alias_hir.specs.Rules.{rules_hold}
 use Rattle.alias_hir.specs.declared.env.Unit.{Unit as HirUnit}
+use Rattle.alias_hir.specs.declared.error.InferError.TheVariants as error
 use Rattle.alias_text.specs.Units.{UnitReading, NoUnit}
 use Rattle.alias_stream.specs.Streams.{IsAllOf, IfTold}
 use Rattle.alias_tool.specs.declared.status.Status.{Status}
@@ -13,6 +14,11 @@ use Rattle.alias_tool.specs.Words.{is_command}
 -- the greatest input, in bytes
 abbrev pub greatest_input : ℕ
 greatest_input = 16777216
+
+-- a refusal is of a look without a value alone: an instruction of a built unit makes its identifiers once
+abbrev pub RefusesLooksAlone : Status → Type 0
+RefusesLooksAlone (Refused (error.Reinitialized f i x)) = ⊥
+RefusesLooksAlone status = ⊤
 
 -- what a unit that keeps the rules leads to: its functions are solved, or its root is refused
 abbrev pub IsInferred : HirUnit → Status → Option Inferred → Type 0
