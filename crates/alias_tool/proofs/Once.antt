@@ -1,13 +1,12 @@
 -- An instruction of a built unit makes its identifiers once.
-use Rattle.std.proofs.Common.{◌≡◌, ◌==◌, ℕ, Bool, true, false, not, ◌&&◌, ◌||◌, List, [], ◌∷◌, ◌++◌, zero, suc, Option, Some, None, refl, ap, sym, ◌∙◌, subst}
+use Rattle.std.proofs.Common.{◌≡◌, ◌==◌, ℕ, Bool, true, false, not, ◌&&◌, ◌||◌, List, [], ◌∷◌, zero, suc, Option, Some, None, refl, ap, sym, ◌∙◌, subst}
 use Rattle.std.specs.Prelude.{Result, Ok, Err, ⊤, slice_get, if◌then◌else◌}
 use Rattle.alias_base.specs.Answer.{◌>>=◌}
 use Rattle.alias_base.specs.declared.ids.BlockId.{BlockId}
 use Rattle.alias_base.specs.declared.ids.IdentifierId.{IdentifierId}
 use Rattle.alias_base.specs.declared.ids.InstructionId.{InstructionId}
 use Rattle.alias_hir.specs.Types.{is_primitive_at}
-use Rattle.alias_hir.specs.declared.effect.AliasingEffect.{AliasingEffect}
-use Rattle.alias_hir.specs.declared.effect.AliasingEffect.TheVariants.{Create, CreateFrom, Assign, Capture, Mutate}
+use Rattle.alias_hir.specs.declared.effect.AliasingEffect.TheVariants.{Create, CreateFrom, Assign}
 use Rattle.alias_hir.specs.declared.effect.MutationReason.{MutationReason}
 use Rattle.alias_hir.specs.declared.effect.ValueKind.{ValueKind}
 use Rattle.alias_hir.specs.declared.effect.ValueKind.TheVariants as kind
@@ -34,12 +33,12 @@ use Rattle.alias_effects.specs.declared.faults.StepFault.{StepFault}
 use Rattle.alias_effects.specs.declared.faults.StepFault.TheVariants as step
 use Rattle.alias_effects.specs.declared.solved.TerminalEffects.{TerminalEffects}
 use Rattle.alias_effects.specs.declared.spot.Spot.{Spot}
-use Rattle.alias_effects.specs.Spots.{is_made, record_of}
+use Rattle.alias_effects.specs.Spots.{is_made}
 use Rattle.alias_effects.specs.Rows.{rows, is_constant, is_frozen, may_be_frozen, captures, may_alias, kind_at, immutable_capture_row, assigned_as, maybe_alias_row, capture_row, mutated_as, mutate_row, looked_with_span}
 use Rattle.alias_effects.specs.Signatures.{value_effects}
-use Rattle.alias_effects.specs.Blocks.{spot_at, in_block, instruction_step, numbered_step, instruction_steps, stand_of, finished, block_step, outcome_of, outcome_at}
+use Rattle.alias_effects.specs.Blocks.{spot_at, in_block, numbered_step, instruction_steps, stand_of, finished, block_step, outcome_of, outcome_at}
 use Rattle.alias_effects.specs.Inference.{entry_answer, entry_effects, inferred}
-use Rattle.alias_text.specs.Built.{built, all_built, instruction_built, value_built}
+use Rattle.alias_text.specs.Built.{all_built, instruction_built, value_built}
 use Rattle.alias_text.specs.Facts.{unit_is_built}
 use Rattle.alias_text.specs.Units.{UnitReading}
 use Rattle.alias_tool.specs.declared.inferred.Inferred.{Inferred}
@@ -48,40 +47,38 @@ use Rattle.alias_tool.specs.declared.status.Status.TheVariants.{Done, Words, Unf
 use Rattle.alias_tool.specs.Findings.{IsInferred, RefusesLooksAlone}
 use Rattle.alias_tool.specs.Inferences.{inferred_unit}
 
--- nothing was made twice
+-- the step was taken
 abbrev Made : Result Spot StepFault → Type 0
 Made (Ok s) = ⊤
-Made (Err (step.Reinitialized x)) = ⊥
-Made (Err (step.Memory e)) = ⊤
+Made (Err e) = ⊥
 
+-- a fault is of a look alone
 abbrev Once : {A : Type 0} → Result A BlockFault → Type 0
 Once (Ok x) = ⊤
-Once (Err (fault.Reinitialized i x)) = ⊥
 Once (Err (fault.Uninitialized m)) = ⊤
-Once (Err (fault.Memory e)) = ⊤
+Once (Err e) = ⊥
 
+-- a refusal is of a look alone
 abbrev Looks : {A : Type 0} → Result A InferError → Type 0
 Looks (Ok x) = ⊤
 Looks (Err (error.Uninitialized f b x s r)) = ⊤
-Looks (Err (error.Reinitialized f i x)) = ⊥
-Looks (Err (error.Memory e)) = ⊤
+Looks (Err e) = ⊥
 
 once_bind : {A B : Type 0} (r : Result A BlockFault) (f : A → Result B BlockFault) → Once r → ((x : A) → Once (f x)) → Once (r >>= f)
 once_bind (Ok x) f o h = h x
 once_bind (Err (fault.Reinitialized i x)) f o h = o
 once_bind (Err (fault.Uninitialized m)) f o h = tt
-once_bind (Err (fault.Memory e)) f o h = tt
+once_bind (Err (fault.Memory e)) f o h = o
 
 looks_bind : {A B : Type 0} (r : Result A InferError) (f : A → Result B InferError) → Looks r → ((x : A) → Looks (f x)) → Looks (r >>= f)
 looks_bind (Ok x) f o h = h x
 looks_bind (Err (error.Uninitialized g b x s r)) f o h = tt
 looks_bind (Err (error.Reinitialized g i x)) f o h = o
-looks_bind (Err (error.Memory e)) f o h = tt
+looks_bind (Err (error.Memory e)) f o h = o
 
 once_in_block : (i : InstructionId) (r : Result Spot StepFault) → Made r → Once (in_block i r)
 once_in_block i (Ok s) m = tt
-once_in_block i (Err (step.Reinitialized x)) m = m
-once_in_block i (Err (step.Memory e)) m = tt
+once_in_block i (Err e) m = absurd m
 
 -- rows that make nothing
 if_made : (b : Bool) (t e : Spot) (made : List IdentifierId) → t.made ≡ made → e.made ≡ made → (if b then t else e).made ≡ made
@@ -180,7 +177,7 @@ answer_looks : (env : Environment) (func : HirFunction) (r : Result (State × Bl
 answer_looks env func (Ok x) o = tt
 answer_looks env func (Err (fault.Reinitialized i x)) o = o
 answer_looks env func (Err (fault.Uninitialized m)) o = tt
-answer_looks env func (Err (fault.Memory e)) o = tt
+answer_looks env func (Err (fault.Memory e)) o = o
 
 entry_looks : (env : Environment) (func : HirFunction) (f : Bool) (b : BlockId) (o : Option BasicBlock) (x : State) → all_built func.instructions ≡ true
     → Looks (entry_answer env func (outcome_at env func.instructions f b o x))
@@ -199,7 +196,7 @@ unit_looks u h = looks_bind (inferred u.env u.function false) _ (inferred_looks 
 looks_alone : (e : InferError) → Looks {A = Inferred} (Err e) → RefusesLooksAlone (Refused e)
 looks_alone (error.Uninitialized f b x s r) h = tt
 looks_alone (error.Reinitialized f i x) h = h
-looks_alone (error.Memory e) h = tt
+looks_alone (error.Memory e) h = h
 
 -- the refusal of a unit whose instructions are built is of a look
 inferred_alone : (u : HirUnit) (status : Status) (i : Option Inferred) → IsInferred u status i → all_built u.function.instructions ≡ true → RefusesLooksAlone status
