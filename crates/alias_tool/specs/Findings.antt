@@ -1,11 +1,12 @@
 -- Why a run comes to a status.
-use Rattle.std.specs.Prelude.{◌≡◌, ℕ, ◌<◌, ◌≤◌, true, false, List, length, Option, Some, None, Result, Ok, Err}
+use Rattle.std.specs.Prelude.{◌≡◌, ℕ, ◌<◌, ◌≤◌, true, false, List, length, Option, Some, None, Ok, Err, ⊤}
 use Rattle.alias_hir.specs.Rules.{rules_hold}
 use Rattle.alias_hir.specs.declared.env.Unit.{Unit as HirUnit}
+use Rattle.alias_hir.specs.declared.error.InferError.TheVariants as error
 use Rattle.alias_text.specs.Units.{UnitReading, NoUnit}
 use Rattle.alias_stream.specs.Streams.{IsAllOf, IfTold}
 use Rattle.alias_tool.specs.declared.status.Status.{Status}
-use Rattle.alias_tool.specs.declared.status.Status.TheVariants.{Done, Words, Unfit, Refused, ReadFault, WriteFault, TooLong, Memory, NotBuilt}
+use Rattle.alias_tool.specs.declared.status.Status.TheVariants.{Done, Words, Unfit, Refused, ReadFault, TooLong, Memory, NotBuilt}
 use Rattle.alias_tool.specs.declared.inferred.Inferred.{Inferred}
 use Rattle.alias_tool.specs.Inferences.{inferred_unit, functions_of, AreSolved}
 use Rattle.alias_tool.specs.Words.{is_command}
@@ -13,6 +14,12 @@ use Rattle.alias_tool.specs.Words.{is_command}
 -- the greatest input, in bytes
 abbrev pub greatest_input : ℕ
 greatest_input = 16777216
+
+-- a refusal is of a look without a value alone: an instruction of a built unit makes its identifiers once
+abbrev pub RefusesLooksAlone : Status → Type 0
+RefusesLooksAlone (Refused (error.Uninitialized f b x s r)) = ⊤
+RefusesLooksAlone (Refused e) = ⊥
+RefusesLooksAlone status = ⊤
 
 -- what a unit that keeps the rules leads to: its functions are solved, or its root is refused
 abbrev pub IsInferred : HirUnit → Status → Option Inferred → Type 0

@@ -14,4 +14,4 @@ returns-in-Ok-clause-found g c =
     let command : is_command c.args.words.now ≡ true = cc in
     let whole = c.in-Ok.ensures.whole in
     found_from c.args.words.now (g.S.Source.left source) failed c.in-Ok.bytes f.status f.inferred command whole.0 whole.1
-    (subst (λ bytes. IsJudged bytes f.status f.inferred) c.as_slice.ensures c.judge.ensures)
+    (subst (λ bytes. IsJudged bytes f.status f.inferred) c.as_slice.ensures c.judge.ensures.judged)

@@ -1,0 +1,216 @@
+-- An instruction of a built unit makes its identifiers once.
+use Rattle.std.proofs.Common.{◌≡◌, ◌==◌, ℕ, Bool, true, false, not, ◌&&◌, ◌||◌, List, [], ◌∷◌, zero, suc, Option, Some, None, refl, ap, sym, ◌∙◌, subst}
+use Rattle.std.specs.Prelude.{Result, Ok, Err, ⊤, slice_get, if◌then◌else◌}
+use Rattle.alias_base.specs.Answer.{◌>>=◌}
+use Rattle.alias_base.specs.declared.ids.BlockId.{BlockId}
+use Rattle.alias_base.specs.declared.ids.IdentifierId.{IdentifierId}
+use Rattle.alias_base.specs.declared.ids.InstructionId.{InstructionId}
+use Rattle.alias_hir.specs.Types.{is_primitive_at}
+use Rattle.alias_hir.specs.declared.effect.AliasingEffect.TheVariants.{Create, CreateFrom, Assign}
+use Rattle.alias_hir.specs.declared.effect.MutationReason.{MutationReason}
+use Rattle.alias_hir.specs.declared.effect.ValueKind.{ValueKind}
+use Rattle.alias_hir.specs.declared.effect.ValueKind.TheVariants as kind
+use Rattle.alias_hir.specs.declared.effect.ValueReason.{ValueReason}
+use Rattle.alias_hir.specs.declared.effect.ValueReason.TheVariants.{Other}
+use Rattle.alias_hir.specs.declared.env.Environment.{Environment}
+use Rattle.alias_hir.specs.declared.env.Unit.{Unit as HirUnit}
+use Rattle.alias_hir.specs.declared.error.InferError.{InferError}
+use Rattle.alias_hir.specs.declared.error.InferError.TheVariants as error
+use Rattle.alias_hir.specs.declared.hir.BasicBlock.{BasicBlock}
+use Rattle.alias_hir.specs.declared.hir.HirFunction.{HirFunction}
+use Rattle.alias_hir.specs.declared.hir.Instruction.{Instruction}
+use Rattle.alias_hir.specs.declared.place.Place.{Place}
+use Rattle.alias_hir.specs.declared.value.InstructionValue.{InstructionValue}
+use Rattle.alias_hir.specs.declared.value.InstructionValue.TheVariants as value
+use Rattle.alias_lattice.specs.States.{State, look}
+use Rattle.alias_lattice.specs.declared.look.MissingLook.{MissingLook}
+use Rattle.alias_lattice.specs.declared.value.AbstractValue.{AbstractValue}
+use Rattle.alias_effects.specs.declared.block.BlockEffects.{BlockEffects}
+use Rattle.alias_effects.specs.declared.block.Stand.{Stand}
+use Rattle.alias_effects.specs.declared.faults.BlockFault.{BlockFault}
+use Rattle.alias_effects.specs.declared.faults.BlockFault.TheVariants as fault
+use Rattle.alias_effects.specs.declared.faults.StepFault.{StepFault}
+use Rattle.alias_effects.specs.declared.faults.StepFault.TheVariants as step
+use Rattle.alias_effects.specs.declared.solved.TerminalEffects.{TerminalEffects}
+use Rattle.alias_effects.specs.declared.spot.Spot.{Spot}
+use Rattle.alias_effects.specs.Spots.{is_made}
+use Rattle.alias_effects.specs.Rows.{rows, is_constant, is_frozen, may_be_frozen, captures, may_alias, kind_at, immutable_capture_row, assigned_as, maybe_alias_row, capture_row, mutated_as, mutate_row, looked_with_span}
+use Rattle.alias_effects.specs.Signatures.{value_effects}
+use Rattle.alias_effects.specs.Blocks.{spot_at, in_block, numbered_step, instruction_steps, stand_of, finished, block_step, outcome_of, outcome_at}
+use Rattle.alias_effects.specs.Inference.{entry_answer, entry_effects, inferred}
+use Rattle.alias_text.specs.Built.{all_built, instruction_built, value_built}
+use Rattle.alias_text.specs.Facts.{unit_is_built}
+use Rattle.alias_text.specs.Units.{UnitReading}
+use Rattle.alias_tool.specs.declared.inferred.Inferred.{Inferred}
+use Rattle.alias_tool.specs.declared.status.Status.{Status}
+use Rattle.alias_tool.specs.declared.status.Status.TheVariants.{Done, Words, Unfit, Refused, ReadFault, WriteFault, TooLong, Memory, NotBuilt}
+use Rattle.alias_tool.specs.Findings.{IsInferred, RefusesLooksAlone}
+use Rattle.alias_tool.specs.Inferences.{inferred_unit}
+
+-- the step was taken
+abbrev Made : Result Spot StepFault → Type 0
+Made (Ok s) = ⊤
+Made (Err e) = ⊥
+
+-- a fault is of a look alone
+abbrev Once : {A : Type 0} → Result A BlockFault → Type 0
+Once (Ok x) = ⊤
+Once (Err (fault.Uninitialized m)) = ⊤
+Once (Err e) = ⊥
+
+-- a refusal is of a look alone
+abbrev Looks : {A : Type 0} → Result A InferError → Type 0
+Looks (Ok x) = ⊤
+Looks (Err (error.Uninitialized f b x s r)) = ⊤
+Looks (Err e) = ⊥
+
+once_bind : {A B : Type 0} (r : Result A BlockFault) (f : A → Result B BlockFault) → Once r → ((x : A) → Once (f x)) → Once (r >>= f)
+once_bind (Ok x) f o h = h x
+once_bind (Err (fault.Reinitialized i x)) f o h = o
+once_bind (Err (fault.Uninitialized m)) f o h = tt
+once_bind (Err (fault.Memory e)) f o h = o
+
+looks_bind : {A B : Type 0} (r : Result A InferError) (f : A → Result B InferError) → Looks r → ((x : A) → Looks (f x)) → Looks (r >>= f)
+looks_bind (Ok x) f o h = h x
+looks_bind (Err (error.Uninitialized g b x s r)) f o h = tt
+looks_bind (Err (error.Reinitialized g i x)) f o h = o
+looks_bind (Err (error.Memory e)) f o h = o
+
+once_in_block : (i : InstructionId) (r : Result Spot StepFault) → Made r → Once (in_block i r)
+once_in_block i (Ok s) m = tt
+once_in_block i (Err e) m = absurd m
+
+-- rows that make nothing
+if_made : (b : Bool) (t e : Spot) (made : List IdentifierId) → t.made ≡ made → e.made ≡ made → (if b then t else e).made ≡ made
+if_made true t e made p q = p
+if_made false t e made p q = q
+
+immutable_capture_made : (a x : Place) (s : Spot) → (immutable_capture_row a x s).made ≡ s.made
+immutable_capture_made a x s = if_made (is_constant (kind_at a s)) _ _ s.made refl refl
+
+assigned_made : (v : AbstractValue) (a x : Place) (s : Spot) → (assigned_as v a x s).made ≡ s.made
+assigned_made v a x s =
+    if_made (is_frozen v.kind) _ _ s.made (immutable_capture_made a x s) (if_made (is_constant v.kind) _ _ s.made refl refl)
+
+maybe_alias_made : (a x : Place) (s : Spot) → (maybe_alias_row a x s).made ≡ s.made
+maybe_alias_made a x s = if_made (may_be_frozen (kind_at a s)) _ _ s.made (immutable_capture_made a x _) refl
+
+capture_made : (a x : Place) (s : Spot) → (capture_row a x s).made ≡ s.made
+capture_made a x s =
+    if_made (may_be_frozen (kind_at a s)) _ _ s.made (immutable_capture_made a x _)
+    (if_made (captures (kind_at a s) (kind_at x s)) _ _ s.made refl
+    (if_made (may_alias (kind_at a s) (kind_at x s)) _ _ s.made (maybe_alias_made a x _) refl))
+
+mutated_made : (k : ValueKind) (v : Place) (r : Option MutationReason) (s : Spot) → (mutated_as k v r s).made ≡ s.made
+mutated_made kind.Primitive v r s = refl
+mutated_made kind.Global v r s = refl
+mutated_made kind.Frozen v r s = refl
+mutated_made kind.MaybeFrozen v r s = refl
+mutated_made kind.Mutable v r s = refl
+mutated_made kind.Context v r s = refl
+
+mutate_made : (v : Place) (r : Option MutationReason) (s : Spot) → (mutate_row v r s).made ≡ s.made
+mutate_made v r s = mutated_made (kind_at v s) v r _
+
+-- a row that makes an identifier which isn't yet made
+made_once : (b : Bool) (x : IdentifierId) (s : Spot) (f : Spot → Spot) → b ≡ false → Made (((if b then Err (step.Reinitialized x) else Ok s) >>= (λ u. Ok (f u))) >>= rows [])
+made_once true x s f e = cc
+made_once false x s f e = tt
+
+create_once : (l : Place) (k : ValueKind) (r : ValueReason) (s : Spot) → is_made l.identifier s.made ≡ false → Made (rows (Create l k r ∷ []) s)
+create_once l k r s e = made_once (is_made l.identifier s.made) l.identifier _ _ e
+
+assign_once : (a x : Place) (s : Spot) → is_made x.identifier s.made ≡ false → Made (rows (Assign a x ∷ []) s)
+assign_once a x s e = made_once (is_made x.identifier s.made) x.identifier _ _ e
+
+load_once : (b : Bool) (l object : Place) (s : Stand) → Made (rows (if b then Create l kind.Primitive Other ∷ [] else CreateFrom object l ∷ []) (spot_at s))
+load_once true l object s = tt
+load_once false l object s = tt
+
+not_so : (b : Bool) → not b ≡ true → (b || false) ≡ false
+not_so true e = sym e
+not_so false e = refl
+
+value_once : (env : Environment) (l : Place) (v : InstructionValue) (s : Stand) → value_built l.identifier v ≡ true → Made (rows (value_effects env l v) (spot_at s))
+value_once env l value.ObjectExpression s b = tt
+value_once env l (value.PropertyLoad object) s b = load_once (is_primitive_at env l.identifier) l object s
+value_once env l (value.PropertyStore object p v) s b =
+    let t = mutate_row object _ (spot_at s) in
+    let nothing : (capture_row v object t).made ≡ [] = capture_made v object t ∙ mutate_made object _ (spot_at s) in
+    create_once l kind.Primitive Other (capture_row v object t) (ap (is_made l.identifier) nothing)
+value_once env l (value.LoadLocal place) s b = tt
+value_once env l (value.StoreLocal variable v) s b =
+    let u : Spot = looked_with_span v (record (spot_at s) { made = variable.place.identifier ∷ [] }) in
+    let k : AbstractValue = look s.state v.identifier in
+    let noted : is_made l.identifier (assigned_as k v variable.place u).made ≡ is_made l.identifier u.made = ap (is_made l.identifier) (assigned_made k v variable.place u) in
+    assign_once v l (assigned_as k v variable.place u) (noted ∙ not_so (variable.place.identifier.0 == l.identifier.0) b)
+value_once env l value.Primitive s b = tt
+
+both_true : (a b : Bool) → (a && b) ≡ true → (a ≡ true) × (b ≡ true)
+both_true true b e = (refl, e)
+both_true false b e = cc
+
+abbrev BuiltAt : Option Instruction → Type 0
+BuiltAt None = ⊤
+BuiltAt (Some x) = instruction_built x ≡ true
+
+built_at : (xs : List Instruction) (n : ℕ) → all_built xs ≡ true → BuiltAt (slice_get xs n)
+built_at [] n b = tt
+built_at (x ∷ xs) zero b = (both_true (instruction_built x) (all_built xs) b).0
+built_at (x ∷ xs) (suc n) b = built_at xs n (both_true (instruction_built x) (all_built xs) b).1
+
+numbered_once : (env : Environment) (i : InstructionId) (o : Option Instruction) (s : Stand) → BuiltAt o → Once (numbered_step env i o s)
+numbered_once env i None s b = tt
+numbered_once env i (Some x) s b = once_bind (in_block i (rows (value_effects env x.lvalue x.value) (spot_at s))) _ (once_in_block i _ (value_once env x.lvalue x.value s b)) (λ u. tt)
+
+instructions_once : (env : Environment) (xs : List Instruction) (is : List InstructionId) (s : Stand) → all_built xs ≡ true → Once (instruction_steps env xs is s)
+instructions_once env xs [] s b = tt
+instructions_once env xs (i ∷ is) s b =
+    once_bind (numbered_step env i (slice_get xs i.0) s) (instruction_steps env xs is) (numbered_once env i (slice_get xs i.0) s (built_at xs i.0 b))
+    (λ t. instructions_once env xs is t b)
+
+finished_once : (m : Option MissingLook) (terminal : List TerminalEffects) (s : Stand) → Once (finished m terminal s)
+finished_once None terminal s = tt
+finished_once (Some m) terminal s = tt
+
+answer_looks : (env : Environment) (func : HirFunction) (r : Result (State × BlockEffects) BlockFault) → Once r → Looks (entry_answer env func (outcome_of r))
+answer_looks env func (Ok x) o = tt
+answer_looks env func (Err (fault.Reinitialized i x)) o = o
+answer_looks env func (Err (fault.Uninitialized m)) o = tt
+answer_looks env func (Err (fault.Memory e)) o = o
+
+entry_looks : (env : Environment) (func : HirFunction) (f : Bool) (b : BlockId) (o : Option BasicBlock) (x : State) → all_built func.instructions ≡ true
+    → Looks (entry_answer env func (outcome_at env func.instructions f b o x))
+entry_looks env func f b None x h = tt
+entry_looks env func f b (Some block) x h =
+    answer_looks env func (block_step env func.instructions f b block x)
+    (once_bind (instruction_steps env func.instructions block.instructions (stand_of x)) _ (instructions_once env func.instructions block.instructions (stand_of x) h)
+    (λ s. finished_once s.missing _ s))
+
+inferred_looks : (env : Environment) (func : HirFunction) (f : Bool) → all_built func.instructions ≡ true → Looks (inferred env func f)
+inferred_looks env func f h = looks_bind (entry_effects env func f) _ (entry_looks env func f func.body.entry _ _ h) (λ r. tt)
+
+unit_looks : (u : HirUnit) → all_built u.function.instructions ≡ true → Looks (inferred_unit u)
+unit_looks u h = looks_bind (inferred u.env u.function false) _ (inferred_looks u.env u.function false h) (λ s. tt)
+
+looks_alone : (e : InferError) → Looks {A = Inferred} (Err e) → RefusesLooksAlone (Refused e)
+looks_alone (error.Uninitialized f b x s r) h = tt
+looks_alone (error.Reinitialized f i x) h = h
+looks_alone (error.Memory e) h = h
+
+-- the refusal of a unit whose instructions are built is of a look
+inferred_alone : (u : HirUnit) (status : Status) (i : Option Inferred) → IsInferred u status i → all_built u.function.instructions ≡ true → RefusesLooksAlone status
+inferred_alone u Done i h b = tt
+inferred_alone u Words i h b = tt
+inferred_alone u (Unfit fault) i h b = tt
+inferred_alone u (Refused e) None h b = looks_alone e (subst (λ (r : Result Inferred InferError). Looks r) h (unit_looks u b))
+inferred_alone u (Refused e) (Some x) h b = absurd h
+inferred_alone u ReadFault i h b = tt
+inferred_alone u WriteFault i h b = tt
+inferred_alone u TooLong i h b = tt
+inferred_alone u Memory i h b = tt
+inferred_alone u NotBuilt i h b = tt
+
+-- the refusal of a unit that was read is of a look
+pub refuses_looks : (bytes : List ℕ) (u : HirUnit) (status : Status) (i : Option Inferred) → UnitReading bytes u → IsInferred u status i → RefusesLooksAlone status
+refuses_looks bytes u status i r h = inferred_alone u status i h (both_true _ _ (unit_is_built r.0 u r.2)).1
