@@ -1,0 +1,5 @@
+pub mod Order
+pub mod Rounds
+pub mod Sends
+pub mod Solving
+pub mod OneRound
