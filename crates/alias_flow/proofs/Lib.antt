@@ -3,3 +3,5 @@ pub mod Rounds
 pub mod Sends
 pub mod Solving
 pub mod OneRound
+pub mod Flagging
+pub mod Ending

@@ -48,7 +48,7 @@ module _ {P : Type 0} {proper : P → Type 0} {join : P → P → P} {below : P 
   at_sent : (x : P) (d : Flagged P) (e n : ℕ) → Sound n d → e < n → at (flag_send join below x d e) e ≡ Some (joined join (at d e) x)
   at_sent x d e n h lt = let i : e < length d.sent = omega (arith, h.sent_length) in get_or-set_same d.sent e _ None i
 
-  send_sound : (x : P) (d : Flagged P) (e n : ℕ) → proper x → Sound n d → e < n → Sound n (flag_send join below x d e)
+  pub send_sound : (x : P) (d : Flagged P) (e n : ℕ) → proper x → Sound n d → e < n → Sound n (flag_send join below x d e)
   send_sound x d e n p h lt = record {
     sent_length = length-set d.sent e _ ∙ h.sent_length;
     wanted_length = length_if (grows join below (at d e) x) d.wanted e ∙ h.wanted_length;
@@ -63,13 +63,13 @@ module _ {P : Type 0} {proper : P → Type 0} {join : P → P → P} {below : P 
   raise (Some t) x s h i e = subst (λ z. IsTrue (below z (join t x))) (some_is t s e) (below_left l t x (h t refl) i)
 
   -- what stood there only rises
-  send_raises : (x : P) (d : Flagged P) (e n : ℕ) → proper x → Sound n d → e < n → (q : ℕ) (s : P) → at d q ≡ Some s → Raised (flag_send join below x d e) q s
+  pub send_raises : (x : P) (d : Flagged P) (e n : ℕ) → proper x → Sound n d → e < n → (q : ℕ) (s : P) → at d q ≡ Some s → Raised (flag_send join below x d e) q s
   send_raises x d e n p h lt q s is = ⊎_elim
     (λ same. (joined join (at d e) x, ap (at (flag_send join below x d e)) same ∙ at_sent x d e n h lt, raise (at d e) x s (h.proper_at e) p (ap (at d) (sym same) ∙ is)))
     (λ other. (s, get_or-set_other d.sent e q _ None other ∙ is, below_itself l s (h.proper_at q s is)))
     (cases_eq q e)
 
-  still : (o : Option P) (x : P) → ((t : P) → o ≡ Some t → proper t) → proper x → grows join below o x ≡ false → Some (joined join o x) ≡ o
+  pub still : (o : Option P) (x : P) → ((t : P) → o ≡ Some t → proper t) → proper x → grows join below o x ≡ false → Some (joined join o x) ≡ o
   still None x h i e = absurd (false≢true (sym e))
   still (Some t) x h i e = ap Some (absorbed l t x (h t refl) i (not_false (below x t) e))
 

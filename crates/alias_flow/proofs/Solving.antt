@@ -131,7 +131,7 @@ module _ {P T K C : Type 0} {proper : P → Type 0} {join : P → P → P} {belo
     after_stands (flag_turn join below rules w b) (λ u. flag_round join below rules u bs) v e
       (λ u run rest. round_stands bs lt.1 u v (turn_stands w u h b lt.0 (wants l w.desk b) run) rest)
 
-  up_below : (i n m : ℕ) → i + n ≡ m → AllByRecursion (λ b. b < m) (up i n)
+  pub up_below : (i n m : ℕ) → i + n ≡ m → AllByRecursion (λ b. b < m) (up i n)
   up_below i zero m e = tt
   up_below i (suc n) m e = (omega arith, up_below (i + 1) n m (omega arith))
 
