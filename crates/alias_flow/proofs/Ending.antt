@@ -1,5 +1,5 @@
 -- What `solve` answers is how the sequence of visits ends.
-use Rattle.std.proofs.Common.{◌≡◌, Bool, List, Option, Result, Ok, Err, ap, sym, ◌∙◌}
+use Rattle.std.proofs.Common.{◌≡◌, Bool, List, Option, Result, Ok, Err, IsErrAnd, ap, sym, subst, ◌∙◌}
 use Rattle.alias_lattice.specs.Laws.{LatticeLaws}
 use Rattle.alias_flow.specs.declared.flow.SolveFault.{SolveFault}
 use Rattle.alias_flow.specs.declared.flow.SolveFault.TheVariants.{Step, NotSettled as Unsettled, Memory}
@@ -24,3 +24,10 @@ module _ {P T K C E : Type 0} {proper : P → Type 0} {join : P → P → P} {be
   fault_ends run g is (Step b x) u gives t k = fault_by_flags l f tables b (cause x) (is ∙ ap (λ r. ending r g) gives)
   fault_ends run g is (Unsettled n) u gives t k = absurd gives
   fault_ends run g is (Memory e) u gives t k = tt
+
+  -- the same of an error that was passed on
+  pub passed_on : (run : Run (Flagged P) T K C) (g : World (Flagged P) T K → End (Flagged P) T K C) → flag_solution join below rules tables kept₀ ≡ ending run g
+    → (e : SolveFault E) (u : World (Flagged P) T K) → RunGives cause run (Err e) u → (r : Result (Solution P) (SolveFault E)) → IsErrAnd r (λ x. x ≡ e) → (t : T) (k : List (Option K))
+    → EndGives cause (solution join below rules tables kept₀) r t k
+  passed_on run g is e u gives (Ok s) h t k = absurd h
+  passed_on run g is e u gives (Err x) h t k = fault_ends run g is x u (subst (λ i. RunGives cause run (Err i) u) (sym h) gives) t k

@@ -1,13 +1,13 @@
-use Rattle.std.proofs.Common.{◌≡◌, ◌-◌, ap, sym, ◌∙◌, refl, arith}
-use Rattle.alias_flow.specs.Flags.{flag_rounds}
-use Rattle.alias_flow.specs.Machine.{Solved, NotSettled}
+use Rattle.std.proofs.Common.{◌≡◌, ◌+◌, ◌-◌, ap, sym, ◌∙◌, refl, arith}
+use Rattle.alias_flow.specs.Flags.{flag_round, flag_rounds}
+use Rattle.alias_flow.specs.Machine.{up, ending, Solved, NotSettled}
 use Rattle.alias_flow.specs.Desks.{desk_of}
 use Rattle.alias_flow.specs.Runs.{world}
 use Rattle.alias_flow.proofs.Solving.{solution_found, kept_found}
 use Rattle.alias_flow.proofs.OneRound.{forward_joins, forward_settles}
 use Rattle.alias_flow.proofs.Flagging.{unsettled_by_flags}
-use Rattle.alias_flow.proofs.Ending.{solved_ends, fault_ends}
-use Rattle.alias_flow.proofs.Rounds.{rounds_settled, rounds_over, solution_is}
+use Rattle.alias_flow.proofs.Ending.{solved_ends, passed_on}
+use Rattle.alias_flow.proofs.Rounds.{rounds_more, rounds_settled, rounds_over, solution_is}
 use Rattle.alias_flow.proofs.solver.solve.Goals as goal
 
 pub rounds-init : goal.rounds-init
@@ -45,7 +45,15 @@ returns-then-is_wanted-clause-end g c =
     (sym c.rounds.invariant.4 ∙ ap (λ n. flag_rounds l.join l.below (g.F.Flow.rules f) n w) over ∙ rounds_over l.join l.below (g.F.Flow.rules f) w (sym c.if-is_wanted.ensures) ∙ ap NotSettled (sym c.visits-visits.ensures))
 
 pub returns-in_err-pass-clause-end : goal.returns-in_err-pass-clause-end
-returns-in_err-pass-clause-end g c = ?
+returns-in_err-pass-clause-end g c =
+  let l = g.F.State.Lattice in
+  let f = c.rounds.flow in
+  let w = world (desk_of c.rounds.work) (g.F.Flow.tables f) (g.F.Flow.kept f) in
+  let rest = flag_rounds l.join l.below (g.F.Flow.rules f) (100 - (c.rounds.counter + 1)) in
+  passed_on g.met.F.State.Lattice.laws (g.met.F.Flow.laws c.args.flow.now) (g.F.Flow.tables c.args.flow.now) g.F.Flow.cause _ rest
+    (sym c.rounds.invariant.4 ∙ rounds_more l.join l.below (g.F.Flow.rules f) c.rounds.counter w (omega arith) (sym c.if-not-is_wanted.ensures)
+      ∙ ap (λ n. ending (flag_round l.join l.below (g.F.Flow.rules f) w (up 0 n)) rest) (sym c.rounds.invariant.1))
+    c.in_err-pass.field-0.0 _ c.in_err-pass.ensures.run _ c.from_residual-in_err-pass.ensures.1 _ _
 
 pub returns-then-not-is_wanted-clause-solves : goal.returns-then-not-is_wanted-clause-solves
 returns-then-not-is_wanted-clause-solves g c =
