@@ -5,3 +5,4 @@ pub mod Solving
 pub mod OneRound
 pub mod Flagging
 pub mod Ending
+pub mod Along

@@ -10,16 +10,20 @@ Line P = List (Option P)
 module _ {P T K C : Type 0} (join : P → P → P) (rules : Rules P T K C) where
   abbrev pub line_outcome : World (Line P) T K → ℕ → Outcome P T K C → Run (Line P) T K C
   line_outcome w b (Stepped out tables kept) =
-    Going (record { desk = send_all join out (slice_set w.desk b None) (rules.flow.edges b); tables = tables; kept = slice_set w.kept b (Some kept) })
+    Going (record { desk = send_all join out w.desk (rules.flow.edges b); tables = tables; kept = slice_set w.kept b (Some kept) })
   line_outcome w b (Refused cause) = Stopped b cause
 
-  -- a block steps from the state that waits at it, which is taken away
   abbrev pub line_turn_at : World (Line P) T K → ℕ → Option P → Run (Line P) T K C
   line_turn_at w b None = Going w
   line_turn_at w b (Some x) = line_outcome w b (rules.flow.step w.tables b x)
 
+  -- nothing waits at the block
+  abbrev pub taken : World (Line P) T K → ℕ → World (Line P) T K
+  taken w b = record { desk = slice_set w.desk b None; tables = w.tables; kept = w.kept }
+
+  -- the block steps from the state that waits at it, which is taken away
   abbrev pub line_turn : World (Line P) T K → ℕ → Run (Line P) T K C
-  line_turn w b = line_turn_at w b (slice_index_or w.desk b None)
+  line_turn w b = line_turn_at (taken w b) b (slice_index_or w.desk b None)
 
   abbrev pub line_round : World (Line P) T K → List ℕ → Run (Line P) T K C
   line_round w [] = Going w

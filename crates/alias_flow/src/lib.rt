@@ -2,13 +2,13 @@
 #![tactic(auto)]
 
 pub mod flow;
-//pub mod forward;
+pub mod forward;
 mod sending;
 pub mod solver;
 mod work;
 
 pub use flow::{Flow, Solution, SolveFault, StepFault};
-//pub use forward::solve_forward;
+pub use forward::solve_forward;
 pub use solver::solve;
 
 //#[cfg(test)]
