@@ -6,3 +6,4 @@ pub mod OneRound
 pub mod Flagging
 pub mod Ending
 pub mod Along
+pub mod InLine

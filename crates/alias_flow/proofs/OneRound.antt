@@ -34,7 +34,7 @@ module _ {P T K C : Type 0} {proper : P → Type 0} {join : P → P → P} {belo
   none_some : (s : P) → ◌≡◌ {A = Option P} None (Some s) → ⊥
   none_some s e = cc
 
-  true_or_false : (b : Bool) → (b ≡ true) ⊎ (b ≡ false)
+  pub true_or_false : (b : Bool) → (b ≡ true) ⊎ (b ≡ false)
   true_or_false true = inl refl
   true_or_false false = inr refl
 
@@ -43,7 +43,7 @@ module _ {P T K C : Type 0} {proper : P → Type 0} {join : P → P → P} {belo
   all_below (e ∷ es) q i h a = (omega (arith, a.0), all_below es q i h a.1)
 
   -- where i isn't wanted nothing has come to it
-  skipped : (i : ℕ) (w : World (Flagged P) T K) → Ahead i w → wants l w.desk i ≡ false → Ahead (i + 1) w
+  pub skipped : (i : ℕ) (w : World (Flagged P) T K) → Ahead i w → wants l w.desk i ≡ false → Ahead (i + 1) w
   skipped i w h quiet = record {
     stands = h.stands;
     behind = λ q lt. ⊎_elim (λ same. ap (wants l w.desk) same ∙ quiet) (λ other. h.behind q (omega arith)) (cases_eq q i);
@@ -140,7 +140,7 @@ module _ {P T K C : Type 0} {proper : P → Type 0} {join : P → P → P} {belo
   any_none (true ∷ xs) h = absurd (false≢true (sym (h 0 (omega arith))))
   any_none (false ∷ xs) h = any_none xs (λ q lt. h (suc q) (omega arith))
 
-  quiet : (v : World (Flagged P) T K) → Ahead rules.blocks v → list_any (λ b. b) v.desk.wanted ≡ false
+  pub quiet : (v : World (Flagged P) T K) → Ahead rules.blocks v → list_any (λ b. b) v.desk.wanted ≡ false
   quiet v h = any_none v.desk.wanted (λ q lt. h.behind q (omega (arith, h.stands.sound.wanted_length)))
 
   -- each state is below whatever all that arrives is below
@@ -172,13 +172,13 @@ module _ {P T K C : Type 0} {proper : P → Type 0} {join : P → P → P} {belo
   no_wish (suc n) (suc q) = no_wish n q
 
   module _ (tables : T) where
-    abbrev d₀ : Flagged P
+    abbrev pub d₀ : Flagged P
     d₀ = flag_sends join below rules.flow.initial (empty l f tables) (rules.flow.entry ∷ [])
 
-    sent_entry : Raised l d₀ rules.flow.entry rules.flow.initial
+    pub sent_entry : Raised l d₀ rules.flow.entry rules.flow.initial
     sent_entry = (sends_cover l rules.flow.initial (empty l f tables) (rules.flow.entry ∷ []) rules.blocks f.initial_proper (empty_sound l f tables) (to_entry l f tables)).0
 
-    begun : Ahead 0 (flag_start join below rules tables kept₀)
+    pub begun : Ahead 0 (flag_start join below rules tables kept₀)
     begun = record {
       stands = start_stands l f tables;
       behind = λ q lt. absurd (omega arith);

@@ -86,8 +86,9 @@ pub fn solve_forward<F: Flow>(alloc: Global, flow: &mut F) -> Result<(), SolveFa
 {
     let count = flow.blocks();
     let entry = flow.entry();
-    let mut waiting = none_sent(alloc, count)?;
+    let mut states = none_sent(alloc, count)?;
     let initial = flow.initial()?;
-    send_state(waiting.as_mut_slice(), initial, entry)?;
-    line(waiting.as_mut_slice(), flow, count)
+    let waiting = states.as_mut_slice();
+    send_state(waiting, initial, entry)?;
+    line(waiting, flow, count)
 }
