@@ -7,3 +7,4 @@ pub mod Flagging
 pub mod Ending
 pub mod Along
 pub mod InLine
+pub mod Climbing

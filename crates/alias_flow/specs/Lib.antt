@@ -5,3 +5,4 @@ pub mod Solutions
 pub mod Steps
 pub mod Runs
 pub mod Desks
+pub mod Climbs

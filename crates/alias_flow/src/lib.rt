@@ -11,5 +11,5 @@ pub use flow::{Flow, Solution, SolveFault, StepFault};
 pub use forward::solve_forward;
 pub use solver::solve;
 
-//#[cfg(test)]
-//mod tests;
+#[cfg(test)]
+mod tests;
