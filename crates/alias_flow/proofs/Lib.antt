@@ -7,4 +7,3 @@ pub mod Flagging
 pub mod Ending
 pub mod Along
 pub mod InLine
-pub mod Climbing

@@ -6,3 +6,4 @@ pub mod Steps
 pub mod Runs
 pub mod Desks
 pub mod Climbs
+pub mod Climbing

@@ -1,7 +1,7 @@
 //! A line and a loop, whose visits are computed by hand.
 ghost use Rattle.std.specs.Prelude.{◌≡◌, ◌<◌, ℕ, List, [], ◌∷◌, Option, Some, slice_set, nat_le, refl};
 ghost use Rattle.alias_flow.specs.Climbs.{higher, IsHeight, Extends, line_rules, loop_rules};
-ghost use Rattle.alias_flow.proofs.Climbing.{height_laws, line_laws, loop_laws};
+ghost use Rattle.alias_flow.specs.Climbing.{height_laws, line_laws, loop_laws};
 
 use crate::flow::{Flow, StepFault};
 use crate::forward::solve_forward;
@@ -250,6 +250,18 @@ impl Flow for Loop {
     }
 }
 
+fn heights_of(alloc: Global, entries: &[Option<Height>]) -> Result<Vec<Option<u32>>, AllocError> {
+    let mut heights = Vec::new(alloc);
+    for entry in entries {
+        let height = match entry {
+            Some(height) => Some(height.0),
+            None => None,
+        };
+        heights.push(height)?;
+    }
+    Ok(heights)
+}
+
 #[test]
 fn moves_states_along_a_line(rt: HostRuntime) {
     let mut flow = Line {
@@ -274,8 +286,8 @@ fn visits_a_loop_until_it_settles(rt: HostRuntime) -> Result<(), Fail> {
         return Err(AllocError.into());
     };
     assert_eq!(rt; solution.visits.as_slice(), [0, 1, 2, 1, 2, 1].as_slice());
-    let entries = solution.entries.as_slice();
-    assert!(rt; matches!(entries, [Some(Height(0)), Some(Height(3)), Some(Height(3)), None]));
+    let heights = heights_of(rt.alloc(), solution.entries.as_slice())?;
+    assert_eq!(rt; heights.as_slice(), [Some(0), Some(3), Some(3), None].as_slice());
     assert_eq!(rt; flow.notes.first, Some(0));
     assert_eq!(rt; flow.notes.second, Some(3));
     assert_eq!(rt; flow.notes.third, Some(3));
