@@ -11,7 +11,7 @@ use Rattle.alias_flow.specs.Machine.{Rules, Desk, World, Run, Going, Stopped, En
 use Rattle.alias_flow.specs.Flags.{Flagged, flag_sends, flag_seen, flag_outcome, flag_visit_at, flag_visit, flag_turn, flag_round, flag_rounds, flag_start, flag_solution}
 use Rattle.alias_flow.specs.Lines.{Line, line_outcome, line_turn_at, taken, line_turn, line_round, line_start}
 use Rattle.alias_flow.specs.Runs.{RunGives, EndsWith}
-use Rattle.alias_flow.specs.Solutions.{entry_at, KeepsSteps, IsForward, SolvesByJoins}
+use Rattle.alias_flow.specs.Solutions.{entry_at, KeepsSteps, IsForward, IsAscending, SolvesInOrder}
 use Rattle.alias_flow.proofs.Rounds.{rounds_suc, rounds_settled, solution_is}
 use Rattle.alias_flow.proofs.Sends.{at, wants}
 use Rattle.alias_flow.proofs.Solving.{none_at, solution_found, kept_found}
@@ -149,8 +149,8 @@ module _ {P T K C : Type 0} {proper : P → Type 0} {join : P → P → P} {belo
       ∙ ap (λ b. if b then ending (flag_round join below rules begins (up 0 rules.blocks)) (flag_rounds join below rules 99) else Solved begins) first_wanted
 
     line_solved : (u : World (Line P) T K) (s : Run (Flagged P) T K C) → RunsAlike rules.blocks (Going u) s → flag_solution join below rules tables kept₀ ≡ ending s (flag_rounds join below rules 99)
-      → (v : World (Flagged P) T K) × (flag_solution join below rules tables kept₀ ≡ Solved v) × (u.tables ≡ v.tables) × (u.kept ≡ v.kept)
-    line_solved u (Going w) a is = (w, is ∙ rounds_settled join below rules 99 w (quiet l f forward w a.ahead), a.tables, a.kept)
+      → (v : World (Flagged P) T K) × (flag_solution join below rules tables kept₀ ≡ Solved v) × (u.tables ≡ v.tables) × (u.kept ≡ v.kept) × IsAscending v.desk.visits
+    line_solved u (Going w) a is = (w, is ∙ rounds_settled join below rules 99 w (quiet l f forward w a.ahead), a.tables, a.kept, a.ahead.in_order)
     line_solved u (Stopped b c) a is = absurd a
 
     line_stopped : (b : ℕ) (c : C) (s : Run (Flagged P) T K C) → RunsAlike rules.blocks (Stopped b c) s → flag_solution join below rules tables kept₀ ≡ ending s (flag_rounds join below rules 99)
@@ -158,23 +158,25 @@ module _ {P T K C : Type 0} {proper : P → Type 0} {join : P → P → P} {belo
     line_stopped b c (Going w) a is = absurd a
     line_stopped b c (Stopped d e) a is = is ∙ ap (λ n. Fault n e) (sym a.0) ∙ ap (Fault b) (sym a.1)
 
-    by_joins : (v : World (Flagged P) T K) → flag_solution join below rules tables kept₀ ≡ Solved v → (es : List (Option P)) → es ≡ v.desk.sent → SolvesByJoins proper below rules.flow v.tables v.kept es
-    by_joins v e es is = record {
-      solves = solution_found l f tables rules refl v e es is;
-      joins = forward_joins l f forward tables v e es is;
-      keeps = kept_found l f tables rules refl v e es is;
+    solved_in_order : (v : World (Flagged P) T K) → flag_solution join below rules tables kept₀ ≡ Solved v → IsAscending v.desk.visits → (d : Desk P) → d.visits ≡ v.desk.visits → d.sent ≡ v.desk.sent
+      → SolvesInOrder proper below rules.flow v.tables v.kept d
+    solved_in_order v e order d visits sent = record {
+      in_order = subst IsAscending (sym visits) order;
+      solves = solution_found l f tables rules refl v e d.sent sent;
+      joins = forward_joins l f forward tables v e d.sent sent;
+      keeps = kept_found l f tables rules refl v e d.sent sent;
     }
 
     -- what the line answers is how the sequence of visits ends
     pub line_gives : {E : Type 0} (cause : E → C) (r : Result (Unit {0}) (SolveFault E)) (u : World (Line P) T K) → RunGives cause (line_round join rules (line_start join rules tables kept₀) (up 0 rules.blocks)) r u
-      → EndsWith cause (solution join below rules tables kept₀) r u.tables u.kept (SolvesByJoins proper below rules.flow u.tables u.kept)
+      → EndsWith cause (solution join below rules tables kept₀) r u.tables u.kept (SolvesInOrder proper below rules.flow u.tables u.kept)
     line_gives cause (Ok o) u gives =
       let s = line_solved u (flag_round join below rules begins (up 0 rules.blocks)) (subst (λ r. RunsAlike rules.blocks r (flag_round join below rules begins (up 0 rules.blocks))) gives lined) in_rounds in
       let it = solved_by_flags l f tables s.0 s.1 in
       (it.0, it.1, s.2 ∙ ap (λ (w : World (Flagged P) T K). w.tables) (sym it.2), s.3 ∙ ap (λ (w : World (Flagged P) T K). w.kept) (sym it.2),
-        subst (λ t. SolvesByJoins proper below rules.flow t u.kept it.0.desk.sent) (sym s.2)
-          (subst (λ k. SolvesByJoins proper below rules.flow s.0.tables k it.0.desk.sent) (sym s.3)
-            (by_joins s.0 s.1 it.0.desk.sent (ap (λ (w : World (Flagged P) T K). w.desk.sent) it.2))))
+        subst (λ t. SolvesInOrder proper below rules.flow t u.kept it.0.desk) (sym s.2)
+          (subst (λ k. SolvesInOrder proper below rules.flow s.0.tables k it.0.desk) (sym s.3)
+            (solved_in_order s.0 s.1 s.4 it.0.desk (ap (λ (w : World (Flagged P) T K). w.desk.visits) it.2) (ap (λ (w : World (Flagged P) T K). w.desk.sent) it.2))))
     line_gives cause (Err (Step b x)) u gives =
       fault_by_flags l f tables b (cause x) (line_stopped b (cause x) (flag_round join below rules begins (up 0 rules.blocks)) (subst (λ r. RunsAlike rules.blocks r (flag_round join below rules begins (up 0 rules.blocks))) gives lined) in_rounds)
     line_gives cause (Err (Unsettled n)) u gives = absurd gives

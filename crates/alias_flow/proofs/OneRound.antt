@@ -7,7 +7,7 @@ use Rattle.alias_lattice.specs.Laws.{LatticeLaws}
 use Rattle.alias_lattice.specs.Flows.{Outcome, Stepped, Refused, IsOneOf, ArrivesBelow, IsAbove, IsSolution, IsJoin, AreJoins}
 use Rattle.alias_flow.specs.Machine.{Rules, World, Run, Going, Stopped, End, Solved, Fault, NotSettled, after, ending, up, FlowLaws}
 use Rattle.alias_flow.specs.Flags.{Flagged, flag_send, flag_sends, flag_seen, flag_outcome, flag_visit_at, flag_visit, flag_turn, flag_round, flag_rounds, flag_start, flag_solution}
-use Rattle.alias_flow.specs.Solutions.{entry_at, IsForward}
+use Rattle.alias_flow.specs.Solutions.{entry_at, IsForward, IsAscending}
 use Rattle.alias_flow.proofs.Sends.{at, wants, Sound, Raised, sends_sound, sends_raise, sends_keep, sends_cover, sends_source, sends_apart, sends_wanted, sends_least}
 use Rattle.alias_flow.proofs.Solving.{Stands, visited, going_is, start_stands, solution_solves, empty, empty_sound, to_entry, nothing, none_at}
 use Rattle.alias_flow.proofs.Rounds.{rounds_suc, rounds_settled, solution_is}
@@ -27,6 +27,8 @@ module _ {P T K C : Type 0} {proper : P → Type 0} {join : P → P → P} {belo
     pub ahead : (q : ℕ) (s : P) → i ≤ q → at l w.desk q ≡ Some s → wants l w.desk q ≡ true
     pub has_state : (q : ℕ) → wants l w.desk q ≡ true → (s : P) × (at l w.desk q ≡ Some s)
     pub least : (b : ℕ) (s : P) → at l w.desk b ≡ Some s → (u : P) → proper u → Arrive i w.tables w.desk b u → IsTrue (below s u)
+    pub visited_before : AllByRecursion (λ v. v < i) w.desk.visits
+    pub in_order : IsAscending w.desk.visits
 
   some_is : (s u : P) → Some s ≡ Some u → s ≡ u
   some_is s u e = cc
@@ -42,6 +44,22 @@ module _ {P T K C : Type 0} {proper : P → Type 0} {join : P → P → P} {belo
   all_below [] q i h a = tt
   all_below (e ∷ es) q i h a = (omega (arith, a.0), all_below es q i h a.1)
 
+  one_more : (vs : List ℕ) (i : ℕ) → AllByRecursion (λ v. v < i) vs → AllByRecursion (λ v. v < i + 1) vs
+  one_more [] i h = tt
+  one_more (v ∷ vs) i h = (omega (arith, h.0), one_more vs i h.1)
+
+  all_append : (A : ℕ → Type 0) (vs : List ℕ) (i : ℕ) → AllByRecursion A vs → A i → AllByRecursion A (vs ++ i ∷ [])
+  all_append A [] i h last = (last, tt)
+  all_append A (v ∷ vs) i h last = (h.0, all_append A vs i h.1 last)
+
+  ascends : (vs : List ℕ) (i : ℕ) → AllByRecursion (λ v. v < i) vs → IsAscending vs → IsAscending (vs ++ i ∷ [])
+  ascends [] i h a = (tt, tt)
+  ascends (v ∷ vs) i h a = (all_append (λ y. v < y) vs i a.0 h.0, ascends vs i h.1 a.1)
+
+  sends_visits : (x : P) (es : List ℕ) (d : Flagged P) → (flag_sends join below x d es).visits ≡ d.visits
+  sends_visits x [] d = refl
+  sends_visits x (e ∷ es) d = sends_visits x es _
+
   -- where i isn't wanted nothing has come to it
   pub skipped : (i : ℕ) (w : World (Flagged P) T K) → Ahead i w → wants l w.desk i ≡ false → Ahead (i + 1) w
   skipped i w h quiet = record {
@@ -50,6 +68,8 @@ module _ {P T K C : Type 0} {proper : P → Type 0} {join : P → P → P} {belo
     ahead = λ q s le is. h.ahead q s (omega arith) is;
     has_state = h.has_state;
     least = λ b s is u p a. h.least b s is u p (record { initial = a.initial; stepped = λ c lt x y k at_c step among. a.stepped c (omega arith) x y k at_c step among });
+    visited_before = one_more w.desk.visits i h.visited_before;
+    in_order = h.in_order;
   }
 
   module _ (i : ℕ) (lt : i < rules.blocks) (w : World (Flagged P) T K) (h : Ahead i w) (x : P) (was : at l w.desk i ≡ Some x) (y : P) (t : T) (k : K) (step : rules.flow.step w.tables i x ≡ Stepped y t k) where
@@ -113,6 +133,8 @@ module _ {P T K C : Type 0} {proper : P → Type 0} {join : P → P → P} {belo
               a.stepped c (omega arith) x' y' k' ((unchanged c (omega arith)).0 ∙ at_c) (f.replay w.tables c x' y' w.tables t k' step' (f.grow w.tables i x y t k step)) among }))
           (λ among. a.stepped i (omega arith) x y k ((unchanged i (omega arith)).0 ∙ was) (f.replay w.tables i x y t t k step (f.reflexive t)) among)
           s is;
+      visited_before = subst (AllByRecursion (λ v. v < i + 1)) (sym (sends_visits y (rules.flow.edges i) d)) (all_append (λ v. v < i + 1) w.desk.visits i (one_more w.desk.visits i h.visited_before) (omega arith));
+      in_order = subst IsAscending (sym (sends_visits y (rules.flow.edges i) d)) (ascends w.desk.visits i h.visited_before h.in_order);
     }
 
   after_going : (run : Run (Flagged P) T K C) (g : World (Flagged P) T K → Run (Flagged P) T K C) (v : World (Flagged P) T K) → after run g ≡ Going v → (u : World (Flagged P) T K) × (run ≡ Going u) × (g u ≡ Going v)
@@ -193,6 +215,8 @@ module _ {P T K C : Type 0} {proper : P → Type 0} {join : P → P → P} {belo
       least = λ b s is u p a. sends_least l rules.flow.initial (empty l f tables) (rules.flow.entry ∷ []) rules.blocks f.initial_proper (empty_sound l f tables) (to_entry l f tables) b u p
         (λ t none. absurd (none_some t (sym (nothing l f rules.blocks b) ∙ none)))
         (λ among. ⊎_elim (λ same. a.initial same) (λ no. absurd no) among) s is;
+      visited_before = tt;
+      in_order = tt;
     }
 
     -- a forward flow settles, and its states are joins of what arrives

@@ -23,10 +23,10 @@ EndGives cause end (Err (Step b e)) tables kept = end ≡ Fault b (cause e)
 EndGives cause end (Err (Unsettled n)) tables kept = end ≡ NotSettled n
 EndGives cause end (Err (Memory e)) tables kept = Unit {0}
 
--- the same where no solution is handed out: what is claimed holds of the entry states of the sequence, which is never NotSettled
-abbrev pub EndsWith : {P T K C E : Type 0} → (E → C) → End (Desk P) T K C → Result (Unit {0}) (SolveFault E) → T → List (Option K) → (List (Option P) → Type 0) → Type 0
+-- the same where no solution is handed out: what is claimed holds of the desk that the sequence ends with, which is never NotSettled
+abbrev pub EndsWith : {P T K C E : Type 0} → (E → C) → End (Desk P) T K C → Result (Unit {0}) (SolveFault E) → T → List (Option K) → (Desk P → Type 0) → Type 0
 EndsWith {P} {T} {K} cause end (Ok u) tables kept holds =
-  (w : World (Desk P) T K) × (end ≡ Solved w) × (tables ≡ w.tables) × (kept ≡ w.kept) × holds w.desk.sent
+  (w : World (Desk P) T K) × (end ≡ Solved w) × (tables ≡ w.tables) × (kept ≡ w.kept) × holds w.desk
 EndsWith cause end (Err (Step b e)) tables kept holds = end ≡ Fault b (cause e)
 EndsWith cause end (Err (Unsettled n)) tables kept holds = ⊥
 EndsWith cause end (Err (Memory e)) tables kept holds = Unit {0}

@@ -1,8 +1,8 @@
 -- What the entry states and what is kept say of a flow over numbered blocks.
-use Rattle.std.specs.Prelude.{◌≡◌, ℕ, ◌<◌, Bool, List, Option, Some, None, slice_index_or}
+use Rattle.std.specs.Prelude.{◌≡◌, ℕ, ◌<◌, Bool, List, [], ◌∷◌, Option, Some, None, slice_index_or}
 use Rattle.std.specs.List.{AllByRecursion}
 use Rattle.alias_lattice.specs.Flows.{Flow, Stepped, IsSolution, AreJoins}
-use Rattle.alias_flow.specs.Machine.{Rules}
+use Rattle.alias_flow.specs.Machine.{Rules, Desk}
 
 -- the entry state of each block
 abbrev pub entry_at : {P : Type 0} → List (Option P) → ℕ → Option P
@@ -17,8 +17,14 @@ KeepsSteps {P} {T} {K} flow tables entry_state kept =
 abbrev pub IsForward : {P T K C : Type 0} → Rules P T K C → Type 0
 IsForward rules = (b : ℕ) → b < rules.blocks → AllByRecursion (λ e. b < e) (rules.flow.edges b)
 
--- entry states that solve the flow, each of which is the join of what arrives, and what their steps give is kept
-pub record SolvesByJoins {P T K C : Type 0} (proper : P → Type 0) (below : P → P → Bool) (flow : Flow ℕ P T K C) (tables : T) (kept : List (Option K)) (entries : List (Option P)) : Type 0 where
-  pub solves : IsSolution below flow tables (entry_at entries)
-  pub joins : AreJoins below flow proper tables (entry_at entries)
-  pub keeps : KeepsSteps flow tables (entry_at entries) kept
+-- in ascending order, each at most once
+abbrev pub IsAscending : List ℕ → Type 0
+IsAscending [] = Unit {0}
+IsAscending (x ∷ xs) = AllByRecursion (λ y. x < y) xs × IsAscending xs
+
+-- the visits are in stored order, the entry states solve the flow, each is the join of what arrives, and what their steps give is kept
+pub record SolvesInOrder {P T K C : Type 0} (proper : P → Type 0) (below : P → P → Bool) (flow : Flow ℕ P T K C) (tables : T) (kept : List (Option K)) (desk : Desk P) : Type 0 where
+  pub in_order : IsAscending desk.visits
+  pub solves : IsSolution below flow tables (entry_at desk.sent)
+  pub joins : AreJoins below flow proper tables (entry_at desk.sent)
+  pub keeps : KeepsSteps flow tables (entry_at desk.sent) kept

@@ -4,7 +4,7 @@ ghost use Rattle.std.specs.List.{AllByRecursion};
 ghost use Rattle.alias_flow.specs.Machine.{up, send_all, solution};
 ghost use Rattle.alias_flow.specs.Lines.{line_turn, line_round};
 ghost use Rattle.alias_flow.specs.Runs.{world, RunGives, EndsWith};
-ghost use Rattle.alias_flow.specs.Solutions.{IsForward, SolvesByJoins};
+ghost use Rattle.alias_flow.specs.Solutions.{IsForward, SolvesInOrder};
 
 use crate::flow::{Flow, SolveFault, StepFault};
 use crate::sending::{none_sent, send_copy, send_state};
@@ -80,7 +80,7 @@ fn line<F: Flow>(
 /// tables and what it keeps as some visits left them.
 pub fn solve_forward<F: Flow>(alloc: Global, flow: &mut F) -> Result<(), SolveFault<F::Fault>>
     requires forward { IsForward (F.rules flow.old) }
-    ensures end { EndsWith F.cause (solution F.State.join F.State.below (F.rules flow.old) (F.tables flow.old) (F.kept flow.old)) result (F.tables flow.new) (F.kept flow.new) (SolvesByJoins F.State.proper F.State.below (F.rules flow.old).flow (F.tables flow.new) (F.kept flow.new)) }
+    ensures end { EndsWith F.cause (solution F.State.join F.State.below (F.rules flow.old) (F.tables flow.old) (F.kept flow.old)) result (F.tables flow.new) (F.kept flow.new) (SolvesInOrder F.State.proper F.State.below (F.rules flow.old).flow (F.tables flow.new) (F.kept flow.new)) }
     ensures same { F.rules flow.new ≡ F.rules flow.old }
     ensures loan { F.loan flow.new ≡ F.loan flow.old }
 {
