@@ -1,5 +1,5 @@
 -- A state sent along edges, one after the other.
-use Rattle.std.proofs.Common.{◌≡◌, ℕ, ◌+◌, ◌-◌, ◌<◌, ◌≤◌, List, [], ◌∷◌, length, take, drop, get_or, Option, zero, suc, refl, ap, sym, ◌∙◌, arith}
+use Rattle.std.proofs.Common.{◌≡◌, ℕ, ◌+◌, ◌-◌, ◌≤◌, List, [], ◌∷◌, length, take, drop, get_or, Option, zero, suc, refl, ap, sym, ◌∙◌, arith}
 use Rattle.alias_flow.specs.Machine.{send, send_all}
 
 drop_all : (ys : List ℕ) (i : ℕ) → length ys ≤ i → drop i ys ≡ []
@@ -16,9 +16,9 @@ module _ {P : Type 0} (join : P → P → P) (x : P) where
   sends_last (e ∷ es) (suc m) h sent = sends_last es m (omega arith) (send join x sent e)
 
   pub sent_along : (es : List ℕ) (i : ℕ) (before now : List (Option P)) → 1 ≤ length es → length (take (length es - 1) es) ≤ i
-    → send_all join x now (drop i (take (length es - 1) es)) ≡ send_all join x before (take (length es - 1) es)
-    → send join x now (get_or es (length es - 1) 0) ≡ send_all join x before es
+      → send_all join x now (drop i (take (length es - 1) es)) ≡ send_all join x before (take (length es - 1) es)
+      → send join x now (get_or es (length es - 1) 0) ≡ send_all join x before es
   sent_along es i before now some past h =
-    let none : drop i (take (length es - 1) es) ≡ [] = drop_all (take (length es - 1) es) i past in
-    let all : now ≡ send_all join x before (take (length es - 1) es) = sym (ap (send_all join x now) none) ∙ h in
-    ap (λ sent. send join x sent (get_or es (length es - 1) 0)) all ∙ sym (sends_last es (length es - 1) (omega arith) before)
+      let none : drop i (take (length es - 1) es) ≡ [] = drop_all (take (length es - 1) es) i past in
+      let all : now ≡ send_all join x before (take (length es - 1) es) = sym (ap (send_all join x now) none) ∙ h in
+      ap (λ sent. send join x sent (get_or es (length es - 1) 0)) all ∙ sym (sends_last es (length es - 1) (omega arith) before)

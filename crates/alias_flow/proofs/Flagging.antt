@@ -1,14 +1,14 @@
 -- The sequence of visits is that of the flags: a flag says whether its block is wanted.
-use Rattle.std.proofs.Common.{◌≡◌, ℕ, ◌+◌, ◌<◌, ◌≢◌, ◌⊎◌, inl, inr, ⊎_elim, Bool, true, false, not, if◌then◌else◌, ◌||◌, IsTrue, List, [], ◌∷◌, ◌++◌, length, get_or, set, replicate, Option, Some, None, refl, ap, sym, ◌∙◌, subst, zero, suc, arith, add-one}
+use Rattle.std.proofs.Common.{◌≡◌, ℕ, ◌+◌, ◌<◌, ⊎_elim, Bool, true, false, not, if◌then◌else◌, ◌||◌, IsTrue, List, [], ◌∷◌, ◌++◌, length, get_or, set, replicate, Option, Some, None, refl, ap, sym, ◌∙◌, subst, zero, suc, arith, add-one}
 use Rattle.std.proofs.lemmas.List.{get_or-set_same, get_or-set_other, length-set, length-replicate}
 use Rattle.std.proofs.lemmas.Bool.{cases_eq, false≢true}
 use Rattle.std.specs.List.{AllByRecursion, list_any}
 use Rattle.alias_lattice.specs.Laws.{LatticeLaws}
 use Rattle.alias_lattice.specs.Flows.{Outcome, Stepped, Refused}
-use Rattle.alias_flow.specs.Machine.{Rules, Desk, World, Run, Going, Stopped, End, Solved, Fault, NotSettled, after, ending, up, joined, send, send_all, visited, is_unseen, wanted, outcome_after, visit_at, visit, turn, round, any_wanted, rounds, start, solution, FlowLaws}
+use Rattle.alias_flow.specs.Machine.{Rules, Desk, World, Run, Going, Stopped, End, Solved, Fault, NotSettled, after, ending, up, joined, send, send_all, is_unseen, wanted, outcome_after, visit_at, visit, turn, round, any_wanted, rounds, start, solution, FlowLaws}
 use Rattle.alias_flow.specs.Flags.{Flagged, grows, flag_send, flag_sends, flag_seen, flag_outcome, flag_visit_at, flag_visit, flag_turn, flag_round, flag_rounds, flag_start, flag_solution}
 use Rattle.alias_flow.proofs.Order.{below_itself, below_trans, below_right}
-use Rattle.alias_flow.proofs.Sends.{at, Sound, Raised, still, send_sound, send_raises}
+use Rattle.alias_flow.proofs.Sends.{Sound, Raised, still, send_sound, send_raises}
 use Rattle.alias_flow.proofs.Solving.{nothing, empty, empty_sound, up_below}
 
 set_same : (xs : List Bool) (e : ℕ) (b : Bool) → get_or xs e false ≡ b → set xs e b ≡ xs
@@ -25,8 +25,8 @@ any_at [] f zero h same = refl
 any_at [] f (suc n) h same = absurd (omega arith)
 any_at (x ∷ xs) f zero h same = absurd (omega arith)
 any_at (x ∷ xs) f (suc n) h same =
-  ap (λ b. b || list_any (λ y. y) xs) (same 0)
-  ∙ ap (λ b. f 0 || b) (any_at xs (λ q. f (suc q)) n (omega arith) (λ q. same (suc q)) ∙ sym (any_up f 0 n))
+    ap (λ b. b || list_any (λ y. y) xs) (same 0)
+    ∙ ap (λ b. f 0 || b) (any_at xs (λ q. f (suc q)) n (omega arith) (λ q. same (suc q)) ∙ sym (any_up f 0 n))
 
 no_way : (b : Bool) → (IsTrue b → ⊥) → not b ≡ true
 no_way true h = absurd (h refl)
@@ -114,15 +114,15 @@ module _ {P : Type 0} {proper : P → Type 0} {join : P → P → P} {below : P 
 
   -- what grew isn't the state of the last visit, which is below what it grew from
   now_unseen : (o last : Option P) (x : P) → ((t : P) → o ≡ Some t → proper t) → proper x
-    → ((s : P) → last ≡ Some s → proper s × ((u : P) × (o ≡ Some u) × IsTrue (below s u))) → grows join below o x ≡ true → is_unseen below (Some (joined join o x)) last ≡ true
+      → ((s : P) → last ≡ Some s → proper s × ((u : P) × (o ≡ Some u) × IsTrue (below s u))) → grows join below o x ≡ true → is_unseen below (Some (joined join o x)) last ≡ true
   now_unseen o None x h p low g = refl
   now_unseen None (Some s) x h p low g = let it = low s refl in absurd (none_some it.1.0 it.1.1)
   now_unseen (Some u) (Some s) x h p low g =
-    let it = low s refl in
-    let u_proper : proper u = h u refl in
-    let s_low : IsTrue (below s u) = subst (λ z. IsTrue (below s z)) (sym (some_is u it.1.0 it.1.1)) it.1.2 in
-    let both : proper (join u x) = l.closed u x u_proper p in
-    no_way (below (join u x) s) (λ yes. not_true (below x u) g
+      let it = low s refl in
+      let u_proper : proper u = h u refl in
+      let s_low : IsTrue (below s u) = subst (λ z. IsTrue (below s z)) (sym (some_is u it.1.0 it.1.1)) it.1.2 in
+      let both : proper (join u x) = l.closed u x u_proper p in
+      no_way (below (join u x) s) (λ yes. not_true (below x u) g
       (below_trans l x s u p it.0 u_proper (below_trans l x (join u x) s p both it.0 (below_right l u x u_proper p) yes) s_low))
 
   module _ (n : ℕ) (d : Desk P) (h : Fair n d) (x : P) (p : proper x) (e : ℕ) (lt : e < n) where
@@ -141,39 +141,39 @@ module _ {P : Type 0} {proper : P → Type 0} {join : P → P → P} {below : P 
     flag_is : (g : Bool) → grows join below was x ≡ g → (if g then set (flags below d.sent d.seen) e true else flags below d.sent d.seen) ≡ set (flags below d.sent d.seen) e (is_unseen below (Some (joined join was x)) last)
     flag_is true is = ap (set (flags below d.sent d.seen) e) (sym (now_unseen was last x (h.sound.proper_at e) p low_last is))
     flag_is false is = sym (set_same (flags below d.sent d.seen) e (is_unseen below (Some (joined join was x)) last)
-      (flags_at below d.sent d.seen e ∙ ap (λ o. is_unseen below o last) (sym (still l was x (h.sound.proper_at e) p is))))
+        (flags_at below d.sent d.seen e ∙ ap (λ o. is_unseen below o last) (sym (still l was x (h.sound.proper_at e) p is))))
 
     -- a send with flags is the send
     pub send_flags : flag_send join below x (flagged_desk below d) e ≡ flagged_desk below sent_d
     send_flags = ap (λ (fs : List Bool). record { visits = d.visits; sent = send join x d.sent e; wanted = fs })
-      (flag_is (grows join below was x) refl ∙ sym (flags_sent below d.sent d.seen e (Some (joined join was x))))
+        (flag_is (grows join below was x) refl ∙ sym (flags_sent below d.sent d.seen e (Some (joined join was x))))
 
     pub send_fair : Fair n sent_d
     send_fair =
-      let sound' : Sound l n (flagged_desk below sent_d) = subst (Sound l n) send_flags (send_sound l x (flagged_desk below d) e n p h.sound lt) in
-      record {
-        sound = sound';
-        seen_length = h.seen_length;
-        low = λ q s is.
-          let it = h.low q s is in
-          let u : P = it.risen.0 in
-          let more : Raised l (flagged_desk below sent_d) q u = send_raises l x (flagged_desk below d) e n p h.sound lt q u it.risen.1 in
-          record {
-            seen_proper = it.seen_proper;
-            risen = (more.0, more.1, below_trans l s u more.0 it.seen_proper (h.sound.proper_at q u it.risen.1) (sound'.proper_at q more.0 more.1) it.risen.2 more.2);
-          };
-      }
+        let sound' : Sound l n (flagged_desk below sent_d) = subst (Sound l n) send_flags (send_sound l x (flagged_desk below d) e n p h.sound lt) in
+        record {
+          sound = sound';
+          seen_length = h.seen_length;
+          low = λ q s is.
+              let it = h.low q s is in
+              let u : P = it.risen.0 in
+              let more : Raised l (flagged_desk below sent_d) q u = send_raises l x (flagged_desk below d) e n p h.sound lt q u it.risen.1 in
+              record {
+                seen_proper = it.seen_proper;
+                risen = (more.0, more.1, below_trans l s u more.0 it.seen_proper (h.sound.proper_at q u it.risen.1) (sound'.proper_at q more.0 more.1) it.risen.2 more.2);
+              };
+        }
 
   -- after sends along the edges
   abbrev pub after_sends : P → Desk P → List ℕ → Desk P
   after_sends x d es = record { visits = d.visits; sent = send_all join x d.sent es; seen = d.seen }
 
   sends_flags : (n : ℕ) (es : List ℕ) → AllByRecursion (λ e. e < n) es → (d : Desk P) → Fair n d → (x : P) → proper x
-    → (flag_sends join below x (flagged_desk below d) es ≡ flagged_desk below (after_sends x d es)) × Fair n (after_sends x d es)
+      → (flag_sends join below x (flagged_desk below d) es ≡ flagged_desk below (after_sends x d es)) × Fair n (after_sends x d es)
   sends_flags n [] lt d h x p = (refl, h)
   sends_flags n (e ∷ es) lt d h x p =
-    let more = sends_flags n es lt.1 (sent_d n d h x p e lt.0) (send_fair n d h x p e lt.0) x p in
-    (ap (λ i. flag_sends join below x i es) (send_flags n d h x p e lt.0) ∙ more.0, more.1)
+      let more = sends_flags n es lt.1 (sent_d n d h x p e lt.0) (send_fair n d h x p e lt.0) x p in
+      (ap (λ i. flag_sends join below x i es) (send_flags n d h x p e lt.0) ∙ more.0, more.1)
 
   module _ (n : ℕ) (d : Desk P) (h : Fair n d) (x : P) (b : ℕ) (lt : b < n) (is : get_or d.sent b None ≡ Some x) where
     abbrev seen_d : Desk P
@@ -188,8 +188,8 @@ module _ {P : Type 0} {proper : P → Type 0} {join : P → P → P} {below : P 
     -- a visit noted with flags is the visit noted
     pub seen_flags : flag_seen join below (flagged_desk below d) b ≡ flagged_desk below seen_d
     seen_flags =
-      let i : b < length d.seen = omega (arith, h.seen_length) in
-      ap (λ (fs : List Bool). record { visits = d.visits ++ b ∷ []; sent = d.sent; wanted = fs })
+        let i : b < length d.seen = omega (arith, h.seen_length) in
+        ap (λ (fs : List Bool). record { visits = d.visits ++ b ∷ []; sent = d.sent; wanted = fs })
         (ap (set (flags below d.sent d.seen) b) (sym quiet_now) ∙ sym (flags_seen below d.sent d.seen b (Some x) i))
 
     pub seen_fair : Fair n seen_d
@@ -197,17 +197,16 @@ module _ {P : Type 0} {proper : P → Type 0} {join : P → P → P} {below : P 
       sound = record { sent_length = h.sound.sent_length; wanted_length = flags_length below d.sent (set d.seen b (Some x)) ∙ h.sound.sent_length; proper_at = h.sound.proper_at };
       seen_length = length-set d.seen b (Some x) ∙ h.seen_length;
       low = λ q s at_q. ⊎_elim
-        (λ same.
+          (λ same.
           let i : b < length d.seen = omega (arith, h.seen_length) in
           let s_is : x ≡ s = some_is x s (sym (get_or-set_same d.seen b (Some x) None i) ∙ ap (λ j. get_or (set d.seen b (Some x)) j None) (sym same) ∙ at_q) in
           record { seen_proper = subst proper s_is x_proper; risen = (x, ap (λ j. get_or d.sent j None) same ∙ is, subst (λ z. IsTrue (below z x)) s_is (below_itself l x x_proper)) })
-        (λ other. let it = h.low q s (sym (get_or-set_other d.seen b q (Some x) None other) ∙ at_q) in record { seen_proper = it.seen_proper; risen = it.risen })
-        (cases_eq q b);
+          (λ other. let it = h.low q s (sym (get_or-set_other d.seen b q (Some x) None other) ∙ at_q) in record { seen_proper = it.seen_proper; risen = it.risen })
+          (cases_eq q b);
     }
 
 module _ {P T K C : Type 0} {proper : P → Type 0} {join : P → P → P} {below : P → P → Bool} {extends : T → T → Type 0} {rules : Rules P T K C} {kept₀ : List (Option K)}
-  (l : LatticeLaws proper join below) (f : FlowLaws proper extends rules kept₀) where
-
+    (l : LatticeLaws proper join below) (f : FlowLaws proper extends rules kept₀) where
   -- the run with flags is the run, and where it goes on the desk is fair
   pub record Same (flag_run : Run (Flagged P) T K C) (run : Run (Desk P) T K C) : Type 0 where
     pub is : flag_run ≡ flagged_run below run
@@ -220,44 +219,44 @@ module _ {P T K C : Type 0} {proper : P → Type 0} {join : P → P → P} {belo
   stays w h = record { is = refl; fair = λ v e. subst (λ (i : World (Desk P) T K). Fair l rules.blocks i.desk) (going_is w v e) h }
 
   outcome_same : (w : World (Desk P) T K) → Fair l rules.blocks w.desk → (b : ℕ) → b < rules.blocks → (x : P) → get_or w.desk.sent b None ≡ Some x
-    → (o : Outcome P T K C) → rules.flow.step w.tables b x ≡ o → Same (flag_outcome join below rules (flagged below w) b o) (outcome_after join below rules w b x o)
+      → (o : Outcome P T K C) → rules.flow.step w.tables b x ≡ o → Same (flag_outcome join below rules (flagged below w) b o) (outcome_after join below rules w b x o)
   outcome_same w h b lt x is (Stepped y t k) step =
-    let y_proper : proper y = f.step_proper w.tables b x y t k (h.sound.proper_at b x is) step in
-    let sends = sends_flags l rules.blocks (rules.flow.edges b) (f.edges_below b lt) (seen_d l rules.blocks w.desk h x b lt is) (seen_fair l rules.blocks w.desk h x b lt is) y y_proper in
-    record {
-      is = ap (λ (d : Flagged P). Going (record { desk = d; tables = t; kept = set w.kept b (Some k) }))
-        (ap (λ i. flag_sends join below y i (rules.flow.edges b)) (seen_flags l rules.blocks w.desk h x b lt is) ∙ sends.0);
-      fair = λ v e. subst (λ (i : World (Desk P) T K). Fair l rules.blocks i.desk) (going_is _ v e) sends.1;
-    }
+      let y_proper : proper y = f.step_proper w.tables b x y t k (h.sound.proper_at b x is) step in
+      let sends = sends_flags l rules.blocks (rules.flow.edges b) (f.edges_below b lt) (seen_d l rules.blocks w.desk h x b lt is) (seen_fair l rules.blocks w.desk h x b lt is) y y_proper in
+      record {
+        is = ap (λ (d : Flagged P). Going (record { desk = d; tables = t; kept = set w.kept b (Some k) }))
+            (ap (λ i. flag_sends join below y i (rules.flow.edges b)) (seen_flags l rules.blocks w.desk h x b lt is) ∙ sends.0);
+        fair = λ v e. subst (λ (i : World (Desk P) T K). Fair l rules.blocks i.desk) (going_is _ v e) sends.1;
+      }
   outcome_same w h b lt x is (Refused c) step = record { is = refl; fair = λ v e. cc }
 
   visit_same : (w : World (Desk P) T K) → Fair l rules.blocks w.desk → (b : ℕ) → b < rules.blocks → (o : Option P) → get_or w.desk.sent b None ≡ o
-    → Same (flag_visit_at join below rules (flagged below w) b o) (visit_at join below rules w b o)
+      → Same (flag_visit_at join below rules (flagged below w) b o) (visit_at join below rules w b o)
   visit_same w h b lt None is = stays w h
   visit_same w h b lt (Some x) is = outcome_same w h b lt x is (rules.flow.step w.tables b x) refl
 
   if_same : (w : World (Desk P) T K) → Fair l rules.blocks w.desk → (b : ℕ) → b < rules.blocks → (wish : Bool)
-    → Same (if wish then flag_visit join below rules (flagged below w) b else Going (flagged below w)) (if wish then visit join below rules w b else Going w)
+      → Same (if wish then flag_visit join below rules (flagged below w) b else Going (flagged below w)) (if wish then visit join below rules w b else Going w)
   if_same w h b lt true = visit_same w h b lt (get_or w.desk.sent b None) refl
   if_same w h b lt false = stays w h
 
   turn_same : (w : World (Desk P) T K) → Fair l rules.blocks w.desk → (b : ℕ) → b < rules.blocks → Same (flag_turn join below rules (flagged below w) b) (turn join below rules w b)
   turn_same w h b lt = subst (λ wish. Same (if wish then flag_visit join below rules (flagged below w) b else Going (flagged below w)) (turn join below rules w b))
-    (sym (flags_at below w.desk.sent w.desk.seen b)) (if_same w h b lt (wanted below w.desk b))
+      (sym (flags_at below w.desk.sent w.desk.seen b)) (if_same w h b lt (wanted below w.desk b))
 
   after_same : (flag_run : Run (Flagged P) T K C) (run : Run (Desk P) T K C) → Same flag_run run → (fg : World (Flagged P) T K → Run (Flagged P) T K C) (g : World (Desk P) T K → Run (Desk P) T K C)
-    → ((v : World (Desk P) T K) → Fair l rules.blocks v.desk → Same (fg (flagged below v)) (g v)) → Same (after flag_run fg) (after run g)
+      → ((v : World (Desk P) T K) → Fair l rules.blocks v.desk → Same (fg (flagged below v)) (g v)) → Same (after flag_run fg) (after run g)
   after_same flag_run (Going v) s fg g next = let i = next v (s.fair v refl) in record { is = ap (λ r. after r fg) s.is ∙ i.is; fair = i.fair }
   after_same flag_run (Stopped b c) s fg g next = record { is = ap (λ r. after r fg) s.is; fair = λ v e. cc }
 
   round_same : (bs : List ℕ) → AllByRecursion (λ b. b < rules.blocks) bs → (w : World (Desk P) T K) → Fair l rules.blocks w.desk → Same (flag_round join below rules (flagged below w) bs) (round join below rules w bs)
   round_same [] lt w h = stays w h
   round_same (b ∷ bs) lt w h =
-    after_same (flag_turn join below rules (flagged below w) b) (turn join below rules w b) (turn_same w h b lt.0) (λ v. flag_round join below rules v bs) (λ v. round join below rules v bs)
+      after_same (flag_turn join below rules (flagged below w) b) (turn join below rules w b) (turn_same w h b lt.0) (λ v. flag_round join below rules v bs) (λ v. round join below rules v bs)
       (λ v i. round_same bs lt.1 v i)
 
   ending_same : (flag_run : Run (Flagged P) T K C) (run : Run (Desk P) T K C) → Same flag_run run → (fg : World (Flagged P) T K → End (Flagged P) T K C) (g : World (Desk P) T K → End (Desk P) T K C)
-    → ((v : World (Desk P) T K) → Fair l rules.blocks v.desk → fg (flagged below v) ≡ flagged_end below (g v)) → ending flag_run fg ≡ flagged_end below (ending run g)
+      → ((v : World (Desk P) T K) → Fair l rules.blocks v.desk → fg (flagged below v) ≡ flagged_end below (g v)) → ending flag_run fg ≡ flagged_end below (ending run g)
   ending_same flag_run (Going v) s fg g next = ap (λ r. ending r fg) s.is ∙ next v (s.fair v refl)
   ending_same flag_run (Stopped b c) s fg g next = ap (λ r. ending r fg) s.is
 
@@ -271,15 +270,15 @@ module _ {P T K C : Type 0} {proper : P → Type 0} {join : P → P → P} {belo
   rounds_same : (n : ℕ) (w : World (Desk P) T K) → Fair l rules.blocks w.desk → flag_rounds join below rules n (flagged below w) ≡ flagged_end below (rounds join below rules n w)
   unfolding rounds flag_rounds
   rounds_same zero w h =
-    ap (λ b. if b then NotSettled (length w.desk.visits) else Solved (flagged below w)) (any_same w h)
-    ∙ end_if (any_wanted join below rules w) (NotSettled (length w.desk.visits)) (Solved (flagged below w)) (NotSettled (length w.desk.visits)) (Solved w) refl refl
+      ap (λ b. if b then NotSettled (length w.desk.visits) else Solved (flagged below w)) (any_same w h)
+      ∙ end_if (any_wanted join below rules w) (NotSettled (length w.desk.visits)) (Solved (flagged below w)) (NotSettled (length w.desk.visits)) (Solved w) refl refl
   rounds_same (suc n) w h =
-    ap (λ b. if b then ending (flag_round join below rules (flagged below w) (up 0 rules.blocks)) (flag_rounds join below rules n) else Solved (flagged below w)) (any_same w h)
-    ∙ end_if (any_wanted join below rules w) (ending (flag_round join below rules (flagged below w) (up 0 rules.blocks)) (flag_rounds join below rules n)) (Solved (flagged below w))
-        (ending (round join below rules w (up 0 rules.blocks)) (rounds join below rules n)) (Solved w)
-        (ending_same (flag_round join below rules (flagged below w) (up 0 rules.blocks)) (round join below rules w (up 0 rules.blocks))
-          (round_same (up 0 rules.blocks) (up_below l f 0 rules.blocks rules.blocks (omega arith)) w h) (flag_rounds join below rules n) (rounds join below rules n) (λ v i. rounds_same n v i))
-        refl
+      ap (λ b. if b then ending (flag_round join below rules (flagged below w) (up 0 rules.blocks)) (flag_rounds join below rules n) else Solved (flagged below w)) (any_same w h)
+      ∙ end_if (any_wanted join below rules w) (ending (flag_round join below rules (flagged below w) (up 0 rules.blocks)) (flag_rounds join below rules n)) (Solved (flagged below w))
+      (ending (round join below rules w (up 0 rules.blocks)) (rounds join below rules n)) (Solved w)
+      (ending_same (flag_round join below rules (flagged below w) (up 0 rules.blocks)) (round join below rules w (up 0 rules.blocks))
+      (round_same (up 0 rules.blocks) (up_below l f 0 rules.blocks rules.blocks (omega arith)) w h) (flag_rounds join below rules n) (rounds join below rules n) (λ v i. rounds_same n v i))
+      refl
 
   module _ (tables : T) where
     abbrev none_yet : Desk P
@@ -297,7 +296,7 @@ module _ {P T K C : Type 0} {proper : P → Type 0} {join : P → P → P} {belo
 
     start_flags : flag_start join below rules tables kept₀ ≡ flagged below (start join below rules tables kept₀)
     start_flags = ap (λ (d : Flagged P). record { desk = d; tables = tables; kept = kept₀ })
-      (ap (λ i. flag_send join below rules.flow.initial i rules.flow.entry) none_flags ∙ send_flags l rules.blocks none_yet none_fair rules.flow.initial f.initial_proper rules.flow.entry f.entry_below)
+        (ap (λ i. flag_send join below rules.flow.initial i rules.flow.entry) none_flags ∙ send_flags l rules.blocks none_yet none_fair rules.flow.initial f.initial_proper rules.flow.entry f.entry_below)
 
     -- the sequence with flags ends as the sequence of visits does
     pub solution_flags : flag_solution join below rules tables kept₀ ≡ flagged_end below (solution join below rules tables kept₀)

@@ -4,17 +4,16 @@ use Rattle.std.proofs.lemmas.List.{get_or-set_same, get_or-set_other, length-set
 use Rattle.std.proofs.lemmas.Bool.{cases_eq, false≢true}
 use Rattle.std.specs.List.{AllByRecursion, list_any}
 use Rattle.alias_lattice.specs.Laws.{LatticeLaws}
-use Rattle.alias_lattice.specs.Flows.{Outcome, Stepped, Refused, IsOneOf, ArrivesBelow, IsAbove, IsSolution, IsJoin, AreJoins}
+use Rattle.alias_lattice.specs.Flows.{Outcome, Stepped, Refused, IsOneOf, ArrivesBelow, IsAbove, IsSolution, AreJoins}
 use Rattle.alias_flow.specs.Machine.{Rules, World, Run, Going, Stopped, End, Solved, Fault, NotSettled, after, ending, up, FlowLaws}
-use Rattle.alias_flow.specs.Flags.{Flagged, flag_send, flag_sends, flag_seen, flag_outcome, flag_visit_at, flag_visit, flag_turn, flag_round, flag_rounds, flag_start, flag_solution}
+use Rattle.alias_flow.specs.Flags.{Flagged, flag_sends, flag_seen, flag_outcome, flag_visit_at, flag_visit, flag_turn, flag_round, flag_rounds, flag_start, flag_solution}
 use Rattle.alias_flow.specs.Solutions.{entry_at, IsForward, IsAscending}
-use Rattle.alias_flow.proofs.Sends.{at, wants, Sound, Raised, sends_sound, sends_raise, sends_keep, sends_cover, sends_source, sends_apart, sends_wanted, sends_least}
+use Rattle.alias_flow.proofs.Sends.{at, wants, Sound, Raised, sends_raise, sends_keep, sends_cover, sends_apart, sends_wanted, sends_least}
 use Rattle.alias_flow.proofs.Solving.{Stands, visited, going_is, start_stands, solution_solves, empty, empty_sound, to_entry, nothing, none_at}
 use Rattle.alias_flow.proofs.Rounds.{rounds_suc, rounds_settled, solution_is}
 
 module _ {P T K C : Type 0} {proper : P → Type 0} {join : P → P → P} {below : P → P → Bool} {extends : T → T → Type 0} {rules : Rules P T K C} {kept₀ : List (Option K)}
-  (l : LatticeLaws proper join below) (f : FlowLaws proper extends rules kept₀) (forward : IsForward rules) where
-
+    (l : LatticeLaws proper join below) (f : FlowLaws proper extends rules kept₀) (forward : IsForward rules) where
   -- what arrives at b from the blocks before i is below u
   pub record Arrive (i : ℕ) (t : T) (d : Flagged P) (b : ℕ) (u : P) : Type 0 where
     pub initial : b ≡ rules.flow.entry → IsTrue (below rules.flow.initial u)
@@ -110,27 +109,28 @@ module _ {P T K C : Type 0} {proper : P → Type 0} {join : P → P → P} {belo
       stands = visited l f w h.stands i lt x was y t k step;
       behind = λ q le. (unchanged q (omega arith)).1 ∙ ⊎_elim (λ same. ap (wants l d) same ∙ now_met) (λ other. other_wants q other ∙ h.behind q (omega arith)) (cases_eq q i);
       ahead = λ q s le is. ⊎_elim
-        (λ yes. yes)
-        (λ no.
+          (λ yes. yes)
+          (λ no.
           let keep = sends_keep l y d (rules.flow.edges i) rules.blocks y_proper sound edges q no in
           let apart : q ≢ i = omega arith in
           absurd (false≢true (sym keep.0 ∙ other_wants q apart ∙ h.ahead q s (omega arith) (sym keep.1 ∙ is))))
-        (true_or_false (wants l d' q));
+          (true_or_false (wants l d' q));
       has_state = λ q yes. ⊎_elim
-        (λ before. ⊎_elim
+          (λ before. ⊎_elim
           (λ same. absurd (false≢true (sym now_met ∙ ap (wants l d) (sym same) ∙ before)))
           (λ other.
-            let had = h.has_state q (sym (other_wants q other) ∙ before) in
-            let r = sends_raise l y d (rules.flow.edges i) rules.blocks y_proper sound edges q had.0 had.1 in (r.0, r.1))
+          let had = h.has_state q (sym (other_wants q other) ∙ before) in
+          let r = sends_raise l y d (rules.flow.edges i) rules.blocks y_proper sound edges q had.0 had.1 in (r.0, r.1))
           (cases_eq q i))
-        (λ among. arrived q among)
-        (sends_wanted l y d (rules.flow.edges i) q yes);
+          (λ among. arrived q among)
+          (sends_wanted l y d (rules.flow.edges i) q yes);
       least = λ b s is u p a.
-        sends_least l y d (rules.flow.edges i) rules.blocks y_proper sound edges b u p
+          sends_least l y d (rules.flow.edges i) rules.blocks y_proper sound edges b u p
           (λ old at_b. h.least b old at_b u p (record {
             initial = a.initial;
             stepped = λ c c_lt x' y' k' at_c step' among.
-              a.stepped c (omega arith) x' y' k' ((unchanged c (omega arith)).0 ∙ at_c) (f.replay w.tables c x' y' w.tables t k' step' (f.grow w.tables i x y t k step)) among }))
+                a.stepped c (omega arith) x' y' k' ((unchanged c (omega arith)).0 ∙ at_c) (f.replay w.tables c x' y' w.tables t k' step' (f.grow w.tables i x y t k step)) among;
+          }))
           (λ among. a.stepped i (omega arith) x y k ((unchanged i (omega arith)).0 ∙ was) (f.replay w.tables i x y t t k step (f.reflexive t)) among)
           s is;
       visited_before = subst (AllByRecursion (λ v. v < i + 1)) (sym (sends_visits y (rules.flow.edges i) d)) (all_append (λ v. v < i + 1) w.desk.visits i (one_more w.desk.visits i h.visited_before) (omega arith));
@@ -147,15 +147,15 @@ module _ {P T K C : Type 0} {proper : P → Type 0} {join : P → P → P} {belo
 
   turn_ahead : (i : ℕ) → i < rules.blocks → (w v : World (Flagged P) T K) → Ahead i w → (wish : Bool) → wants l w.desk i ≡ wish → (if wish then flag_visit join below rules w i else Going w) ≡ Going v → Ahead (i + 1) v
   turn_ahead i lt w v h true is e =
-    let had = h.has_state i is in
-    outcome_ahead i lt w v h had.0 had.1 (rules.flow.step w.tables i had.0) refl (ap (flag_visit_at join below rules w i) (sym had.1) ∙ e)
+      let had = h.has_state i is in
+      outcome_ahead i lt w v h had.0 had.1 (rules.flow.step w.tables i had.0) refl (ap (flag_visit_at join below rules w i) (sym had.1) ∙ e)
   turn_ahead i lt w v h false is e = subst (Ahead (i + 1)) (going_is l f w v e) (skipped i w h is)
 
   round_ahead : (i n : ℕ) → i + n ≡ rules.blocks → (w v : World (Flagged P) T K) → Ahead i w → flag_round join below rules w (up i n) ≡ Going v → Ahead rules.blocks v
   round_ahead i zero all w v h e = let done : i ≡ rules.blocks = omega arith in subst (λ m. Ahead m v) done (subst (Ahead i) (going_is l f w v e) h)
   round_ahead i (suc n) all w v h e =
-    let s = after_going (flag_turn join below rules w i) (λ u. flag_round join below rules u (up (i + 1) n)) v e in
-    round_ahead (i + 1) n (omega arith) s.0 v (turn_ahead i (omega arith) w s.0 h (wants l w.desk i) refl s.1) s.2
+      let s = after_going (flag_turn join below rules w i) (λ u. flag_round join below rules u (up (i + 1) n)) v e in
+      round_ahead (i + 1) n (omega arith) s.0 v (turn_ahead i (omega arith) w s.0 h (wants l w.desk i) refl s.1) s.2
 
   any_none : (xs : List Bool) → ((q : ℕ) → q < length xs → get_or xs q false ≡ false) → list_any (λ b. b) xs ≡ false
   any_none [] h = refl
@@ -180,8 +180,8 @@ module _ {P T K C : Type 0} {proper : P → Type 0} {join : P → P → P} {belo
 
   fine_after : (n : ℕ) (run : Run (Flagged P) T K C) (w : World (Flagged P) T K) → Ahead 0 w → flag_round join below rules w (up 0 rules.blocks) ≡ run → Fine (ending run (flag_rounds join below rules n))
   fine_after n (Going u) w h e =
-    let ends = round_ahead 0 rules.blocks (omega arith) w u h e in
-    subst Fine (sym (rounds_settled join below rules n u (quiet u ends))) (joins u ends)
+      let ends = round_ahead 0 rules.blocks (omega arith) w u h e in
+      subst Fine (sym (rounds_settled join below rules n u (quiet u ends))) (joins u ends)
   fine_after n (Stopped b c) w h e = tt
 
   fine_if : (n : ℕ) (w : World (Flagged P) T K) → Ahead 0 w → (b : Bool) → list_any (λ x. x) w.desk.wanted ≡ b → Fine (if b then ending (flag_round join below rules w (up 0 rules.blocks)) (flag_rounds join below rules n) else Solved w)
@@ -205,16 +205,16 @@ module _ {P T K C : Type 0} {proper : P → Type 0} {join : P → P → P} {belo
       stands = start_stands l f tables;
       behind = λ q lt. absurd (omega arith);
       ahead = λ q s le is. ⊎_elim
-        (λ yes. yes)
-        (λ no. absurd (none_some s (sym (nothing l f rules.blocks q) ∙ sym (sends_keep l rules.flow.initial (empty l f tables) (rules.flow.entry ∷ []) rules.blocks f.initial_proper (empty_sound l f tables) (to_entry l f tables) q no).1 ∙ is)))
-        (true_or_false (wants l d₀ q));
+          (λ yes. yes)
+          (λ no. absurd (none_some s (sym (nothing l f rules.blocks q) ∙ sym (sends_keep l rules.flow.initial (empty l f tables) (rules.flow.entry ∷ []) rules.blocks f.initial_proper (empty_sound l f tables) (to_entry l f tables) q no).1 ∙ is)))
+          (true_or_false (wants l d₀ q));
       has_state = λ q yes. ⊎_elim
-        (λ before. absurd (false≢true (sym (no_wish rules.blocks q) ∙ before)))
-        (λ among. ⊎_elim (λ same. (sent_entry.0, ap (at l d₀) same ∙ sent_entry.1)) (λ no. absurd no) among)
-        (sends_wanted l rules.flow.initial (empty l f tables) (rules.flow.entry ∷ []) q yes);
+          (λ before. absurd (false≢true (sym (no_wish rules.blocks q) ∙ before)))
+          (λ among. ⊎_elim (λ same. (sent_entry.0, ap (at l d₀) same ∙ sent_entry.1)) (λ no. absurd no) among)
+          (sends_wanted l rules.flow.initial (empty l f tables) (rules.flow.entry ∷ []) q yes);
       least = λ b s is u p a. sends_least l rules.flow.initial (empty l f tables) (rules.flow.entry ∷ []) rules.blocks f.initial_proper (empty_sound l f tables) (to_entry l f tables) b u p
-        (λ t none. absurd (none_some t (sym (nothing l f rules.blocks b) ∙ none)))
-        (λ among. ⊎_elim (λ same. a.initial same) (λ no. absurd no) among) s is;
+          (λ t none. absurd (none_some t (sym (nothing l f rules.blocks b) ∙ none)))
+          (λ among. ⊎_elim (λ same. a.initial same) (λ no. absurd no) among) s is;
       visited_before = tt;
       in_order = tt;
     }
@@ -222,7 +222,7 @@ module _ {P T K C : Type 0} {proper : P → Type 0} {join : P → P → P} {belo
     -- a forward flow settles, and its states are joins of what arrives
     pub forward_ends : Fine (flag_solution join below rules tables kept₀)
     forward_ends =
-      subst Fine (sym (solution_is join below rules tables kept₀ ∙ rounds_suc join below rules 99 (flag_start join below rules tables kept₀)))
+        subst Fine (sym (solution_is join below rules tables kept₀ ∙ rounds_suc join below rules 99 (flag_start join below rules tables kept₀)))
         (fine_if 99 (flag_start join below rules tables kept₀) begun _ refl)
 
     stepped_is : (y z : P) (t : T) (k m : K) → ◌≡◌ {A = Outcome P T K C} (Stepped y t k) (Stepped z t m) → y ≡ z
@@ -241,15 +241,15 @@ module _ {P T K C : Type 0} {proper : P → Type 0} {join : P → P → P} {belo
     arrives t es h b s is = record {
       initial = λ same. stands_at es rules.flow.initial s b (subst (IsAbove below rules.flow (entry_at es) rules.flow.initial) (sym same) h.initial) is;
       stepped = λ c x y k at_c step among.
-        let below_all = h.steps c x at_c in
-        let same : below_all.0 ≡ y = stepped_is below_all.0 y t below_all.1 k (sym below_all.2 ∙ step) in
-        subst (λ z. IsTrue (below z s)) same (stands_at es below_all.0 s b (among_all (IsAbove below rules.flow (entry_at es) below_all.0) (rules.flow.edges c) b below_all.3 among) is);
+          let below_all = h.steps c x at_c in
+          let same : below_all.0 ≡ y = stepped_is below_all.0 y t below_all.1 k (sym below_all.2 ∙ step) in
+          subst (λ z. IsTrue (below z s)) same (stands_at es below_all.0 s b (among_all (IsAbove below rules.flow (entry_at es) below_all.0) (rules.flow.edges c) b below_all.3 among) is);
     }
 
     -- a solution that a forward flow ends with
     pub forward_joins : (v : World (Flagged P) T K) → flag_solution join below rules tables kept₀ ≡ Solved v → (es : List (Option P)) → es ≡ v.desk.sent → AreJoins below rules.flow proper v.tables (entry_at es)
     forward_joins v e es es_is = subst (λ i. AreJoins below rules.flow proper v.tables (entry_at i)) (sym es_is)
-      (λ b s is. record { above = arrives v.tables v.desk.sent (solution_solves l f tables v e).solves b s is; least = subst Fine e forward_ends b s is })
+        (λ b s is. record { above = arrives v.tables v.desk.sent (solution_solves l f tables v e).solves b s is; least = subst Fine e forward_ends b s is })
 
     pub forward_settles : (n : ℕ) → flag_solution join below rules tables kept₀ ≡ NotSettled n → ⊥
     forward_settles n e = subst Fine e forward_ends

@@ -1,6 +1,6 @@
-use Rattle.std.proofs.Common.{◌≡◌, ℕ, ◌+◌, ◌-◌, ◌<◌, ◌∷◌, Bool, true, false, if◌then◌else◌, List, Option, length, suc, zero, refl, ap, sym, ◌∙◌, arith}
+use Rattle.std.proofs.Common.{◌≡◌, ℕ, ◌+◌, ◌-◌, ◌<◌, ◌∷◌, Bool, true, false, if◌then◌else◌, List, Option, length, suc, zero, refl, ap, ◌∙◌, arith}
 use Rattle.std.specs.List.{list_any}
-use Rattle.alias_flow.specs.Machine.{up, ending, Rules, World, End, Solved, NotSettled}
+use Rattle.alias_flow.specs.Machine.{up, ending, Rules, World, Solved, NotSettled}
 use Rattle.alias_flow.specs.Flags.{Flagged, flag_rounds, flag_round, flag_solution, flag_start}
 
 up_suc : (i n : ℕ) → up i (suc n) ≡ i ∷ up (i + 1) n
@@ -18,8 +18,8 @@ module _ {P T K C : Type 0} (join : P → P → P) (below : P → P → Bool) (r
   -- one of the rounds that are left
   pub rounds_more : (i : ℕ) (w : World (Flagged P) T K) → i < 100 → list_any (λ x. x) w.desk.wanted ≡ true → flag_rounds join below rules (100 - i) w ≡ ending (flag_round join below rules w (up 0 rules.blocks)) (flag_rounds join below rules (100 - (i + 1)))
   rounds_more i w h t =
-    let e : 100 - i ≡ suc (100 - (i + 1)) = omega arith in
-    ap (λ n. flag_rounds join below rules n w) e ∙ rounds_suc (100 - (i + 1)) w ∙ ap (λ b. if b then ending (flag_round join below rules w (up 0 rules.blocks)) (flag_rounds join below rules (100 - (i + 1))) else Solved w) t
+      let e : 100 - i ≡ suc (100 - (i + 1)) = omega arith in
+      ap (λ n. flag_rounds join below rules n w) e ∙ rounds_suc (100 - (i + 1)) w ∙ ap (λ b. if b then ending (flag_round join below rules w (up 0 rules.blocks)) (flag_rounds join below rules (100 - (i + 1))) else Solved w) t
 
   -- nothing is wanted
   pub rounds_settled : (n : ℕ) (w : World (Flagged P) T K) → list_any (λ x. x) w.desk.wanted ≡ false → flag_rounds join below rules n w ≡ Solved w

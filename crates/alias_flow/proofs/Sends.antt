@@ -1,5 +1,5 @@
 -- What sending a state along edges changes.
-use Rattle.std.proofs.Common.{◌≡◌, ℕ, ◌+◌, ◌<◌, ◌≢◌, ◌⊎◌, inl, inr, ⊎_elim, Bool, true, false, not, if◌then◌else◌, IsTrue, List, [], ◌∷◌, length, get_or, set, Option, Some, None, refl, ap, sym, ◌∙◌, subst, arith}
+use Rattle.std.proofs.Common.{◌≡◌, ℕ, ◌<◌, ◌≢◌, ◌⊎◌, inl, inr, ⊎_elim, Bool, true, false, not, if◌then◌else◌, IsTrue, List, [], ◌∷◌, length, get_or, set, Option, Some, None, refl, ap, sym, ◌∙◌, subst, arith}
 use Rattle.std.proofs.lemmas.List.{get_or-set_same, get_or-set_other, length-set}
 use Rattle.std.proofs.lemmas.Bool.{cases_eq, false≢true}
 use Rattle.std.specs.List.{AllByRecursion}
@@ -53,9 +53,9 @@ module _ {P : Type 0} {proper : P → Type 0} {join : P → P → P} {below : P 
     sent_length = length-set d.sent e _ ∙ h.sent_length;
     wanted_length = length_if (grows join below (at d e) x) d.wanted e ∙ h.wanted_length;
     proper_at = λ q s is. ⊎_elim
-      (λ same. subst proper (some_is _ _ (sym (at_sent x d e n h lt) ∙ ap (at (flag_send join below x d e)) (sym same) ∙ is)) (joined_proper (at d e) x (h.proper_at e) p))
-      (λ other. h.proper_at q s (sym (get_or-set_other d.sent e q _ None other) ∙ is))
-      (cases_eq q e);
+        (λ same. subst proper (some_is _ _ (sym (at_sent x d e n h lt) ∙ ap (at (flag_send join below x d e)) (sym same) ∙ is)) (joined_proper (at d e) x (h.proper_at e) p))
+        (λ other. h.proper_at q s (sym (get_or-set_other d.sent e q _ None other) ∙ is))
+        (cases_eq q e);
   }
 
   raise : (o : Option P) (x s : P) → ((t : P) → o ≡ Some t → proper t) → proper x → o ≡ Some s → IsTrue (below s (joined join o x))
@@ -65,14 +65,13 @@ module _ {P : Type 0} {proper : P → Type 0} {join : P → P → P} {below : P 
   -- what stood there only rises
   pub send_raises : (x : P) (d : Flagged P) (e n : ℕ) → proper x → Sound n d → e < n → (q : ℕ) (s : P) → at d q ≡ Some s → Raised (flag_send join below x d e) q s
   send_raises x d e n p h lt q s is = ⊎_elim
-    (λ same. (joined join (at d e) x, ap (at (flag_send join below x d e)) same ∙ at_sent x d e n h lt, raise (at d e) x s (h.proper_at e) p (ap (at d) (sym same) ∙ is)))
-    (λ other. (s, get_or-set_other d.sent e q _ None other ∙ is, below_itself l s (h.proper_at q s is)))
-    (cases_eq q e)
+      (λ same. (joined join (at d e) x, ap (at (flag_send join below x d e)) same ∙ at_sent x d e n h lt, raise (at d e) x s (h.proper_at e) p (ap (at d) (sym same) ∙ is)))
+      (λ other. (s, get_or-set_other d.sent e q _ None other ∙ is, below_itself l s (h.proper_at q s is)))
+      (cases_eq q e)
 
   pub still : (o : Option P) (x : P) → ((t : P) → o ≡ Some t → proper t) → proper x → grows join below o x ≡ false → Some (joined join o x) ≡ o
   still None x h i e = absurd (false≢true (sym e))
   still (Some t) x h i e = ap Some (absorbed l t x (h t refl) i (not_false (below x t) e))
-
 
   grew_at : (b : Bool) (xs : List Bool) (e : ℕ) → e < length xs → get_or (if b then set xs e true else xs) e false ≡ false → b ≡ false
   grew_at true xs e i h = absurd (false≢true (sym h ∙ get_or-set_same xs e true false i))
@@ -89,14 +88,15 @@ module _ {P : Type 0} {proper : P → Type 0} {join : P → P → P} {below : P 
   -- a block that isn't wanted after a send wasn't wanted before, and has what it had
   send_keeps : (x : P) (d : Flagged P) (e n : ℕ) → proper x → Sound n d → e < n → (q : ℕ) → wants (flag_send join below x d e) q ≡ false → (wants d q ≡ false) × (at (flag_send join below x d e) q ≡ at d q)
   send_keeps x d e n p h lt q is = ⊎_elim
-    (λ same.
+      (λ same.
       let at_e : wants (flag_send join below x d e) e ≡ false = ap (wants (flag_send join below x d e)) (sym same) ∙ is in
       let i : e < length d.wanted = omega (arith, h.wanted_length) in
-      let quiet : grows join below (at d e) x ≡ false = grew_at (grows join below (at d e) x) d.wanted e i at_e in
-      (ap (wants d) same ∙ sym (same_if (grows join below (at d e) x) d.wanted e quiet) ∙ at_e,
-       ap (at (flag_send join below x d e)) same ∙ at_sent x d e n h lt ∙ still (at d e) x (h.proper_at e) p quiet ∙ ap (at d) (sym same)))
-    (λ other. (sym (other_if (grows join below (at d e) x) d.wanted e q other) ∙ is, get_or-set_other d.sent e q _ None other))
-    (cases_eq q e)
+      let quiet : grows join below (at d e) x ≡ false = grew_at (grows join below (at d e) x) d.wanted e i at_e in (
+        ap (wants d) same ∙ sym (same_if (grows join below (at d e) x) d.wanted e quiet) ∙ at_e,
+        ap (at (flag_send join below x d e)) same ∙ at_sent x d e n h lt ∙ still (at d e) x (h.proper_at e) p quiet ∙ ap (at d) (sym same),
+      ))
+      (λ other. (sym (other_if (grows join below (at d e) x) d.wanted e q other) ∙ is, get_or-set_other d.sent e q _ None other))
+      (cases_eq q e)
 
   -- what has a state after a send had one before, or was sent it
   send_source : (x : P) (d : Flagged P) (e : ℕ) (q : ℕ) (s : P) → at (flag_send join below x d e) q ≡ Some s → ((t : P) × (at d q ≡ Some t)) ⊎ (q ≡ e)
@@ -110,49 +110,50 @@ module _ {P : Type 0} {proper : P → Type 0} {join : P → P → P} {below : P 
   pub sends_raise : (x : P) (d : Flagged P) (es : List ℕ) (n : ℕ) → proper x → Sound n d → AllByRecursion (λ e. e < n) es → (q : ℕ) (s : P) → at d q ≡ Some s → Raised (flag_sends join below x d es) q s
   sends_raise x d [] n p h lt q s is = (s, is, below_itself l s (h.proper_at q s is))
   sends_raise x d (e ∷ es) n p h lt q s is =
-    let once = send_raises x d e n p h lt.0 q s is in
-    let sound = send_sound x d e n p h lt.0 in
-    let more = sends_raise x (flag_send join below x d e) es n p sound lt.1 q once.0 once.1 in
-    (more.0, more.1, below_trans l s once.0 more.0 (h.proper_at q s is) (sound.proper_at q once.0 once.1) ((sends_sound x (flag_send join below x d e) es n p sound lt.1).proper_at q more.0 more.1) once.2 more.2)
+      let once = send_raises x d e n p h lt.0 q s is in
+      let sound = send_sound x d e n p h lt.0 in
+      let more = sends_raise x (flag_send join below x d e) es n p sound lt.1 q once.0 once.1 in
+      (more.0, more.1, below_trans l s once.0 more.0 (h.proper_at q s is) (sound.proper_at q once.0 once.1) ((sends_sound x (flag_send join below x d e) es n p sound lt.1).proper_at q more.0 more.1) once.2 more.2)
 
   pub sends_keep : (x : P) (d : Flagged P) (es : List ℕ) (n : ℕ) → proper x → Sound n d → AllByRecursion (λ e. e < n) es → (q : ℕ) → wants (flag_sends join below x d es) q ≡ false → (wants d q ≡ false) × (at (flag_sends join below x d es) q ≡ at d q)
   sends_keep x d [] n p h lt q is = (is, refl)
   sends_keep x d (e ∷ es) n p h lt q is =
-    let more = sends_keep x (flag_send join below x d e) es n p (send_sound x d e n p h lt.0) lt.1 q is in
-    let once = send_keeps x d e n p h lt.0 q more.0 in
-    (once.0, more.1 ∙ once.1)
+      let more = sends_keep x (flag_send join below x d e) es n p (send_sound x d e n p h lt.0) lt.1 q is in
+      let once = send_keeps x d e n p h lt.0 q more.0 in
+      (once.0, more.1 ∙ once.1)
 
   pub sends_cover : (x : P) (d : Flagged P) (es : List ℕ) (n : ℕ) → proper x → Sound n d → AllByRecursion (λ e. e < n) es → AllByRecursion (λ e. Raised (flag_sends join below x d es) e x) es
   sends_cover x d [] n p h lt = tt
   sends_cover x d (e ∷ es) n p h lt =
-    let sound = send_sound x d e n p h lt.0 in
-    let u : P = joined join (at d e) x in
-    let more = sends_raise x (flag_send join below x d e) es n p sound lt.1 e u (at_sent x d e n h lt.0) in
-    ((more.0, more.1, below_trans l x u more.0 p (joined_proper (at d e) x (h.proper_at e) p) ((sends_sound x (flag_send join below x d e) es n p sound lt.1).proper_at e more.0 more.1) (joined_above (at d e) x (h.proper_at e) p) more.2),
-     sends_cover x (flag_send join below x d e) es n p sound lt.1)
+      let sound = send_sound x d e n p h lt.0 in
+      let u : P = joined join (at d e) x in
+      let more = sends_raise x (flag_send join below x d e) es n p sound lt.1 e u (at_sent x d e n h lt.0) in (
+        (more.0, more.1, below_trans l x u more.0 p (joined_proper (at d e) x (h.proper_at e) p) ((sends_sound x (flag_send join below x d e) es n p sound lt.1).proper_at e more.0 more.1) (joined_above (at d e) x (h.proper_at e) p) more.2),
+        sends_cover x (flag_send join below x d e) es n p sound lt.1,
+      )
 
   pub sends_source : (x : P) (d : Flagged P) (es : List ℕ) (q : ℕ) (s : P) → at (flag_sends join below x d es) q ≡ Some s → ((t : P) × (at d q ≡ Some t)) ⊎ IsOneOf q es
   sends_source x d [] q s is = inl (s, is)
   sends_source x d (e ∷ es) q s is = ⊎_elim
-    (λ w. ⊎_elim (λ v. inl v) (λ same. inr (inl same)) (send_source x d e q w.0 w.1))
-    (λ among. inr (inr among))
-    (sends_source x (flag_send join below x d e) es q s is)
+      (λ w. ⊎_elim (λ v. inl v) (λ same. inr (inl same)) (send_source x d e q w.0 w.1))
+      (λ among. inr (inr among))
+      (sends_source x (flag_send join below x d e) es q s is)
 
   -- a block that no edge leads to stays as it is
   pub sends_apart : (x : P) (d : Flagged P) (es : List ℕ) (q : ℕ) → AllByRecursion (λ e. q < e) es → (at (flag_sends join below x d es) q ≡ at d q) × (wants (flag_sends join below x d es) q ≡ wants d q)
   sends_apart x d [] q h = (refl, refl)
   sends_apart x d (e ∷ es) q h =
-    let apart : q ≢ e = omega (arith, h.0) in
-    let more = sends_apart x (flag_send join below x d e) es q h.1 in
-    (more.0 ∙ get_or-set_other d.sent e q _ None apart, more.1 ∙ other_if (grows join below (at d e) x) d.wanted e q apart)
+      let apart : q ≢ e = omega (arith, h.0) in
+      let more = sends_apart x (flag_send join below x d e) es q h.1 in
+      (more.0 ∙ get_or-set_other d.sent e q _ None apart, more.1 ∙ other_if (grows join below (at d e) x) d.wanted e q apart)
 
   -- a block that is wanted was wanted before, or an edge leads to it
   pub sends_wanted : (x : P) (d : Flagged P) (es : List ℕ) (q : ℕ) → wants (flag_sends join below x d es) q ≡ true → (wants d q ≡ true) ⊎ IsOneOf q es
   sends_wanted x d [] q is = inl is
   sends_wanted x d (e ∷ es) q is = ⊎_elim
-    (λ w. ⊎_elim (λ same. inr (inl same)) (λ other. inl (sym (other_if (grows join below (at d e) x) d.wanted e q other) ∙ w)) (cases_eq q e))
-    (λ among. inr (inr among))
-    (sends_wanted x (flag_send join below x d e) es q is)
+      (λ w. ⊎_elim (λ same. inr (inl same)) (λ other. inl (sym (other_if (grows join below (at d e) x) d.wanted e q other) ∙ w)) (cases_eq q e))
+      (λ among. inr (inr among))
+      (sends_wanted x (flag_send join below x d e) es q is)
 
   joined_least : (o : Option P) (x u : P) → ((s : P) → o ≡ Some s → proper s) → proper x → proper u → ((s : P) → o ≡ Some s → IsTrue (below s u)) → IsTrue (below x u) → IsTrue (below (joined join o x) u)
   joined_least None x u h i k p q = q
@@ -160,13 +161,13 @@ module _ {P : Type 0} {proper : P → Type 0} {join : P → P → P} {below : P 
 
   -- what is below u stays below it, if what is sent is
   pub sends_least : (x : P) (d : Flagged P) (es : List ℕ) (n : ℕ) → proper x → Sound n d → AllByRecursion (λ e. e < n) es → (q : ℕ) (u : P) → proper u
-    → ((s : P) → at d q ≡ Some s → IsTrue (below s u)) → (IsOneOf q es → IsTrue (below x u)) → (s : P) → at (flag_sends join below x d es) q ≡ Some s → IsTrue (below s u)
+      → ((s : P) → at d q ≡ Some s → IsTrue (below s u)) → (IsOneOf q es → IsTrue (below x u)) → (s : P) → at (flag_sends join below x d es) q ≡ Some s → IsTrue (below s u)
   sends_least x d [] n p h lt q u k old new s is = old s is
   sends_least x d (e ∷ es) n p h lt q u k old new s is =
-    sends_least x (flag_send join below x d e) es n p (send_sound x d e n p h lt.0) lt.1 q u k
+      sends_least x (flag_send join below x d e) es n p (send_sound x d e n p h lt.0) lt.1 q u k
       (λ t is. ⊎_elim
-        (λ same. subst (λ z. IsTrue (below z u)) (some_is _ _ (sym (at_sent x d e n h lt.0) ∙ ap (at (flag_send join below x d e)) (sym same) ∙ is))
-          (joined_least (at d e) x u (h.proper_at e) p k (λ r z. old r (ap (at d) same ∙ z)) (new (inl same))))
-        (λ other. old t (sym (get_or-set_other d.sent e q _ None other) ∙ is))
-        (cases_eq q e))
+      (λ same. subst (λ z. IsTrue (below z u)) (some_is _ _ (sym (at_sent x d e n h lt.0) ∙ ap (at (flag_send join below x d e)) (sym same) ∙ is))
+      (joined_least (at d e) x u (h.proper_at e) p k (λ r z. old r (ap (at d) same ∙ z)) (new (inl same))))
+      (λ other. old t (sym (get_or-set_other d.sent e q _ None other) ∙ is))
+      (cases_eq q e))
       (λ among. new (inr among)) s is

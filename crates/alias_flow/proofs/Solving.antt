@@ -1,27 +1,25 @@
 -- A sequence of visits that ends with nothing wanted gives a solution.
-use Rattle.std.proofs.Common.{◌≡◌, ℕ, ◌+◌, ◌<◌, ◌≢◌, ◌⊎◌, inl, inr, ⊎_elim, Bool, true, false, if◌then◌else◌, IsTrue, List, [], ◌∷◌, ◌++◌, length, get_or, set, replicate, Option, Some, None, refl, ap, sym, ◌∙◌, subst, zero, suc, arith}
+use Rattle.std.proofs.Common.{◌≡◌, ℕ, ◌+◌, ◌<◌, inl, inr, ⊎_elim, Bool, true, false, if◌then◌else◌, IsTrue, List, [], ◌∷◌, length, get_or, set, replicate, Option, Some, None, refl, ap, sym, ◌∙◌, subst, zero, suc, arith}
 use Rattle.std.proofs.lemmas.List.{get_or-set_same, get_or-set_other, length-set, length-replicate}
-use Rattle.std.proofs.lemmas.List.Folds.{list_any_at}
 use Rattle.std.proofs.lemmas.Bool.{cases_eq, false≢true}
 use Rattle.std.specs.List.{AllByRecursion, list_any}
 use Rattle.std.specs.Option.{is_some}
 use Rattle.alias_lattice.specs.Laws.{LatticeLaws}
 use Rattle.alias_lattice.specs.Flows.{Outcome, Stepped, Refused, IsOneOf, IsReached, at_entry, by_edge, IsAbove, IsSolution}
-use Rattle.alias_flow.specs.Machine.{Rules, World, Run, Going, Stopped, End, Solved, Fault, NotSettled, after, ending, up, FlowLaws}
-use Rattle.alias_flow.specs.Flags.{Flagged, flag_send, flag_sends, flag_seen, flag_outcome, flag_visit_at, flag_visit, flag_turn, flag_round, flag_rounds, flag_start, flag_solution}
+use Rattle.alias_flow.specs.Machine.{Rules, World, Run, Going, Stopped, End, Solved, NotSettled, after, ending, up, FlowLaws}
+use Rattle.alias_flow.specs.Flags.{Flagged, flag_sends, flag_seen, flag_outcome, flag_visit_at, flag_visit, flag_turn, flag_round, flag_rounds, flag_start, flag_solution}
 use Rattle.alias_flow.specs.Solutions.{entry_at, KeepsSteps}
-use Rattle.alias_flow.proofs.Order.{below_itself, below_trans}
+use Rattle.alias_flow.proofs.Order.{below_trans}
 use Rattle.alias_flow.proofs.Sends.{at, wants, Sound, Raised, sends_sound, sends_raise, sends_keep, sends_cover, sends_source}
 
 module _ {P T K C : Type 0} (below : P → P → Bool) (rules : Rules P T K C) where
   -- the step from the state leaves the tables, gives what is kept of the block, and a state below that of each successor
   abbrev pub Settles : T → List (Option P) → List (Option K) → ℕ → P → Type 0
   Settles tables entries kept b s =
-    (y : P) × (k : K) × (rules.flow.step tables b s ≡ Stepped y tables k) × (get_or kept b None ≡ Some k) × AllByRecursion (IsAbove below rules.flow (entry_at entries) y) (rules.flow.edges b)
+      (y : P) × (k : K) × (rules.flow.step tables b s ≡ Stepped y tables k) × (get_or kept b None ≡ Some k) × AllByRecursion (IsAbove below rules.flow (entry_at entries) y) (rules.flow.edges b)
 
 module _ {P T K C : Type 0} {proper : P → Type 0} {join : P → P → P} {below : P → P → Bool} {extends : T → T → Type 0} {rules : Rules P T K C} {kept₀ : List (Option K)}
-  (l : LatticeLaws proper join below) (f : FlowLaws proper extends rules kept₀) where
-
+    (l : LatticeLaws proper join below) (f : FlowLaws proper extends rules kept₀) where
   -- what each visit keeps
   pub record Stands (w : World (Flagged P) T K) : Type 0 where
     pub sound : Sound l rules.blocks w.desk
@@ -65,34 +63,41 @@ module _ {P T K C : Type 0} {proper : P → Type 0} {join : P → P → P} {belo
     -- a state that stood below stays below
     still_above : (z : P) (e : ℕ) → proper z → IsAbove below rules.flow (entry_at w.desk.sent) z e → IsAbove below rules.flow (entry_at d'.sent) z e
     still_above z e i a =
-      let r = raised e a.0 a.1 in
-      (r.0, r.1, below_trans l z a.0 r.0 i (h.sound.proper_at e a.0 a.1) (sound'.proper_at e r.0 r.1) a.2 r.2)
+        let r = raised e a.0 a.1 in
+        (r.0, r.1, below_trans l z a.0 r.0 i (h.sound.proper_at e a.0 a.1) (sound'.proper_at e r.0 r.1) a.2 r.2)
 
     settles : (q : ℕ) (s : P) → at l d' q ≡ Some s → wants l d' q ≡ false → Settles below rules t d'.sent kept' q s
     settles q s is quiet =
-      let keep = sends_keep l y d (rules.flow.edges b) rules.blocks y_proper sound edges q quiet in
-      let stood : at l w.desk q ≡ Some s = sym keep.1 ∙ is in
-      ⊎_elim
+        let keep = sends_keep l y d (rules.flow.edges b) rules.blocks y_proper sound edges q quiet in
+        let stood : at l w.desk q ≡ Some s = sym keep.1 ∙ is in
+        ⊎_elim
         (λ same.
-          let s_is : s ≡ x = some_is s x (sym stood ∙ ap (at l w.desk) same ∙ was) in
-          let again : rules.flow.step t q s ≡ Stepped y t k = ap (λ i. rules.flow.step t i s) same ∙ ap (rules.flow.step t b) s_is ∙ f.replay w.tables b x y t t k step (f.reflexive t) in
-          let i : b < length w.kept = omega (arith, h.kept_length) in
-          (y, k, again, ap (λ i. get_or kept' i None) same ∙ get_or-set_same w.kept b (Some k) None i,
-            subst (λ i. AllByRecursion (IsAbove below rules.flow (entry_at d'.sent) y) (rules.flow.edges i)) (sym same) (sends_cover l y d (rules.flow.edges b) rules.blocks y_proper sound edges)))
+        let s_is : s ≡ x = some_is s x (sym stood ∙ ap (at l w.desk) same ∙ was) in
+        let again : rules.flow.step t q s ≡ Stepped y t k = ap (λ i. rules.flow.step t i s) same ∙ ap (rules.flow.step t b) s_is ∙ f.replay w.tables b x y t t k step (f.reflexive t) in
+        let i : b < length w.kept = omega (arith, h.kept_length) in (
+          y,
+          k,
+          again,
+          ap (λ i. get_or kept' i None) same ∙ get_or-set_same w.kept b (Some k) None i,
+          subst (λ i. AllByRecursion (IsAbove below rules.flow (entry_at d'.sent) y) (rules.flow.edges i)) (sym same) (sends_cover l y d (rules.flow.edges b) rules.blocks y_proper sound edges),
+        ))
         (λ other.
-          let had = h.settled q s stood (sym (get_or-set_other w.desk.wanted b q false false other) ∙ keep.0) in
-          let z : P = had.0 in
-          let z_proper : proper z = f.step_proper w.tables q s z w.tables had.1 (h.sound.proper_at q s stood) had.2 in
-          (z, had.1, f.replay w.tables q s z w.tables t had.1 had.2 (f.grow w.tables b x y t k step),
-            get_or-set_other w.kept b q (Some k) None other ∙ had.3,
-            all_map (rules.flow.edges q) (λ e a. still_above z e z_proper a) had.4))
+        let had = h.settled q s stood (sym (get_or-set_other w.desk.wanted b q false false other) ∙ keep.0) in
+        let z : P = had.0 in
+        let z_proper : proper z = f.step_proper w.tables q s z w.tables had.1 (h.sound.proper_at q s stood) had.2 in (
+          z,
+          had.1,
+          f.replay w.tables q s z w.tables t had.1 had.2 (f.grow w.tables b x y t k step),
+          get_or-set_other w.kept b q (Some k) None other ∙ had.3,
+          all_map (rules.flow.edges q) (λ e a. still_above z e z_proper a) had.4,
+        ))
         (cases_eq q b)
 
     reaches : (q : ℕ) (s : P) → at l d' q ≡ Some s → IsReached rules.flow q
     reaches q s is = ⊎_elim
-      (λ v. h.reached q v.0 v.1)
-      (λ among. by_edge b q (h.reached b x was) among)
-      (sends_source l y d (rules.flow.edges b) q s is)
+        (λ v. h.reached q v.0 v.1)
+        (λ among. by_edge b q (h.reached b x was) among)
+        (sends_source l y d (rules.flow.edges b) q s is)
 
     pub visited : Stands (record { desk = d'; tables = t; kept = kept' })
     visited = record {
@@ -128,7 +133,7 @@ module _ {P T K C : Type 0} {proper : P → Type 0} {join : P → P → P} {belo
   round_stands : (bs : List ℕ) → AllByRecursion (λ b. b < rules.blocks) bs → (w v : World (Flagged P) T K) → Stands w → flag_round join below rules w bs ≡ Going v → Stands v
   round_stands [] lt w v h e = subst Stands (going_is w v e) h
   round_stands (b ∷ bs) lt w v h e =
-    after_stands (flag_turn join below rules w b) (λ u. flag_round join below rules u bs) v e
+      after_stands (flag_turn join below rules w b) (λ u. flag_round join below rules u bs) v e
       (λ u run rest. round_stands bs lt.1 u v (turn_stands w u h b lt.0 (wants l w.desk b) run) rest)
 
   pub up_below : (i n m : ℕ) → i + n ≡ m → AllByRecursion (λ b. b < m) (up i n)
@@ -171,10 +176,10 @@ module _ {P T K C : Type 0} {proper : P → Type 0} {join : P → P → P} {belo
   state_at : (v : World (Flagged P) T K) → Stands v → list_any (λ b. b) v.desk.wanted ≡ false → (b : ℕ) → IsReached rules.flow b → (s : P) × (at l v.desk b ≡ Some s)
   state_at v h none _ at_entry = (h.initial_below.0, h.initial_below.1)
   state_at v h none _ (by_edge b e r among) =
-    let before = state_at v h none b r in
-    let y : P = (h.settled b before.0 before.1 (none_at v.desk.wanted b none)).0 in
-    let above = all_at (IsAbove below rules.flow (entry_at v.desk.sent) y) (rules.flow.edges b) e (h.settled b before.0 before.1 (none_at v.desk.wanted b none)).4 among in
-    (above.0, above.1)
+      let before = state_at v h none b r in
+      let y : P = (h.settled b before.0 before.1 (none_at v.desk.wanted b none)).0 in
+      let above = all_at (IsAbove below rules.flow (entry_at v.desk.sent) y) (rules.flow.edges b) e (h.settled b before.0 before.1 (none_at v.desk.wanted b none)).4 among in
+      (above.0, above.1)
 
   pub nothing : (n q : ℕ) → ◌≡◌ {A = Option P} (get_or (replicate n None) q None) None
   nothing zero q = refl
@@ -201,9 +206,9 @@ module _ {P T K C : Type 0} {proper : P → Type 0} {join : P → P → P} {belo
       initial_below = (sends_cover l rules.flow.initial empty (rules.flow.entry ∷ []) rules.blocks f.initial_proper empty_sound to_entry).0;
       settled = λ b s is quiet. absurd (none_some s (sym (nothing rules.blocks b) ∙ sym (sends_keep l rules.flow.initial empty (rules.flow.entry ∷ []) rules.blocks f.initial_proper empty_sound to_entry b quiet).1 ∙ is));
       reached = λ b s is. ⊎_elim
-        (λ v. absurd (none_some v.0 (sym (nothing rules.blocks b) ∙ v.1)))
-        (λ among. ⊎_elim (λ same. subst (IsReached rules.flow) (sym same) at_entry) (λ no. absurd no) among)
-        (sends_source l rules.flow.initial empty (rules.flow.entry ∷ []) b s is);
+          (λ v. absurd (none_some v.0 (sym (nothing rules.blocks b) ∙ v.1)))
+          (λ among. ⊎_elim (λ same. subst (IsReached rules.flow) (sym same) at_entry) (λ no. absurd no) among)
+          (sends_source l rules.flow.initial empty (rules.flow.entry ∷ []) b s is);
     }
 
     -- what the sequence ends with: entry states that solve the flow under its tables, and what their steps give is kept
@@ -214,25 +219,25 @@ module _ {P T K C : Type 0} {proper : P → Type 0} {join : P → P → P} {belo
     pub solution_solves : (v : World (Flagged P) T K) → flag_solution join below rules tables kept₀ ≡ Solved v → Solves v
     unfolding flag_solution Ends
     solution_solves v e =
-      let ends = rounds_ends 100 (flag_start join below rules tables kept₀) v start_stands e in
-      let settled = λ (b : ℕ) (s : P) (is : at l v.desk b ≡ Some s). ends.0.settled b s is (none_at v.desk.wanted b ends.1) in
-      record {
-        solves = record {
-          reached = λ b r. let h = state_at v ends.0 ends.1 b r in subst (λ o. IsTrue (is_some o)) (sym h.1) refl;
-          only_reached = ends.0.reached;
-          initial = ends.0.initial_below;
-          steps = λ b s is. let h = settled b s is in (h.0, h.1, h.2, h.4);
-        };
-        keeps = λ b s is. let h = settled b s is in (h.0, h.1, h.2, h.3);
-      }
+        let ends = rounds_ends 100 (flag_start join below rules tables kept₀) v start_stands e in
+        let settled = λ (b : ℕ) (s : P) (is : at l v.desk b ≡ Some s). ends.0.settled b s is (none_at v.desk.wanted b ends.1) in
+        record {
+          solves = record {
+            reached = λ b r. let h = state_at v ends.0 ends.1 b r in subst (λ o. IsTrue (is_some o)) (sym h.1) refl;
+            only_reached = ends.0.reached;
+            initial = ends.0.initial_below;
+            steps = λ b s is. let h = settled b s is in (h.0, h.1, h.2, h.4);
+          };
+          keeps = λ b s is. let h = settled b s is in (h.0, h.1, h.2, h.3);
+        }
 
     -- the same of the parts of what is handed out
     pub solution_found : (now : Rules P T K C) → now ≡ rules → (v : World (Flagged P) T K) → flag_solution join below rules tables kept₀ ≡ Solved v
-      → (es : List (Option P)) → es ≡ v.desk.sent → IsSolution below now.flow v.tables (entry_at es)
+        → (es : List (Option P)) → es ≡ v.desk.sent → IsSolution below now.flow v.tables (entry_at es)
     solution_found now r v e es es_is =
-      subst (λ i. IsSolution below i.flow v.tables (entry_at es)) (sym r) (subst (λ i. IsSolution below rules.flow v.tables (entry_at i)) (sym es_is) (solution_solves v e).solves)
+        subst (λ i. IsSolution below i.flow v.tables (entry_at es)) (sym r) (subst (λ i. IsSolution below rules.flow v.tables (entry_at i)) (sym es_is) (solution_solves v e).solves)
 
     pub kept_found : (now : Rules P T K C) → now ≡ rules → (v : World (Flagged P) T K) → flag_solution join below rules tables kept₀ ≡ Solved v
-      → (es : List (Option P)) → es ≡ v.desk.sent → KeepsSteps now.flow v.tables (entry_at es) v.kept
+        → (es : List (Option P)) → es ≡ v.desk.sent → KeepsSteps now.flow v.tables (entry_at es) v.kept
     kept_found now r v e es es_is =
-      subst (λ i. KeepsSteps i.flow v.tables (entry_at es) v.kept) (sym r) (subst (λ i. KeepsSteps rules.flow v.tables (entry_at i) v.kept) (sym es_is) (solution_solves v e).keeps)
+        subst (λ i. KeepsSteps i.flow v.tables (entry_at es) v.kept) (sym r) (subst (λ i. KeepsSteps rules.flow v.tables (entry_at i) v.kept) (sym es_is) (solution_solves v e).keeps)

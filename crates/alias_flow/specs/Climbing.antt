@@ -3,10 +3,9 @@ use Rattle.std.proofs.Common.{◌≡◌, ℕ, ◌+◌, ◌<◌, Bool, true, fals
 use Rattle.std.proofs.lemmas.Bool.Decides.{nat_tests}
 use Rattle.std.specs.List.{AllByRecursion}
 use Rattle.alias_lattice.specs.Laws.{LatticeLaws}
-use Rattle.alias_lattice.specs.Flows.{Outcome, Stepped, Refused}
-use Rattle.alias_flow.specs.Machine.{Rules, FlowLaws}
+use Rattle.alias_flow.specs.Machine.{FlowLaws}
 use Rattle.alias_flow.specs.Solutions.{IsForward}
-use Rattle.alias_flow.specs.Climbs.{higher, IsHeight, Extends, line_edges, line_step, line_rules, loop_edges, loop_step, loop_rules}
+use Rattle.alias_flow.specs.Climbs.{higher, IsHeight, Extends, line_edges, line_rules, loop_edges, loop_rules}
 
 higher_commutes : (x y : ℕ) → higher x y ≡ higher y x
 higher_commutes x y = grind (arith, nat_tests)
@@ -56,9 +55,10 @@ line_laws kept h = record {
 }
 
 loop_below : (b : ℕ) → b < 4 → AllByRecursion (λ e. e < 4) (loop_edges b)
-loop_below b h = elim (b == 0) as (λ r. AllByRecursion (λ e. e < 4) (if r then 1 ∷ [] else if b == 1 then 1 ∷ 2 ∷ [] else []))
-  [ true ↦ (omega arith, tt)
-  | false ↦ elim (b == 1) as (λ r. AllByRecursion (λ e. e < 4) (if r then 1 ∷ 2 ∷ [] else [])) [ true ↦ (omega arith, (omega arith, tt)) | false ↦ tt ] ]
+loop_below b h = elim (b == 0) as (λ r. AllByRecursion (λ e. e < 4) (if r then 1 ∷ [] else if b == 1 then 1 ∷ 2 ∷ [] else [])) [
+  | true ↦ (omega arith, tt)
+  | false ↦ elim (b == 1) as (λ r. AllByRecursion (λ e. e < 4) (if r then 1 ∷ 2 ∷ [] else [])) [ true ↦ (omega arith, (omega arith, tt)) | false ↦ tt ]
+]
 
 pub loop_laws : (kept : List (Option ℕ)) → length kept ≡ 4 → FlowLaws IsHeight Extends loop_rules kept
 loop_laws kept h = record {

@@ -1,7 +1,6 @@
 -- Two flows of heights for the tests: a line of four blocks, and a loop.
-use Rattle.std.specs.Prelude.{◌≡◌, ℕ, ◌+◌, ◌<◌, Bool, true, false, if◌then◌else◌, nat_lt, nat_le, ◌==◌, List, [], ◌∷◌, length, Option, refl}
-use Rattle.std.specs.List.{AllByRecursion}
-use Rattle.alias_lattice.specs.Flows.{Flow, Outcome, Stepped, Refused}
+use Rattle.std.specs.Prelude.{ℕ, ◌+◌, if◌then◌else◌, nat_lt, ◌==◌, List, [], ◌∷◌}
+use Rattle.alias_lattice.specs.Flows.{Outcome, Stepped, Refused}
 use Rattle.alias_flow.specs.Machine.{Rules}
 
 -- the greater height

@@ -1,5 +1,4 @@
 -- What the desk of the program stands for.
-use Rattle.std.specs.Prelude.{Bool, List, Option, ℕ}
 use Rattle.alias_flow.specs.declared.work.Work.{Work}
 use Rattle.alias_flow.specs.Flags.{Flagged}
 

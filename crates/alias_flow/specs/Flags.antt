@@ -36,7 +36,7 @@ module _ {P : Type 0} (join : P → P → P) (below : P → P → Bool) where
   module _ {T K C : Type 0} (rules : Rules P T K C) where
     abbrev pub flag_outcome : World (Flagged P) T K → ℕ → Outcome P T K C → Run (Flagged P) T K C
     flag_outcome w b (Stepped out tables kept) =
-      Going (record { desk = flag_sends out (flag_seen w.desk b) (rules.flow.edges b); tables = tables; kept = slice_set w.kept b (Some kept) })
+        Going (record { desk = flag_sends out (flag_seen w.desk b) (rules.flow.edges b); tables = tables; kept = slice_set w.kept b (Some kept) })
     flag_outcome w b (Refused cause) = Stopped b cause
 
     abbrev pub flag_visit_at : World (Flagged P) T K → ℕ → Option P → Run (Flagged P) T K C

@@ -10,7 +10,7 @@ Line P = List (Option P)
 module _ {P T K C : Type 0} (join : P → P → P) (rules : Rules P T K C) where
   abbrev pub line_outcome : World (Line P) T K → ℕ → Outcome P T K C → Run (Line P) T K C
   line_outcome w b (Stepped out tables kept) =
-    Going (record { desk = send_all join out w.desk (rules.flow.edges b); tables = tables; kept = slice_set w.kept b (Some kept) })
+      Going (record { desk = send_all join out w.desk (rules.flow.edges b); tables = tables; kept = slice_set w.kept b (Some kept) })
   line_outcome w b (Refused cause) = Stopped b cause
 
   abbrev pub line_turn_at : World (Line P) T K → ℕ → Option P → Run (Line P) T K C

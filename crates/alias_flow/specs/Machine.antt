@@ -86,7 +86,7 @@ wanted below d b = is_unseen below (slice_index_or d.sent b None) (slice_index_o
 module _ {P T K C : Type 0} (join : P → P → P) (below : P → P → Bool) (rules : Rules P T K C) where
   abbrev pub outcome_after : World (Desk P) T K → ℕ → P → Outcome P T K C → Run (Desk P) T K C
   outcome_after w b x (Stepped out tables kept) =
-    Going (record { desk = visited join w.desk b x out (rules.flow.edges b); tables = tables; kept = slice_set w.kept b (Some kept) })
+      Going (record { desk = visited join w.desk b x out (rules.flow.edges b); tables = tables; kept = slice_set w.kept b (Some kept) })
   outcome_after w b x (Refused cause) = Stopped b cause
 
   abbrev pub visit_at : World (Desk P) T K → ℕ → Option P → Run (Desk P) T K C

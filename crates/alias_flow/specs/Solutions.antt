@@ -11,7 +11,7 @@ entry_at entries b = slice_index_or entries b None
 -- what is kept of each block with an entry state is what its step from it gives
 abbrev pub KeepsSteps : {P T K C : Type 0} → Flow ℕ P T K C → T → (ℕ → Option P) → List (Option K) → Type 0
 KeepsSteps {P} {T} {K} flow tables entry_state kept =
-  (b : ℕ) (s : P) → entry_state b ≡ Some s → (y : P) × (k : K) × (flow.step tables b s ≡ Stepped y tables k) × (slice_index_or kept b None ≡ Some k)
+    (b : ℕ) (s : P) → entry_state b ≡ Some s → (y : P) × (k : K) × (flow.step tables b s ≡ Stepped y tables k) × (slice_index_or kept b None ≡ Some k)
 
 -- each edge goes to a later block
 abbrev pub IsForward : {P T K C : Type 0} → Rules P T K C → Type 0

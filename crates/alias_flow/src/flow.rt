@@ -106,11 +106,7 @@ pub trait Flow {
 
     /// Steps the block: makes its out state of its entry state, appends to the tables, and keeps what is
     /// kept of the block. An `Err` leaves what the flow does as it was.
-    fn step(
-        &mut self,
-        block: u32,
-        state: &mut Self::State,
-    ) -> Result<(), StepFault<Self::Fault>>
+    fn step(&mut self, block: u32, state: &mut Self::State) -> Result<(), StepFault<Self::Fault>>
         requires { block < (rules self.old).blocks }
         ensures same { rules self.new ≡ rules self.old }
         ensures loan { loan self.new ≡ loan self.old }

@@ -287,7 +287,10 @@ fn visits_a_loop_until_it_settles(rt: HostRuntime) -> Result<(), Fail> {
     };
     assert_eq!(rt; solution.visits.as_slice(), [0, 1, 2, 1, 2, 1].as_slice());
     let heights = heights_of(rt.alloc(), solution.entries.as_slice())?;
-    assert_eq!(rt; heights.as_slice(), [Some(0), Some(3), Some(3), None].as_slice());
+    assert_eq!(rt;
+        heights.as_slice(),
+        [Some(0), Some(3), Some(3), None].as_slice()
+    );
     assert_eq!(rt; flow.notes.first, Some(0));
     assert_eq!(rt; flow.notes.second, Some(3));
     assert_eq!(rt; flow.notes.third, Some(3));
