@@ -1,9 +1,10 @@
 -- The sequence of visits is that of the flags: a flag says whether its block is wanted.
-use Rattle.std.proofs.Common.{◌≡◌, ℕ, ◌+◌, ◌<◌, ⊎_elim, Bool, true, false, not, if◌then◌else◌, ◌||◌, IsTrue, List, [], ◌∷◌, ◌++◌, length, get_or, set, replicate, Option, Some, None, refl, ap, sym, ◌∙◌, subst, zero, suc, arith, add-one}
+use Rattle.std.proofs.Common.{◌≡◌, ℕ, ◌+◌, ◌<◌, ⊎_elim, Bool, true, false, not, ◌&&◌, if◌then◌else◌, ◌||◌, IsTrue, List, [], ◌∷◌, ◌++◌, length, get_or, set, replicate, Option, Some, None, refl, ap, sym, ◌∙◌, subst, zero, suc, arith, add-one}
 use Rattle.std.proofs.lemmas.List.{get_or-set_same, get_or-set_other, length-set, length-replicate}
 use Rattle.std.proofs.lemmas.Bool.{cases_eq, false≢true}
 use Rattle.std.specs.List.{AllByRecursion, list_any}
 use Rattle.alias_lattice.specs.Laws.{LatticeLaws}
+use Rattle.alias_lattice.specs.Pairs.{and-both, and-first}
 use Rattle.alias_lattice.specs.Flows.{Outcome, Stepped, Refused}
 use Rattle.alias_flow.specs.Machine.{Rules, Desk, World, Run, Going, Stopped, End, Solved, Fault, NotSettled, after, ending, up, joined, send, send_all, is_unseen, wanted, outcome_after, visit_at, visit, turn, round, any_wanted, rounds, start, solution, FlowLaws}
 use Rattle.alias_flow.specs.Flags.{Flagged, grows, flag_send, flag_sends, flag_seen, flag_outcome, flag_visit_at, flag_visit, flag_turn, flag_round, flag_rounds, flag_start, flag_solution}
@@ -122,8 +123,8 @@ module _ {P : Type 0} {proper : P → Type 0} {join : P → P → P} {below : P 
       let u_proper : proper u = h u refl in
       let s_low : IsTrue (below s u) = subst (λ z. IsTrue (below s z)) (sym (some_is u it.1.0 it.1.1)) it.1.2 in
       let both : proper (join u x) = l.closed u x u_proper p in
-      no_way (below (join u x) s) (λ yes. not_true (below x u) g
-      (below_trans l x s u p it.0 u_proper (below_trans l x (join u x) s p both it.0 (below_right l u x u_proper p) yes) s_low))
+      no_way (below (join u x) s && below s (join u x)) (λ yes. not_true (below x u) g
+      (below_trans l x s u p it.0 u_proper (below_trans l x (join u x) s p both it.0 (below_right l u x u_proper p) (and-first (below (join u x) s) (below s (join u x)) yes)) s_low))
 
   module _ (n : ℕ) (d : Desk P) (h : Fair n d) (x : P) (p : proper x) (e : ℕ) (lt : e < n) where
     abbrev sent_d : Desk P
@@ -183,7 +184,7 @@ module _ {P : Type 0} {proper : P → Type 0} {join : P → P → P} {below : P 
     x_proper = h.sound.proper_at b x is
 
     quiet_now : is_unseen below (get_or d.sent b None) (Some x) ≡ false
-    quiet_now = ap (λ o. is_unseen below o (Some x)) is ∙ not_of (below x x) (below_itself l x x_proper)
+    quiet_now = ap (λ o. is_unseen below o (Some x)) is ∙ not_of (below x x && below x x) (and-both (below x x) (below x x) (below_itself l x x_proper) (below_itself l x x_proper))
 
     -- a visit noted with flags is the visit noted
     pub seen_flags : flag_seen join below (flagged_desk below d) b ≡ flagged_desk below seen_d

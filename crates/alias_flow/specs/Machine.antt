@@ -1,5 +1,5 @@
 -- A flow over numbered blocks, and the sequence of visits that solves it.
-use Rattle.std.specs.Prelude.{◌≡◌, ℕ, ◌+◌, ◌<◌, Bool, true, false, not, if◌then◌else◌, List, [], ◌∷◌, ◌++◌, length, Option, Some, None, slice_index_or, slice_set, replicate}
+use Rattle.std.specs.Prelude.{◌≡◌, ℕ, ◌+◌, ◌<◌, Bool, true, false, not, ◌&&◌, if◌then◌else◌, List, [], ◌∷◌, ◌++◌, length, Option, Some, None, slice_index_or, slice_set, replicate}
 use Rattle.std.specs.List.{list_any, AllByRecursion}
 use Rattle.std.proofs.Common.{zero, suc}
 use Rattle.alias_lattice.specs.Flows.{Flow, Outcome, Stepped, Refused}
@@ -73,11 +73,11 @@ module _ {P : Type 0} (join : P → P → P) where
     seen = slice_set d.seen b (Some x);
   }
 
--- something was sent that isn't the state of the last visit. That one is a join of a part of what was sent, so it is below it: the two differ where they aren't below each other both ways
+-- something was sent that isn't the state of the last visit. Proper states are the same where they are below each other both ways
 abbrev pub is_unseen : {P : Type 0} → (P → P → Bool) → Option P → Option P → Bool
 is_unseen below None last = false
 is_unseen below (Some x) None = true
-is_unseen below (Some x) (Some s) = not (below x s)
+is_unseen below (Some x) (Some s) = not (below x s && below s x)
 
 -- something was sent to the block, and it has no visit or wasn't visited from this state
 abbrev pub wanted : {P : Type 0} → (P → P → Bool) → Desk P → ℕ → Bool

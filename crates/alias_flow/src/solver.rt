@@ -65,11 +65,15 @@ fn pass<F: Flow>(
     Ok(())
 }
 
-/// Solves the flow: visits its blocks in the order that the definition of the sequence of visits says, until
-/// none is wanted. The answer has the entry states, which solve the flow under the tables that it ends with;
-/// where all edges go forward they are the joins of what arrives. An `Err` says which visit was refused, that
-/// blocks were still wanted after 100 rounds, which never comes where all edges go forward, or that memory
-/// ran out. It leaves what the flow does as it was, and its tables and what it keeps as some visits left them.
+/// Solves the flow. The initial state is sent to the entry. A visit of a block steps from the join of all
+/// that was sent to it, and sends the out state along each of its edges. A block is wanted where that join
+/// isn't the state of its last visit. Each round goes once over the blocks in stored order and visits those
+/// that are wanted, and rounds go on until none is.
+///
+/// The entry states of the answer solve the flow under the tables that it ends with, and are the joins of
+/// what arrives where all edges go forward. An `Err` says which visit was refused, that blocks were still
+/// wanted after 100 rounds, which never comes where all edges go forward, or that memory ran out. It leaves
+/// what the flow does as it was, and its tables and what it keeps as some visits left them.
 #[tactic(auto, using(crate::proofs::Rounds::rounds_more))]
 pub fn solve<F: Flow>(
     alloc: Global,
