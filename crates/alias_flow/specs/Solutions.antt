@@ -1,0 +1,30 @@
+-- What the entry states and what is kept say of a flow over numbered blocks.
+use Rattle.std.specs.Prelude.{◌≡◌, ℕ, ◌<◌, Bool, List, [], ◌∷◌, Option, Some, None, slice_index_or}
+use Rattle.std.specs.List.{AllByRecursion}
+use Rattle.alias_lattice.specs.Flows.{Flow, Stepped, IsSolution, AreJoins}
+use Rattle.alias_flow.specs.Machine.{Rules, Desk}
+
+-- the entry state of each block
+abbrev pub entry_at : {P : Type 0} → List (Option P) → ℕ → Option P
+entry_at entries b = slice_index_or entries b None
+
+-- what is kept of each block with an entry state is what its step from it gives
+abbrev pub KeepsSteps : {P T K C : Type 0} → Flow ℕ P T K C → T → (ℕ → Option P) → List (Option K) → Type 0
+KeepsSteps {P} {T} {K} flow tables entry_state kept =
+    (b : ℕ) (s : P) → entry_state b ≡ Some s → (y : P) × (k : K) × (flow.step tables b s ≡ Stepped y tables k) × (slice_index_or kept b None ≡ Some k)
+
+-- each edge goes to a later block
+abbrev pub IsForward : {P T K C : Type 0} → Rules P T K C → Type 0
+IsForward rules = (b : ℕ) → b < rules.blocks → AllByRecursion (λ e. b < e) (rules.flow.edges b)
+
+-- in ascending order, each at most once
+abbrev pub IsAscending : List ℕ → Type 0
+IsAscending [] = Unit {0}
+IsAscending (x ∷ xs) = AllByRecursion (λ y. x < y) xs × IsAscending xs
+
+-- the visits are in stored order, the entry states solve the flow, each is the join of what arrives, and what their steps give is kept
+pub record SolvesInOrder {P T K C : Type 0} (proper : P → Type 0) (below : P → P → Bool) (flow : Flow ℕ P T K C) (tables : T) (kept : List (Option K)) (desk : Desk P) : Type 0 where
+  pub in_order : IsAscending desk.visits
+  pub solves : IsSolution below flow tables (entry_at desk.sent)
+  pub joins : AreJoins below flow proper tables (entry_at desk.sent)
+  pub keeps : KeepsSteps flow tables (entry_at desk.sent) kept

@@ -1,0 +1,94 @@
+//! Flows whose edges all go to later blocks.
+ghost use Rattle.std.specs.Prelude.{◌≡◌, ◌<◌, ℕ, OnOk, List, Option, length};
+ghost use Rattle.std.specs.List.{AllByRecursion};
+ghost use Rattle.alias_flow.specs.Machine.{up, send_all, solution};
+ghost use Rattle.alias_flow.specs.Lines.{line_turn, line_round};
+ghost use Rattle.alias_flow.specs.Runs.{world, RunGives, EndsWith};
+ghost use Rattle.alias_flow.specs.Solutions.{IsForward, SolvesInOrder};
+
+use crate::flow::{Flow, SolveFault, StepFault};
+use crate::sending::{none_sent, send_copy, send_state};
+use alias_lattice::Lattice;
+use std::alloc::{AllocError, Global};
+
+/// Sends the state along the edges: itself along the last one, and before that what joins it or copies it.
+fn send_along<S: Lattice + Drop>(
+    waiting: &mut [Option<S>],
+    state: S,
+    edges: &[u32],
+) -> Result<(), AllocError>
+    requires { AllByRecursion (λ e. e < length waiting.old) edges.now }
+    ensures { OnOk result (waiting.new ≡ send_all S.join state waiting.old edges.now) }
+{
+    let [before @ .., last] = edges else {
+        return Ok(());
+    };
+    for to in before {
+        send_copy(waiting, &state, *to)?;
+    }
+    send_state(waiting, state, *last)
+}
+
+/// The turn of the block: it steps from the state that waits at it, if one does.
+fn turn<F: Flow>(
+    waiting: &mut [Option<F::State>],
+    flow: &mut F,
+    block: u32,
+) -> Result<(), SolveFault<F::Fault>>
+    requires block { block < (F.rules flow.old).blocks }
+    requires length { length waiting.old ≡ (F.rules flow.old).blocks }
+    ensures run { RunGives F.cause (line_turn F.State.join (F.rules flow.old) (world waiting.old (F.tables flow.old) (F.kept flow.old)) block) result (world waiting.new (F.tables flow.new) (F.kept flow.new)) }
+    ensures same { F.rules flow.new ≡ F.rules flow.old }
+    ensures loan { F.loan flow.new ≡ F.loan flow.old }
+{
+    let Some(mut state) = waiting[block as usize].take() else {
+        return Ok(());
+    };
+    match flow.step(block, &mut state) {
+        Ok(()) => {}
+        Err(StepFault::Refused(fault)) => return Err(SolveFault::Step { block, fault }),
+        Err(StepFault::Memory(e)) => return Err(SolveFault::Memory(e)),
+    }
+    let edges = flow.edges(block)?;
+    send_along(waiting, state, edges.as_slice())?;
+    Ok(())
+}
+
+/// The turns of all blocks, in stored order.
+#[tactic(auto, using(crate::proofs::Rounds::up_more))]
+fn line<F: Flow>(
+    waiting: &mut [Option<F::State>],
+    flow: &mut F,
+    count: u32,
+) -> Result<(), SolveFault<F::Fault>>
+    requires count { count ≡ (F.rules flow.old).blocks }
+    requires length { length waiting.old ≡ (F.rules flow.old).blocks }
+    ensures run { RunGives F.cause (line_round F.State.join (F.rules flow.old) (world waiting.old (F.tables flow.old) (F.kept flow.old)) (up 0 count)) result (world waiting.new (F.tables flow.new) (F.kept flow.new)) }
+    ensures same { F.rules flow.new ≡ F.rules flow.old }
+    ensures loan { F.loan flow.new ≡ F.loan flow.old }
+{
+    for block in 0..count {
+        turn(waiting, flow, block)?;
+    }
+    Ok(())
+}
+
+/// Solves a flow each of whose edges goes to a later block. Its blocks are visited in stored order, each at
+/// most once, and no entry state outlives its visit: a state moves along the last edge of its block. The
+/// tables and what the flow keeps end as `solve` would leave them. An `Err` says which visit was refused,
+/// where `solve` would say so too, or that memory ran out; it leaves what the flow does as it was, and its
+/// tables and what it keeps as some visits left them.
+pub fn solve_forward<F: Flow>(alloc: Global, flow: &mut F) -> Result<(), SolveFault<F::Fault>>
+    requires forward { IsForward (F.rules flow.old) }
+    ensures end { EndsWith F.cause (solution F.State.join F.State.below (F.rules flow.old) (F.tables flow.old) (F.kept flow.old)) result (F.tables flow.new) (F.kept flow.new) (SolvesInOrder F.State.proper F.State.below (F.rules flow.old).flow (F.tables flow.new) (F.kept flow.new)) }
+    ensures same { F.rules flow.new ≡ F.rules flow.old }
+    ensures loan { F.loan flow.new ≡ F.loan flow.old }
+{
+    let count = flow.blocks();
+    let entry = flow.entry();
+    let mut states = none_sent(alloc, count)?;
+    let initial = flow.initial()?;
+    let waiting = states.as_mut_slice();
+    send_state(waiting, initial, entry)?;
+    line(waiting, flow, count)
+}

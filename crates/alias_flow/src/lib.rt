@@ -1,0 +1,15 @@
+//! Flows over numbered blocks, and the sequences of visits that solve them.
+#![tactic(auto)]
+
+pub mod flow;
+pub mod forward;
+mod sending;
+pub mod solver;
+mod work;
+
+pub use flow::{Flow, Solution, SolveFault, StepFault};
+pub use forward::solve_forward;
+pub use solver::solve;
+
+#[cfg(test)]
+mod tests;

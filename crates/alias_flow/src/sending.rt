@@ -1,0 +1,57 @@
+//! States on their way to blocks.
+ghost use Rattle.std.specs.Prelude.{◌≡◌, ◌<◌, ℕ, IfOk, OnOk, List, Option, None, slice_index_or, length, replicate, vec_len};
+ghost use Rattle.std.specs.List.{AllByRecursion};
+ghost use Rattle.alias_flow.specs.Machine.{send, send_all};
+ghost use Rattle.alias_flow.specs.Flags.{grows};
+
+use alias_lattice::Lattice;
+use std::alloc::{AllocError, Global};
+
+/// Nothing was sent to any of the blocks.
+pub(crate) fn none_sent<S: Drop>(alloc: Global, count: u32) -> Result<Vec<Option<S>>, AllocError>
+    ensures states { IfOk result (λ sent. sent.items ≡ replicate count None) }
+    ensures length { IfOk result (λ sent. vec_len sent ≡ count) }
+{
+    let mut sent = Vec::new(alloc);
+    for _ in 0..count {
+        sent.push(None)?;
+    }
+    Ok(sent)
+}
+
+/// Sends a copy of the state to the block, and answers whether what was sent to it grew.
+pub(crate) fn send_copy<S: Lattice + Drop>(
+    sent: &mut [Option<S>],
+    state: &S,
+    to: u32,
+) -> Result<bool, AllocError>
+    requires { to < length sent.old }
+    ensures sent { OnOk result (sent.new ≡ send S.join state.now sent.old to) }
+    ensures grew { IfOk result (λ grew. grew ≡ grows S.join S.below (slice_index_or sent.old to None) state.now) }
+{
+    match &mut sent[to as usize] {
+        Some(old) => old.join_from(state),
+        none => {
+            *none = Some(state.try_clone()?);
+            Ok(true)
+        }
+    }
+}
+
+/// Sends the state itself to the block.
+pub(crate) fn send_state<S: Lattice + Drop>(
+    sent: &mut [Option<S>],
+    state: S,
+    to: u32,
+) -> Result<(), AllocError>
+    requires { to < length sent.old }
+    ensures { OnOk result (sent.new ≡ send S.join state sent.old to) }
+{
+    match &mut sent[to as usize] {
+        Some(old) => {
+            old.join_from(&state)?;
+        }
+        none => *none = Some(state),
+    }
+    Ok(())
+}
