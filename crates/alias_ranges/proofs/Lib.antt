@@ -1,0 +1,17 @@
+pub mod Visits
+pub mod Bound
+pub mod Covering
+pub mod Legality
+pub mod Reaching
+pub mod Size
+pub mod Places
+pub mod Shapes
+pub mod Table
+pub mod Ending
+pub mod Effects
+pub mod Stands
+pub mod Walking
+pub mod Flats
+pub mod Undoing
+pub mod FlatWalk
+pub mod Flowing

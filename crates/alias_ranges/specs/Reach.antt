@@ -1,0 +1,76 @@
+-- What holds after a walk, by legal paths.
+use Rattle.std.specs.Prelude.{◌≡◌, ℕ, ◌+◌, ◌<◌, ◌≤◌, ◌⊎◌, ◌≢◌, Bool, true, false, IsTrue, List, Option, Some, None, slice_get, option_map}
+use Rattle.alias_base.specs.declared.ids.IdentifierId.{IdentifierId}
+use Rattle.alias_base.specs.declared.ids.EvaluationOrder.{EvaluationOrder}
+use Rattle.alias_hir.specs.declared.env.Identifier.{Identifier}
+use Rattle.alias_ranges.specs.declared.types.MutationKind.{MutationKind}
+use Rattle.alias_ranges.specs.declared.types.MutationKind.TheVariants.{Conditional, Definite}
+use Rattle.alias_ranges.specs.declared.types.MutationInfo.{MutationInfo}
+use Rattle.alias_ranges.specs.declared.types.Entry.{Entry}
+use Rattle.alias_ranges.specs.Nodes.{Node, Nodes, node_at}
+use Rattle.alias_ranges.specs.Walks.{IsOneOf}
+use Rattle.alias_ranges.specs.Links.{covers}
+use Rattle.alias_ranges.specs.Legal.{Legal}
+
+-- the walk expanded entries of legal paths alone, and for each entry of a legal path one at its node with at least its kind, its flag and its direction
+pub record Visits (g : Nodes) (m : ℕ) (start : Entry) (done : List Entry) : Type 0 where
+  pub legal : (e : Entry) → IsOneOf e done → Legal g m start e
+  pub reached : (e : Entry) → Legal g m start e → (d : Entry) × IsOneOf d done × IsTrue (covers d e)
+
+abbrev pub end_of : Option Identifier → ℕ
+end_of None = 0
+end_of (Some x) = x.mutable_range.end.0
+
+-- the end of an identifier's range, 0 where there is none
+abbrev pub end_at : List Identifier → ℕ → ℕ
+end_at xs i = end_of (slice_get xs i)
+
+abbrev pub AtLeast : Option EvaluationOrder → ℕ → Type 0
+AtLeast None x = Unit {0}
+AtLeast (Some end) x = end.0 ≤ x
+
+-- a given end is reached at each node of a legal path
+abbrev pub Covered : Nodes → ℕ → Entry → Option EvaluationOrder → List Identifier → Type 0
+Covered g m start end xs = (e : Entry) → Legal g m start e → AtLeast end (end_at xs e.id.0)
+
+-- all of an identifier but the end of its range
+abbrev pub but_end : Identifier → Identifier
+but_end x = record x { mutable_range = record x.mutable_range { end = record { 0 = 0 } } }
+
+-- no end falls, nothing but ends changes, and an identifier that changed stands on a legal path and has the given end
+pub record Caused (g : Nodes) (m : ℕ) (start : Entry) (end : Option EvaluationOrder) (old new : List Identifier) : Type 0 where
+  pub kept : (i : ℕ) → end_at old i ≤ end_at new i
+  pub rest : (i : ℕ) → option_map but_end (slice_get new i) ≡ option_map but_end (slice_get old i)
+  pub cause : (i : ℕ) → (slice_get new i ≡ slice_get old i) ⊎ ((v : EvaluationOrder) × (end ≡ Some v) × (end_at new i ≡ v.0) × (e : Entry) × (e.id.0 ≡ i) × Legal g m start e)
+
+abbrev pub IsDefiniteMark : Option MutationInfo → Type 0
+IsDefiniteMark mark = (i : MutationInfo) × (mark ≡ Some i) × (i.kind ≡ Definite)
+
+-- a mark of the node is definite
+abbrev pub SeenDefinite : Nodes → IdentifierId → Type 0
+SeenDefinite g id = (n : Node) × (node_at g id ≡ Some n) × (IsDefiniteMark n.transitive ⊎ IsDefiniteMark n.local)
+
+abbrev pub MutatedAt : ℕ → Node → Type 0
+MutatedAt m n = (k : ℕ) × (n.last_mutated ≡ Some k) × (m ≤ k)
+
+abbrev pub Reached : Nodes → ℕ → IdentifierId → Type 0
+Reached g m id = (n : Node) × (node_at g id ≡ Some n) × MutatedAt m n
+
+-- what the marks are after the walk
+pub record Marks (old : Nodes) (m : ℕ) (start : Entry) (new : Nodes) : Type 0 where
+  pub reached : (e : Entry) → Legal old m start e → Reached new m e.id
+  pub definite : (e : Entry) → Legal old m start e → e.kind ≡ Definite → SeenDefinite new e.id
+  pub untouched : (id : IdentifierId) → ((e : Entry) → Legal old m start e → e.id.0 ≡ id.0 → ⊥) → node_at new id ≡ node_at old id
+
+-- the last position of the node is m
+abbrev pub EndsAt : Nodes → ℕ → IdentifierId → Type 0
+EndsAt g m id = (n : Node) × (node_at g id ≡ Some n) × (n.last_mutated ≡ Some m)
+
+-- all last positions are before m
+abbrev pub AllBefore : Nodes → ℕ → Type 0
+AllBefore g m = (id : IdentifierId) (n : Node) (k : ℕ) → node_at g id ≡ Some n → n.last_mutated ≡ Some k → k < m
+
+-- the nodes whose last position is this walk's are those that legal paths lead to
+pub record Flows (old : Nodes) (m : ℕ) (start : Entry) (new : Nodes) : Type 0 where
+  pub listed : (id : IdentifierId) → EndsAt new m id → (e : Entry) × (e.id.0 ≡ id.0) × Legal old m start e
+  pub all : (e : Entry) → Legal old m start e → EndsAt new m e.id

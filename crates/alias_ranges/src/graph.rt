@@ -1,0 +1,229 @@
+//! The graph of aliases.
+ghost use Rattle.std.specs.Prelude.{◌≡◌, ℕ, ◌+◌, ◌<◌, [], length, OnOk, OnErr, IfOk, option_map, map, slice_get};
+ghost use Rattle.alias_ranges.specs.declared.types.EdgeKind.{EdgeKind};
+ghost use Rattle.alias_ranges.specs.Graph.{created, made_from, linked};
+ghost use Rattle.alias_ranges.specs.Nodes.{node_at};
+ghost use Rattle.alias_ranges.specs.Lists.{links_in, link_in, forward_link, backward_link};
+ghost use Rattle.alias_ranges.specs.Flat.{AllFit, AllBelow, NodeFits, node_of, link_at, edges_at, sources_at, marks_of, kept_marks};
+
+use crate::adjacency::{add_edge, add_source, created_node, drop_edge, fresh, put_created};
+use crate::node_map::NodeMap;
+use crate::types::{EdgeKind, Link, LinkList, Node, NodeValue, StoredLink};
+use alias_base::{IdentifierId, List};
+use alias_hir::place::Place;
+use std::alloc::{AllocError, Global};
+use std::marker::Model;
+
+/// Nodes by their identifiers, with the links between them. Contracts see it as the list of its nodes, each
+/// with its lists of links.
+///
+/// All links stand in one list, and a node keeps the places of its own. After an `Err` a link may stand there
+/// that no node has.
+#[derive(Drop)]
+pub struct AliasGraph {
+    pub(crate) alloc: Global,
+    pub(crate) nodes: NodeMap,
+    pub(crate) links: List<StoredLink>,
+}
+
+impl Model for AliasGraph {
+    ghost use Rattle.std.specs.Prelude.{length};
+    ghost use Rattle.alias_ranges.specs.Nodes.{Nodes};
+    ghost use Rattle.alias_ranges.specs.Flat.{AllFit, nodes_of};
+
+    ghost Value = { Nodes };
+
+    ghost view = { λ g. nodes_of g.links g.nodes };
+
+    ghost invariant = { λ g. AllFit (length g.links) g.nodes };
+}
+
+/// The link at a position of a forward list.
+fn edge_in(links: &[StoredLink], places: &[usize], position: usize) -> Option<Link>
+    requires { AllBelow (length links.now) places.now }
+    ensures { result ≡ slice_get (map forward_link (edges_at links.now places.now)) position }
+{
+    let place = *places.get(position)?;
+    let link = links[place];
+    Some(Link {
+        index: link.index,
+        other: link.into,
+        edge: Some(link.kind),
+    })
+}
+
+/// The link at a position of a backward list.
+fn source_in(links: &[StoredLink], places: &[usize], position: usize) -> Option<Link>
+    requires { AllBelow (length links.now) places.now }
+    ensures { result ≡ slice_get (map backward_link (sources_at links.now places.now)) position }
+{
+    let place = *places.get(position)?;
+    let link = links[place];
+    Some(Link {
+        index: link.index,
+        other: link.from,
+        edge: None,
+    })
+}
+
+fn link_of(
+    links: &[StoredLink],
+    node: &Node,
+    list: LinkList,
+    position: usize,
+) -> Option<Link>
+    requires { NodeFits (length links.now) node.now }
+    ensures { result ≡ slice_get (links_in list (node_of links.now node.now)) position }
+{
+    match list {
+        LinkList::Forward => edge_in(links, node.forward.as_slice(), position),
+        LinkList::CreatedFrom => source_in(links, node.created_from.as_slice(), position),
+        LinkList::Captures => source_in(links, node.captures.as_slice(), position),
+        LinkList::Aliases => source_in(links, node.aliases.as_slice(), position),
+        LinkList::MaybeAliases => source_in(links, node.maybe_aliases.as_slice(), position),
+    }
+}
+
+impl AliasGraph {
+    /// The graph with no node. Takes no memory.
+    pub fn new(alloc: Global) -> AliasGraph
+        ensures { result ≡ [] }
+    {
+        AliasGraph {
+            alloc,
+            nodes: NodeMap::new(alloc),
+            links: List::new(alloc),
+        }
+    }
+
+    /// Makes the node of the place's identifier, with no mark and no link. It replaces one that is there.
+    pub fn create(&mut self, place: &Place, value: NodeValue) -> Result<(), AllocError>
+        ensures ok { OnOk result (self.new ≡ created self.old place.now.identifier value) }
+        ensures err { OnErr result (self.new ≡ self.old) }
+    {
+        self.make(place.identifier, value)
+    }
+
+    /// Makes an object node of `into` that was made from a part of `from`. The node of `from` need not be there.
+    pub fn create_from(
+        &mut self,
+        index: u32,
+        from: &Place,
+        into: &Place,
+    ) -> Result<(), AllocError>
+        ensures ok { OnOk result (self.new ≡ made_from self.old index from.now.identifier into.now.identifier) }
+        ensures err { OnErr result (self.new ≡ self.old) }
+    {
+        self.make_from(index, from.identifier, into.identifier)
+    }
+
+    /// Links two nodes: `into` holds `from`. Does nothing unless both are there.
+    pub fn capture(&mut self, index: u32, from: &Place, into: &Place) -> Result<(), AllocError>
+        ensures ok { OnOk result (self.new ≡ linked EdgeKind.Capture self.old index from.now.identifier into.now.identifier) }
+        ensures err { OnErr result (self.new ≡ self.old) }
+    {
+        self.join(EdgeKind::Capture, index, from.identifier, into.identifier)
+    }
+
+    /// Links two nodes: `into` is `from`. Does nothing unless both are there.
+    pub fn assign(&mut self, index: u32, from: &Place, into: &Place) -> Result<(), AllocError>
+        ensures ok { OnOk result (self.new ≡ linked EdgeKind.Alias self.old index from.now.identifier into.now.identifier) }
+        ensures err { OnErr result (self.new ≡ self.old) }
+    {
+        self.join(EdgeKind::Alias, index, from.identifier, into.identifier)
+    }
+
+    /// Links two nodes: `into` may be `from`. Does nothing unless both are there.
+    pub fn maybe_alias(
+        &mut self,
+        index: u32,
+        from: &Place,
+        into: &Place,
+    ) -> Result<(), AllocError>
+        ensures ok { OnOk result (self.new ≡ linked EdgeKind.MaybeAlias self.old index from.now.identifier into.now.identifier) }
+        ensures err { OnErr result (self.new ≡ self.old) }
+    {
+        self.join(
+            EdgeKind::MaybeAlias,
+            index,
+            from.identifier,
+            into.identifier,
+        )
+    }
+
+    /// The node of an identifier.
+    #[tactic(auto, using(crate::proofs::Flats::node_at_of))]
+    pub fn node(&self, id: IdentifierId) -> Option<&Node>
+        ensures { option_map (λ node. kept_marks node.now) result ≡ option_map marks_of (node_at self.now id) }
+    {
+        self.nodes.get(id)
+    }
+
+    /// The link at a position, counted from 0, of one of a node's lists. Takes no memory.
+    #[tactic(auto, using(crate::proofs::Flats::node_at_of, crate::proofs::Flats::fit_node))]
+    pub fn link(&self, id: IdentifierId, list: LinkList, position: usize) -> Option<Link>
+        ensures { result ≡ link_in (node_at self.now id) list position }
+    {
+        let node = self.nodes.get(id)?;
+        link_of(self.links.as_slice(), node, list, position)
+    }
+
+    #[tactic(auto, using(crate::proofs::Flats::with_node_of, crate::proofs::Flats::with_node_fits, crate::proofs::Flats::fit_fresh))]
+    pub(crate) fn make(&mut self, id: IdentifierId, value: NodeValue) -> Result<(), AllocError>
+        ensures ok { OnOk result (self.new ≡ created self.old id value) }
+        ensures err { OnErr result (self.new ≡ self.old) }
+    {
+        let node = fresh(self.alloc, value);
+        self.nodes.insert(id, node)?;
+        Ok(())
+    }
+
+    #[tactic(auto, using(crate::proofs::Flats::fits_after_link, crate::proofs::Flats::nodes_kept, crate::proofs::Undoing::created_there, crate::proofs::Undoing::created_fits_there))]
+    pub(crate) fn make_from(
+        &mut self,
+        index: u32,
+        from: IdentifierId,
+        into: IdentifierId,
+    ) -> Result<(), AllocError>
+        ensures ok { OnOk result (self.new ≡ made_from self.old index from into) }
+        ensures err { OnErr result (self.new ≡ self.old) }
+    {
+        let place = self.links.len();
+        let node = created_node(self.alloc, from.0 == into.0, place)?;
+        self.links.push(StoredLink {
+            index,
+            from,
+            into,
+            kind: EdgeKind::Alias,
+        })?;
+        put_created(&mut self.nodes, from, into, place, node)
+    }
+
+    #[tactic(auto, using(crate::proofs::Flats::fits_after_link, crate::proofs::Flats::is_new_place, crate::proofs::Flats::source_is, crate::proofs::Flats::nodes_kept, crate::proofs::Flats::has_node_of, crate::proofs::Undoing::edge_dropped))]
+    pub(crate) fn join(
+        &mut self,
+        kind: EdgeKind,
+        index: u32,
+        from: IdentifierId,
+        into: IdentifierId,
+    ) -> Result<(), AllocError>
+        ensures ok { OnOk result (self.new ≡ linked kind self.old index from into) }
+        ensures err { OnErr result (self.new ≡ self.old) }
+    {
+        if self.nodes.has(from) && self.nodes.has(into) {
+            let place = self.links.len();
+            self.links.push(StoredLink {
+                index,
+                from,
+                into,
+                kind,
+            })?;
+            add_edge(&mut self.nodes, from, place)?;
+            if add_source(&mut self.nodes, kind, self.links.as_slice(), into, place).is_err() {
+                drop_edge(&mut self.nodes, from);
+                return Err(AllocError);
+            }
+        }
+        Ok(())
+    }
+}
