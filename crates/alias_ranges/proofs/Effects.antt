@@ -81,7 +81,7 @@ range_length : (end : Option EvaluationOrder) (id : IdentifierId) (rs : List Ide
 range_length None id rs = refl
 range_length (Some v) id rs = ap length (lifts rs id.0 v) ∙ lift_length rs id.0 v
 
-ranges_length : (end : Option EvaluationOrder) (rs : List Identifier) (done : List Entry) → length (ranges_after end rs done) ≡ length rs
+pub ranges_length : (end : Option EvaluationOrder) (rs : List Identifier) (done : List Entry) → length (ranges_after end rs done) ≡ length rs
 ranges_length end rs [] = refl
 ranges_length end rs (e ∷ done) = range_length end e.id (ranges_after end rs done) ∙ ranges_length end rs done
 

@@ -13,5 +13,6 @@ pub mod Stands
 pub mod Walking
 pub mod Flats
 pub mod Undoing
+pub mod Lists
 pub mod FlatWalk
 pub mod Flowing

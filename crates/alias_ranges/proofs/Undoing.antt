@@ -1,5 +1,5 @@
 -- Links that are put in another order, or taken back.
-use Rattle.std.proofs.Common.{◌≡◌, ℕ, ◌+◌, ◌<◌, ◌≤◌, ◌⊎◌, inl, inr, Bool, true, false, not, cond, ◌==◌, List, [], ◌∷◌, ◌++◌, Option, Some, None, length, if◌then◌else◌, refl, ap, sym, ◌∙◌, subst, arith, suc, zero}
+use Rattle.std.proofs.Common.{◌≡◌, ℕ, ◌+◌, ◌<◌, ◌≤◌, ◌⊎◌, inl, inr, Bool, true, false, not, cond, ◌==◌, List, [], ◌∷◌, ◌++◌, Option, Some, None, MatchOption, length, if◌then◌else◌, refl, ap, sym, ◌∙◌, subst, arith, suc, zero}
 use Rattle.alias_base.specs.declared.ids.IdentifierId.{IdentifierId}
 use Rattle.alias_ranges.specs.declared.types.NodeValue.TheVariants.{Object}
 use Rattle.alias_ranges.specs.declared.types.EdgeKind.TheVariants.{Alias}
@@ -22,6 +22,10 @@ last_off (p ∷ ps) q = last_from p ps q
 pub popped : (ps qs : List ℕ) (q : ℕ) → ps ≡ qs ++ q ∷ [] → qs ≡ but_last ps
 popped ps qs q h = sym (ap but_last h ∙ last_off qs q)
 
+pub last_popped : (o : Option ℕ) (old new : List ℕ) → MatchOption o ((old ≡ []) × (new ≡ [])) (λ last. old ≡ new ++ last ∷ []) → new ≡ but_last old
+last_popped None old new h = h.1 ∙ ap but_last (sym h.0)
+last_popped (Some q) old new h = popped old new q h
+
 module _ {V : Type 0} where
   -- a change that is changed back
   undone : (f h : V → V) → ((n : V) → h (f n) ≡ n) → (g : Entries V) (id : IdentifierId) → changed (changed g id f) id h ≡ g
@@ -41,16 +45,16 @@ module _ {V : Type 0} where
 
   -- a node that is put, and a change of another
   put_apart : (g : Entries V) (a b : IdentifierId) (k : V) (f : V → V) → (a.0 ≡ b.0 → ⊥) → changed (with_node g b k) a f ≡ with_node (changed g a f) b k
-  put_apart [] a b k f apart = elim (same_id a b) as (λ x. same_id a b ≡ x → cond x ((b, f k) ∷ []) ((b, k) ∷ []) ≡ (b, k) ∷ []) [
+  put_apart [] a b k f apart = elim (same_id a b) as (λ x. same_id a b ≡ x → cond {A = Entries V} x ((b, f k) ∷ []) ((b, k) ∷ []) ≡ (b, k) ∷ []) [
     | true ↦ λ is. absurd (apart (eqb_is a.0 b.0 is))
     | false ↦ λ is. refl
   ] refl
   put_apart (p ∷ g) a b k f apart = elim (same_id b p.0) as (λ x. same_id b p.0 ≡ x → changed (if x then (p.0, k) ∷ g else p ∷ with_node g b k) a f ≡ with_node (changed (p ∷ g) a f) b k) [
-    | true ↦ λ at. elim (same_id a p.0) as (λ y. same_id a p.0 ≡ y → cond y ((p.0, f k) ∷ g) ((p.0, k) ∷ changed g a f) ≡ with_node (cond y ((p.0, f p.1) ∷ g) (p ∷ changed g a f)) b k) [
+    | true ↦ λ at. elim (same_id a p.0) as (λ y. same_id a p.0 ≡ y → cond {A = Entries V} y ((p.0, f k) ∷ g) ((p.0, k) ∷ changed g a f) ≡ with_node (cond y ((p.0, f p.1) ∷ g) (p ∷ changed g a f)) b k) [
       | true ↦ λ is. absurd (let x = eqb_is a.0 p.0.0 is in let y = eqb_is b.0 p.0.0 at in apart (x ∙ sym y))
       | false ↦ λ is. ap (λ x. if x then (p.0, k) ∷ changed g a f else p ∷ with_node (changed g a f) b k) (sym at)
     ] refl
-    | false ↦ λ at. elim (same_id a p.0) as (λ y. cond y ((p.0, f p.1) ∷ with_node g b k) (p ∷ changed (with_node g b k) a f) ≡ with_node (cond y ((p.0, f p.1) ∷ g) (p ∷ changed g a f)) b k) [
+    | false ↦ λ at. elim (same_id a p.0) as (λ y. cond {A = Entries V} y ((p.0, f p.1) ∷ with_node g b k) (p ∷ changed (with_node g b k) a f) ≡ with_node (cond y ((p.0, f p.1) ∷ g) (p ∷ changed g a f)) b k) [
       | true ↦ ap (λ x. if x then (p.0, k) ∷ g else (p.0, f p.1) ∷ with_node g b k) (sym at)
       | false ↦ ap (λ r. p ∷ r) (put_apart g a b k f apart) ∙ ap (λ x. if x then (p.0, k) ∷ changed g a f else p ∷ with_node (changed g a f) b k) (sym at)
     ]
@@ -108,3 +112,4 @@ module _ (links more : List StoredLink) (g new : Entries KeptNode) (l : StoredLi
       ∙ created_is links made made_fits l
       ∙ ap (λ z. changed (changed z l.from (with_edge (edge_of l))) l.into (with_created_from (source_of l))) (with_node_of links g l.into (kept_fresh Object))
       ∙ ap (λ x. changed (changed (created (nodes_of links g) l.into Object) l.from (with_edge (edge l.index l.into x))) l.into (with_created_from (source_of l))) alias
+

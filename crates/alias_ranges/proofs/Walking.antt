@@ -21,6 +21,7 @@ use Rattle.alias_ranges.proofs.Places.{Found, place_some, found_node, spot_missi
 use Rattle.alias_ranges.proofs.Shapes.{marked_place, marked_next, marked_length}
 use Rattle.alias_ranges.proofs.Table.{Sees, sees_nothing, sees_more}
 use Rattle.alias_ranges.proofs.Size.{pops_few}
+use Rattle.alias_ranges.proofs.Effects.{ranges_length}
 
 put_reverse : {A : Type 0} (xs ys : List A) → put_all xs ys ≡ reverse xs ++ ys
 put_reverse [] ys = refl
@@ -180,6 +181,9 @@ links_more g i id n h = links_at g i (id, n) (sym h) ∙ ap (λ k. links_of n + 
 module _ (g₀ : Nodes) (rs₀ : List Identifier) (m : ℕ) (origin : Origin) (end : Option EvaluationOrder) (s : Entry) (g : Nodes) (rs : List Identifier) (seen : List Seen) (stack : List Entry) (n : ℕ) (h : Walking g₀ rs₀ m origin end s g rs seen stack n) where
   pub walking_size : length seen ≡ length g
   walking_size = h.sees.size ∙ sym (ap length h.nodes_are ∙ marked_length m origin g₀ (step_to g₀ m s n).done)
+
+  pub walking_ranges : length rs ≡ length rs₀
+  walking_ranges = ap length h.ranges_are ∙ ranges_length end rs₀ (step_to g₀ m s n).done
 
   pub walking_few : n + length stack ≤ 1 + 8 * all_links g₀
   walking_few =

@@ -15,7 +15,7 @@ use Rattle.alias_ranges.specs.Nodes.{Edge, Source, Node, Entries, Nodes, with_no
 use Rattle.alias_ranges.specs.Graph.{has_source, changed}
 
 abbrev pub no_link : StoredLink
-no_link = record { index = 0; from = record { 0 = 0 }; into = record { 0 = 0 }; kind = Alias }
+no_link = record { index = 0; from = record { 0 = 0 }; into = record { 0 = 0 }; kind = Capture }
 
 abbrev pub link_at : List StoredLink → ℕ → StoredLink
 link_at links p = slice_index_or links p no_link

@@ -73,7 +73,7 @@ fn note(places: &mut List<usize>, links: &[StoredLink], place: usize) -> Result<
 
 /// Puts the place of a link into the list of the node that it leaves, where the node is there.
 #[tactic(auto, using(crate::proofs::Places::changed_place, crate::proofs::Places::unchanged_place, crate::proofs::Places::no_hole, crate::proofs::Places::same_place, crate::proofs::Flats::fit_set))]
-pub(crate) fn add_edge(
+fn add_edge(
     nodes: &mut NodeMap,
     from: IdentifierId,
     place: usize,
@@ -99,7 +99,7 @@ fn drop_last(places: &mut List<usize>)
 
 /// Takes the newest link out of the list of the node that it leaves, where the node is there.
 #[tactic(auto, using(crate::proofs::Places::changed_place, crate::proofs::Places::unchanged_place, crate::proofs::Places::no_hole))]
-pub(crate) fn drop_edge(nodes: &mut NodeMap, from: IdentifierId)
+fn drop_edge(nodes: &mut NodeMap, from: IdentifierId)
     ensures { nodes.new ≡ changed nodes.old from without_last_edge }
 {
     if let Some(at) = nodes.place_of(from)
@@ -110,7 +110,7 @@ pub(crate) fn drop_edge(nodes: &mut NodeMap, from: IdentifierId)
 }
 
 /// Puts the node that the link at `place` makes, and the place into the list of the node that it leaves.
-#[tactic(auto, using(crate::proofs::Undoing::created_own, crate::proofs::Undoing::created_apart, crate::proofs::Undoing::edge_dropped))]
+#[tactic(auto, using(crate::proofs::Undoing::created_own, crate::proofs::Undoing::created_apart))]
 pub(crate) fn put_created(
     nodes: &mut NodeMap,
     from: IdentifierId,
@@ -127,11 +127,13 @@ pub(crate) fn put_created(
         return Ok(());
     }
     add_edge(nodes, from, place)?;
-    if nodes.insert(into, node).is_err() {
-        drop_edge(nodes, from);
-        return Err(AllocError);
+    match nodes.insert(into, node) {
+        Ok(_) => Ok(()),
+        Err(_) => {
+            drop_edge(nodes, from);
+            Err(AllocError)
+        }
     }
-    Ok(())
 }
 
 /// Puts the place of a link into the list that links of this kind have in the node that they enter.
@@ -156,7 +158,7 @@ fn note_source(
 
 /// Puts the place of a link into the list of the node that it enters, where the node is there.
 #[tactic(auto, using(crate::proofs::Places::changed_place, crate::proofs::Places::unchanged_place, crate::proofs::Places::no_hole, crate::proofs::Places::same_place, crate::proofs::Flats::fit_set, crate::proofs::Flats::fit_at))]
-pub(crate) fn add_source(
+fn add_source(
     nodes: &mut NodeMap,
     kind: EdgeKind,
     links: &[StoredLink],
@@ -175,4 +177,30 @@ pub(crate) fn add_source(
         note_source(node, kind, links, place)?;
     }
     Ok(())
+}
+
+/// Puts the place of a link into the lists of both of its ends.
+#[tactic(auto, using(crate::proofs::Flats::forward_keeps))]
+pub(crate) fn put_link(
+    nodes: &mut NodeMap,
+    kind: EdgeKind,
+    links: &[StoredLink],
+    from: IdentifierId,
+    into: IdentifierId,
+    place: usize,
+) -> Result<(), AllocError>
+    requires place { place < length links.now }
+    requires fit { AllFit (length links.now) nodes.old }
+    ensures ok { OnOk result (nodes.new ≡ changed (changed nodes.old from (with_forward_place place)) into (with_source_place kind links.now place)) }
+    ensures err { OnErr result (nodes.new ≡ nodes.old) }
+    ensures fits { AllFit (length links.now) nodes.new }
+{
+    add_edge(nodes, from, place)?;
+    match add_source(nodes, kind, links, into, place) {
+        Ok(()) => Ok(()),
+        Err(error) => {
+            drop_edge(nodes, from);
+            Err(error)
+        }
+    }
 }

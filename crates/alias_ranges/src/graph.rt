@@ -4,9 +4,9 @@ ghost use Rattle.alias_ranges.specs.declared.types.EdgeKind.{EdgeKind};
 ghost use Rattle.alias_ranges.specs.Graph.{created, made_from, linked};
 ghost use Rattle.alias_ranges.specs.Nodes.{node_at};
 ghost use Rattle.alias_ranges.specs.Lists.{links_in, link_in, forward_link, backward_link};
-ghost use Rattle.alias_ranges.specs.Flat.{AllFit, AllBelow, NodeFits, node_of, link_at, edges_at, sources_at, marks_of, kept_marks};
+ghost use Rattle.alias_ranges.specs.Flat.{AllFit, AllBelow, NodeFits, node_of, edge_of, source_of, edges_at, sources_at, marks_of, kept_marks};
 
-use crate::adjacency::{add_edge, add_source, created_node, drop_edge, fresh, put_created};
+use crate::adjacency::{created_node, fresh, put_created, put_link};
 use crate::node_map::NodeMap;
 use crate::types::{EdgeKind, Link, LinkList, Node, NodeValue, StoredLink};
 use alias_base::{IdentifierId, List};
@@ -38,34 +38,53 @@ impl Model for AliasGraph {
     ghost invariant = { λ g. AllFit (length g.links) g.nodes };
 }
 
+fn forward_link(link: StoredLink) -> Link
+    ensures { result ≡ forward_link (edge_of link) }
+{
+    Link {
+        index: link.index,
+        other: link.into,
+        edge: Some(link.kind),
+    }
+}
+
+fn backward_link(link: StoredLink) -> Link
+    ensures { result ≡ backward_link (source_of link) }
+{
+    Link {
+        index: link.index,
+        other: link.from,
+        edge: None,
+    }
+}
+
 /// The link at a position of a forward list.
+#[tactic(auto, using(crate::proofs::Lists::below_at, crate::proofs::Lists::edge_there, crate::proofs::Lists::edge_missing))]
 fn edge_in(links: &[StoredLink], places: &[usize], position: usize) -> Option<Link>
     requires { AllBelow (length links.now) places.now }
     ensures { result ≡ slice_get (map forward_link (edges_at links.now places.now)) position }
 {
-    let place = *places.get(position)?;
-    let link = links[place];
-    Some(Link {
-        index: link.index,
-        other: link.into,
-        edge: Some(link.kind),
-    })
+    if position < places.len() {
+        Some(forward_link(links[places[position]]))
+    } else {
+        None
+    }
 }
 
 /// The link at a position of a backward list.
+#[tactic(auto, using(crate::proofs::Lists::below_at, crate::proofs::Lists::source_there, crate::proofs::Lists::source_missing))]
 fn source_in(links: &[StoredLink], places: &[usize], position: usize) -> Option<Link>
     requires { AllBelow (length links.now) places.now }
     ensures { result ≡ slice_get (map backward_link (sources_at links.now places.now)) position }
 {
-    let place = *places.get(position)?;
-    let link = links[place];
-    Some(Link {
-        index: link.index,
-        other: link.from,
-        edge: None,
-    })
+    if position < places.len() {
+        Some(backward_link(links[places[position]]))
+    } else {
+        None
+    }
 }
 
+/// The link at a position of one of the node's lists.
 fn link_of(
     links: &[StoredLink],
     node: &Node,
@@ -160,12 +179,14 @@ impl AliasGraph {
     }
 
     /// The link at a position, counted from 0, of one of a node's lists. Takes no memory.
-    #[tactic(auto, using(crate::proofs::Flats::node_at_of, crate::proofs::Flats::fit_node))]
+    #[tactic(auto, using(crate::proofs::Lists::no_link_at, crate::proofs::Lists::link_at_node, crate::proofs::Lists::fit_node))]
     pub fn link(&self, id: IdentifierId, list: LinkList, position: usize) -> Option<Link>
         ensures { result ≡ link_in (node_at self.now id) list position }
     {
-        let node = self.nodes.get(id)?;
-        link_of(self.links.as_slice(), node, list, position)
+        match self.nodes.get(id) {
+            None => None,
+            Some(node) => link_of(self.links.as_slice(), node, list, position),
+        }
     }
 
     #[tactic(auto, using(crate::proofs::Flats::with_node_of, crate::proofs::Flats::with_node_fits, crate::proofs::Flats::fit_fresh))]
@@ -196,10 +217,11 @@ impl AliasGraph {
             into,
             kind: EdgeKind::Alias,
         })?;
-        put_created(&mut self.nodes, from, into, place, node)
+        put_created(&mut self.nodes, from, into, place, node)?;
+        Ok(())
     }
 
-    #[tactic(auto, using(crate::proofs::Flats::fits_after_link, crate::proofs::Flats::is_new_place, crate::proofs::Flats::source_is, crate::proofs::Flats::nodes_kept, crate::proofs::Flats::has_node_of, crate::proofs::Undoing::edge_dropped))]
+    #[tactic(auto, using(crate::proofs::Flats::fits_after_link, crate::proofs::Flats::is_new_place, crate::proofs::Flats::source_is, crate::proofs::Flats::nodes_kept, crate::proofs::Flats::has_node_of))]
     pub(crate) fn join(
         &mut self,
         kind: EdgeKind,
@@ -218,11 +240,7 @@ impl AliasGraph {
                 into,
                 kind,
             })?;
-            add_edge(&mut self.nodes, from, place)?;
-            if add_source(&mut self.nodes, kind, self.links.as_slice(), into, place).is_err() {
-                drop_edge(&mut self.nodes, from);
-                return Err(AllocError);
-            }
+            put_link(&mut self.nodes, kind, self.links.as_slice(), from, into, place)?;
         }
         Ok(())
     }

@@ -200,6 +200,7 @@ impl AliasGraph {
             origin,
             &mut env.identifiers,
             steps,
-        )
+        )?;
+        Ok(())
     }
 }

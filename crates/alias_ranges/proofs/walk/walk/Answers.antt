@@ -5,7 +5,7 @@ use Rattle.alias_ranges.specs.Flat.{nodes_of}
 use Rattle.alias_ranges.specs.Seen.{nothing_seen}
 use Rattle.alias_ranges.proofs.Flats.{place_of_nodes, length_of_nodes}
 use Rattle.alias_ranges.proofs.FlatWalk.{links_kept}
-use Rattle.alias_ranges.proofs.Walking.{Walking, walking_begins, walking_size, walking_few, walking_more, walking_same, no_items, walking_skips, walking_expands, claimed_has, room_for, ended_nodes, ended_ranges, ended_popped}
+use Rattle.alias_ranges.proofs.Walking.{Walking, walking_begins, walking_size, walking_ranges, walking_few, walking_more, walking_same, no_items, walking_skips, walking_expands, claimed_has, room_for, ended_nodes, ended_ranges, ended_popped}
 use Rattle.alias_ranges.proofs.walk.walk.Goals as goal
 
 pub walk-init : goal.walk-init
@@ -26,62 +26,63 @@ claim-requires g c = walking_size _ _ _ _ _ _ _ _ _ _ _ c.walk.invariant.2 ∙ l
 
 pub visit-requires-clause-room : goal.visit-requires-clause-room
 visit-requires-clause-room g c =
-    let claim = ap (λ o. claimed o c.walk.seen.items c.in-Some-pop.entry) (place_of_nodes c.args.links.now c.walk.nodes c.in-Some-pop.entry.id) ∙ sym c.in-Some-claim.ensures.claim in
-    let fits = room_for _ _ _ _ _ _ _ _ _ _ _ _ _ c.walk.invariant.2 c.in-Some-pop.ensures.items _ claim in
-    omega (arith, fits, c.pop.new.self.ok.0, c.in-Some-pop.ensures.capacity, c.walk.invariant.3)
+    let claim = ap (λ o. claimed o c.walk.seen.items c.in-Some.entry) (place_of_nodes c.args.links.now c.walk.nodes c.in-Some.entry.id) ∙ sym c.in-Some-claim.ensures.claim in
+    let fits = room_for _ _ _ _ _ _ _ _ _ _ _ _ _ c.walk.invariant.2 c.in-Some.ensures.items _ claim in
+    omega (arith, fits, c.pop.new.self.ok.0, c.in-Some.ensures.capacity, c.walk.invariant.3)
 
 pub visit_range-requires : goal.visit_range-requires
 visit_range-requires g c =
-    let claim = ap (λ o. claimed o c.walk.seen.items c.in-Some-pop.entry) (place_of_nodes c.args.links.now c.walk.nodes c.in-Some-pop.entry.id) ∙ sym c.in-Some-claim.ensures.claim in
-    let has = claimed_has _ _ _ _ _ _ _ _ _ _ _ _ _ c.walk.invariant.2 c.in-Some-pop.ensures.items _ claim in
-    let below = c.requires.ranges c.in-Some-pop.entry.id has in
+    let claim = ap (λ o. claimed o c.walk.seen.items c.in-Some.entry) (place_of_nodes c.args.links.now c.walk.nodes c.in-Some.entry.id) ∙ sym c.in-Some-claim.ensures.claim in
+    let has = claimed_has _ _ _ _ _ _ _ _ _ _ _ _ _ c.walk.invariant.2 c.in-Some.ensures.items _ claim in
+    let below = c.requires.ranges c.in-Some.entry.id has in
+    let len = walking_ranges _ _ _ _ _ _ _ _ _ _ _ c.walk.invariant.2 in
     omega arith
 
 pub walk-smaller-in-Some-claim : goal.walk-smaller-in-Some-claim
 walk-smaller-in-Some-claim g c =
-    let few = walking_more _ _ _ _ _ _ _ _ _ _ _ c.walk.invariant.2 _ _ c.in-Some-pop.ensures.items in
+    let few = walking_more _ _ _ _ _ _ _ _ _ _ _ c.walk.invariant.2 _ _ c.in-Some.ensures.items in
     omega (arith, few, c.walk.invariant.1, c.tick.ensures)
 
 pub walk-preserved-in-Some-claim : goal.walk-preserved-in-Some-claim
 walk-preserved-in-Some-claim g c =
-    let claim = ap (λ o. claimed o c.walk.seen.items c.in-Some-pop.entry) (place_of_nodes c.args.links.now c.walk.nodes c.in-Some-pop.entry.id) ∙ sym c.in-Some-claim.ensures.claim in
-    let more = walking_expands _ _ _ _ _ _ _ _ _ _ _ _ _ c.walk.invariant.2 c.in-Some-pop.ensures.items _ claim in (
+    let claim = ap (λ o. claimed o c.walk.seen.items c.in-Some.entry) (place_of_nodes c.args.links.now c.walk.nodes c.in-Some.entry.id) ∙ sym c.in-Some-claim.ensures.claim in
+    let more = walking_expands _ _ _ _ _ _ _ _ _ _ _ _ _ c.walk.invariant.2 c.in-Some.ensures.items _ claim in (
       c.walk.invariant.0 + 1,
       omega (arith, c.walk.invariant.1, c.tick.ensures),
       walking_same _ _ _ _ _ _ _ _ _ _ _ more _ _ _ _ c.visit.ensures.nodes c.visit_range.ensures c.in-Some-claim.ensures.noted c.visit.ensures.items,
-      omega (arith, c.walk.invariant.3, c.in-Some-pop.ensures.capacity, c.visit.ensures.capacity),
+      omega (arith, c.walk.invariant.3, c.in-Some.ensures.capacity, c.visit.ensures.capacity),
       c.visit.ensures.fit,
     )
 
 pub walk-smaller : goal.walk-smaller
 walk-smaller g c =
-    let few = walking_more _ _ _ _ _ _ _ _ _ _ _ c.walk.invariant.2 _ _ c.in-Some-pop.ensures.items in
+    let few = walking_more _ _ _ _ _ _ _ _ _ _ _ c.walk.invariant.2 _ _ c.in-Some.ensures.items in
     omega (arith, few, c.walk.invariant.1, c.tick.ensures)
 
 pub walk-preserved : goal.walk-preserved
 walk-preserved g c =
-    let claim = ap (λ o. claimed o c.walk.seen.items c.in-Some-pop.entry) (place_of_nodes c.args.links.now c.walk.nodes c.in-Some-pop.entry.id) ∙ sym c.in_default-claim.ensures.claim in
-    let more = walking_skips _ _ _ _ _ _ _ _ _ _ _ _ _ c.walk.invariant.2 c.in-Some-pop.ensures.items claim in (
+    let claim = ap (λ o. claimed o c.walk.seen.items c.in-Some.entry) (place_of_nodes c.args.links.now c.walk.nodes c.in-Some.entry.id) ∙ sym c.in_default-claim.ensures.claim in
+    let more = walking_skips _ _ _ _ _ _ _ _ _ _ _ _ _ c.walk.invariant.2 c.in-Some.ensures.items claim in (
       c.walk.invariant.0 + 1,
       omega (arith, c.walk.invariant.1, c.tick.ensures),
       walking_same _ _ _ _ _ _ _ _ _ _ _ more _ _ _ _ refl refl c.in_default-claim.ensures.noted refl,
-      omega (arith, c.walk.invariant.3, c.in-Some-pop.ensures.capacity),
+      omega (arith, c.walk.invariant.3, c.in-Some.ensures.capacity),
       c.walk.invariant.4,
     )
 
 pub returns-clause-nodes : goal.returns-clause-nodes
 returns-clause-nodes g c =
-    let empty : c.walk.stack.items ≡ [] = no_items c.walk.stack.items (omega (arith, c.walk.stack.ok.0, c.in_default-pop.ensures.cases.0)) in
+    let empty : c.walk.stack.items ≡ [] = no_items c.walk.stack.items (omega (arith, c.walk.stack.ok.0, c.in_default.ensures.cases.0)) in
     ended_nodes _ _ _ _ _ _ _ _ _ _ _ c.walk.invariant.2 empty
 
 pub returns-clause-ranges : goal.returns-clause-ranges
 returns-clause-ranges g c =
-    let empty : c.walk.stack.items ≡ [] = no_items c.walk.stack.items (omega (arith, c.walk.stack.ok.0, c.in_default-pop.ensures.cases.0)) in
+    let empty : c.walk.stack.items ≡ [] = no_items c.walk.stack.items (omega (arith, c.walk.stack.ok.0, c.in_default.ensures.cases.0)) in
     ended_ranges _ _ _ _ _ _ _ _ _ _ _ c.walk.invariant.2 empty
 
 pub returns-clause-steps : goal.returns-clause-steps
 returns-clause-steps g c =
-    let empty : c.walk.stack.items ≡ [] = no_items c.walk.stack.items (omega (arith, c.walk.stack.ok.0, c.in_default-pop.ensures.cases.0)) in
+    let empty : c.walk.stack.items ≡ [] = no_items c.walk.stack.items (omega (arith, c.walk.stack.ok.0, c.in_default.ensures.cases.0)) in
     let pops = ended_popped _ _ _ _ _ _ _ _ _ _ _ c.walk.invariant.2 empty in
     c.walk.invariant.1 ∙ ap (λ k. c.args.steps.now + k) pops
 
