@@ -14,5 +14,6 @@ pub mod Walking
 pub mod Flats
 pub mod Undoing
 pub mod Lists
+pub mod Within
 pub mod FlatWalk
 pub mod Flowing

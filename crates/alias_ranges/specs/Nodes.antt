@@ -1,5 +1,5 @@
 -- Nodes by their identifiers, as the list of entries in their order.
-use Rattle.std.specs.Prelude.{ℕ, Bool, List, Option, ◌==◌, position, map, is_some}
+use Rattle.std.specs.Prelude.{◌≡◌, ℕ, ◌<◌, ◌||◌, Bool, IsTrue, List, Option, ◌==◌, position, map, is_some}
 use Rattle.std.specs.Map.{lookup, keys_of}
 use Rattle.indexmap.specs.IndexMap.{insert_entry}
 use Rattle.alias_base.specs.declared.ids.IdentifierId.{IdentifierId}
@@ -54,3 +54,15 @@ module _ {V : Type 0} where
 
   abbrev pub with_node : Entries V → IdentifierId → V → Entries V
   with_node g id node = insert_entry same_id g id node
+
+-- each identifier with a node is below n
+abbrev pub Within : ℕ → Nodes → Type 0
+Within n g = (id : IdentifierId) → IsTrue (has_node g id) → id.0 < n
+
+-- the identifiers with a node are those of before
+abbrev pub SameIds : Nodes → Nodes → Type 0
+SameIds old new = (id : IdentifierId) → has_node new id ≡ has_node old id
+
+-- this identifier has a node now, and the others as before
+abbrev pub OneMore : IdentifierId → Nodes → Nodes → Type 0
+OneMore made old new = (id : IdentifierId) → has_node new id ≡ (same_id id made || has_node old id)

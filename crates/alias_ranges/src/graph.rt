@@ -2,7 +2,7 @@
 ghost use Rattle.std.specs.Prelude.{◌≡◌, ℕ, ◌+◌, ◌<◌, [], length, OnOk, OnErr, IfOk, option_map, map, slice_get};
 ghost use Rattle.alias_ranges.specs.declared.types.EdgeKind.{EdgeKind};
 ghost use Rattle.alias_ranges.specs.Graph.{created, made_from, linked};
-ghost use Rattle.alias_ranges.specs.Nodes.{node_at};
+ghost use Rattle.alias_ranges.specs.Nodes.{node_at, OneMore, SameIds};
 ghost use Rattle.alias_ranges.specs.Lists.{links_in, link_in, forward_link, backward_link};
 ghost use Rattle.alias_ranges.specs.Flat.{AllFit, AllBelow, NodeFits, node_of, edge_of, source_of, edges_at, sources_at, marks_of, kept_marks};
 
@@ -118,6 +118,7 @@ impl AliasGraph {
     /// Makes the node of the place's identifier, with no mark and no link. It replaces one that is there.
     pub fn create(&mut self, place: &Place, value: NodeValue) -> Result<(), AllocError>
         ensures ok { OnOk result (self.new ≡ created self.old place.now.identifier value) }
+        ensures nodes { OnOk result (OneMore place.now.identifier self.old self.new) }
         ensures err { OnErr result (self.new ≡ self.old) }
     {
         self.make(place.identifier, value)
@@ -131,6 +132,7 @@ impl AliasGraph {
         into: &Place,
     ) -> Result<(), AllocError>
         ensures ok { OnOk result (self.new ≡ made_from self.old index from.now.identifier into.now.identifier) }
+        ensures nodes { OnOk result (OneMore into.now.identifier self.old self.new) }
         ensures err { OnErr result (self.new ≡ self.old) }
     {
         self.make_from(index, from.identifier, into.identifier)
@@ -139,6 +141,7 @@ impl AliasGraph {
     /// Links two nodes: `into` holds `from`. Does nothing unless both are there.
     pub fn capture(&mut self, index: u32, from: &Place, into: &Place) -> Result<(), AllocError>
         ensures ok { OnOk result (self.new ≡ linked EdgeKind.Capture self.old index from.now.identifier into.now.identifier) }
+        ensures nodes { OnOk result (SameIds self.old self.new) }
         ensures err { OnErr result (self.new ≡ self.old) }
     {
         self.join(EdgeKind::Capture, index, from.identifier, into.identifier)
@@ -147,6 +150,7 @@ impl AliasGraph {
     /// Links two nodes: `into` is `from`. Does nothing unless both are there.
     pub fn assign(&mut self, index: u32, from: &Place, into: &Place) -> Result<(), AllocError>
         ensures ok { OnOk result (self.new ≡ linked EdgeKind.Alias self.old index from.now.identifier into.now.identifier) }
+        ensures nodes { OnOk result (SameIds self.old self.new) }
         ensures err { OnErr result (self.new ≡ self.old) }
     {
         self.join(EdgeKind::Alias, index, from.identifier, into.identifier)
@@ -160,6 +164,7 @@ impl AliasGraph {
         into: &Place,
     ) -> Result<(), AllocError>
         ensures ok { OnOk result (self.new ≡ linked EdgeKind.MaybeAlias self.old index from.now.identifier into.now.identifier) }
+        ensures nodes { OnOk result (SameIds self.old self.new) }
         ensures err { OnErr result (self.new ≡ self.old) }
     {
         self.join(
@@ -192,6 +197,7 @@ impl AliasGraph {
     #[tactic(auto, using(crate::proofs::Flats::with_node_of, crate::proofs::Flats::with_node_fits, crate::proofs::Flats::fit_fresh))]
     pub(crate) fn make(&mut self, id: IdentifierId, value: NodeValue) -> Result<(), AllocError>
         ensures ok { OnOk result (self.new ≡ created self.old id value) }
+        ensures nodes { OnOk result (OneMore id self.old self.new) }
         ensures err { OnErr result (self.new ≡ self.old) }
     {
         let node = fresh(self.alloc, value);
@@ -207,6 +213,7 @@ impl AliasGraph {
         into: IdentifierId,
     ) -> Result<(), AllocError>
         ensures ok { OnOk result (self.new ≡ made_from self.old index from into) }
+        ensures nodes { OnOk result (OneMore into self.old self.new) }
         ensures err { OnErr result (self.new ≡ self.old) }
     {
         let place = self.links.len();
@@ -230,6 +237,7 @@ impl AliasGraph {
         into: IdentifierId,
     ) -> Result<(), AllocError>
         ensures ok { OnOk result (self.new ≡ linked kind self.old index from into) }
+        ensures nodes { OnOk result (SameIds self.old self.new) }
         ensures err { OnErr result (self.new ≡ self.old) }
     {
         if self.nodes.has(from) && self.nodes.has(into) {

@@ -4,9 +4,8 @@ ghost use Rattle.alias_ranges.specs.Graph.{changed};
 ghost use Rattle.alias_ranges.specs.Links.{next, all_links, entry, walk};
 ghost use Rattle.alias_ranges.specs.declared.types.Direction.{Direction};
 ghost use Rattle.alias_ranges.specs.declared.types.Origin.{Origin};
-ghost use Rattle.alias_base.specs.declared.ids.IdentifierId.{IdentifierId};
 ghost use Rattle.alias_ranges.specs.Marks.{visited, marked, ranges_after, origin, with_ranges};
-ghost use Rattle.alias_ranges.specs.Nodes.{place_of, has_node};
+ghost use Rattle.alias_ranges.specs.Nodes.{place_of, Within, SameIds};
 ghost use Rattle.alias_ranges.specs.Reach.{Visits, Covered, Caused, Marks, AllBefore, Flows};
 ghost use Rattle.alias_ranges.specs.Seen.{nothing_seen};
 ghost use Rattle.alias_ranges.specs.Claims.{claimed, noted_at};
@@ -132,7 +131,7 @@ fn walk<L: Ledger>(
     steps: &mut Steps<L>,
 ) -> Result<(), AllocError>
     requires fit { AllFit (length links.now) nodes.old }
-    requires ranges { (id : IdentifierId) → IsTrue (has_node (nodes_of links.now nodes.old) id) → id.0 < length identifiers.old }
+    requires ranges { Within (length identifiers.old) (nodes_of links.now nodes.old) }
     ensures fit { AllFit (length links.now) nodes.new }
     ensures nodes { OnOk result (nodes_of links.now nodes.new ≡ marked index origin (nodes_of links.now nodes.old) (walk (nodes_of links.now nodes.old) index start).done) }
     ensures ranges { OnOk result (identifiers.new ≡ ranges_after end identifiers.old (walk (nodes_of links.now nodes.old) index start).done) }
@@ -171,8 +170,9 @@ impl AliasGraph {
         env: &mut Environment,
         steps: &mut Steps<L>,
     ) -> Result<(), AllocError>
-        requires { (id : IdentifierId) → IsTrue (has_node self.old id) → id.0 < length env.old.identifiers }
+        requires { Within (length env.old.identifiers) self.old }
         ensures nodes { OnOk result (self.new ≡ marked index (origin span reason) self.old (walk self.old index (entry start transitive Direction.Backwards start_kind)).done) }
+        ensures kept { OnOk result (SameIds self.old self.new) }
         ensures ranges { OnOk result (env.new ≡ with_ranges end (walk self.old index (entry start transitive Direction.Backwards start_kind)).done env.old) }
         ensures steps { OnOk result (steps.new ≡ steps.old + (walk self.old index (entry start transitive Direction.Backwards start_kind)).popped) }
         ensures bound { steps.new ≤ steps.old + (1 + 8 * all_links self.old) }
