@@ -17,3 +17,4 @@ pub mod Lists
 pub mod Within
 pub mod FlatWalk
 pub mod Flowing
+pub mod Rows

@@ -74,9 +74,9 @@ created_own g new from into p k same is h links =
     let one : from ≡ into = ap (λ (n : ℕ). let z : IdentifierId = record { 0 = n } in z) same in
     h ∙ ap (with_node g into) own
     ∙ sym (
-      ap (λ z. changed (changed (with_node g into (kept_fresh Object)) z (with_forward_place p)) into (with_created_place links p)) one
-      ∙ ap (λ z. changed z into (with_created_place links p)) (put_changed g into (kept_fresh Object) (with_forward_place p))
-      ∙ put_changed g into (with_forward_place p (kept_fresh Object)) (with_created_place links p)
+    ap (λ z. changed (changed (with_node g into (kept_fresh Object)) z (with_forward_place p)) into (with_created_place links p)) one
+    ∙ ap (λ z. changed z into (with_created_place links p)) (put_changed g into (kept_fresh Object) (with_forward_place p))
+    ∙ put_changed g into (with_forward_place p (kept_fresh Object)) (with_created_place links p)
     )
 
 not_same : (a b : ℕ) → (a ≡ b → ⊥) → (a == b) ≡ false
@@ -89,8 +89,8 @@ created_apart g h new from into p k apart is a b links =
     let other : k ≡ kept_created false p = is ∙ ap (λ x. kept_created x p) (not_same from.0 into.0 apart) in
     b ∙ ap (λ z. with_node z into k) a ∙ ap (with_node (changed g from (with_forward_place p)) into) other
     ∙ sym (
-      ap (λ z. changed z into (with_created_place links p)) (put_apart g from into (kept_fresh Object) (with_forward_place p) apart)
-      ∙ put_changed (changed g from (with_forward_place p)) into (kept_fresh Object) (with_created_place links p)
+    ap (λ z. changed z into (with_created_place links p)) (put_apart g from into (kept_fresh Object) (with_forward_place p) apart)
+    ∙ put_changed (changed g from (with_forward_place p)) into (kept_fresh Object) (with_created_place links p)
     )
 
 module _ (links more : List StoredLink) (g new : Entries KeptNode) (l : StoredLink) (p : ℕ) (fit : AllFit (length links) g) (is : more ≡ links ++ l ∷ []) (at : p ≡ length links) (h : IsCreated g l.from l.into p new) where
@@ -112,4 +112,3 @@ module _ (links more : List StoredLink) (g new : Entries KeptNode) (l : StoredLi
       ∙ created_is links made made_fits l
       ∙ ap (λ z. changed (changed z l.from (with_edge (edge_of l))) l.into (with_created_from (source_of l))) (with_node_of links g l.into (kept_fresh Object))
       ∙ ap (λ x. changed (changed (created (nodes_of links g) l.into Object) l.from (with_edge (edge l.index l.into x))) l.into (with_created_from (source_of l))) alias
-

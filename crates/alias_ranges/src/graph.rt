@@ -85,12 +85,7 @@ fn source_in(links: &[StoredLink], places: &[usize], position: usize) -> Option<
 }
 
 /// The link at a position of one of the node's lists.
-fn link_of(
-    links: &[StoredLink],
-    node: &Node,
-    list: LinkList,
-    position: usize,
-) -> Option<Link>
+fn link_of(links: &[StoredLink], node: &Node, list: LinkList, position: usize) -> Option<Link>
     requires { NodeFits (length links.now) node.now }
     ensures { result ≡ slice_get (links_in list (node_of links.now node.now)) position }
 {
@@ -125,12 +120,7 @@ impl AliasGraph {
     }
 
     /// Makes an object node of `into` that was made from a part of `from`. The node of `from` need not be there.
-    pub fn create_from(
-        &mut self,
-        index: u32,
-        from: &Place,
-        into: &Place,
-    ) -> Result<(), AllocError>
+    pub fn create_from(&mut self, index: u32, from: &Place, into: &Place) -> Result<(), AllocError>
         ensures ok { OnOk result (self.new ≡ made_from self.old index from.now.identifier into.now.identifier) }
         ensures nodes { OnOk result (OneMore into.now.identifier self.old self.new) }
         ensures err { OnErr result (self.new ≡ self.old) }
@@ -157,12 +147,7 @@ impl AliasGraph {
     }
 
     /// Links two nodes: `into` may be `from`. Does nothing unless both are there.
-    pub fn maybe_alias(
-        &mut self,
-        index: u32,
-        from: &Place,
-        into: &Place,
-    ) -> Result<(), AllocError>
+    pub fn maybe_alias(&mut self, index: u32, from: &Place, into: &Place) -> Result<(), AllocError>
         ensures ok { OnOk result (self.new ≡ linked EdgeKind.MaybeAlias self.old index from.now.identifier into.now.identifier) }
         ensures nodes { OnOk result (SameIds self.old self.new) }
         ensures err { OnErr result (self.new ≡ self.old) }
@@ -248,7 +233,14 @@ impl AliasGraph {
                 into,
                 kind,
             })?;
-            put_link(&mut self.nodes, kind, self.links.as_slice(), from, into, place)?;
+            put_link(
+                &mut self.nodes,
+                kind,
+                self.links.as_slice(),
+                from,
+                into,
+                place,
+            )?;
         }
         Ok(())
     }

@@ -28,9 +28,9 @@ returns-clause-covered g c =
     let s : Entry = entry c.args.start c.args.transitive Backwards c.args.start_kind in
     subst (Covered c.args.self.now c.args.index s c.args.end)
     (sym (
-      c.in_ok-walk.ensures.ranges
-      ∙ ap (λ l. ranges_after c.args.end c.args.env.now.identifiers (walk (nodes_of l c.self.inside.nodes) c.args.index s).done) c.as_slice.ensures
-      ∙ ap (λ z. ranges_after c.args.end c.args.env.now.identifiers (walk z c.args.index s).done) c.self.view_is
+    c.in_ok-walk.ensures.ranges
+    ∙ ap (λ l. ranges_after c.args.end c.args.env.now.identifiers (walk (nodes_of l c.self.inside.nodes) c.args.index s).done) c.as_slice.ensures
+    ∙ ap (λ z. ranges_after c.args.end c.args.env.now.identifiers (walk z c.args.index s).done) c.self.view_is
     ))
     (walk_covered c.args.self.now c.args.index s (origin c.args.span c.args.reason) c.args.end c.args.env.now.identifiers c.requires)
 
@@ -39,9 +39,9 @@ returns-clause-caused g c =
     let s : Entry = entry c.args.start c.args.transitive Backwards c.args.start_kind in
     subst (Caused c.args.self.now c.args.index s c.args.end c.args.env.now.identifiers)
     (sym (
-      c.in_ok-walk.ensures.ranges
-      ∙ ap (λ l. ranges_after c.args.end c.args.env.now.identifiers (walk (nodes_of l c.self.inside.nodes) c.args.index s).done) c.as_slice.ensures
-      ∙ ap (λ z. ranges_after c.args.end c.args.env.now.identifiers (walk z c.args.index s).done) c.self.view_is
+    c.in_ok-walk.ensures.ranges
+    ∙ ap (λ l. ranges_after c.args.end c.args.env.now.identifiers (walk (nodes_of l c.self.inside.nodes) c.args.index s).done) c.as_slice.ensures
+    ∙ ap (λ z. ranges_after c.args.end c.args.env.now.identifiers (walk z c.args.index s).done) c.self.view_is
     ))
     (walk_caused c.args.self.now c.args.index s (origin c.args.span c.args.reason) c.args.end c.args.env.now.identifiers)
 
