@@ -240,13 +240,13 @@ high Conditional Definite h is = cc
 high Conditional Conditional h is = is
 
 module _ (g : Nodes) (m : ℕ) (s : Entry) (origin : Origin) where
-  abbrev visits : List Entry
+  abbrev pub visits : List Entry
   visits = (walk g m s).done
 
-  met : (e : Entry) → Legal g m s e → Met covers visits e
+  pub met : (e : Entry) → Legal g m s e → Met covers visits e
   met e p = walk_reaches g m s (1 + 8 * all_links g) (walk_empties g m s) e p
 
-  visit_legal : (e : Entry) → IsOneOf e visits → Legal g m s e
+  pub visit_legal : (e : Entry) → IsOneOf e visits → Legal g m s e
   visit_legal e i = walk_stays g m s (1 + 8 * all_links g) e i
 
   pub walk_visits : Visits g m s visits

@@ -17,4 +17,5 @@ pub mod Lists
 pub mod Within
 pub mod FlatWalk
 pub mod Flowing
+pub mod MarkKinds
 pub mod Rows

@@ -29,7 +29,7 @@ abbrev pub is_definite : MutationKind → Bool
 is_definite Definite = true
 is_definite Conditional = false
 
--- where the first is set, the second is
+-- where the second is set, the first is
 abbrev pub at_least : Bool → Bool → Bool
 at_least true b = true
 at_least false b = not b

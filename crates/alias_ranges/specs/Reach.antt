@@ -3,13 +3,15 @@ use Rattle.std.specs.Prelude.{◌≡◌, ℕ, ◌+◌, ◌<◌, ◌≤◌, ◌�
 use Rattle.alias_base.specs.declared.ids.IdentifierId.{IdentifierId}
 use Rattle.alias_base.specs.declared.ids.EvaluationOrder.{EvaluationOrder}
 use Rattle.alias_hir.specs.declared.env.Identifier.{Identifier}
+use Rattle.alias_hir.specs.declared.place.Span.{Span}
 use Rattle.alias_ranges.specs.declared.types.MutationKind.{MutationKind}
 use Rattle.alias_ranges.specs.declared.types.MutationKind.TheVariants.{Conditional, Definite}
 use Rattle.alias_ranges.specs.declared.types.MutationInfo.{MutationInfo}
 use Rattle.alias_ranges.specs.declared.types.Entry.{Entry}
 use Rattle.alias_ranges.specs.Nodes.{Node, Nodes, node_at}
 use Rattle.alias_ranges.specs.Walks.{IsOneOf}
-use Rattle.alias_ranges.specs.Links.{covers}
+use Rattle.alias_ranges.specs.Links.{covers, at_least, is_definite}
+use Rattle.alias_ranges.specs.Marks.{info}
 use Rattle.alias_ranges.specs.Legal.{Legal}
 
 -- the walk expanded entries of legal paths alone, and for each entry of a legal path one at its node with at least its kind, its flag and its direction
@@ -61,6 +63,20 @@ pub record Marks (old : Nodes) (m : ℕ) (start : Entry) (new : Nodes) : Type 0 
   pub reached : (e : Entry) → Legal old m start e → Reached new m e.id
   pub definite : (e : Entry) → Legal old m start e → e.kind ≡ Definite → SeenDefinite new e.id
   pub untouched : (id : IdentifierId) → ((e : Entry) → Legal old m start e → e.id.0 ≡ id.0 → ⊥) → node_at new id ≡ node_at old id
+
+-- the mark stands, and is at least as high as the kind
+abbrev pub MarkedAs : MutationKind → Option MutationInfo → Type 0
+MarkedAs k mark = (i : MutationInfo) × (mark ≡ Some i) × IsTrue (at_least (is_definite i.kind) (is_definite k))
+
+-- the mark is that of before, or that of an entry of a legal path with this flag
+abbrev pub MarkCause : Nodes → ℕ → Entry → Option Span → Bool → IdentifierId → Option MutationInfo → Option MutationInfo → Type 0
+MarkCause g m start span flag id before after = (after ≡ before) ⊎ ((e : Entry) × (e.id.0 ≡ id.0) × (e.transitive ≡ flag) × (after ≡ Some (info e.kind span)) × Legal g m start e)
+
+-- a transitive entry of a legal path leaves a transitive mark, and each mark has its cause
+pub record Kinds (old : Nodes) (m : ℕ) (start : Entry) (span : Option Span) (new : Nodes) : Type 0 where
+  pub transitive : (e : Entry) → Legal old m start e → e.transitive ≡ true → (n : Node) × (node_at new e.id ≡ Some n) × MarkedAs e.kind n.transitive
+  pub transitive_cause : (id : IdentifierId) (n w : Node) → node_at old id ≡ Some n → node_at new id ≡ Some w → MarkCause old m start span true id n.transitive w.transitive
+  pub local_cause : (id : IdentifierId) (n w : Node) → node_at old id ≡ Some n → node_at new id ≡ Some w → MarkCause old m start span false id n.local w.local
 
 -- the last position of the node is m
 abbrev pub EndsAt : Nodes → ℕ → IdentifierId → Type 0

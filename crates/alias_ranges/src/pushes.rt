@@ -172,10 +172,11 @@ pub(crate) fn put_led(
         links,
         node.forward.as_slice(),
     );
+    let with_captures = true;
     put_sources(
         stack,
         index,
-        true,
+        with_captures,
         entry.kind,
         links,
         node.created_from.as_slice(),

@@ -6,7 +6,7 @@ ghost use Rattle.alias_ranges.specs.declared.types.Direction.{Direction};
 ghost use Rattle.alias_ranges.specs.declared.types.Origin.{Origin};
 ghost use Rattle.alias_ranges.specs.Marks.{visited, marked, ranges_after, origin, with_ranges};
 ghost use Rattle.alias_ranges.specs.Nodes.{place_of, Within, SameIds};
-ghost use Rattle.alias_ranges.specs.Reach.{Visits, Covered, Caused, Marks, AllBefore, Flows};
+ghost use Rattle.alias_ranges.specs.Reach.{Visits, Covered, Caused, Marks, Kinds, AllBefore, Flows};
 ghost use Rattle.alias_ranges.specs.Seen.{nothing_seen};
 ghost use Rattle.alias_ranges.specs.Claims.{claimed, noted_at};
 ghost use Rattle.alias_ranges.specs.Flat.{AllFit, nodes_of, kept_links, all_kept_links};
@@ -180,6 +180,7 @@ impl AliasGraph {
         ensures covered { OnOk result (Covered self.old index (entry start transitive Direction.Backwards start_kind) end env.new.identifiers) }
         ensures caused { OnOk result (Caused self.old index (entry start transitive Direction.Backwards start_kind) end env.old.identifiers env.new.identifiers) }
         ensures marks { OnOk result (Marks self.old index (entry start transitive Direction.Backwards start_kind) self.new) }
+        ensures kinds { OnOk result (Kinds self.old index (entry start transitive Direction.Backwards start_kind) span self.new) }
         ensures flows { OnOk result (AllBefore self.old index → Flows self.old index (entry start transitive Direction.Backwards start_kind) self.new) }
         ensures err { OnErr result ((self.new ≡ self.old) × (env.new ≡ env.old) × (steps.new ≡ steps.old)) }
     {

@@ -3,11 +3,12 @@ use Rattle.alias_ranges.specs.declared.types.Direction.TheVariants.{Backwards}
 use Rattle.alias_ranges.specs.declared.types.Entry.{Entry}
 use Rattle.alias_ranges.specs.Links.{entry, walk}
 use Rattle.alias_ranges.specs.Marks.{marked, ranges_after, origin}
-use Rattle.alias_ranges.specs.Reach.{Covered, Caused, Marks, Flows}
+use Rattle.alias_ranges.specs.Reach.{Covered, Caused, Marks, Kinds, Flows}
 use Rattle.alias_ranges.specs.Flat.{nodes_of}
 use Rattle.alias_ranges.specs.Nodes.{has_node}
 use Rattle.alias_ranges.proofs.Within.{marked_same}
 use Rattle.alias_ranges.proofs.Flowing.{walk_flows}
+use Rattle.alias_ranges.proofs.MarkKinds.{walk_kinds}
 use Rattle.alias_ranges.proofs.Effects.{walk_visits, walk_covered, walk_caused, walk_marks}
 use Rattle.alias_ranges.proofs.graph.AliasGraph.mutate.Goals as goal
 
@@ -59,3 +60,8 @@ pub returns-clause-kept : goal.returns-clause-kept
 returns-clause-kept g c = λ id.
     ap (λ z. has_node z id) (returns-clause-nodes g c)
     ∙ marked_same c.args.index (origin c.args.span c.args.reason) c.args.self.now (walk c.args.self.now c.args.index (entry c.args.start c.args.transitive Backwards c.args.start_kind)).done id
+
+pub returns-clause-kinds : goal.returns-clause-kinds
+returns-clause-kinds g c =
+    subst (Kinds c.args.self.now c.args.index (entry c.args.start c.args.transitive Backwards c.args.start_kind) c.args.span) (sym (returns-clause-nodes g c))
+    (walk_kinds c.args.self.now c.args.index (entry c.args.start c.args.transitive Backwards c.args.start_kind) (origin c.args.span c.args.reason))
