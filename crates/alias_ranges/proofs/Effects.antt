@@ -1,6 +1,6 @@
 -- What a walk leaves, by the legal paths.
-use Rattle.std.proofs.Common.{◌≡◌, ℕ, ◌+◌, ◌*◌, ◌<◌, ◌≤◌, ◌≢◌, ◌⊎◌, max, inl, inr, ⊎_elim, Bool, true, false, not, cond, ◌==◌, IsTrue, List, [], ◌∷◌, Option, Some, None, nat_lt, is_some, length, option_map, slice_get, slice_index_or, slice_set, refl, ap, sym, ◌∙◌, subst, arith, suc, zero}
-use Rattle.std.proofs.lemmas.Bool.{cases_eq, false≢true}
+use Rattle.std.proofs.Common.{◌≡◌, ℕ, ◌+◌, ◌*◌, ◌<◌, ◌≤◌, ◌⊎◌, max, inl, inr, ⊎_elim, Bool, true, false, cond, IsTrue, List, [], ◌∷◌, Option, Some, None, is_some, length, option_map, slice_get, slice_set, refl, ap, sym, ◌∙◌, subst, arith, suc, zero}
+use Rattle.std.proofs.lemmas.Bool.{cases_eq}
 use Rattle.std.specs.Option.{option_map_or}
 use Rattle.alias_base.specs.declared.ids.IdentifierId.{IdentifierId}
 use Rattle.alias_base.specs.declared.ids.EvaluationOrder.{EvaluationOrder}
@@ -14,11 +14,11 @@ use Rattle.alias_hir.specs.declared.env.Identifier.{Identifier}
 use Rattle.alias_ranges.specs.Nodes.{Nodes, node_at, has_node, same_id}
 use Rattle.alias_ranges.specs.Graph.{changed}
 use Rattle.alias_ranges.specs.Walks.{IsOneOf}
-use Rattle.alias_ranges.specs.Links.{covers, stands, next, walk, all_links, is_definite, at_least}
+use Rattle.alias_ranges.specs.Links.{covers, walk, all_links, is_definite, at_least}
 use Rattle.alias_ranges.specs.Legal.{Legal}
 use Rattle.alias_ranges.specs.Marks.{later, higher, remarked, info, marked_by, visited, marked, raised, raised_at, range_visited, ranges_after}
 use Rattle.alias_ranges.specs.Reach.{end_of, end_at, but_end, Visits, AtLeast, Covered, Caused, IsDefiniteMark, SeenDefinite, MutatedAt, Reached, Marks}
-use Rattle.alias_ranges.proofs.Covering.{eqb_is, eqb_itself, opened}
+use Rattle.alias_ranges.proofs.Covering.{eqb_is, opened}
 use Rattle.alias_ranges.proofs.Visits.{Met}
 use Rattle.alias_ranges.proofs.Reaching.{walk_reaches, walk_stays, legal_stands, id_is}
 use Rattle.alias_ranges.proofs.Shapes.{shape, marked_shape}

@@ -1,5 +1,5 @@
 -- Changes of kept places are changes of nodes.
-use Rattle.std.proofs.Common.{◌≡◌, ℕ, ◌+◌, ◌<◌, ◌≤◌, ◌⊎◌, inl, inr, ⊎_elim, Bool, true, false, not, cond, ◌==◌, IsTrue, List, [], ◌∷◌, ◌++◌, Option, Some, None, is_some, length, option_map, slice_get, slice_index_or, position, if◌then◌else◌, refl, ap, sym, ◌∙◌, subst, arith, suc, zero, length-append}
+use Rattle.std.proofs.Common.{◌≡◌, ℕ, ◌+◌, ◌<◌, Bool, true, false, cond, List, [], ◌∷◌, ◌++◌, Option, Some, None, is_some, length, option_map, slice_get, position, if◌then◌else◌, refl, ap, sym, ◌∙◌, subst, arith, suc, zero, length-append}
 use Rattle.std.specs.Map.{keys_of}
 use Rattle.indexmap.specs.IndexMap.{set_value_at}
 use Rattle.alias_base.specs.declared.ids.IdentifierId.{IdentifierId}
@@ -10,10 +10,10 @@ use Rattle.alias_ranges.specs.declared.types.StoredLink.{StoredLink}
 use Rattle.alias_ranges.specs.declared.types.Origin.{Origin}
 use Rattle.alias_ranges.specs.declared.types.Entry.{Entry}
 use Rattle.alias_ranges.specs.declared.types.Node.{Node as KeptNode}
-use Rattle.alias_ranges.specs.Nodes.{Edge, Source, Node, Entries, Nodes, node_at, has_node, place_of, with_node, same_id}
-use Rattle.alias_ranges.specs.Graph.{changed, fresh, with_edge, with_created_from, with_source, noted, has_source}
+use Rattle.alias_ranges.specs.Nodes.{Node, Entries, node_at, has_node, place_of, with_node, same_id}
+use Rattle.alias_ranges.specs.Graph.{changed, with_edge, with_created_from, with_source, noted, has_source}
 use Rattle.alias_ranges.specs.Marks.{visited, info, marked_by, later, first_reason}
-use Rattle.alias_ranges.specs.Flat.{no_link, link_at, edge_of, source_of, edges_at, sources_at, node_of, nodes_of, AllBelow, NodeFits, AllFit, noted_place, kept_visited, kept_marked_by, kept_fresh, with_forward_place, with_created_place, with_source_place}
+use Rattle.alias_ranges.specs.Flat.{link_at, edge_of, source_of, edges_at, sources_at, node_of, nodes_of, AllBelow, NodeFits, AllFit, noted_place, kept_visited, kept_marked_by, kept_fresh, with_forward_place, with_created_place, with_source_place}
 use Rattle.alias_ranges.proofs.Places.{Found, place_found}
 
 -- a change of the kept node is a change of the node

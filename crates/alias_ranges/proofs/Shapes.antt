@@ -1,5 +1,5 @@
 -- A walk's marks change no link.
-use Rattle.std.proofs.Common.{◌≡◌, ℕ, ◌+◌, ◌<◌, ◌≤◌, ◌⊎◌, inl, inr, ⊎_elim, Bool, true, false, not, cond, ◌==◌, IsTrue, List, [], ◌∷◌, Option, Some, None, nat_lt, is_some, length, option_map, slice_get, position, refl, ap, sym, ◌∙◌, subst, arith, suc, zero}
+use Rattle.std.proofs.Common.{◌≡◌, ℕ, Bool, true, false, cond, List, [], ◌∷◌, Option, Some, None, length, option_map, slice_get, position, refl, ap, sym, ◌∙◌, suc}
 use Rattle.std.specs.Map.{keys_of}
 use Rattle.alias_base.specs.declared.ids.IdentifierId.{IdentifierId}
 use Rattle.alias_ranges.specs.declared.types.Entry.{Entry}
@@ -7,9 +7,9 @@ use Rattle.alias_ranges.specs.Nodes.{Node}
 use Rattle.alias_ranges.specs.declared.types.Origin.{Origin}
 use Rattle.alias_ranges.specs.Nodes.{Nodes, node_at, place_of, same_id}
 use Rattle.alias_ranges.specs.Graph.{changed}
-use Rattle.alias_ranges.specs.Links.{led_to, led_from, next, stands}
+use Rattle.alias_ranges.specs.Links.{led_to, led_from, next}
 use Rattle.alias_ranges.specs.Marks.{visited, marked_by, info, later, first_reason, marked}
-use Rattle.alias_ranges.proofs.Places.{Found, place_found, found_node}
+use Rattle.alias_ranges.proofs.Places.{place_found, found_node}
 
 -- a node without its marks
 abbrev pub shape : Node → Node

@@ -1,6 +1,5 @@
 -- A walk pops at most one entry more than eight times the links.
-use Rattle.std.proofs.Common.{◌≡◌, ℕ, ◌+◌, ◌*◌, ◌<◌, ◌≤◌, ◌⊎◌, inl, inr, ⊎_elim, Bool, true, false, not, cond, ◌&&◌, ◌||◌, ◌==◌, IsTrue, List, [], ◌∷◌, ◌++◌, Option, Some, None, nat_lt, is_some, length, refl, ap, sym, ◌∙◌, subst, arith, suc, zero, length-append}
-use Rattle.std.proofs.lemmas.Bool.{false≢true}
+use Rattle.std.proofs.Common.{◌≡◌, ℕ, ◌+◌, ◌*◌, ◌≤◌, ◌⊎◌, inl, inr, Bool, true, false, cond, ◌==◌, IsTrue, List, [], ◌∷◌, ◌++◌, Some, nat_lt, is_some, length, refl, ap, sym, ◌∙◌, subst, arith, suc, length-append}
 use Rattle.alias_base.specs.declared.ids.IdentifierId.{IdentifierId}
 use Rattle.alias_ranges.specs.declared.types.MutationKind.{MutationKind}
 use Rattle.alias_ranges.specs.declared.types.MutationKind.TheVariants.{Conditional, Definite}
@@ -10,8 +9,8 @@ use Rattle.alias_ranges.specs.Nodes.{Edge}
 use Rattle.alias_ranges.specs.Nodes.{Source}
 use Rattle.alias_ranges.specs.declared.types.Entry.{Entry}
 use Rattle.alias_ranges.specs.Nodes.{Node}
-use Rattle.alias_ranges.specs.Nodes.{Nodes, node_at, same_id}
-use Rattle.alias_ranges.specs.Walks.{IsOneOf, Walk, run, total, is_covered}
+use Rattle.alias_ranges.specs.Nodes.{Nodes, node_at}
+use Rattle.alias_ranges.specs.Walks.{IsOneOf, run, total}
 use Rattle.alias_ranges.specs.Links.{covers, entry, back_entries, along, forward_entries, opens, alias_entries, capture_entries, led_to, led_from, next, stands, links_of, all_links}
 use Rattle.alias_ranges.proofs.Covering.{eqb_is, eqb_itself}
 use Rattle.alias_ranges.proofs.Legality.{in_left, in_right}

@@ -1,5 +1,5 @@
 -- The table of what was seen stands for the entries that were expanded.
-use Rattle.std.proofs.Common.{◌≡◌, ℕ, ◌+◌, ◌<◌, ◌≤◌, ◌⊎◌, ◌≢◌, inl, inr, ⊎_elim, Bool, true, false, not, cond, ◌&&◌, ◌==◌, IsTrue, List, [], ◌∷◌, Option, Some, None, nat_lt, is_some, length, option_map, slice_get, slice_index_or, slice_set, get_or, replicate, refl, ap, sym, ◌∙◌, subst, arith, suc, zero}
+use Rattle.std.proofs.Common.{◌≡◌, ℕ, ◌<◌, ⊎_elim, Bool, true, false, cond, ◌&&◌, ◌==◌, List, [], ◌∷◌, Option, Some, None, length, slice_index_or, slice_set, replicate, refl, ap, sym, ◌∙◌, subst, arith, suc, zero}
 use Rattle.std.proofs.lemmas.List.{get_or-set_same, get_or-set_other, length-set, length-replicate}
 use Rattle.std.proofs.lemmas.Bool.{cases_eq, false≢true}
 use Rattle.alias_base.specs.declared.ids.IdentifierId.{IdentifierId}
@@ -10,7 +10,7 @@ use Rattle.alias_ranges.specs.declared.types.Direction.TheVariants.{Backwards, F
 use Rattle.alias_ranges.specs.declared.types.Entry.{Entry}
 use Rattle.alias_ranges.specs.Nodes.{Node}
 use Rattle.alias_ranges.specs.declared.seen.Seen.{Seen}
-use Rattle.alias_ranges.specs.Nodes.{Nodes, node_at, place_of, same_id}
+use Rattle.alias_ranges.specs.Nodes.{Nodes}
 use Rattle.alias_ranges.specs.Links.{at_least, is_definite, is_backwards, mode_covers, covers}
 use Rattle.alias_ranges.specs.Seen.{risen, nothing_seen, level, reaches, is_seen, see_at, see}
 use Rattle.alias_ranges.specs.Walks.{is_covered}

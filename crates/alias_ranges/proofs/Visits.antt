@@ -1,7 +1,7 @@
 -- What a walk reaches.
-use Rattle.std.proofs.Common.{◌≡◌, ℕ, ◌+◌, ◌<◌, ◌≤◌, ◌⊎◌, inl, inr, ⊎_elim, Bool, true, false, not, cond, IsTrue, List, [], ◌∷◌, length, refl, ap, sym, ◌∙◌, subst, arith, suc, zero}
+use Rattle.std.proofs.Common.{◌≡◌, ℕ, ◌+◌, ◌⊎◌, inl, inr, ⊎_elim, Bool, true, false, not, cond, IsTrue, List, [], ◌∷◌, refl, ap, sym, ◌∙◌, subst, suc, zero}
 use Rattle.std.proofs.lemmas.Bool.{false≢true}
-use Rattle.alias_ranges.specs.Walks.{IsOneOf, put_all, Path, begin, more, Walk, is_covered, is_new, starts, pop, step_at, step, run}
+use Rattle.alias_ranges.specs.Walks.{IsOneOf, put_all, Path, begin, more, Walk, is_covered, is_new, pop, step_at, run}
 
 module _ {E : Type 0} where
   put_old : (xs ys : List E) (x : E) → IsOneOf x ys → IsOneOf x (put_all xs ys)

@@ -1,8 +1,7 @@
 -- Where the walk of the code stands.
-use Rattle.std.proofs.Common.{◌≡◌, ℕ, ◌+◌, ◌*◌, ◌-◌, ◌<◌, ◌≤◌, ◌⊎◌, inl, inr, ⊎_elim, Bool, true, false, not, cond, ◌==◌, IsTrue, List, [], ◌∷◌, ◌++◌, Option, Some, None, nat_lt, is_some, length, option_map, slice_get, slice_index_or, slice_set, reverse, drop, position, replicate, refl, ap, sym, ◌∙◌, subst, arith, suc, zero, add-one, append_assoc, length-append}
+use Rattle.std.proofs.Common.{◌≡◌, ℕ, ◌+◌, ◌*◌, ◌-◌, ◌≤◌, Bool, true, false, not, cond, List, [], ◌∷◌, ◌++◌, Option, Some, None, is_some, length, slice_get, slice_index_or, reverse, drop, replicate, refl, ap, sym, ◌∙◌, subst, arith, suc, zero, add-one, append_assoc, length-append}
 use Rattle.std.proofs.lemmas.List.{reverse-append, length-reverse}
 use mathlib.Core.List.{reverse-cons}
-use Rattle.std.proofs.lemmas.Bool.{false≢true}
 use Rattle.alias_base.specs.declared.ids.IdentifierId.{IdentifierId}
 use Rattle.alias_base.specs.declared.ids.EvaluationOrder.{EvaluationOrder}
 use Rattle.alias_ranges.specs.declared.types.Entry.{Entry}
@@ -10,12 +9,12 @@ use Rattle.alias_ranges.specs.Nodes.{Node}
 use Rattle.alias_ranges.specs.declared.types.Origin.{Origin}
 use Rattle.alias_hir.specs.declared.env.Identifier.{Identifier}
 use Rattle.alias_ranges.specs.declared.seen.Seen.{Seen}
-use Rattle.alias_ranges.specs.Nodes.{Nodes, node_at, has_node, place_of, same_id}
+use Rattle.alias_ranges.specs.Nodes.{Nodes, has_node, place_of}
 use Rattle.alias_ranges.specs.Graph.{changed}
 use Rattle.alias_ranges.specs.Links.{covers, next, stands, step_to, walk, all_links, links_of}
-use Rattle.alias_ranges.specs.Walks.{Walk, starts, put_all, is_covered, is_new, pop, step_at, step, run}
+use Rattle.alias_ranges.specs.Walks.{Walk, put_all, is_covered, is_new, pop, step_at, step}
 use Rattle.alias_ranges.specs.Marks.{visited, marked, range_visited, ranges_after}
-use Rattle.alias_ranges.specs.Seen.{is_seen, see, nothing_seen}
+use Rattle.alias_ranges.specs.Seen.{is_seen, nothing_seen}
 use Rattle.alias_ranges.specs.Claims.{claimed, noted_at}
 use Rattle.alias_ranges.proofs.Places.{Found, place_some, found_node, spot_missing}
 use Rattle.alias_ranges.proofs.Shapes.{marked_place, marked_next, marked_length}

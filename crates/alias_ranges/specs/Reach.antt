@@ -1,11 +1,11 @@
 -- What holds after a walk, by legal paths.
-use Rattle.std.specs.Prelude.{◌≡◌, ℕ, ◌+◌, ◌<◌, ◌≤◌, ◌⊎◌, ◌≢◌, Bool, true, false, IsTrue, List, Option, Some, None, slice_get, option_map}
+use Rattle.std.specs.Prelude.{◌≡◌, ℕ, ◌<◌, ◌≤◌, ◌⊎◌, Bool, true, false, IsTrue, List, Option, Some, None, slice_get, option_map}
 use Rattle.alias_base.specs.declared.ids.IdentifierId.{IdentifierId}
 use Rattle.alias_base.specs.declared.ids.EvaluationOrder.{EvaluationOrder}
 use Rattle.alias_hir.specs.declared.env.Identifier.{Identifier}
 use Rattle.alias_hir.specs.declared.place.Span.{Span}
 use Rattle.alias_ranges.specs.declared.types.MutationKind.{MutationKind}
-use Rattle.alias_ranges.specs.declared.types.MutationKind.TheVariants.{Conditional, Definite}
+use Rattle.alias_ranges.specs.declared.types.MutationKind.TheVariants.{Definite}
 use Rattle.alias_ranges.specs.declared.types.MutationInfo.{MutationInfo}
 use Rattle.alias_ranges.specs.declared.types.Entry.{Entry}
 use Rattle.alias_ranges.specs.Nodes.{Node, Nodes, node_at}

@@ -1,4 +1,4 @@
-use Rattle.std.proofs.Common.{◌≡◌, ◌+◌, false, length, ap, sym, ◌∙◌, subst}
+use Rattle.std.proofs.Common.{◌+◌, false, length, ap, sym, ◌∙◌, subst}
 use Rattle.alias_ranges.specs.declared.types.MutationKind.TheVariants.{Definite}
 use Rattle.alias_ranges.specs.declared.types.Direction.TheVariants.{Backwards}
 use Rattle.alias_ranges.specs.Links.{entry, walk}

@@ -1,11 +1,10 @@
-use Rattle.std.proofs.Common.{◌≡◌, ◌+◌, ◌*◌, ◌≤◌, ◌<◌, ◌-◌, ◌++◌, ◌∷◌, [], ℕ, List, length, vec_len, vec_capacity, Some, None, ap, sym, ◌∙◌, subst, refl, arith, replicate}
-use Rattle.alias_ranges.specs.declared.types.Entry.{Entry}
+use Rattle.std.proofs.Common.{◌≡◌, ◌+◌, ◌++◌, ◌∷◌, [], ap, sym, ◌∙◌, refl, arith, replicate}
 use Rattle.alias_ranges.specs.Claims.{claimed}
 use Rattle.alias_ranges.specs.Flat.{nodes_of}
 use Rattle.alias_ranges.specs.Seen.{nothing_seen}
 use Rattle.alias_ranges.proofs.Flats.{place_of_nodes, length_of_nodes}
 use Rattle.alias_ranges.proofs.FlatWalk.{links_kept}
-use Rattle.alias_ranges.proofs.Walking.{Walking, walking_begins, walking_size, walking_ranges, walking_few, walking_more, walking_same, no_items, walking_skips, walking_expands, claimed_has, room_for, ended_nodes, ended_ranges, ended_popped}
+use Rattle.alias_ranges.proofs.Walking.{walking_begins, walking_size, walking_ranges, walking_few, walking_more, walking_same, no_items, walking_skips, walking_expands, claimed_has, room_for, ended_nodes, ended_ranges, ended_popped}
 use Rattle.alias_ranges.proofs.walk.walk.Goals as goal
 
 pub walk-init : goal.walk-init

@@ -1,4 +1,4 @@
-use Rattle.std.proofs.Common.{◌≡◌, ap, sym, ◌∙◌, subst, refl}
+use Rattle.std.proofs.Common.{ap, sym, ◌∙◌, subst}
 use Rattle.alias_ranges.specs.declared.types.Direction.TheVariants.{Backwards}
 use Rattle.alias_ranges.specs.declared.types.Entry.{Entry}
 use Rattle.alias_ranges.specs.Links.{entry, walk}
