@@ -14,12 +14,13 @@ use Rattle.alias_hir.specs.declared.env.Identifier.{Identifier}
 use Rattle.alias_ranges.specs.Nodes.{Nodes, node_at, has_node, same_id}
 use Rattle.alias_ranges.specs.Graph.{changed}
 use Rattle.alias_ranges.specs.Walks.{IsOneOf}
-use Rattle.alias_ranges.specs.Links.{covers, walk, all_links, is_definite, at_least}
+use Rattle.alias_ranges.specs.Links.{covers, stands, next, walk, all_links, is_definite, at_least}
 use Rattle.alias_ranges.specs.Legal.{Legal}
 use Rattle.alias_ranges.specs.Marks.{later, higher, remarked, info, marked_by, visited, marked, raised, raised_at, range_visited, ranges_after}
 use Rattle.alias_ranges.specs.Reach.{end_of, end_at, but_end, Visits, AtLeast, Covered, Caused, IsDefiniteMark, SeenDefinite, MutatedAt, Reached, Marks}
 use Rattle.alias_ranges.proofs.Covering.{eqb_is, opened}
-use Rattle.alias_ranges.proofs.Visits.{Met}
+use Rattle.alias_ranges.proofs.Visits.{Met, run_new}
+use Rattle.alias_ranges.proofs.Size.{eight_times}
 use Rattle.alias_ranges.proofs.Reaching.{walk_reaches, walk_stays, legal_stands, id_is}
 use Rattle.alias_ranges.proofs.Shapes.{shape, marked_shape}
 use Rattle.alias_ranges.proofs.Ending.{walk_empties}
@@ -250,7 +251,12 @@ module _ (g : Nodes) (m : ℕ) (s : Entry) (origin : Origin) where
   visit_legal e i = walk_stays g m s (1 + 8 * all_links g) e i
 
   pub walk_visits : Visits g m s visits
-  walk_visits = record { legal = λ e i. visit_legal e i; reached = λ e p. met e p }
+  walk_visits = record {
+    legal = λ e i. visit_legal e i;
+    reached = λ e p. met e p;
+    new = run_new covers (stands g) (next g m) s (1 + 8 * all_links g);
+    eight = λ id. eight_times g m s (1 + 8 * all_links g) id;
+  }
 
   pub walk_covered : (end : Option EvaluationOrder) (rs : List Identifier) → ((id : IdentifierId) → IsTrue (has_node g id) → id.0 < length rs) → Covered g m s end (ranges_after end rs visits)
   walk_covered end rs fits e p =

@@ -1,8 +1,7 @@
 -- Where the walk of the code stands.
-use Rattle.std.proofs.Common.{◌≡◌, ℕ, ◌+◌, ◌*◌, ◌-◌, ◌≤◌, Bool, true, false, not, cond, List, [], ◌∷◌, ◌++◌, Option, Some, None, is_some, length, slice_get, slice_index_or, reverse, drop, replicate, refl, ap, sym, ◌∙◌, subst, arith, suc, zero, add-one, append_assoc, length-append}
+use Rattle.std.proofs.Common.{◌≡◌, ℕ, ◌+◌, ◌*◌, ◌-◌, ◌≤◌, Bool, true, false, not, cond, List, [], ◌∷◌, ◌++◌, Option, Some, None, is_some, length, slice_index_or, reverse, replicate, refl, ap, sym, ◌∙◌, subst, arith, suc, zero, add-one, append_assoc, length-append}
 use Rattle.std.proofs.lemmas.List.{reverse-append, length-reverse}
 use mathlib.Core.List.{reverse-cons}
-use Rattle.alias_base.specs.declared.ids.IdentifierId.{IdentifierId}
 use Rattle.alias_base.specs.declared.ids.EvaluationOrder.{EvaluationOrder}
 use Rattle.alias_ranges.specs.declared.types.Entry.{Entry}
 use Rattle.alias_ranges.specs.Nodes.{Node}
@@ -11,7 +10,7 @@ use Rattle.alias_hir.specs.declared.env.Identifier.{Identifier}
 use Rattle.alias_ranges.specs.declared.seen.Seen.{Seen}
 use Rattle.alias_ranges.specs.Nodes.{Nodes, has_node, place_of}
 use Rattle.alias_ranges.specs.Graph.{changed}
-use Rattle.alias_ranges.specs.Links.{covers, next, stands, step_to, walk, all_links, links_of}
+use Rattle.alias_ranges.specs.Links.{covers, next, stands, step_to, walk, all_links}
 use Rattle.alias_ranges.specs.Walks.{Walk, put_all, is_covered, is_new, pop, step_at, step}
 use Rattle.alias_ranges.specs.Marks.{visited, marked, range_visited, ranges_after}
 use Rattle.alias_ranges.specs.Seen.{is_seen, nothing_seen}
@@ -43,10 +42,6 @@ not_seen false q p h = refl
 seen_place : (b : Bool) (q p : ℕ) → cond b None (Some q) ≡ Some p → q ≡ p
 seen_place true q p h = cc
 seen_place false q p h = cc
-
-place_claimed : (o : Option ℕ) (seen : List Seen) (e : Entry) (p : ℕ) → claimed o seen e ≡ Some p → o ≡ Some p
-place_claimed None seen e p h = h
-place_claimed (Some q) seen e p h = ap Some (seen_place (is_seen (slice_index_or seen q nothing_seen) e) q p h)
 
 module _ (g₀ : Nodes) (rs₀ : List Identifier) (m : ℕ) (origin : Origin) (end : Option EvaluationOrder) (s : Entry) where
   -- after as many steps as were taken, the walk has this stack, and the marks and the table are those of what it expanded
@@ -101,9 +96,6 @@ module _ (g₀ : Nodes) (rs₀ : List Identifier) (m : ℕ) (origin : Origin) (e
       stepped_old : step_to g₀ m s (n + 1) ≡ pop covers (stands g₀) (next g₀ m) false e (reverse rest) done n
       stepped_old = one_step ∙ ap (λ b. pop covers (stands g₀) (next g₀ m) b e (reverse rest) done n) old
 
-      pub skipped_done : (step_to g₀ m s (n + 1)).done ≡ (step_to g₀ m s n).done
-      skipped_done = ap (λ w. w.done) stepped_old
-
       -- an old entry is skipped
       pub walking_skips : Walking g rs seen rest (n + 1)
       walking_skips = record {
@@ -118,9 +110,6 @@ module _ (g₀ : Nodes) (rs₀ : List Identifier) (m : ℕ) (origin : Origin) (e
       new : (is_new covers (stands g₀) (next g₀ m) done e ≡ true) × (n : Node) × Found g₀ e.id p n
       new = new_at (place_of g₀ e.id) p refl (ap (λ o. claimed o seen e) (sym same_places) ∙ claim)
 
-      pub claimed_place : place_of g e.id ≡ Some p
-      claimed_place = place_claimed (place_of g e.id) seen e p claim
-
       pub claimed_has : has_node g₀ e.id ≡ true
       claimed_has = ap is_some (found_node g₀ e.id p new.1 new.2)
 
@@ -129,9 +118,6 @@ module _ (g₀ : Nodes) (rs₀ : List Identifier) (m : ℕ) (origin : Origin) (e
 
       new_stack : (step_to g₀ m s (n + 1)).stack ≡ reverse (rest ++ next g m e)
       new_stack = ap (λ w. w.stack) stepped_new ∙ put_on rest (next g₀ m e) ∙ ap (λ z. reverse (rest ++ z)) (sym same_next)
-
-      pub expanded_done : (step_to g₀ m s (n + 1)).done ≡ e ∷ (step_to g₀ m s n).done
-      expanded_done = ap (λ w. w.done) stepped_new
 
       -- a new entry is expanded
       pub walking_expands : Walking (changed g e.id (visited m origin e)) (range_visited end e.id rs) (noted_at (Some p) seen e) (rest ++ next g m e) (n + 1)
@@ -168,14 +154,6 @@ walk_ends g m s n h p =
     let le : n ≤ 1 + 8 * all_links g = omega arith in
     let split : 1 + 8 * all_links g ≡ n + (1 + 8 * all_links g - n) = omega arith in
     ap (step_to g m s) split ∙ ended g m s n (1 + 8 * all_links g - n) h
-
-links_at : (g : Nodes) (i : ℕ) (p : IdentifierId × Node) → slice_get g i ≡ Some p → all_links (drop i g) ≡ links_of p.1 + all_links (drop (suc i) g)
-links_at [] i p h = cc
-links_at (e ∷ g) zero p h = let same : e ≡ p = cc in ap (λ (x : IdentifierId × Node). links_of x.1 + all_links g) same
-links_at (e ∷ g) (suc i) p h = links_at g i p h
-
-pub links_more : (g : Nodes) (i : ℕ) (id : IdentifierId) (n : Node) → Some (id, n) ≡ slice_get g i → all_links (drop i g) ≡ links_of n + all_links (drop (i + 1) g)
-links_more g i id n h = links_at g i (id, n) (sym h) ∙ ap (λ k. links_of n + all_links (drop k g)) (sym (add-one i))
 
 module _ (g₀ : Nodes) (rs₀ : List Identifier) (m : ℕ) (origin : Origin) (end : Option EvaluationOrder) (s : Entry) (g : Nodes) (rs : List Identifier) (seen : List Seen) (stack : List Entry) (n : ℕ) (h : Walking g₀ rs₀ m origin end s g rs seen stack n) where
   pub walking_size : length seen ≡ length g
@@ -216,9 +194,6 @@ module _ (g₀ : Nodes) (rs₀ : List Identifier) (m : ℕ) (origin : Origin) (e
 
     pub ended_ranges : rs ≡ ranges_after end rs₀ (walk g₀ m s).done
     ended_ranges = h.ranges_are ∙ ap (λ w. ranges_after end rs₀ w.done) (sym walk_is)
-
-    pub ended_done : (walk g₀ m s).done ≡ (step_to g₀ m s n).done
-    ended_done = ap (λ w. w.done) walk_is
 
     pub ended_popped : n ≡ (walk g₀ m s).popped
     ended_popped = sym h.popped_is ∙ ap (λ w. w.popped) (sym walk_is)
