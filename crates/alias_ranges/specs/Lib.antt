@@ -1,0 +1,14 @@
+pub mod Walks
+pub mod Nodes
+pub mod Lists
+pub mod Lending
+pub mod Links
+pub mod Legal
+pub mod Graph
+pub mod Seen
+pub mod Marks
+pub mod Claims
+pub mod Reach
+pub mod Standing
+pub mod Flat
+pub mod Events

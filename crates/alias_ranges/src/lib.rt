@@ -1,0 +1,23 @@
+//! The graph of aliases, and the walk of a mutation over it.
+//!
+//! A mutation marks each node that a legal path leads to, and raises the range ends of their identifiers.
+//! Reports of what a walk finds come with the summaries of functions.
+#![tactic(auto)]
+
+mod adjacency;
+pub mod events;
+pub mod graph;
+mod marks;
+pub mod node_map;
+mod pushes;
+mod seen;
+pub mod steps;
+#[cfg(test)]
+mod tests;
+pub mod types;
+mod walk;
+
+pub use events::{GraphEvent, build};
+pub use graph::AliasGraph;
+pub use steps::Steps;
+pub use types::{EdgeKind, Link, LinkList, MutationInfo, MutationKind, Node, NodeValue};
