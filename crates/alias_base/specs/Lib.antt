@@ -1,3 +1,4 @@
 pub mod Answer
 pub mod Find
 pub mod Lending
+pub mod Parts

@@ -1,6 +1,6 @@
 //! The effects pass over a function.
 ghost use Rattle.std.specs.Prelude.{◌≡◌, true, IfOk, OnErr};
-ghost use Rattle.alias_hir.specs.Fitting.{function_fits};
+ghost use Rattle.alias_rules.specs.Fitting.{function_fits};
 ghost use Rattle.alias_effects.specs.Inference.{refusal, solved_by, entry_effects, inferred, Infers, RefusesAs};
 ghost use Rattle.alias_effects.specs.Recording.{recorded};
 ghost use Rattle.alias_effects.specs.Solutions.{IsSolved};

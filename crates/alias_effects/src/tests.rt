@@ -11,7 +11,7 @@ use alias_hir::env::{Environment, Identifier, MutableRange};
 use alias_hir::error::InferError;
 use alias_hir::hir::{BasicBlock, FunctionType, Hir, HirFunction, Instruction};
 use alias_hir::place::{Effect, Place};
-use alias_hir::rules::function::check_function;
+use alias_rules::function::check_function;
 use alias_hir::terminal::Terminal;
 use alias_hir::types::Ty;
 use alias_hir::value::{InstructionKind, InstructionValue, LValue, PropertyLiteral};

@@ -1,9 +1,5 @@
 pub mod Effects
-pub mod Fault
-pub mod Fitting
 pub mod Reports
-pub mod RuleFacts
-pub mod Rules
 pub mod Tables
 pub mod Terminals
 pub mod Types

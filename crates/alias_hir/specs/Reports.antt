@@ -55,3 +55,12 @@ uninitialized_report env id span = record {
   help = Some (codes "<unknown> " ++ printed_identifier env id);
   labels = uninitialized_labels (either_span span (identifier_span (slice_get env.identifiers id.0)));
 }
+
+-- what is told where the states of a function's blocks were not settled after 100 rounds
+abbrev pub not_settled_report : Report
+not_settled_report = record {
+  category = Invariant;
+  message = codes "[InferMutationAliasingEffects] Potential infinite loop: A value, temporary place, or effect was not cached properly";
+  help = None;
+  labels = [];
+}

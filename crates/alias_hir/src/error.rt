@@ -10,6 +10,12 @@ use std::alloc::{AllocError, AllocFailed};
 /// Why an inference refuses a function. `function` is `None` for the root.
 #[derive(Drop)]
 pub enum InferError {
+    /// A block was still wanted after 100 rounds, of so many visits.
+    NotSettled {
+        function: Option<FunctionId>,
+        visits: u64,
+        report: Report,
+    },
     /// A block that is visited reads an identifier that has no value there: the first such read of the
     /// block's step, where that step makes no identifier twice.
     Uninitialized {

@@ -17,9 +17,18 @@ pub struct Instruction {
     pub effects: Option<AliasingEffects>,
 }
 
-/// Instructions in order, and what ends them.
+/// One value for the values that come along the edges to a block: `operands` has that of each edge, by the
+/// block that the edge comes from.
+#[derive(Drop)]
+pub struct Phi {
+    pub place: Place,
+    pub operands: BlockMap<Place>,
+}
+
+/// Phis and instructions in order, and what ends them.
 #[derive(Drop)]
 pub struct BasicBlock {
+    pub phis: List<Phi>,
     pub instructions: List<InstructionId>,
     pub terminal: Terminal,
 }

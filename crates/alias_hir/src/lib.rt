@@ -1,5 +1,5 @@
-//! The unit that is inferred: functions in typed single-assignment control flow, their tables, and the
-//! rules of a well-formed unit.
+//! The unit that is inferred: functions in typed single-assignment control flow, and their tables; and what
+//! is reported of it.
 #![tactic(auto)]
 
 pub mod effect;
@@ -8,7 +8,7 @@ pub mod error;
 pub mod hir;
 pub mod place;
 pub mod report;
-pub mod rules;
+pub mod successors;
 pub mod terminal;
 #[cfg(test)]
 mod tests;

@@ -1,7 +1,7 @@
 //! Reports: what is told to the author of the code.
 
 ghost use Rattle.std.specs.Prelude.{◌≡◌, ◌++◌, option_map, slice_get, IfOk, OnOk};
-ghost use Rattle.alias_hir.specs.Reports.{name_text, printed_type, printed_identifier, identifier_name, identifier_span, either_span, uninitialized_labels, uninitialized_report};
+ghost use Rattle.alias_hir.specs.Reports.{name_text, printed_type, printed_identifier, identifier_name, identifier_span, either_span, uninitialized_labels, uninitialized_report, not_settled_report};
 
 use crate::env::{Environment, Identifier, IdentifierName};
 use crate::place::Span;
@@ -126,5 +126,21 @@ pub fn uninitialized_report(
         )?,
         help: Some(help),
         labels: uninitialized_labels(alloc, span_of(env, identifier, span))?,
+    })
+}
+
+/// What is told where the states of a function's blocks were not settled after 100 rounds. It points at
+/// nothing. The one error is want of memory.
+pub fn not_settled_report(alloc: Global) -> Result<Report, AllocError>
+    ensures { IfOk result (λ r. r ≡ not_settled_report) }
+{
+    Ok(Report {
+        category: ErrorCategory::Invariant,
+        message: Text::from_str(
+            alloc,
+            "[InferMutationAliasingEffects] Potential infinite loop: A value, temporary place, or effect was not cached properly",
+        )?,
+        help: None,
+        labels: List::new(alloc),
     })
 }

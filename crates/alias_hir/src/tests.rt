@@ -1,20 +1,14 @@
 use crate::effect::{AliasingEffect, ValueKind, ValueReason};
-use crate::env::{Environment, Identifier, IdentifierName, MutableRange, Unit};
-use crate::hir::{BasicBlock, FunctionType, Hir, HirFunction, Instruction};
+use crate::env::{Environment, Identifier, IdentifierName, MutableRange};
 use crate::place::{Effect, Place, Span};
-use crate::report::{ErrorCategory, uninitialized_report};
-use crate::rules::check::check_unit;
-use crate::rules::fault::{Table, UnitFault};
-use crate::rules::function::check_function;
-use crate::terminal::Terminal;
+use crate::report::{ErrorCategory, not_settled_report, uninitialized_report};
+use crate::successors::terminal_successors;
+use crate::terminal::{SwitchCase, Terminal};
 use crate::types::{Ty, is_primitive_at, is_primitive_type, is_untyped_at, type_of};
-use crate::value::InstructionValue;
 use alias_base::{
-    BlockId, BlockMap, DeclarationId, EvaluationOrder, IdentifierId, InstructionId, List, Text,
-    TryClone, TypeId,
+    BlockId, DeclarationId, EvaluationOrder, IdentifierId, List, Text, TryClone, TypeId,
 };
 use std::alloc::{AllocError, Global};
-use std::process::Abort;
 use std::test::Fail;
 
 const NO_SPAN: Option<Span> = None;
@@ -50,154 +44,6 @@ fn environment(alloc: Global, type_: u32) -> Result<Environment, AllocError> {
     env.identifiers.push(identifier(0, type_, Some(name)))?;
     env.identifiers.push(identifier(1, 1, None))?;
     Ok(env)
-}
-
-fn instructions(alloc: Global) -> Result<List<Instruction>, AllocError> {
-    let mut list = List::new(alloc);
-    for index in 0..4u32 {
-        list.push(Instruction {
-            id: EvaluationOrder(index + 1),
-            lvalue: place(0),
-            value: InstructionValue::LoadLocal { place: place(1) },
-            span: NO_SPAN,
-            effects: None,
-        })?;
-    }
-    Ok(list)
-}
-
-/// A unit of one block, with number 0, and four instructions.
-fn unit(
-    alloc: Global,
-    type_: u32,
-    standing: &[u32],
-    entry: u32,
-    order: u32,
-) -> Result<Unit, AllocError> {
-    let mut numbers = List::new(alloc);
-    for number in standing {
-        numbers.push(InstructionId(*number))?;
-    }
-    let mut blocks = BlockMap::new(alloc);
-    let block = BasicBlock {
-        instructions: numbers,
-        terminal: Terminal::Return {
-            id: EvaluationOrder(order),
-            value: place(1),
-            effects: None,
-        },
-    };
-    blocks.insert(BlockId(0), block)?;
-    Ok(Unit {
-        function: HirFunction {
-            fn_type: FunctionType::Other,
-            returns: place(0),
-            body: Hir {
-                entry: BlockId(entry),
-                blocks,
-            },
-            instructions: instructions(alloc)?,
-            is_async: false,
-            span: NO_SPAN,
-            aliasing_effects: None,
-        },
-        env: environment(alloc, type_)?,
-    })
-}
-
-fn refusal(
-    rt: &impl Abort,
-    alloc: Global,
-    type_: u32,
-    standing: &[u32],
-    entry: u32,
-    order: u32,
-) -> Result<Option<UnitFault>, AllocError> {
-    let unit = unit(alloc, type_, standing, entry, order)?;
-    assert!(rt; unit.function.instructions.len() == 4);
-    Ok(check_unit(alloc, unit).err())
-}
-
-/// Whether the inference takes the function.
-fn is_taken(alloc: Global, standing: &[u32]) -> Result<bool, AllocError> {
-    let unit = unit(alloc, 0, standing, 0, 5)?;
-    check_function(alloc, &unit.function, &unit.env)
-}
-
-#[test]
-fn accepts_a_well_formed_unit(rt: HostRuntime) -> Result<(), Fail> {
-    let alloc = rt.alloc();
-    let unit = unit(alloc, 0, &[0, 1, 2, 3], 0, 5)?;
-    assert!(rt; unit.function.instructions.len() == 4);
-    match check_unit(alloc, unit) {
-        Ok(checked) => {
-            assert!(rt; checked.unit().function.aliasing_effects.is_none());
-            assert_eq!(rt; checked.into_unit().env.identifiers.len(), 2);
-        }
-        Err(_) => assert!(rt; false),
-    }
-    Ok(())
-}
-
-#[test]
-fn takes_a_function(rt: HostRuntime) -> Result<(), Fail> {
-    assert!(rt; is_taken(rt.alloc(), &[0, 1, 2])?);
-    assert!(rt; !is_taken(rt.alloc(), &[0, 1, 0])?);
-    Ok(())
-}
-
-#[test]
-fn names_the_first_broken_rule(rt: HostRuntime) -> Result<(), Fail> {
-    let alloc = rt.alloc();
-    assert!(rt;
-        matches!(
-            refusal(&rt, alloc, 9, &[0, 1, 2], 5, 0)?,
-            Some(UnitFault::IdOutOfRange {
-                table: Table::Types,
-                number: 9,
-            })
-        )
-    );
-    assert!(rt;
-        matches!(
-            refusal(&rt, alloc, 0, &[0, 1, 2], 5, 0)?,
-            Some(UnitFault::EntryMissing { function: None })
-        )
-    );
-    assert!(rt;
-        matches!(
-            refusal(&rt, alloc, 0, &[0, 1, 2], 0, 0)?,
-            Some(UnitFault::InstructionMissing {
-                function: None,
-                instruction: InstructionId(3),
-            })
-        )
-    );
-    Ok(())
-}
-
-#[test]
-fn names_the_later_rules(rt: HostRuntime) -> Result<(), Fail> {
-    let alloc = rt.alloc();
-    assert!(rt;
-        matches!(
-            refusal(&rt, alloc, 0, &[0, 3, 1, 3, 2, 1], 0, 0)?,
-            Some(UnitFault::InstructionTwice {
-                function: None,
-                instruction: InstructionId(3),
-            })
-        )
-    );
-    assert!(rt;
-        matches!(
-            refusal(&rt, alloc, 0, &[0, 1, 2, 3], 0, 0)?,
-            Some(UnitFault::OrderOutOfRange {
-                function: None,
-                order: EvaluationOrder(0),
-            })
-        )
-    );
-    Ok(())
 }
 
 #[test]
@@ -262,5 +108,81 @@ fn copies_effects_and_reads_orders(rt: HostRuntime) -> Result<(), Fail> {
         effects: None,
     };
     assert_eq!(rt; terminal.evaluation_order(), EvaluationOrder(7));
+    Ok(())
+}
+
+#[test]
+fn writes_that_a_function_is_not_settled(rt: HostRuntime) -> Result<(), Fail> {
+    let report = not_settled_report(rt.alloc())?;
+    assert_eq!(rt; report.category, ErrorCategory::Invariant);
+    assert_eq!(rt;
+        report.message.as_str(),
+        "[InferMutationAliasingEffects] Potential infinite loop: A value, temporary place, or effect was not cached properly"
+    );
+    assert!(rt; report.help.is_none());
+    assert_eq!(rt; report.labels.len(), 0);
+    Ok(())
+}
+
+const ORDER: EvaluationOrder = EvaluationOrder(7);
+
+#[test]
+fn a_switch_goes_to_its_cases(rt: HostRuntime) -> Result<(), Fail> {
+    let alloc = rt.alloc();
+    let mut cases = List::new(alloc);
+    cases.push(SwitchCase {
+        test: Some(place(1)),
+        block: BlockId(3),
+    })?;
+    cases.push(SwitchCase {
+        test: None,
+        block: BlockId(2),
+    })?;
+    let switch = Terminal::Switch {
+        id: ORDER,
+        test: place(0),
+        cases,
+    };
+    let successors = terminal_successors(alloc, &switch)?;
+    assert_eq!(rt; successors.as_slice(), &[BlockId(3), BlockId(2)]);
+    assert_eq!(rt; switch.evaluation_order(), ORDER);
+    Ok(())
+}
+
+#[test]
+fn exceptions_go_to_the_handler(rt: HostRuntime) -> Result<(), Fail> {
+    let alloc = rt.alloc();
+    let mut terminal = Terminal::MaybeThrow {
+        id: ORDER,
+        continuation: BlockId(1),
+        handler: Some(BlockId(4)),
+        effects: None,
+    };
+    let successors = terminal_successors(alloc, &terminal)?;
+    assert_eq!(rt; successors.as_slice(), &[BlockId(1), BlockId(4)]);
+    terminal.set_effects(List::new(alloc));
+    assert!(rt; terminal.effects().is_some());
+    let entered = Terminal::Try {
+        id: ORDER,
+        block: BlockId(1),
+        handler: BlockId(4),
+        handler_binding: None,
+    };
+    let successors = terminal_successors(alloc, &entered)?;
+    assert_eq!(rt; successors.as_slice(), &[BlockId(1)]);
+    assert!(rt; entered.effects().is_none());
+    Ok(())
+}
+
+#[test]
+fn a_throw_goes_nowhere(rt: HostRuntime) -> Result<(), Fail> {
+    let alloc = rt.alloc();
+    let mut throw = Terminal::Throw {
+        id: ORDER,
+        value: place(0),
+    };
+    throw.set_effects(List::new(alloc));
+    assert!(rt; throw.effects().is_none());
+    assert_eq!(rt; terminal_successors(alloc, &throw)?.as_slice().len(), 0);
     Ok(())
 }

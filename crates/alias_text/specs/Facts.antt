@@ -3,6 +3,7 @@ use Rattle.std.specs.Prelude.{refl, ◌≡◌, ℕ, ◌^◌, ◌<◌, Bool, true
 use Rattle.std.proofs.Common.{sym, ◌∙◌}
 use Rattle.std.proofs.lemmas.Bool.{ltb-true}
 use Rattle.alias_base.specs.Answer.{◌>>=◌}
+use Rattle.alias_base.specs.Parts.{both_true}
 use Rattle.serde_json.specs.Data.{Data}
 use Rattle.alias_hir.specs.declared.env.Unit.{Unit as HirUnit}
 use Rattle.alias_text.specs.Fault.{refusal}
@@ -26,10 +27,6 @@ built_after (Err x) u e = cc
 -- a unit that was read is built
 pub unit_is_built : (d : Data) (u : HirUnit) → unit_of d ≡ Ok u → built u ≡ true
 unit_is_built d u e = built_after (unit_at [] d) u e
-
-both_true : (a b : Bool) → (a && b) ≡ true → (a ≡ true) × (b ≡ true)
-both_true true b e = (refl, e)
-both_true false b e = cc
 
 -- 32 bits count the instructions of a built unit
 pub built_fits : (u : HirUnit) → built u ≡ true → length u.function.instructions < 2 ^ 32

@@ -4,10 +4,10 @@ use Rattle.std.specs.Fmt.{decimal}
 use Rattle.alias_base.specs.declared.ids.FunctionId.{FunctionId}
 use Rattle.alias_hir.specs.declared.error.InferError.{InferError}
 use Rattle.alias_hir.specs.declared.error.InferError.TheVariants as infer
-use Rattle.alias_hir.specs.declared.rules.fault.Table.{Table}
-use Rattle.alias_hir.specs.declared.rules.fault.Table.TheVariants.{Identifiers, Types, Instructions, Declarations}
-use Rattle.alias_hir.specs.declared.rules.fault.UnitFault.{UnitFault}
-use Rattle.alias_hir.specs.declared.rules.fault.UnitFault.TheVariants.{IdOutOfRange, EntryMissing, InstructionMissing, InstructionTwice, OrderOutOfRange, SomethingInferred, Memory}
+use Rattle.alias_rules.specs.declared.fault.Table.{Table}
+use Rattle.alias_rules.specs.declared.fault.Table.TheVariants.{Identifiers, Types, Instructions, Declarations}
+use Rattle.alias_rules.specs.declared.fault.UnitFault.{UnitFault}
+use Rattle.alias_rules.specs.declared.fault.UnitFault.TheVariants.{IdOutOfRange, EntryMissing, InstructionMissing, InstructionTwice, OrderOutOfRange, SomethingInferred, Memory}
 use Rattle.alias_text.specs.Lines.{spaced, function_name}
 
 -- what is refused, and the function

@@ -2,6 +2,7 @@
 use Rattle.std.proofs.Common.{◌≡◌, ◌==◌, ℕ, Bool, true, false, not, ◌&&◌, ◌||◌, List, [], ◌∷◌, zero, suc, Option, Some, None, refl, ap, sym, ◌∙◌, subst}
 use Rattle.std.specs.Prelude.{Result, Ok, Err, ⊤, slice_get, if◌then◌else◌}
 use Rattle.alias_base.specs.Answer.{◌>>=◌}
+use Rattle.alias_base.specs.Parts.{both_true}
 use Rattle.alias_base.specs.declared.ids.BlockId.{BlockId}
 use Rattle.alias_base.specs.declared.ids.IdentifierId.{IdentifierId}
 use Rattle.alias_base.specs.declared.ids.InstructionId.{InstructionId}
@@ -145,10 +146,6 @@ value_once env l (value.StoreLocal variable v) s b =
     let noted : is_made l.identifier (assigned_as k v variable.place u).made ≡ is_made l.identifier u.made = ap (is_made l.identifier) (assigned_made k v variable.place u) in
     assign_once v l (assigned_as k v variable.place u) (noted ∙ not_so (variable.place.identifier.0 == l.identifier.0) b)
 value_once env l value.Primitive s b = tt
-
-both_true : (a b : Bool) → (a && b) ≡ true → (a ≡ true) × (b ≡ true)
-both_true true b e = (refl, e)
-both_true false b e = cc
 
 abbrev BuiltAt : Option Instruction → Type 0
 BuiltAt None = ⊤

@@ -2,8 +2,8 @@
 use Rattle.std.proofs.Common.{◌≡◌, ℕ, ◌≤◌, true, false, List, [], ◌++◌, length, take, Option, Some, None, refl, ap, sym, ◌∙◌, subst, append-nil}
 use Rattle.std.specs.Prelude.{Result, Ok, Err, ⊤}
 use Rattle.alias_base.specs.Answer.{◌>>=◌}
-use Rattle.alias_hir.specs.declared.rules.fault.UnitFault.{UnitFault}
-use Rattle.alias_hir.specs.Rules.{rules_hold}
+use Rattle.alias_rules.specs.declared.fault.UnitFault.{UnitFault}
+use Rattle.alias_rules.specs.Rules.{rules_hold}
 use Rattle.alias_hir.specs.declared.env.Unit.{Unit as HirUnit}
 use Rattle.alias_stream.specs.Streams.{Adds, IsAllOf, IfTold}
 use Rattle.alias_text.specs.Units.{UnitReading, NoUnit}

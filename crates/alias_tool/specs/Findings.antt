@@ -1,6 +1,6 @@
 -- Why a run comes to a status.
 use Rattle.std.specs.Prelude.{◌≡◌, ℕ, ◌<◌, ◌≤◌, true, false, List, length, Option, Some, None, Ok, Err, ⊤}
-use Rattle.alias_hir.specs.Rules.{rules_hold}
+use Rattle.alias_rules.specs.Rules.{rules_hold}
 use Rattle.alias_hir.specs.declared.env.Unit.{Unit as HirUnit}
 use Rattle.alias_hir.specs.declared.error.InferError.TheVariants as error
 use Rattle.alias_text.specs.Units.{UnitReading, NoUnit}

@@ -1,6 +1,6 @@
 -- What a run comes to.
 use Rattle.std.specs.Prelude.{◌≡◌, ℕ, List, take, Option, Some, None, Ok}
-use Rattle.alias_hir.specs.Rules.{rules_hold}
+use Rattle.alias_rules.specs.Rules.{rules_hold}
 use Rattle.alias_hir.specs.declared.env.Unit.{Unit as HirUnit}
 use Rattle.alias_stream.specs.Streams.{Adds, IfTold}
 use Rattle.alias_text.specs.Units.{UnitReading}

@@ -9,7 +9,7 @@ use alias_hir::effect::AliasingEffects;
 use alias_hir::env::Unit;
 use alias_hir::error::InferError;
 use alias_hir::report::Report;
-use alias_hir::rules::check::Checked;
+use alias_rules::check::Checked;
 use std::alloc::Global;
 
 /// What is inferred of a unit.

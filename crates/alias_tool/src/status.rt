@@ -3,7 +3,7 @@ ghost use Rattle.std.specs.Prelude.{◌≡◌};
 ghost use Rattle.alias_tool.specs.Statuses.{status_code};
 
 use alias_hir::error::InferError;
-use alias_hir::rules::fault::UnitFault;
+use alias_rules::fault::UnitFault;
 
 /// How a run ends.
 #[derive(Drop)]

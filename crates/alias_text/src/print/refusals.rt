@@ -6,7 +6,7 @@ use crate::print::effects::push_spaced;
 use crate::print::functions::push_function_name;
 use alias_base::{FunctionId, Text};
 use alias_hir::error::InferError;
-use alias_hir::rules::fault::{Table, UnitFault};
+use alias_rules::fault::{Table, UnitFault};
 use std::alloc::AllocError;
 
 /// Appends what is refused, and the function.

@@ -8,7 +8,7 @@ use alias_hir::effect::{AliasingEffect, AliasingEffects, MutationReason, ValueKi
 use alias_hir::error::InferError;
 use alias_hir::hir::{BasicBlock, FunctionType, Hir, HirFunction, Instruction};
 use alias_hir::place::{Effect, Place};
-use alias_hir::rules::fault::{Table, UnitFault};
+use alias_rules::fault::{Table, UnitFault};
 use alias_hir::terminal::Terminal;
 use alias_hir::value::InstructionValue;
 use std::alloc::{AllocError, Global};

@@ -1,5 +1,5 @@
 use Rattle.std.proofs.Common.{sym, subst}
-use Rattle.alias_hir.specs.RuleFacts.{fitting_entry}
+use Rattle.alias_rules.specs.RuleFacts.{fitting_entry}
 use Rattle.alias_effects.proofs.Solving.{solved_at}
 use Rattle.alias_effects.specs.Solutions.{IsSolved}
 use Rattle.alias_effects.proofs.infer.infer_effects_certified.Goals as goal

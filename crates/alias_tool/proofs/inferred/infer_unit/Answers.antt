@@ -1,4 +1,4 @@
-use Rattle.alias_hir.specs.RuleFacts.{kept_function_fits}
+use Rattle.alias_rules.specs.RuleFacts.{kept_function_fits}
 use Rattle.alias_tool.proofs.inferred.infer_unit.Goals as goal
 
 pub infer_effects_certified-requires : goal.infer_effects_certified-requires

@@ -1,8 +1,0 @@
-use Rattle.std.proofs.Common.{◌≡◌, List, ℕ, [], drop}
-use Rattle.alias_hir.specs.Rules.{first_again}
-use Rattle.alias_hir.proofs.Standing.{Has}
-use Rattle.alias_hir.proofs.rules.standing.first_again.Given as goal
-
-abbrev pub invariant-loop-number : goal.invariant-loop-number
-invariant-loop-number l =
-    (xs : List ℕ) × Has l.seen xs × (first_again [] l.numbers ≡ first_again xs (drop l.number-index l.numbers))

@@ -1,0 +1,4 @@
+pub mod Fault
+pub mod Fitting
+pub mod RuleFacts
+pub mod Rules

@@ -1,0 +1,179 @@
+-- The rules of a well-formed unit, in their order. Each is the first fault that it finds.
+use Rattle.std.specs.Prelude.{ℕ, Bool, true, false, not, ◌&&◌, ◌||◌, List, [], ◌∷◌, length, map, nat_eq, nat_lt, is_some, is_none, ◌==◌, Option, Some, None, Result, Ok, Err, ⊤, if◌then◌else◌}
+use Rattle.std.specs.List.{flat_map, range_with_len, find, list_any, list_all}
+use Rattle.alias_base.specs.Answer.{◌>>=◌, all_pass}
+use Rattle.alias_base.specs.Find.{value_at}
+use Rattle.alias_base.specs.declared.ids.BlockId.{BlockId}
+use Rattle.alias_base.specs.declared.ids.EvaluationOrder.{EvaluationOrder}
+use Rattle.alias_base.specs.declared.ids.FunctionId.{FunctionId}
+use Rattle.alias_hir.specs.Terminals.{evaluation_order, terminal_places, terminal_effects}
+use Rattle.alias_hir.specs.Values.{places_of}
+use Rattle.alias_hir.specs.declared.env.Environment.{Environment}
+use Rattle.alias_hir.specs.declared.env.Identifier.{Identifier}
+use Rattle.alias_hir.specs.declared.env.Unit.{Unit as HirUnit}
+use Rattle.alias_hir.specs.declared.hir.BasicBlock.{BasicBlock}
+use Rattle.alias_hir.specs.declared.hir.HirFunction.{HirFunction}
+use Rattle.alias_hir.specs.declared.hir.Instruction.{Instruction}
+use Rattle.alias_hir.specs.declared.place.Effect.{Effect}
+use Rattle.alias_hir.specs.declared.place.Effect.TheVariants.{Unknown, Freeze, Read, Capture, ConditionallyMutateIterator, ConditionallyMutate, Mutate, Store}
+use Rattle.alias_hir.specs.declared.place.Place.{Place}
+use Rattle.alias_rules.specs.declared.fault.Table.{Table}
+use Rattle.alias_rules.specs.declared.fault.Table.TheVariants.{Identifiers, Types, Instructions, Declarations}
+use Rattle.alias_rules.specs.declared.fault.UnitFault.{UnitFault}
+use Rattle.alias_rules.specs.declared.fault.UnitFault.TheVariants.{IdOutOfRange, EntryMissing, InstructionMissing, InstructionTwice, OrderOutOfRange, SomethingInferred}
+use Rattle.alias_hir.specs.declared.terminal.Terminal.{Terminal}
+
+-- ---- numbers are within their tables
+
+-- the number is below the table's length
+abbrev pub below : Table → ℕ → ℕ → Result ⊤ UnitFault
+below table len number = if nat_lt number len then Ok tt else Err (IdOutOfRange table number)
+
+-- the identifier is in the table
+abbrev pub place_fits : Environment → Place → Result ⊤ UnitFault
+place_fits env p = below Identifiers (length env.identifiers) p.identifier.0
+
+-- the declaration, then the type
+abbrev pub identifier_fits : Environment → Identifier → Result ⊤ UnitFault
+identifier_fits env i = do
+  _ ← below Declarations (length env.identifiers) i.declaration_id.0
+  below Types (length env.types) i.type_.0
+
+-- the identifiers, in their order
+abbrev pub tables_fit : Environment → Result ⊤ UnitFault
+tables_fit env = all_pass (identifier_fits env) env.identifiers
+
+-- the place of the result, then those of the value
+abbrev pub instruction_fits : Environment → Instruction → Result ⊤ UnitFault
+instruction_fits env i = do
+  _ ← place_fits env i.lvalue
+  all_pass (place_fits env) (places_of i.value)
+
+-- the numbers of the instructions, then the places of the terminal
+abbrev pub block_fits : Environment → HirFunction → BasicBlock → Result ⊤ UnitFault
+block_fits env func b = do
+  _ ← all_pass (λ i. below Instructions (length func.instructions) i.0) b.instructions
+  all_pass (place_fits env) (terminal_places b.terminal)
+
+-- the place of what it returns, then the instructions in list order, then the blocks in stored order
+abbrev pub numbers_fit : Environment → HirFunction → Result ⊤ UnitFault
+numbers_fit env func = do
+  _ ← place_fits env func.returns
+  _ ← all_pass (instruction_fits env) func.instructions
+  all_pass (λ e. block_fits env func e.1) func.body.blocks
+
+-- ---- the entry is a block
+
+abbrev pub is_block : HirFunction → BlockId → Bool
+is_block func b = is_some (value_at func.body.blocks b)
+
+-- the function begins with one of its blocks
+abbrev pub entry_stands : Option FunctionId → HirFunction → Result ⊤ UnitFault
+entry_stands f func = if is_block func func.body.entry then Ok tt else Err (EntryMissing f)
+
+-- ---- each instruction stands in some block
+
+-- the instructions that stand in the blocks, in stored order
+abbrev pub standing : HirFunction → List ℕ
+standing func = flat_map (λ e. map (λ i. i.0) e.1.instructions) func.body.blocks
+
+abbrev pub stands_in : List ℕ → ℕ → Bool
+stands_in xs k = list_any (nat_eq k) xs
+
+-- the smallest number below n that does not stand in xs
+abbrev pub first_missing : ℕ → List ℕ → Option ℕ
+first_missing n xs = find (λ k. not (stands_in xs k)) (range_with_len 0 n)
+
+abbrev pub missing : Option FunctionId → Option ℕ → Result ⊤ UnitFault
+missing f None = Ok tt
+missing f (Some k) = Err (InstructionMissing f (record { 0 = k }))
+
+-- each instruction of the list stands in some block; the fault names the smallest that does not
+abbrev pub instructions_stand : Option FunctionId → HirFunction → Result ⊤ UnitFault
+instructions_stand f func = missing f (first_missing (length func.instructions) (standing func))
+
+-- ---- no instruction stands twice
+
+-- the first of xs that stood before: in seen, or earlier in xs
+abbrev pub first_again : List ℕ → List ℕ → Option ℕ
+first_again seen [] = None
+first_again seen (x ∷ xs) = if stands_in seen x then Some x else first_again (x ∷ seen) xs
+
+abbrev pub twice : Option FunctionId → Option ℕ → Result ⊤ UnitFault
+twice f None = Ok tt
+twice f (Some k) = Err (InstructionTwice f (record { 0 = k }))
+
+-- no instruction stands in two places of the blocks; the fault names the earliest second standing
+abbrev pub none_stands_twice : Option FunctionId → HirFunction → Result ⊤ UnitFault
+none_stands_twice f func = twice f (first_again [] (standing func))
+
+-- ---- orders are neither unset nor the last number
+
+-- the order is neither 0 nor 4,294,967,295
+abbrev pub order_fits : Option FunctionId → EvaluationOrder → Result ⊤ UnitFault
+order_fits f o = if (o.0 == 0) || (o.0 == 4294967295) then Err (OrderOutOfRange f o) else Ok tt
+
+-- the instructions in list order, then the terminals in stored order
+abbrev pub orders_fit : Option FunctionId → HirFunction → Result ⊤ UnitFault
+orders_fit f func = do
+  _ ← all_pass (λ i. order_fits f i.id) func.instructions
+  all_pass (λ e. order_fits f (evaluation_order e.1.terminal)) func.body.blocks
+
+-- ---- nothing is inferred
+
+abbrev pub is_unknown : Effect → Bool
+is_unknown Unknown = true
+is_unknown Freeze = false
+is_unknown Read = false
+is_unknown Capture = false
+is_unknown ConditionallyMutateIterator = false
+is_unknown ConditionallyMutate = false
+is_unknown Mutate = false
+is_unknown Store = false
+
+abbrev pub place_is_bare : Place → Bool
+place_is_bare p = is_unknown p.effect
+
+-- no range and no scope
+abbrev pub identifier_is_bare : Identifier → Bool
+identifier_is_bare i = (i.mutable_range.start.0 == 0) && (i.mutable_range.end.0 == 0) && is_none i.scope
+
+-- no effects, and no place has one
+abbrev pub instruction_is_bare : Instruction → Bool
+instruction_is_bare i = is_none i.effects && place_is_bare i.lvalue && list_all place_is_bare (places_of i.value)
+
+abbrev pub terminal_is_bare : Terminal → Bool
+terminal_is_bare t = is_none (terminal_effects t) && list_all place_is_bare (terminal_places t)
+
+-- no summary, no effects, and no place has one
+abbrev pub function_is_bare : HirFunction → Bool
+function_is_bare func =
+    is_none func.aliasing_effects && place_is_bare func.returns && list_all instruction_is_bare func.instructions
+    && list_all (λ (e : BlockId × BasicBlock). terminal_is_bare e.1.terminal) func.body.blocks
+
+-- no reports, and no identifier has a range or a scope
+abbrev pub environment_is_bare : Environment → Bool
+environment_is_bare env = (length env.errors == 0) && list_all identifier_is_bare env.identifiers
+
+-- neither the tables nor the function say what the inference is to find
+abbrev pub nothing_inferred : HirUnit → Result ⊤ UnitFault
+nothing_inferred u = if environment_is_bare u.env && function_is_bare u.function then Ok tt else Err SomethingInferred
+
+-- ---- all rules, in order
+
+-- the first of the rules that is broken
+abbrev pub rules_hold : HirUnit → Result ⊤ UnitFault
+rules_hold u = do
+  _ ← tables_fit u.env
+  _ ← numbers_fit u.env u.function
+  _ ← entry_stands None u.function
+  _ ← instructions_stand None u.function
+  _ ← none_stands_twice None u.function
+  _ ← orders_fit None u.function
+  nothing_inferred u
+
+-- the unit itself, where all rules hold
+abbrev pub checks : HirUnit → Result HirUnit UnitFault
+checks u = do
+  _ ← rules_hold u
+  Ok u

@@ -1,0 +1,112 @@
+//! Nothing is inferred.
+ghost use Rattle.std.specs.Prelude.{◌≡◌};
+ghost use Rattle.std.specs.List.{list_all};
+ghost use Rattle.alias_base.specs.declared.ids.BlockId.{BlockId};
+ghost use Rattle.alias_hir.specs.declared.hir.BasicBlock.{BasicBlock};
+ghost use Rattle.alias_hir.specs.Values.{places_of};
+ghost use Rattle.alias_rules.specs.Rules.{place_is_bare, identifier_is_bare, instruction_is_bare, terminal_is_bare, function_is_bare, environment_is_bare, nothing_inferred};
+
+use alias_hir::env::{Environment, Identifier, Unit};
+use alias_hir::hir::{Hir, HirFunction, Instruction};
+use alias_hir::place::{Effect, Place};
+use crate::fault::UnitFault;
+use alias_hir::terminal::Terminal;
+use alias_hir::value::InstructionValue;
+
+fn place_is_bare(place: &Place) -> bool
+    ensures { result ≡ place_is_bare place.now }
+{
+    matches!(place.effect, Effect::Unknown)
+}
+
+fn identifier_is_bare(identifier: &Identifier) -> bool
+    ensures { result ≡ identifier_is_bare identifier.now }
+{
+    let range = identifier.mutable_range;
+    range.start.0 == 0 && range.end.0 == 0 && identifier.scope.is_none()
+}
+
+fn value_is_bare(value: &InstructionValue) -> bool
+    ensures { result ≡ list_all place_is_bare (places_of value.now) }
+{
+    match value {
+        InstructionValue::ObjectExpression | InstructionValue::Primitive => true,
+        InstructionValue::PropertyLoad { object } => place_is_bare(object),
+        InstructionValue::PropertyStore { object, value, .. } => {
+            place_is_bare(object) && place_is_bare(value)
+        }
+        InstructionValue::LoadLocal { place } => place_is_bare(place),
+        InstructionValue::StoreLocal { lvalue, value } => {
+            place_is_bare(&lvalue.place) && place_is_bare(value)
+        }
+    }
+}
+
+fn instruction_is_bare(instruction: &Instruction) -> bool
+    ensures { result ≡ instruction_is_bare instruction.now }
+{
+    instruction.effects.is_none()
+        && place_is_bare(&instruction.lvalue)
+        && value_is_bare(&instruction.value)
+}
+
+fn terminal_is_bare(terminal: &Terminal) -> bool
+    ensures { result ≡ terminal_is_bare terminal.now }
+{
+    match terminal {
+        Terminal::Return { value, effects, .. } => effects.is_none() && place_is_bare(value),
+    }
+}
+
+fn instructions_are_bare(instructions: &[Instruction]) -> bool
+    ensures { result ≡ list_all instruction_is_bare instructions.now }
+{
+    instructions
+        .iter()
+        .all(|instruction| instruction_is_bare(instruction))
+}
+
+fn terminals_are_bare(body: &Hir) -> bool
+    ensures { result ≡ list_all (λ (e : BlockId × BasicBlock). terminal_is_bare e.1.terminal) body.now.blocks }
+{
+    for (_, block) in body.blocks.iter() {
+        if !terminal_is_bare(&block.terminal) {
+            return false;
+        }
+    }
+    true
+}
+
+fn function_is_bare(func: &HirFunction) -> bool
+    ensures { result ≡ function_is_bare func.now }
+{
+    func.aliasing_effects.is_none()
+        && place_is_bare(&func.returns)
+        && instructions_are_bare(func.instructions.as_slice())
+        && terminals_are_bare(&func.body)
+}
+
+fn identifiers_are_bare(identifiers: &[Identifier]) -> bool
+    ensures { result ≡ list_all identifier_is_bare identifiers.now }
+{
+    identifiers
+        .iter()
+        .all(|identifier| identifier_is_bare(identifier))
+}
+
+fn environment_is_bare(env: &Environment) -> bool
+    ensures { result ≡ environment_is_bare env.now }
+{
+    env.errors.len() == 0 && identifiers_are_bare(env.identifiers.as_slice())
+}
+
+/// Whether nothing of the unit is inferred.
+pub fn nothing_inferred(unit: &Unit) -> Result<(), UnitFault>
+    ensures { result ≡ nothing_inferred unit.now }
+{
+    if environment_is_bare(&unit.env) && function_is_bare(&unit.function) {
+        Ok(())
+    } else {
+        Err(UnitFault::SomethingInferred)
+    }
+}

@@ -1,0 +1,77 @@
+//! Whether a unit is well formed.
+ghost use Rattle.std.specs.Prelude.{◌≡◌, ◌<◌, ◌^◌, length, ⊤};
+ghost use Rattle.alias_rules.specs.Fault.{Gives};
+ghost use Rattle.alias_rules.specs.Rules.{rules_hold, checks};
+
+use alias_hir::env::Unit;
+use crate::bare::nothing_inferred;
+use crate::blocks::entry_stands;
+use crate::fault::UnitFault;
+use crate::ids::{numbers_fit, tables_fit};
+use crate::orders::orders_fit;
+use crate::standing::{instructions_stand, none_stands_twice};
+use std::alloc::Global;
+use std::marker::Model;
+
+/// A unit that keeps all rules.
+#[derive(Drop)]
+pub struct Checked {
+    unit: Unit,
+}
+
+impl Model for Checked {
+    ghost use Rattle.std.specs.Prelude.{◌≡◌, Ok};
+    ghost use Rattle.alias_hir.specs.declared.env.Unit.{Unit as HirUnit};
+    ghost use Rattle.alias_rules.specs.Rules.{rules_hold};
+
+    ghost Value = { HirUnit };
+
+    ghost view = { λ c. c.unit };
+
+    ghost invariant = { λ c. rules_hold c.unit ≡ Ok tt };
+}
+
+impl Checked {
+    /// The unit, which keeps all rules.
+    pub fn unit(&self) -> &Unit
+        ensures unit { result.now ≡ self.now }
+        ensures checked { rules_hold result.now ≡ Ok tt }
+    {
+        &self.unit
+    }
+
+    /// The unit, which keeps all rules, by value.
+    pub fn into_unit(self) -> Unit
+        ensures unit { result ≡ self }
+        ensures checked { rules_hold result ≡ Ok tt }
+    {
+        let Checked { unit } = self;
+        unit
+    }
+}
+
+/// The first broken rule, or want of memory.
+fn rules_hold(alloc: Global, unit: &Unit) -> Result<(), UnitFault>
+    requires { length unit.now.function.instructions < 2 ^ 32 }
+    ensures { Gives (λ x. x) result (rules_hold unit.now) }
+{
+    tables_fit(&unit.env)?;
+    numbers_fit(&unit.env, &unit.function)?;
+    entry_stands(None, &unit.function)?;
+    instructions_stand(alloc, None, &unit.function)?;
+    none_stands_twice(alloc, None, &unit.function)?;
+    orders_fit(None, &unit.function)?;
+    nothing_inferred(unit)
+}
+
+/// The unit itself where it keeps all rules, else the first rule that it breaks: numbers are within their
+/// tables; the entry is a block; each instruction stands in some block; none stands twice; orders are
+/// neither unset nor the last number; nothing is inferred. `Memory` is for want of memory. After an `Err`
+/// the unit is gone.
+pub fn check_unit(alloc: Global, unit: Unit) -> Result<Checked, UnitFault>
+    requires { length unit.function.instructions < 2 ^ 32 }
+    ensures { Gives (λ x. x) result (checks unit) }
+{
+    rules_hold(alloc, &unit)?;
+    Ok(Checked { unit })
+}

@@ -1,0 +1,73 @@
+//! Why a unit is refused.
+ghost use Rattle.std.specs.Prelude.{◌≡◌};
+ghost use Rattle.alias_rules.specs.declared.fault.UnitFault.TheVariants.{Memory};
+
+use alias_base::{BlockId, EvaluationOrder, FunctionId, InstructionId};
+use std::alloc::{AllocError, AllocFailed};
+
+/// A table that numbers refer to. A declaration's number is below the number of identifiers.
+#[derive(Clone, Copy, Debug, PartialEq, Eq)]
+pub enum Table {
+    Identifiers,
+    Types,
+    Instructions,
+    Declarations,
+}
+
+/// The rule that a unit breaks, or want of memory. `function` is `None` for the root.
+#[derive(Clone, Copy, Debug)]
+pub enum UnitFault {
+    /// A number is not below the length of its table.
+    IdOutOfRange {
+        table: Table,
+        number: u32,
+    },
+    /// The entry is not a block.
+    EntryMissing {
+        function: Option<FunctionId>,
+    },
+    /// A successor of the block, or the handler of its `Try`, is no block.
+    SuccessorMissing {
+        function: Option<FunctionId>,
+        block: BlockId,
+        named: BlockId,
+    },
+    /// An instruction of the function's list stands in no block: the one with the smallest number.
+    InstructionMissing {
+        function: Option<FunctionId>,
+        instruction: InstructionId,
+    },
+    /// An instruction stands a second time: the earliest such, over the blocks in stored order.
+    InstructionTwice {
+        function: Option<FunctionId>,
+        instruction: InstructionId,
+    },
+    /// A second `Try` names the handler: the earliest such, over the blocks in stored order.
+    TwoTrys {
+        function: Option<FunctionId>,
+        handler: BlockId,
+    },
+    /// An operand of a phi of the block is for a block that has no edge to it.
+    PhiNoPredecessor {
+        function: Option<FunctionId>,
+        block: BlockId,
+        named: BlockId,
+    },
+    /// The order of an instruction or a terminal is 0 or 4,294,967,295.
+    OrderOutOfRange {
+        function: Option<FunctionId>,
+        order: EvaluationOrder,
+    },
+    /// A range, a scope, effects or a report is there before the inference.
+    SomethingInferred,
+    /// Want of memory, which can come at any growth.
+    Memory(AllocError),
+}
+
+impl From<AllocError> for UnitFault {
+    ghost from_gives = { λ e f. f ≡ Memory e };
+
+    fn from(e: AllocError) -> UnitFault {
+        UnitFault::Memory(e)
+    }
+}

@@ -1,0 +1,50 @@
+//! What the inference asks of a function.
+ghost use Rattle.std.specs.Prelude.{◌≡◌, IfOk, is_ok};
+ghost use Rattle.alias_rules.specs.Fault.{Gives};
+ghost use Rattle.alias_rules.specs.Fitting.{function_rules, function_fits, tells_invariant};
+
+use alias_hir::env::Environment;
+use alias_hir::hir::HirFunction;
+use alias_hir::report::{ErrorCategory, Report};
+use crate::blocks::entry_stands;
+use crate::effects::effects_fit;
+use crate::fault::UnitFault;
+use crate::ids::{numbers_fit, tables_fit};
+use crate::orders::orders_fit;
+use crate::standing::none_stands_twice;
+use std::alloc::{AllocError, Global};
+
+fn tells_invariant(reports: &[Report]) -> bool
+    ensures { result ≡ tells_invariant reports.now }
+{
+    reports.iter().any(|report| matches!(report.category, ErrorCategory::Invariant))
+}
+
+/// The first rule of a function that is broken, whether it is inferred or not.
+fn function_rules(alloc: Global, env: &Environment, func: &HirFunction) -> Result<(), UnitFault>
+    ensures { Gives (λ x. x) result (function_rules env.now func.now) }
+{
+    tables_fit(env)?;
+    numbers_fit(env, func)?;
+    entry_stands(None, func)?;
+    none_stands_twice(alloc, None, func)?;
+    orders_fit(None, func)?;
+    effects_fit(env, func)
+}
+
+/// Whether the inference takes the function: numbers are within their tables, those of effects too; the
+/// entry is a block; no instruction stands twice; orders are set; and no report says that an invariant was
+/// broken. The one error is want of memory.
+pub fn check_function(
+    alloc: Global,
+    func: &HirFunction,
+    env: &Environment,
+) -> Result<bool, AllocError>
+    ensures { IfOk result (λ b. b ≡ function_fits func.now env.now) }
+{
+    match function_rules(alloc, env, func) {
+        Ok(()) => Ok(!tells_invariant(env.errors.as_slice())),
+        Err(UnitFault::Memory(e)) => Err(e),
+        Err(_) => Ok(false),
+    }
+}

@@ -1,0 +1,14 @@
+//! The rules of a well-formed unit.
+#![tactic(auto)]
+
+mod bare;
+mod blocks;
+pub mod check;
+mod effects;
+pub mod fault;
+pub mod function;
+mod ids;
+mod orders;
+mod standing;
+#[cfg(test)]
+mod tests;
