@@ -1,8 +1,9 @@
 //! Nothing is inferred.
 ghost use Rattle.std.specs.Prelude.{◌≡◌};
-ghost use Rattle.std.specs.List.{list_all};
+ghost use Rattle.std.specs.List.{flat_map, list_all};
 ghost use Rattle.alias_base.specs.declared.ids.BlockId.{BlockId};
 ghost use Rattle.alias_hir.specs.declared.hir.BasicBlock.{BasicBlock};
+ghost use Rattle.alias_hir.specs.Terminals.{optional_place, case_places, terminal_places};
 ghost use Rattle.alias_hir.specs.Values.{places_of};
 ghost use Rattle.alias_rules.specs.Rules.{place_is_bare, identifier_is_bare, instruction_is_bare, terminal_is_bare, function_is_bare, environment_is_bare, nothing_inferred};
 
@@ -10,7 +11,7 @@ use alias_hir::env::{Environment, Identifier, Unit};
 use alias_hir::hir::{Hir, HirFunction, Instruction};
 use alias_hir::place::{Effect, Place};
 use crate::fault::UnitFault;
-use alias_hir::terminal::Terminal;
+use alias_hir::terminal::{SwitchCase, Terminal};
 use alias_hir::value::InstructionValue;
 
 fn place_is_bare(place: &Place) -> bool
@@ -50,12 +51,46 @@ fn instruction_is_bare(instruction: &Instruction) -> bool
         && value_is_bare(&instruction.value)
 }
 
+fn optional_is_bare(place: &Option<Place>) -> bool
+    ensures { result ≡ list_all place_is_bare (optional_place place.now) }
+{
+    match place {
+        None => true,
+        Some(place) => place_is_bare(place),
+    }
+}
+
+fn cases_are_bare(cases: &[SwitchCase]) -> bool
+    ensures { result ≡ list_all place_is_bare (flat_map case_places cases.now) }
+{
+    for case in cases {
+        if !optional_is_bare(&case.test) {
+            return false;
+        }
+    }
+    true
+}
+
+fn terminal_places_are_bare(terminal: &Terminal) -> bool
+    ensures { result ≡ list_all place_is_bare (terminal_places terminal.now) }
+{
+    match terminal {
+        Terminal::If { test: place, .. }
+        | Terminal::Branch { test: place, .. }
+        | Terminal::Return { value: place, .. }
+        | Terminal::Throw { value: place, .. } => place_is_bare(place),
+        Terminal::Switch { test, cases, .. } => {
+            place_is_bare(test) && cases_are_bare(cases.as_slice())
+        }
+        Terminal::Try { handler_binding, .. } => optional_is_bare(handler_binding),
+        _ => true,
+    }
+}
+
 fn terminal_is_bare(terminal: &Terminal) -> bool
     ensures { result ≡ terminal_is_bare terminal.now }
 {
-    match terminal {
-        Terminal::Return { value, effects, .. } => effects.is_none() && place_is_bare(value),
-    }
+    terminal.effects().is_none() && terminal_places_are_bare(terminal)
 }
 
 fn instructions_are_bare(instructions: &[Instruction]) -> bool

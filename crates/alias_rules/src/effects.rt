@@ -57,7 +57,10 @@ fn terminal_records_fit(env: &Environment, terminal: &Terminal) -> Result<(), Un
     ensures { result ≡ recorded_fit env.now (terminal_effects terminal.now) }
 {
     match terminal {
-        Terminal::Return { effects, .. } => recorded_fit(env, effects),
+        Terminal::Return { effects, .. } | Terminal::MaybeThrow { effects, .. } => {
+            recorded_fit(env, effects)
+        }
+        _ => Ok(()),
     }
 }
 

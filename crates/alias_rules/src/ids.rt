@@ -1,7 +1,8 @@
 //! Numbers are within their tables.
 ghost use Rattle.std.specs.Prelude.{◌≡◌, length};
+ghost use Rattle.std.specs.List.{flat_map};
 ghost use Rattle.alias_base.specs.Answer.{all_pass};
-ghost use Rattle.alias_hir.specs.Terminals.{terminal_places};
+ghost use Rattle.alias_hir.specs.Terminals.{optional_place, case_places, terminal_places};
 ghost use Rattle.alias_hir.specs.Values.{places_of};
 ghost use Rattle.alias_rules.specs.Rules.{below, place_fits, identifier_fits, tables_fit, instruction_fits, block_fits, numbers_fit};
 
@@ -9,7 +10,7 @@ use alias_hir::env::{Environment, Identifier};
 use alias_hir::hir::{BasicBlock, HirFunction, Instruction};
 use alias_hir::place::Place;
 use crate::fault::{Table, UnitFault};
-use alias_hir::terminal::Terminal;
+use alias_hir::terminal::{SwitchCase, Terminal};
 use alias_hir::value::InstructionValue;
 
 fn below(table: Table, len: usize, number: u32) -> Result<(), UnitFault>
@@ -88,11 +89,38 @@ fn instructions_fit(env: &Environment, instructions: &[Instruction]) -> Result<(
     Ok(())
 }
 
+fn optional_fits(env: &Environment, place: &Option<Place>) -> Result<(), UnitFault>
+    ensures { result ≡ all_pass (place_fits env.now) (optional_place place.now) }
+{
+    match place {
+        None => Ok(()),
+        Some(place) => place_fits(env, place),
+    }
+}
+
+fn cases_fit(env: &Environment, cases: &[SwitchCase]) -> Result<(), UnitFault>
+    ensures { result ≡ all_pass (place_fits env.now) (flat_map case_places cases.now) }
+{
+    for case in cases {
+        optional_fits(env, &case.test)?;
+    }
+    Ok(())
+}
+
 fn terminal_fits(env: &Environment, terminal: &Terminal) -> Result<(), UnitFault>
     ensures { result ≡ all_pass (place_fits env.now) (terminal_places terminal.now) }
 {
     match terminal {
-        Terminal::Return { value, .. } => place_fits(env, value),
+        Terminal::If { test: place, .. }
+        | Terminal::Branch { test: place, .. }
+        | Terminal::Return { value: place, .. }
+        | Terminal::Throw { value: place, .. } => place_fits(env, place),
+        Terminal::Switch { test, cases, .. } => {
+            place_fits(env, test)?;
+            cases_fit(env, cases.as_slice())
+        }
+        Terminal::Try { handler_binding, .. } => optional_fits(env, handler_binding),
+        _ => Ok(()),
     }
 }
 
