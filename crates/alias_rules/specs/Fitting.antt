@@ -3,7 +3,7 @@ use Rattle.std.specs.Prelude.{Bool, true, false, not, ◌&&◌, List, Option, So
 use Rattle.std.specs.List.{list_any}
 use Rattle.alias_base.specs.Answer.{◌>>=◌, all_pass}
 use Rattle.alias_hir.specs.Effects.{effect_places}
-use Rattle.alias_rules.specs.Rules.{place_fits, tables_fit, numbers_fit, entry_stands, none_stands_twice, orders_fit}
+use Rattle.alias_rules.specs.Rules.{place_fits, tables_fit, numbers_fit, entry_stands, successors_stand, none_stands_twice, handlers_distinct, phis_fit, orders_fit}
 use Rattle.alias_hir.specs.Terminals.{terminal_effects}
 use Rattle.alias_hir.specs.declared.effect.AliasingEffect.{AliasingEffect}
 use Rattle.alias_hir.specs.declared.env.Environment.{Environment}
@@ -34,7 +34,10 @@ function_rules env func = do
   _ ← tables_fit env
   _ ← numbers_fit env func
   _ ← entry_stands None func
+  _ ← successors_stand None func
   _ ← none_stands_twice None func
+  _ ← handlers_distinct None func
+  _ ← phis_fit None func
   _ ← orders_fit None func
   effects_fit env func
 
@@ -50,7 +53,8 @@ is_invariant IncompatibleLibrary = false
 abbrev pub tells_invariant : List Report → Bool
 tells_invariant rs = list_any (λ r. is_invariant r.category) rs
 
--- Numbers are within their tables, those of effects too; the entry is a block; no instruction stands twice; orders are
--- set; and no report says that an invariant was broken.
+-- Numbers are within their tables, those of effects too; the entry and what terminals name are blocks; no instruction
+-- stands twice; each `Try` has a handler of its own; operands of phis are for predecessors; orders are set; and no report
+-- says that an invariant was broken.
 abbrev pub function_fits : HirFunction → Environment → Bool
 function_fits func env = is_ok (function_rules env func) && not (tells_invariant env.errors)

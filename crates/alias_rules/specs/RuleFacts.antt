@@ -1,15 +1,16 @@
 -- What follows for a caller from the rules.
-use Rattle.std.specs.Prelude.{◌≡◌, ℕ, zero, suc, Bool, true, false, ◌&&◌, ◌==◌, List, [], ◌∷◌, length, slice_get, is_some, is_none, is_ok, Option, Some, None, Result, Ok, Err, ⊤, if◌then◌else◌}
-use Rattle.std.specs.List.{list_all}
-use Rattle.std.proofs.Common.{refl, arith}
+use Rattle.std.specs.Prelude.{◌≡◌, ℕ, zero, suc, Bool, true, false, cond, ◌&&◌, ◌||◌, ◌==◌, List, [], ◌∷◌, length, slice_get, is_some, is_none, is_ok, Option, Some, None, Result, Ok, Err, ⊤, if◌then◌else◌}
+use Rattle.std.specs.List.{list_all, list_any}
+use Rattle.std.proofs.Common.{refl, ap, sym, ◌∙◌, arith}
+use Rattle.std.proofs.lemmas.Bool.{eqb-true}
 use Rattle.std.proofs.lemmas.Grind.{common_steps}
 use Rattle.alias_base.specs.Answer.{◌>>=◌, all_pass}
-use Rattle.alias_base.specs.Find.{value_at}
+use Rattle.alias_base.specs.Find.{same_block, value_at}
 use Rattle.alias_base.specs.Parts.{both_true, both_pass}
 use Rattle.alias_base.specs.declared.ids.BlockId.{BlockId}
 use Rattle.alias_rules.specs.Fitting.{recorded_fit, effects_fit, function_rules, tells_invariant, function_fits}
-use Rattle.alias_rules.specs.Rules.{identifier_is_bare, instruction_is_bare, terminal_is_bare, tables_fit, numbers_fit, entry_stands, instructions_stand, none_stands_twice, orders_fit, environment_is_bare, function_is_bare, rules_hold}
-use Rattle.alias_hir.specs.Terminals.{terminal_effects}
+use Rattle.alias_rules.specs.Rules.{identifier_is_bare, instruction_is_bare, terminal_is_bare, block_is_bare, tables_fit, numbers_fit, is_block, entry_stands, handler_of, named_stands, leads_to_blocks, successors_stand, instructions_stand, none_stands_twice, handlers_distinct, phis_fit, orders_fit, environment_is_bare, function_is_bare, rules_hold}
+use Rattle.alias_hir.specs.Terminals.{terminal_effects, successors}
 use Rattle.alias_hir.specs.declared.effect.AliasingEffect.{AliasingEffect}
 use Rattle.alias_hir.specs.declared.env.Environment.{Environment}
 use Rattle.alias_hir.specs.declared.env.Unit.{Unit as HirUnit}
@@ -17,6 +18,8 @@ use Rattle.alias_hir.specs.declared.hir.BasicBlock.{BasicBlock}
 use Rattle.alias_hir.specs.declared.hir.HirFunction.{HirFunction}
 use Rattle.alias_hir.specs.declared.hir.Instruction.{Instruction}
 use Rattle.alias_hir.specs.declared.report.Report.{Report}
+use Rattle.alias_hir.specs.declared.terminal.Terminal.{Terminal}
+use Rattle.alias_rules.specs.declared.fault.UnitFault.TheVariants.{SuccessorMissing}
 
 -- ---- parts of what holds
 
@@ -49,21 +52,27 @@ record Kept (u : HirUnit) : Type 0 where
   tables : tables_fit u.env ≡ Ok tt
   numbers : numbers_fit u.env u.function ≡ Ok tt
   entry : entry_stands None u.function ≡ Ok tt
+  successors : successors_stand None u.function ≡ Ok tt
   once : none_stands_twice None u.function ≡ Ok tt
+  handlers : handlers_distinct None u.function ≡ Ok tt
+  phis : phis_fit None u.function ≡ Ok tt
   orders : orders_fit None u.function ≡ Ok tt
   environment : environment_is_bare u.env ≡ true
   function : function_is_bare u.function ≡ true
 
 kept : (u : HirUnit) → rules_hold u ≡ Ok tt → Kept u
-kept u h =
-    let a : (tables_fit u.env ≡ Ok tt) × _ = both_pass (tables_fit u.env) _ h in
+kept u rules =
+    let a : (tables_fit u.env ≡ Ok tt) × _ = both_pass (tables_fit u.env) _ rules in
     let b : (numbers_fit u.env u.function ≡ Ok tt) × _ = both_pass (numbers_fit u.env u.function) _ a.1 in
     let c : (entry_stands None u.function ≡ Ok tt) × _ = both_pass (entry_stands None u.function) _ b.1 in
-    let d : (instructions_stand None u.function ≡ Ok tt) × _ = both_pass (instructions_stand None u.function) _ c.1 in
-    let e : (none_stands_twice None u.function ≡ Ok tt) × _ = both_pass (none_stands_twice None u.function) _ d.1 in
-    let f : (orders_fit None u.function ≡ Ok tt) × _ = both_pass (orders_fit None u.function) _ e.1 in
-    let g : (environment_is_bare u.env ≡ true) × (function_is_bare u.function ≡ true) = both_true _ _ (asked _ _ (Ok tt) refl f.1) in
-    record { tables = a.0; numbers = b.0; entry = c.0; once = e.0; orders = f.0; environment = g.0; function = g.1 }
+    let d : (successors_stand None u.function ≡ Ok tt) × _ = both_pass (successors_stand None u.function) _ c.1 in
+    let e : (instructions_stand None u.function ≡ Ok tt) × _ = both_pass (instructions_stand None u.function) _ d.1 in
+    let f : (none_stands_twice None u.function ≡ Ok tt) × _ = both_pass (none_stands_twice None u.function) _ e.1 in
+    let g : (handlers_distinct None u.function ≡ Ok tt) × _ = both_pass (handlers_distinct None u.function) _ f.1 in
+    let h : (phis_fit None u.function ≡ Ok tt) × _ = both_pass (phis_fit None u.function) _ g.1 in
+    let i : (orders_fit None u.function ≡ Ok tt) × _ = both_pass (orders_fit None u.function) _ h.1 in
+    let j : (environment_is_bare u.env ≡ true) × (function_is_bare u.function ≡ true) = both_true _ _ (asked _ _ (Ok tt) refl i.1) in
+    record { tables = a.0; numbers = b.0; entry = c.0; successors = d.0; once = f.0; handlers = g.0; phis = h.0; orders = i.0; environment = j.0; function = j.1 }
 
 -- a list that holds of nothing is empty
 no_reports : (rs : List Report) → (length rs == 0) ≡ true → tells_invariant rs ≡ false
@@ -77,8 +86,8 @@ none_fits env (Some es) e = cc
 instruction_bare : (i : Instruction) → instruction_is_bare i ≡ true → is_none i.effects ≡ true
 instruction_bare i h = (both_true _ _ (both_true _ _ h).0).0
 
-terminal_bare : (e : BlockId × BasicBlock) → terminal_is_bare e.1.terminal ≡ true → is_none (terminal_effects e.1.terminal) ≡ true
-terminal_bare e h = (both_true _ _ h).0
+terminal_bare : (b : BasicBlock) → block_is_bare b ≡ true → is_none (terminal_effects b.terminal) ≡ true
+terminal_bare b h = (both_true (is_none (terminal_effects b.terminal)) _ (both_true _ (terminal_is_bare b.terminal) h).1).0
 
 instructions_fit_bare : (env : Environment) (xs : List Instruction) → list_all instruction_is_bare xs ≡ true → all_pass (λ (i : Instruction). recorded_fit env i.effects) xs ≡ Ok tt
 instructions_fit_bare env [] h = refl
@@ -86,28 +95,28 @@ instructions_fit_bare env (x ∷ xs) h =
     let b : (instruction_is_bare x ≡ true) × (list_all instruction_is_bare xs ≡ true) = both_true _ _ h in
     rw (none_fits env x.effects (instruction_bare x b.0)) (instructions_fit_bare env xs b.1)
 
-terminals_fit_bare : (env : Environment) (es : List (BlockId × BasicBlock)) → list_all (λ (e : BlockId × BasicBlock). terminal_is_bare e.1.terminal) es ≡ true
+terminals_fit_bare : (env : Environment) (es : List (BlockId × BasicBlock)) → list_all (λ (e : BlockId × BasicBlock). block_is_bare e.1) es ≡ true
     → all_pass (λ (e : BlockId × BasicBlock). recorded_fit env (terminal_effects e.1.terminal)) es ≡ Ok tt
 terminals_fit_bare env [] h = refl
 terminals_fit_bare env (x ∷ xs) h =
-    let b : (terminal_is_bare x.1.terminal ≡ true) × (list_all (λ (e : BlockId × BasicBlock). terminal_is_bare e.1.terminal) xs ≡ true) = both_true _ _ h in
-    rw (none_fits env (terminal_effects x.1.terminal) (terminal_bare x b.0)) (terminals_fit_bare env xs b.1)
+    let b : (block_is_bare x.1 ≡ true) × (list_all (λ (e : BlockId × BasicBlock). block_is_bare e.1) xs ≡ true) = both_true _ _ h in
+    rw (none_fits env (terminal_effects x.1.terminal) (terminal_bare x.1 b.0)) (terminals_fit_bare env xs b.1)
 
 record Bare (func : HirFunction) : Type 0 where
   summary : is_none func.aliasing_effects ≡ true
   instructions : list_all instruction_is_bare func.instructions ≡ true
-  terminals : list_all (λ (e : BlockId × BasicBlock). terminal_is_bare e.1.terminal) func.body.blocks ≡ true
+  blocks : list_all (λ (e : BlockId × BasicBlock). block_is_bare e.1) func.body.blocks ≡ true
 
 bare : (func : HirFunction) → function_is_bare func ≡ true → Bare func
 bare func h =
     let a = both_true _ _ h in
     let b = both_true _ _ a.0 in
-    record { summary = (both_true _ _ b.0).0; instructions = b.1; terminals = a.1 }
+    record { summary = (both_true _ _ b.0).0; instructions = b.1; blocks = a.1 }
 
 effects_fit_bare : (env : Environment) (func : HirFunction) → function_is_bare func ≡ true → effects_fit env func ≡ Ok tt
 effects_fit_bare env func h =
     let b : Bare func = bare func h in
-    rw (instructions_fit_bare env func.instructions b.instructions, terminals_fit_bare env func.body.blocks b.terminals) (none_fits env func.aliasing_effects b.summary)
+    rw (instructions_fit_bare env func.instructions b.instructions, terminals_fit_bare env func.body.blocks b.blocks) (none_fits env func.aliasing_effects b.summary)
 
 -- the inference takes the function of a unit that keeps the rules
 pub kept_function_fits : (u : HirUnit) → rules_hold u ≡ Ok tt → function_fits u.function u.env ≡ true
@@ -115,7 +124,7 @@ kept_function_fits u h =
     let k : Kept u = kept u h in
     let e : effects_fit u.env u.function ≡ Ok tt = effects_fit_bare u.env u.function k.function in
     let r : tells_invariant u.env.errors ≡ false = no_reports u.env.errors (both_true _ (list_all identifier_is_bare u.env.identifiers) k.environment).0 in
-    rw (k.tables, k.numbers, k.entry, k.once, k.orders, e, r) refl
+    rw (k.tables, k.numbers, k.entry, k.successors, k.once, k.handlers, k.phis, k.orders, e, r) refl
 
 -- the entry is a block
 pub kept_entry : (u : HirUnit) → rules_hold u ≡ Ok tt → is_some (value_at u.function.body.blocks u.function.body.entry) ≡ true
@@ -127,7 +136,7 @@ kept_instruction u i x h e = nothing_there _ (instruction_bare x (all_at instruc
 
 -- no terminal has effects
 pub kept_terminal : (u : HirUnit) (i : ℕ) (b : BlockId × BasicBlock) → rules_hold u ≡ Ok tt → slice_get u.function.body.blocks i ≡ Some b → terminal_effects b.1.terminal ≡ None
-kept_terminal u i b h e = nothing_there _ (terminal_bare b (all_at (λ (e : BlockId × BasicBlock). terminal_is_bare e.1.terminal) _ i b (bare u.function (kept u h).function).terminals e))
+kept_terminal u i b h e = nothing_there _ (terminal_bare b.1 (all_at (λ (e : BlockId × BasicBlock). block_is_bare e.1) _ i b (bare u.function (kept u h).function).blocks e))
 
 -- there is no summary
 pub kept_summary : (u : HirUnit) → rules_hold u ≡ Ok tt → u.function.aliasing_effects ≡ None
@@ -139,9 +148,65 @@ kept_summary u h = nothing_there _ (bare u.function (kept u h).function).summary
 pub fitting_rules : (f : HirFunction) (env : Environment) → function_fits f env ≡ true → function_rules env f ≡ Ok tt
 fitting_rules f env h = passed _ (both_true _ _ h).0
 
--- the entry is a block
-pub fitting_entry : (f : HirFunction) (env : Environment) → function_fits f env ≡ true → is_some (value_at f.body.blocks f.body.entry) ≡ true
-fitting_entry f env h =
+-- the entry is a block, and so is each block that a terminal names
+fitting_blocks : (f : HirFunction) (env : Environment) → function_fits f env ≡ true → (entry_stands None f ≡ Ok tt) × (successors_stand None f ≡ Ok tt)
+fitting_blocks f env h =
     let a = both_pass (tables_fit env) _ (fitting_rules f env h) in
     let b = both_pass (numbers_fit env f) _ a.1 in
-    asked _ _ (Ok tt) refl (both_pass (entry_stands None f) _ b.1).0
+    let c = both_pass (entry_stands None f) _ b.1 in
+    (c.0, (both_pass (successors_stand None f) _ c.1).0)
+
+-- the entry is a block
+pub fitting_entry : (f : HirFunction) (env : Environment) → function_fits f env ≡ true → is_some (value_at f.body.blocks f.body.entry) ≡ true
+fitting_entry f env h = asked _ _ (Ok tt) refl (fitting_blocks f env h).0
+
+-- what passes as named is a block
+named_are_blocks : (f : HirFunction) (b : BlockId) (cs : List BlockId) → all_pass (named_stands None f b) cs ≡ Ok tt → list_all (is_block f) cs ≡ true
+named_are_blocks f b [] h = refl
+named_are_blocks f b (c ∷ cs) h =
+    let p : (named_stands None f b c ≡ Ok tt) × _ = both_pass (named_stands None f b c) _ h in
+    rw (asked (is_block f c) (SuccessorMissing None b c) (Ok tt) refl p.0) (named_are_blocks f b cs p.1)
+
+successors_are_blocks : (f : HirFunction) (b : BlockId) (t : Terminal) → leads_to_blocks None f b t ≡ Ok tt → list_all (is_block f) (successors t) ≡ true
+successors_are_blocks f b t h = named_are_blocks f b (successors t) (both_pass (all_pass (named_stands None f b) (successors t)) _ h).0
+
+-- all successors of each block are blocks
+pub fitting_successors : (f : HirFunction) (env : Environment) (i : ℕ) (b : BlockId) (x : BasicBlock) → function_fits f env ≡ true
+    → slice_get f.body.blocks i ≡ Some (b, x) → list_all (λ c. is_some (value_at f.body.blocks c)) (successors x.terminal) ≡ true
+fitting_successors f env i b x h e =
+    successors_are_blocks f b x.terminal (passes_at (λ (e : BlockId × BasicBlock). leads_to_blocks None f e.0 e.1.terminal) f.body.blocks i (b, x) (fitting_blocks f env h).1 e)
+
+-- a value that is found is the first, or is found later
+first_or_later : {V : Type 0} (t : Bool) (v x : V) (later : Option V) (C : Type 0) → cond t (Some v) later ≡ Some x → (v ≡ x → C) → (later ≡ Some x → C) → C
+first_or_later true v x later C e here there = let p : v ≡ x = cc in here p
+first_or_later false v x later C e here there = there e
+
+-- a value that is found passes under some key
+found_passes : {V E : Type 0} (f : BlockId × V → Result ⊤ E) (es : List (BlockId × V)) (b : BlockId) (x : V) → all_pass f es ≡ Ok tt → value_at es b ≡ Some x
+    → (k : BlockId) × (f (k, x) ≡ Ok tt)
+found_passes f [] b x h e = cc
+found_passes f (y ∷ ys) b x h e =
+    let p : (f y ≡ Ok tt) × (all_pass f ys ≡ Ok tt) = both_pass (f y) (all_pass f ys) h in
+    first_or_later (same_block b y.0) y.1 x (value_at ys b) _ e (λ v. (y.0, ap (λ z. f (y.0, z)) (sym v) ∙ p.0)) (λ l. found_passes f ys b x p.1 l)
+
+-- the same block has the same name
+same_name : (b c : BlockId) → same_block b c ≡ true → b ≡ c
+same_name b c e = ap (λ n. record { 0 = n }) (eqb-true b.0 c.0 e)
+
+either : (a b : Bool) (C : Type 0) → (a || b) ≡ true → (a ≡ true → C) → (b ≡ true → C) → C
+either true b C e here there = here refl
+either false b C e here there = there e
+
+-- what holds of all holds of each block that is among them
+all_hold : (p : BlockId → Bool) (c : BlockId) (cs : List BlockId) → list_all p cs ≡ true → list_any (same_block c) cs ≡ true → p c ≡ true
+all_hold p c [] h e = cc
+all_hold p c (d ∷ ds) h e =
+    let q : (p d ≡ true) × (list_all p ds ≡ true) = both_true (p d) (list_all p ds) h in
+    either (same_block c d) (list_any (same_block c) ds) _ e (λ n. ap p (same_name c d n) ∙ q.0) (λ l. all_hold p c ds q.1 l)
+
+-- each successor of a block that is found is a block
+pub fitting_successor : (f : HirFunction) (env : Environment) (b c : BlockId) (x : BasicBlock) → function_fits f env ≡ true → value_at f.body.blocks b ≡ Some x
+    → list_any (same_block c) (successors x.terminal) ≡ true → is_some (value_at f.body.blocks c) ≡ true
+fitting_successor f env b c x h e s =
+    let k = found_passes (λ (e : BlockId × BasicBlock). leads_to_blocks None f e.0 e.1.terminal) f.body.blocks b x (fitting_blocks f env h).1 e in
+    all_hold (is_block f) c (successors x.terminal) (successors_are_blocks f k.0 x.terminal k.1) s

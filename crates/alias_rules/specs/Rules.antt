@@ -1,12 +1,13 @@
 -- The rules of a well-formed unit, in their order. Each is the first fault that it finds.
 use Rattle.std.specs.Prelude.{ℕ, Bool, true, false, not, ◌&&◌, ◌||◌, List, [], ◌∷◌, length, map, nat_eq, nat_lt, is_some, is_none, ◌==◌, Option, Some, None, Result, Ok, Err, ⊤, if◌then◌else◌}
 use Rattle.std.specs.List.{flat_map, range_with_len, find, list_any, list_all}
+use Rattle.std.specs.Option.{option_map_or}
 use Rattle.alias_base.specs.Answer.{◌>>=◌, all_pass}
-use Rattle.alias_base.specs.Find.{value_at}
+use Rattle.alias_base.specs.Find.{same_block, value_at}
 use Rattle.alias_base.specs.declared.ids.BlockId.{BlockId}
 use Rattle.alias_base.specs.declared.ids.EvaluationOrder.{EvaluationOrder}
 use Rattle.alias_base.specs.declared.ids.FunctionId.{FunctionId}
-use Rattle.alias_hir.specs.Terminals.{evaluation_order, terminal_places, terminal_effects}
+use Rattle.alias_hir.specs.Terminals.{evaluation_order, terminal_places, terminal_effects, optional_block, successors}
 use Rattle.alias_hir.specs.Values.{places_of}
 use Rattle.alias_hir.specs.declared.env.Environment.{Environment}
 use Rattle.alias_hir.specs.declared.env.Identifier.{Identifier}
@@ -14,14 +15,16 @@ use Rattle.alias_hir.specs.declared.env.Unit.{Unit as HirUnit}
 use Rattle.alias_hir.specs.declared.hir.BasicBlock.{BasicBlock}
 use Rattle.alias_hir.specs.declared.hir.HirFunction.{HirFunction}
 use Rattle.alias_hir.specs.declared.hir.Instruction.{Instruction}
+use Rattle.alias_hir.specs.declared.hir.Phi.{Phi}
 use Rattle.alias_hir.specs.declared.place.Effect.{Effect}
 use Rattle.alias_hir.specs.declared.place.Effect.TheVariants.{Unknown, Freeze, Read, Capture, ConditionallyMutateIterator, ConditionallyMutate, Mutate, Store}
 use Rattle.alias_hir.specs.declared.place.Place.{Place}
+use Rattle.alias_hir.specs.declared.terminal.Terminal.{Terminal}
+use Rattle.alias_hir.specs.declared.terminal.Terminal.TheVariants.{Try}
 use Rattle.alias_rules.specs.declared.fault.Table.{Table}
 use Rattle.alias_rules.specs.declared.fault.Table.TheVariants.{Identifiers, Types, Instructions, Declarations}
 use Rattle.alias_rules.specs.declared.fault.UnitFault.{UnitFault}
-use Rattle.alias_rules.specs.declared.fault.UnitFault.TheVariants.{IdOutOfRange, EntryMissing, InstructionMissing, InstructionTwice, OrderOutOfRange, SomethingInferred}
-use Rattle.alias_hir.specs.declared.terminal.Terminal.{Terminal}
+use Rattle.alias_rules.specs.declared.fault.UnitFault.TheVariants.{IdOutOfRange, EntryMissing, SuccessorMissing, InstructionMissing, InstructionTwice, TwoTrys, PhiNoPredecessor, OrderOutOfRange, SomethingInferred}
 
 -- ---- numbers are within their tables
 
@@ -49,9 +52,16 @@ instruction_fits env i = do
   _ ← place_fits env i.lvalue
   all_pass (place_fits env) (places_of i.value)
 
--- the numbers of the instructions, then the places of the terminal
+-- the place of the phi, then those of its operands
+abbrev pub phi_fits : Environment → Phi → Result ⊤ UnitFault
+phi_fits env p = do
+  _ ← place_fits env p.place
+  all_pass (λ e. place_fits env e.1) p.operands
+
+-- the phis, then the numbers of the instructions, then the places of the terminal
 abbrev pub block_fits : Environment → HirFunction → BasicBlock → Result ⊤ UnitFault
 block_fits env func b = do
+  _ ← all_pass (phi_fits env) b.phis
   _ ← all_pass (λ i. below Instructions (length func.instructions) i.0) b.instructions
   all_pass (place_fits env) (terminal_places b.terminal)
 
@@ -70,6 +80,27 @@ is_block func b = is_some (value_at func.body.blocks b)
 -- the function begins with one of its blocks
 abbrev pub entry_stands : Option FunctionId → HirFunction → Result ⊤ UnitFault
 entry_stands f func = if is_block func func.body.entry then Ok tt else Err (EntryMissing f)
+
+-- ---- successors are blocks
+
+-- the block that exceptions go to
+abbrev pub handler_of : Terminal → Option BlockId
+handler_of (Try id block handler handler_binding) = Some handler
+handler_of t = None
+
+-- what the block names is a block
+abbrev pub named_stands : Option FunctionId → HirFunction → BlockId → BlockId → Result ⊤ UnitFault
+named_stands f func b named = if is_block func named then Ok tt else Err (SuccessorMissing f b named)
+
+-- the successors, then the handler of a `Try`
+abbrev pub leads_to_blocks : Option FunctionId → HirFunction → BlockId → Terminal → Result ⊤ UnitFault
+leads_to_blocks f func b t = do
+  _ ← all_pass (named_stands f func b) (successors t)
+  all_pass (named_stands f func b) (optional_block (handler_of t))
+
+-- each block that a terminal names is there, over the blocks in stored order
+abbrev pub successors_stand : Option FunctionId → HirFunction → Result ⊤ UnitFault
+successors_stand f func = all_pass (λ e. leads_to_blocks f func e.0 e.1.terminal) func.body.blocks
 
 -- ---- each instruction stands in some block
 
@@ -106,6 +137,41 @@ twice f (Some k) = Err (InstructionTwice f (record { 0 = k }))
 -- no instruction stands in two places of the blocks; the fault names the earliest second standing
 abbrev pub none_stands_twice : Option FunctionId → HirFunction → Result ⊤ UnitFault
 none_stands_twice f func = twice f (first_again [] (standing func))
+
+-- ---- no two `Try`s name one handler
+
+-- the handlers of the `Try`s, in stored order
+abbrev pub handlers : HirFunction → List ℕ
+handlers func = flat_map (λ e. map (λ b. b.0) (optional_block (handler_of e.1.terminal))) func.body.blocks
+
+abbrev pub shared : Option FunctionId → Option ℕ → Result ⊤ UnitFault
+shared f None = Ok tt
+shared f (Some k) = Err (TwoTrys f (record { 0 = k }))
+
+-- each `Try` has a handler of its own; the fault names the earliest that another `Try` had before
+abbrev pub handlers_distinct : Option FunctionId → HirFunction → Result ⊤ UnitFault
+handlers_distinct f func = shared f (first_again [] (handlers func))
+
+-- ---- operands of phis are for predecessors
+
+-- control may go on from the terminal to block b
+abbrev pub goes_to : BlockId → Terminal → Bool
+goes_to b t = list_any (same_block b) (successors t)
+
+-- block a is there, and control may go on from it to block b
+abbrev pub has_edge : HirFunction → BlockId → BlockId → Bool
+has_edge func a b = option_map_or (λ (x : BasicBlock). goes_to b x.terminal) (value_at func.body.blocks a) false
+
+abbrev pub operand_fits : Option FunctionId → HirFunction → BlockId → BlockId → Result ⊤ UnitFault
+operand_fits f func b a = if has_edge func a b then Ok tt else Err (PhiNoPredecessor f b a)
+
+-- the operands of a phi of block b, in their order
+abbrev pub operands_fit : Option FunctionId → HirFunction → BlockId → Phi → Result ⊤ UnitFault
+operands_fit f func b p = all_pass (λ e. operand_fits f func b e.0) p.operands
+
+-- each operand is for a block that has an edge to that of the phi: the blocks in stored order, the phis of each in order
+abbrev pub phis_fit : Option FunctionId → HirFunction → Result ⊤ UnitFault
+phis_fit f func = all_pass (λ e. all_pass (operands_fit f func e.0) e.1.phis) func.body.blocks
 
 -- ---- orders are neither unset nor the last number
 
@@ -145,11 +211,17 @@ instruction_is_bare i = is_none i.effects && place_is_bare i.lvalue && list_all 
 abbrev pub terminal_is_bare : Terminal → Bool
 terminal_is_bare t = is_none (terminal_effects t) && list_all place_is_bare (terminal_places t)
 
+abbrev pub phi_is_bare : Phi → Bool
+phi_is_bare p = place_is_bare p.place && list_all (λ (e : BlockId × Place). place_is_bare e.1) p.operands
+
+abbrev pub block_is_bare : BasicBlock → Bool
+block_is_bare b = list_all phi_is_bare b.phis && terminal_is_bare b.terminal
+
 -- no summary, no effects, and no place has one
 abbrev pub function_is_bare : HirFunction → Bool
 function_is_bare func =
     is_none func.aliasing_effects && place_is_bare func.returns && list_all instruction_is_bare func.instructions
-    && list_all (λ (e : BlockId × BasicBlock). terminal_is_bare e.1.terminal) func.body.blocks
+    && list_all (λ (e : BlockId × BasicBlock). block_is_bare e.1) func.body.blocks
 
 -- no reports, and no identifier has a range or a scope
 abbrev pub environment_is_bare : Environment → Bool
@@ -167,8 +239,11 @@ rules_hold u = do
   _ ← tables_fit u.env
   _ ← numbers_fit u.env u.function
   _ ← entry_stands None u.function
+  _ ← successors_stand None u.function
   _ ← instructions_stand None u.function
   _ ← none_stands_twice None u.function
+  _ ← handlers_distinct None u.function
+  _ ← phis_fit None u.function
   _ ← orders_fit None u.function
   nothing_inferred u
 

@@ -1,16 +1,17 @@
 //! Nothing is inferred.
 ghost use Rattle.std.specs.Prelude.{◌≡◌};
-ghost use Rattle.std.specs.List.{list_all};
+ghost use Rattle.std.specs.List.{flat_map, list_all};
 ghost use Rattle.alias_base.specs.declared.ids.BlockId.{BlockId};
 ghost use Rattle.alias_hir.specs.declared.hir.BasicBlock.{BasicBlock};
+ghost use Rattle.alias_hir.specs.Terminals.{optional_place, case_places, terminal_places};
 ghost use Rattle.alias_hir.specs.Values.{places_of};
-ghost use Rattle.alias_rules.specs.Rules.{place_is_bare, identifier_is_bare, instruction_is_bare, terminal_is_bare, function_is_bare, environment_is_bare, nothing_inferred};
+ghost use Rattle.alias_rules.specs.Rules.{place_is_bare, identifier_is_bare, instruction_is_bare, terminal_is_bare, phi_is_bare, block_is_bare, function_is_bare, environment_is_bare, nothing_inferred};
 
-use alias_hir::env::{Environment, Identifier, Unit};
-use alias_hir::hir::{Hir, HirFunction, Instruction};
-use alias_hir::place::{Effect, Place};
 use crate::fault::UnitFault;
-use alias_hir::terminal::Terminal;
+use alias_hir::env::{Environment, Identifier, Unit};
+use alias_hir::hir::{BasicBlock, Hir, HirFunction, Instruction, Phi};
+use alias_hir::place::{Effect, Place};
+use alias_hir::terminal::{SwitchCase, Terminal};
 use alias_hir::value::InstructionValue;
 
 fn place_is_bare(place: &Place) -> bool
@@ -50,12 +51,49 @@ fn instruction_is_bare(instruction: &Instruction) -> bool
         && value_is_bare(&instruction.value)
 }
 
+fn optional_is_bare(place: &Option<Place>) -> bool
+    ensures { result ≡ list_all place_is_bare (optional_place place.now) }
+{
+    match place {
+        None => true,
+        Some(place) => place_is_bare(place),
+    }
+}
+
+fn cases_are_bare(cases: &[SwitchCase]) -> bool
+    ensures { result ≡ list_all place_is_bare (flat_map case_places cases.now) }
+{
+    for case in cases {
+        if !optional_is_bare(&case.test) {
+            return false;
+        }
+    }
+    true
+}
+
+fn terminal_places_are_bare(terminal: &Terminal) -> bool
+    ensures { result ≡ list_all place_is_bare (terminal_places terminal.now) }
+{
+    match terminal {
+        Terminal::If { test: place, .. }
+        | Terminal::Branch { test: place, .. }
+        | Terminal::Return { value: place, .. }
+        | Terminal::Throw { value: place, .. } => place_is_bare(place),
+        Terminal::Switch { test, cases, .. } => {
+            place_is_bare(test) && cases_are_bare(cases.as_slice())
+        }
+        Terminal::Try {
+            handler_binding,
+            ..
+        } => optional_is_bare(handler_binding),
+        _ => true,
+    }
+}
+
 fn terminal_is_bare(terminal: &Terminal) -> bool
     ensures { result ≡ terminal_is_bare terminal.now }
 {
-    match terminal {
-        Terminal::Return { value, effects, .. } => effects.is_none() && place_is_bare(value),
-    }
+    terminal.effects().is_none() && terminal_places_are_bare(terminal)
 }
 
 fn instructions_are_bare(instructions: &[Instruction]) -> bool
@@ -66,11 +104,37 @@ fn instructions_are_bare(instructions: &[Instruction]) -> bool
         .all(|instruction| instruction_is_bare(instruction))
 }
 
-fn terminals_are_bare(body: &Hir) -> bool
-    ensures { result ≡ list_all (λ (e : BlockId × BasicBlock). terminal_is_bare e.1.terminal) body.now.blocks }
+fn phi_is_bare(phi: &Phi) -> bool
+    ensures { result ≡ phi_is_bare phi.now }
+{
+    if !place_is_bare(&phi.place) {
+        return false;
+    }
+    for (_, place) in phi.operands.iter() {
+        if !place_is_bare(place) {
+            return false;
+        }
+    }
+    true
+}
+
+fn phis_are_bare(phis: &[Phi]) -> bool
+    ensures { result ≡ list_all phi_is_bare phis.now }
+{
+    phis.iter().all(|phi| phi_is_bare(phi))
+}
+
+fn block_is_bare(block: &BasicBlock) -> bool
+    ensures { result ≡ block_is_bare block.now }
+{
+    phis_are_bare(block.phis.as_slice()) && terminal_is_bare(&block.terminal)
+}
+
+fn blocks_are_bare(body: &Hir) -> bool
+    ensures { result ≡ list_all (λ (e : BlockId × BasicBlock). block_is_bare e.1) body.now.blocks }
 {
     for (_, block) in body.blocks.iter() {
-        if !terminal_is_bare(&block.terminal) {
+        if !block_is_bare(block) {
             return false;
         }
     }
@@ -83,7 +147,7 @@ fn function_is_bare(func: &HirFunction) -> bool
     func.aliasing_effects.is_none()
         && place_is_bare(&func.returns)
         && instructions_are_bare(func.instructions.as_slice())
-        && terminals_are_bare(&func.body)
+        && blocks_are_bare(&func.body)
 }
 
 fn identifiers_are_bare(identifiers: &[Identifier]) -> bool

@@ -1,18 +1,161 @@
-//! The entry is a block.
-ghost use Rattle.std.specs.Prelude.{◌≡◌};
-ghost use Rattle.alias_rules.specs.Rules.{entry_stands};
+//! The entry and each block that a terminal names is there.
+ghost use Rattle.std.specs.Prelude.{◌≡◌, map};
+ghost use Rattle.alias_base.specs.Answer.{all_pass};
+ghost use Rattle.alias_hir.specs.declared.terminal.SwitchCase.{SwitchCase};
+ghost use Rattle.alias_hir.specs.Terminals.{optional_block, successors};
+ghost use Rattle.alias_rules.specs.Rules.{is_block, entry_stands, handler_of, named_stands, leads_to_blocks, successors_stand};
 
-use alias_hir::hir::HirFunction;
 use crate::fault::UnitFault;
-use alias_base::FunctionId;
+use alias_base::{BlockId, FunctionId};
+use alias_hir::hir::HirFunction;
+use alias_hir::terminal::{SwitchCase, Terminal};
+
+fn is_block(func: &HirFunction, block: BlockId) -> bool
+    ensures { result ≡ is_block func.now block }
+{
+    func.body.blocks.get(block).is_some()
+}
 
 /// Whether the function's entry is one of its blocks.
 pub fn entry_stands(function: Option<FunctionId>, func: &HirFunction) -> Result<(), UnitFault>
     ensures { result ≡ entry_stands function func.now }
 {
-    if func.body.blocks.get(func.body.entry).is_some() {
+    if is_block(func, func.body.entry) {
         Ok(())
     } else {
         Err(UnitFault::EntryMissing { function })
     }
+}
+
+/// The handler of a `Try`, and `None` of another terminal.
+pub fn handler_of(terminal: &Terminal) -> Option<BlockId>
+    ensures { result ≡ handler_of terminal.now }
+{
+    match terminal {
+        Terminal::Try { handler, .. } => Some(*handler),
+        _ => None,
+    }
+}
+
+fn named_stands(
+    function: Option<FunctionId>,
+    func: &HirFunction,
+    block: BlockId,
+    named: BlockId,
+) -> Result<(), UnitFault>
+    ensures { result ≡ named_stands function func.now block named }
+{
+    if is_block(func, named) {
+        Ok(())
+    } else {
+        Err(UnitFault::SuccessorMissing {
+            function,
+            block,
+            named,
+        })
+    }
+}
+
+fn optional_stands(
+    function: Option<FunctionId>,
+    func: &HirFunction,
+    block: BlockId,
+    named: Option<BlockId>,
+) -> Result<(), UnitFault>
+    ensures { result ≡ all_pass (named_stands function func.now block) (optional_block named) }
+{
+    match named {
+        None => Ok(()),
+        Some(named) => named_stands(function, func, block, named),
+    }
+}
+
+fn cases_stand(
+    function: Option<FunctionId>,
+    func: &HirFunction,
+    block: BlockId,
+    cases: &[SwitchCase],
+) -> Result<(), UnitFault>
+    ensures { result ≡ all_pass (named_stands function func.now block) (map (λ (c : SwitchCase). c.block) cases.now) }
+{
+    for case in cases {
+        named_stands(function, func, block, case.block)?;
+    }
+    Ok(())
+}
+
+fn terminal_stands(
+    function: Option<FunctionId>,
+    func: &HirFunction,
+    block: BlockId,
+    terminal: &Terminal,
+) -> Result<(), UnitFault>
+    ensures { result ≡ all_pass (named_stands function func.now block) (successors terminal.now) }
+{
+    match terminal {
+        Terminal::Goto { block: named, .. }
+        | Terminal::For { init: named, .. }
+        | Terminal::ForOf { init: named, .. }
+        | Terminal::ForIn { init: named, .. }
+        | Terminal::DoWhile {
+            loop_block: named,
+            ..
+        }
+        | Terminal::While { test: named, .. }
+        | Terminal::Logical { test: named, .. }
+        | Terminal::Ternary { test: named, .. }
+        | Terminal::Optional { test: named, .. }
+        | Terminal::Try { block: named, .. }
+        | Terminal::Label { block: named, .. }
+        | Terminal::Sequence { block: named, .. }
+        | Terminal::Scope { block: named, .. }
+        | Terminal::PrunedScope { block: named, .. } => {
+            named_stands(function, func, block, *named)
+        }
+        Terminal::If {
+            consequent,
+            alternate,
+            ..
+        }
+        | Terminal::Branch {
+            consequent,
+            alternate,
+            ..
+        } => {
+            named_stands(function, func, block, *consequent)?;
+            named_stands(function, func, block, *alternate)
+        }
+        Terminal::Switch { cases, .. } => cases_stand(function, func, block, cases.as_slice()),
+        Terminal::MaybeThrow {
+            continuation,
+            handler,
+            ..
+        } => {
+            named_stands(function, func, block, *continuation)?;
+            optional_stands(function, func, block, *handler)
+        }
+        Terminal::Return { .. } | Terminal::Throw { .. } | Terminal::Unreachable { .. } => Ok(()),
+    }
+}
+
+fn leads_to_blocks(
+    function: Option<FunctionId>,
+    func: &HirFunction,
+    block: BlockId,
+    terminal: &Terminal,
+) -> Result<(), UnitFault>
+    ensures { result ≡ leads_to_blocks function func.now block terminal.now }
+{
+    terminal_stands(function, func, block, terminal)?;
+    optional_stands(function, func, block, handler_of(terminal))
+}
+
+/// The first successor, or handler of a `Try`, that is no block.
+pub fn successors_stand(function: Option<FunctionId>, func: &HirFunction) -> Result<(), UnitFault>
+    ensures { result ≡ successors_stand function func.now }
+{
+    for (id, block) in func.body.blocks.iter() {
+        leads_to_blocks(function, func, *id, &block.terminal)?;
+    }
+    Ok(())
 }

@@ -4,11 +4,11 @@ ghost use Rattle.alias_base.specs.Answer.{all_pass};
 ghost use Rattle.alias_hir.specs.Terminals.{terminal_effects};
 ghost use Rattle.alias_rules.specs.Fitting.{effect_fits, recorded_fit, effects_fit};
 
+use crate::fault::UnitFault;
+use crate::ids::place_fits;
 use alias_hir::effect::{AliasingEffect, AliasingEffects};
 use alias_hir::env::Environment;
 use alias_hir::hir::{Hir, HirFunction, Instruction};
-use crate::fault::UnitFault;
-use crate::ids::place_fits;
 use alias_hir::terminal::Terminal;
 
 fn effect_fits(env: &Environment, effect: &AliasingEffect) -> Result<(), UnitFault>
@@ -57,7 +57,10 @@ fn terminal_records_fit(env: &Environment, terminal: &Terminal) -> Result<(), Un
     ensures { result ≡ recorded_fit env.now (terminal_effects terminal.now) }
 {
     match terminal {
-        Terminal::Return { effects, .. } => recorded_fit(env, effects),
+        Terminal::Return { effects, .. } | Terminal::MaybeThrow { effects, .. } => {
+            recorded_fit(env, effects)
+        }
+        _ => Ok(()),
     }
 }
 

@@ -3,15 +3,17 @@ ghost use Rattle.std.specs.Prelude.{◌≡◌, IfOk, is_ok};
 ghost use Rattle.alias_rules.specs.Fault.{Gives};
 ghost use Rattle.alias_rules.specs.Fitting.{function_rules, function_fits, tells_invariant};
 
+use crate::blocks::{entry_stands, successors_stand};
+use crate::effects::effects_fit;
+use crate::fault::UnitFault;
+use crate::handlers::handlers_distinct;
+use crate::ids::{numbers_fit, tables_fit};
+use crate::orders::orders_fit;
+use crate::phis::phis_fit;
+use crate::standing::none_stands_twice;
 use alias_hir::env::Environment;
 use alias_hir::hir::HirFunction;
 use alias_hir::report::{ErrorCategory, Report};
-use crate::blocks::entry_stands;
-use crate::effects::effects_fit;
-use crate::fault::UnitFault;
-use crate::ids::{numbers_fit, tables_fit};
-use crate::orders::orders_fit;
-use crate::standing::none_stands_twice;
 use std::alloc::{AllocError, Global};
 
 fn tells_invariant(reports: &[Report]) -> bool
@@ -27,14 +29,18 @@ fn function_rules(alloc: Global, env: &Environment, func: &HirFunction) -> Resul
     tables_fit(env)?;
     numbers_fit(env, func)?;
     entry_stands(None, func)?;
+    successors_stand(None, func)?;
     none_stands_twice(alloc, None, func)?;
+    handlers_distinct(alloc, None, func)?;
+    phis_fit(None, func)?;
     orders_fit(None, func)?;
     effects_fit(env, func)
 }
 
 /// Whether the inference takes the function: numbers are within their tables, those of effects too; the
-/// entry is a block; no instruction stands twice; orders are set; and no report says that an invariant was
-/// broken. The one error is want of memory.
+/// entry, successors and handlers of `Try`s are blocks; no instruction stands twice; each `Try` has a handler
+/// of its own; operands of phis are for blocks that have an edge to that of the phi; orders are set; and no
+/// report says that an invariant was broken. The one error is want of memory.
 pub fn check_function(
     alloc: Global,
     func: &HirFunction,

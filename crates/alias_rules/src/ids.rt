@@ -1,15 +1,18 @@
 //! Numbers are within their tables.
 ghost use Rattle.std.specs.Prelude.{◌≡◌, length};
+ghost use Rattle.std.specs.List.{flat_map};
 ghost use Rattle.alias_base.specs.Answer.{all_pass};
-ghost use Rattle.alias_hir.specs.Terminals.{terminal_places};
+ghost use Rattle.alias_hir.specs.Terminals.{optional_place, case_places, terminal_places};
 ghost use Rattle.alias_hir.specs.Values.{places_of};
-ghost use Rattle.alias_rules.specs.Rules.{below, place_fits, identifier_fits, tables_fit, instruction_fits, block_fits, numbers_fit};
+ghost use Rattle.alias_rules.specs.Rules.{below, place_fits, identifier_fits, tables_fit, instruction_fits, phi_fits, block_fits, numbers_fit};
+ghost use Rattle.alias_rules.specs.declared.fault.Table.TheVariants.{Instructions};
 
-use alias_hir::env::{Environment, Identifier};
-use alias_hir::hir::{BasicBlock, HirFunction, Instruction};
-use alias_hir::place::Place;
 use crate::fault::{Table, UnitFault};
-use alias_hir::terminal::Terminal;
+use alias_base::InstructionId;
+use alias_hir::env::{Environment, Identifier};
+use alias_hir::hir::{BasicBlock, HirFunction, Instruction, Phi};
+use alias_hir::place::Place;
+use alias_hir::terminal::{SwitchCase, Terminal};
 use alias_hir::value::InstructionValue;
 
 fn below(table: Table, len: usize, number: u32) -> Result<(), UnitFault>
@@ -88,20 +91,77 @@ fn instructions_fit(env: &Environment, instructions: &[Instruction]) -> Result<(
     Ok(())
 }
 
+fn optional_fits(env: &Environment, place: &Option<Place>) -> Result<(), UnitFault>
+    ensures { result ≡ all_pass (place_fits env.now) (optional_place place.now) }
+{
+    match place {
+        None => Ok(()),
+        Some(place) => place_fits(env, place),
+    }
+}
+
+fn cases_fit(env: &Environment, cases: &[SwitchCase]) -> Result<(), UnitFault>
+    ensures { result ≡ all_pass (place_fits env.now) (flat_map case_places cases.now) }
+{
+    for case in cases {
+        optional_fits(env, &case.test)?;
+    }
+    Ok(())
+}
+
 fn terminal_fits(env: &Environment, terminal: &Terminal) -> Result<(), UnitFault>
     ensures { result ≡ all_pass (place_fits env.now) (terminal_places terminal.now) }
 {
     match terminal {
-        Terminal::Return { value, .. } => place_fits(env, value),
+        Terminal::If { test: place, .. }
+        | Terminal::Branch { test: place, .. }
+        | Terminal::Return { value: place, .. }
+        | Terminal::Throw { value: place, .. } => place_fits(env, place),
+        Terminal::Switch { test, cases, .. } => {
+            place_fits(env, test)?;
+            cases_fit(env, cases.as_slice())
+        }
+        Terminal::Try {
+            handler_binding,
+            ..
+        } => optional_fits(env, handler_binding),
+        _ => Ok(()),
     }
+}
+
+fn phi_fits(env: &Environment, phi: &Phi) -> Result<(), UnitFault>
+    ensures { result ≡ phi_fits env.now phi.now }
+{
+    place_fits(env, &phi.place)?;
+    for (_, place) in phi.operands.iter() {
+        place_fits(env, place)?;
+    }
+    Ok(())
+}
+
+fn phis_fit(env: &Environment, phis: &[Phi]) -> Result<(), UnitFault>
+    ensures { result ≡ all_pass (phi_fits env.now) phis.now }
+{
+    for phi in phis {
+        phi_fits(env, phi)?;
+    }
+    Ok(())
+}
+
+fn listed(len: usize, instructions: &[InstructionId]) -> Result<(), UnitFault>
+    ensures { result ≡ all_pass (λ i. below Instructions len i.0) instructions.now }
+{
+    for instruction in instructions {
+        below(Table::Instructions, len, instruction.0)?;
+    }
+    Ok(())
 }
 
 fn block_fits(env: &Environment, func: &HirFunction, block: &BasicBlock) -> Result<(), UnitFault>
     ensures { result ≡ block_fits env.now func.now block.now }
 {
-    for number in block.instructions.as_slice() {
-        below(Table::Instructions, func.instructions.len(), number.0)?;
-    }
+    phis_fit(env, block.phis.as_slice())?;
+    listed(func.instructions.len(), block.instructions.as_slice())?;
     terminal_fits(env, &block.terminal)
 }
 

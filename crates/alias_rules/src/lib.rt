@@ -7,8 +7,10 @@ pub mod check;
 mod effects;
 pub mod fault;
 pub mod function;
+mod handlers;
 mod ids;
 mod orders;
+mod phis;
 mod standing;
 #[cfg(test)]
 mod tests;

@@ -6,9 +6,9 @@ ghost use Rattle.alias_base.specs.declared.ids.InstructionId.{InstructionId};
 ghost use Rattle.alias_rules.specs.Fault.{Gives};
 ghost use Rattle.alias_rules.specs.Rules.{standing, stands_in, first_missing, first_again, instructions_stand, none_stands_twice};
 
-use alias_hir::hir::HirFunction;
 use crate::fault::UnitFault;
 use alias_base::{FunctionId, InstructionId};
+use alias_hir::hir::HirFunction;
 use std::alloc::{AllocError, Global};
 use std::collections::BTreeSet;
 
@@ -56,7 +56,7 @@ fn first_missing(alloc: Global, len: u32, numbers: &[u32]) -> Result<Option<u32>
 }
 
 /// The first number that stood before.
-fn first_again(alloc: Global, numbers: &[u32]) -> Result<Option<u32>, AllocError>
+pub fn first_again(alloc: Global, numbers: &[u32]) -> Result<Option<u32>, AllocError>
     ensures { IfOk result (λ r. r ≡ first_again [] numbers.now) }
 {
     let mut seen = BTreeSet::new(alloc);

@@ -198,4 +198,3 @@ fn names_the_later_rules(rt: HostRuntime) -> Result<(), Fail> {
     );
     Ok(())
 }
-

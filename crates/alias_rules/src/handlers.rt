@@ -1,0 +1,42 @@
+//! No two `Try`s name one handler.
+ghost use Rattle.std.specs.Prelude.{◌≡◌, IfOk};
+ghost use Rattle.alias_rules.specs.Fault.{Gives};
+ghost use Rattle.alias_rules.specs.Rules.{handlers, handlers_distinct};
+
+use crate::blocks::handler_of;
+use crate::fault::UnitFault;
+use crate::standing::first_again;
+use alias_base::{BlockId, FunctionId};
+use alias_hir::hir::HirFunction;
+use std::alloc::{AllocError, Global};
+
+/// The handlers of the `Try`s, in stored order.
+fn handlers(alloc: Global, func: &HirFunction) -> Result<Vec<u32>, AllocError>
+    ensures { IfOk result (λ v. v.items ≡ handlers func.now) }
+{
+    let mut numbers = Vec::new(alloc);
+    for (_, block) in func.body.blocks.iter() {
+        if let Some(handler) = handler_of(&block.terminal) {
+            numbers.push(handler.0)?;
+        }
+    }
+    Ok(numbers)
+}
+
+/// The earliest handler that a second `Try` names, or want of memory.
+pub fn handlers_distinct(
+    alloc: Global,
+    function: Option<FunctionId>,
+    func: &HirFunction,
+) -> Result<(), UnitFault>
+    ensures { Gives (λ x. x) result (handlers_distinct function func.now) }
+{
+    let numbers = handlers(alloc, func)?;
+    match first_again(alloc, &numbers)? {
+        None => Ok(()),
+        Some(again) => Err(UnitFault::TwoTrys {
+            function,
+            handler: BlockId(again),
+        }),
+    }
+}
