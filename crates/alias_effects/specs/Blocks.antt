@@ -13,11 +13,14 @@ use Rattle.alias_hir.specs.declared.env.Environment.{Environment}
 use Rattle.alias_hir.specs.declared.hir.BasicBlock.{BasicBlock}
 use Rattle.alias_hir.specs.declared.hir.HirFunction.{HirFunction}
 use Rattle.alias_hir.specs.declared.hir.Instruction.{Instruction}
+use Rattle.alias_hir.specs.declared.hir.Phi.{Phi}
+use Rattle.alias_hir.specs.declared.place.Place.{Place}
+use Rattle.alias_hir.specs.Terminals.{successors}
 use Rattle.alias_hir.specs.declared.terminal.Terminal.{Terminal}
 use Rattle.alias_hir.specs.declared.terminal.Terminal.TheVariants.{Return}
 use Rattle.alias_lattice.specs.declared.site.Site.TheVariants.{Default}
 use Rattle.alias_lattice.specs.declared.look.MissingLook.{MissingLook}
-use Rattle.alias_lattice.specs.States.{State, empty_state, sites_of, defined, defaulted}
+use Rattle.alias_lattice.specs.States.{State, empty_state, sites_of, defined, defaulted, phied}
 use Rattle.alias_lattice.specs.Flows.{Flow, Outcome, Stepped, Refused}
 use Rattle.alias_effects.specs.declared.faults.StepFault.{StepFault}
 use Rattle.alias_effects.specs.declared.faults.StepFault.TheVariants as step
@@ -78,31 +81,41 @@ instruction_steps env instructions [] s = Ok s
 instruction_steps env instructions (i ∷ is) s =
     numbered_step env i (slice_get instructions i.0) s >>= instruction_steps env instructions is
 
+-- each phi in order takes the values of its operands
+abbrev pub phi_steps : List Phi → State → State
+phi_steps [] x = x
+phi_steps (p ∷ ps) x = phi_steps ps (phied p.place.identifier p.operands x)
+
 -- a block begins with nothing recorded and no look missed
 abbrev pub stand_of : State → Stand
 stand_of x = record { state = x; effects = []; missing = None }
 
--- what is recorded of a terminal: what is returned from a component or hook is frozen
-abbrev pub return_effects : Bool → Terminal → List AliasingEffect
-return_effects true (Return id value effects) = []
-return_effects false (Return id value effects) = Freeze value JsxCaptured ∷ []
+-- what is returned from a component or hook is frozen
+abbrev pub return_effects : Bool → Place → List AliasingEffect
+return_effects true value = []
+return_effects false value = Freeze value JsxCaptured ∷ []
+
+-- what is recorded of a terminal
+abbrev pub action_effects : Bool → Terminal → List AliasingEffect
+action_effects is_function_expression (Return id value effects) = return_effects is_function_expression value
+action_effects is_function_expression t = []
 
 abbrev pub terminal_recorded_as : BlockId → List AliasingEffect → List TerminalEffects
 terminal_recorded_as b [] = []
 terminal_recorded_as b (e ∷ es) = record { block = b; effects = e ∷ es } ∷ []
 
 abbrev pub terminal_effects : Bool → BlockId → Terminal → List TerminalEffects
-terminal_effects is_function_expression b t = terminal_recorded_as b (return_effects is_function_expression t)
+terminal_effects is_function_expression b t = terminal_recorded_as b (action_effects is_function_expression t)
 
 -- the end of a block's step: a missing look refuses it
 abbrev pub finished : Option MissingLook → List TerminalEffects → Stand → Result (State × BlockEffects) BlockFault
 finished (Some m) terminal s = Err (Uninitialized m)
 finished None terminal s = Ok (s.state, record { instructions = s.effects; terminal = terminal })
 
--- the step of a block from a state: the state after it, and what was recorded
+-- the step of a block from a state: its phis, its instructions, and what its terminal records
 abbrev pub block_step : Environment → List Instruction → Bool → BlockId → BasicBlock → State → Result (State × BlockEffects) BlockFault
 block_step env instructions is_function_expression b block x = do
-  s ← instruction_steps env instructions block.instructions (stand_of x)
+  s ← instruction_steps env instructions block.instructions (stand_of (phi_steps block.phis x))
   finished s.missing (terminal_effects is_function_expression b block.terminal) s
 
 abbrev pub outcome_of : Result (State × BlockEffects) BlockFault → Outcome State (Unit {0}) BlockEffects BlockFault
@@ -117,10 +130,7 @@ abbrev pub outcome_at : Environment → List Instruction → Bool → BlockId �
 outcome_at env instructions is_function_expression b None x = Stepped x tt no_effects
 outcome_at env instructions is_function_expression b (Some block) x = outcome_of (block_step env instructions is_function_expression b block x)
 
--- the blocks that a terminal may lead to
-abbrev pub successors : Terminal → List BlockId
-successors (Return id value effects) = []
-
+-- the blocks that control may go on to from a block
 abbrev pub successors_at : Option BasicBlock → List BlockId
 successors_at None = []
 successors_at (Some b) = successors b.terminal

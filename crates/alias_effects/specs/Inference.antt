@@ -1,19 +1,27 @@
 -- What the effects pass answers for a function.
-use Rattle.std.specs.Prelude.{◌≡◌, Bool, [], ◌∷◌, None, Result, Ok, Err, ⊤}
+use Rattle.std.specs.Prelude.{◌≡◌, ℕ, Bool, List, [], ◌∷◌, map, slice_get, Option, Some, None, Result, Ok, Err, ⊤}
+use Rattle.std.specs.List.{flat_map}
+use Rattle.std.specs.Option.{option_map_or}
 use Rattle.alias_base.specs.Answer.{◌>>=◌}
 use Rattle.alias_base.specs.declared.ids.BlockId.{BlockId}
 use Rattle.alias_hir.specs.declared.env.Environment.{Environment}
+use Rattle.alias_hir.specs.declared.hir.BasicBlock.{BasicBlock}
 use Rattle.alias_hir.specs.declared.hir.HirFunction.{HirFunction}
 use Rattle.alias_hir.specs.declared.error.InferError.{InferError}
 use Rattle.alias_hir.specs.declared.error.InferError.TheVariants as error
-use Rattle.alias_hir.specs.Reports.{uninitialized_report}
+use Rattle.alias_hir.specs.Reports.{uninitialized_report, not_settled_report}
 use Rattle.alias_lattice.specs.States.{State}
-use Rattle.alias_lattice.specs.Flows.{Outcome, Stepped, Refused}
+use Rattle.alias_flow.specs.Machine.{World, Desk, End}
+use Rattle.alias_flow.specs.Machine as end
 use Rattle.alias_effects.specs.declared.faults.BlockFault.{BlockFault}
 use Rattle.alias_effects.specs.declared.faults.BlockFault.TheVariants.{Reinitialized, Uninitialized, Memory}
 use Rattle.alias_effects.specs.declared.block.BlockEffects.{BlockEffects}
+use Rattle.alias_effects.specs.declared.solved.BlockEntry.{BlockEntry}
+use Rattle.alias_effects.specs.declared.solved.InstructionEffects.{InstructionEffects}
 use Rattle.alias_effects.specs.declared.solved.Solved.{Solved}
-use Rattle.alias_effects.specs.Blocks.{flow_of, initial_state}
+use Rattle.alias_effects.specs.declared.solved.TerminalEffects.{TerminalEffects}
+use Rattle.alias_effects.specs.Numbered.{Blocks, visits_end}
+use Rattle.alias_effects.specs.Recording.{recorded}
 
 -- the fault of a block's step, as a refusal of the root function
 abbrev pub refusal : Environment → BlockId → BlockFault → InferError
@@ -21,40 +29,68 @@ refusal env b (Reinitialized i x) = error.Reinitialized None i x
 refusal env b (Uninitialized m) = error.Uninitialized None b m.identifier m.span (uninitialized_report env m.identifier m.span)
 refusal env b (Memory e) = error.Memory e
 
--- no block has a successor yet, so the entry alone is visited, once, from the initial state
-abbrev pub solved_by : HirFunction → BlockEffects → Solved
-solved_by func recorded = record {
+-- the name of the block at a position
+abbrev pub block_at : Blocks → ℕ → BlockId
+block_at blocks n = option_map_or (λ (b : BlockId × BasicBlock). b.0) (slice_get blocks n) (record { 0 = 0 })
+
+-- the blocks that were reached, with their entry states, in stored order
+abbrev pub entries_of : Blocks → List (Option State) → List BlockEntry
+entries_of [] xs = []
+entries_of (b ∷ bs) [] = []
+entries_of (b ∷ bs) (None ∷ xs) = entries_of bs xs
+entries_of (b ∷ bs) (Some x ∷ xs) = record { block = b.0; state = x } ∷ entries_of bs xs
+
+-- what was recorded of the instructions of a block that was visited
+abbrev pub instructions_kept : Option BlockEffects → List InstructionEffects
+instructions_kept None = []
+instructions_kept (Some r) = r.instructions
+
+-- what was recorded of the terminal of a block that was visited
+abbrev pub terminal_kept : Option BlockEffects → List TerminalEffects
+terminal_kept None = []
+terminal_kept (Some r) = r.terminal
+
+-- what is handed out where nothing is wanted any more: entry states are the joins of what was sent, and effects those of last visits
+abbrev pub solved_of : HirFunction → World (Desk State) (Unit {0}) BlockEffects → Solved
+solved_of func w = record {
   function = None;
-  visits = func.body.entry ∷ [];
-  entries = record { block = func.body.entry; state = initial_state func } ∷ [];
-  effects = recorded.instructions;
-  terminal_effects = recorded.terminal;
+  visits = map (block_at func.body.blocks) w.desk.visits;
+  entries = entries_of func.body.blocks w.desk.sent;
+  effects = flat_map instructions_kept w.kept;
+  terminal_effects = flat_map terminal_kept w.kept;
 }
 
-abbrev pub entry_answer : Environment → HirFunction → Outcome State (Unit {0}) BlockEffects BlockFault → Result BlockEffects InferError
-entry_answer env func (Stepped y tables recorded) = Ok recorded
-entry_answer env func (Refused fault) = Err (refusal env func.body.entry fault)
+abbrev pub answer_of : Environment → HirFunction → End (Desk State) (Unit {0}) BlockEffects BlockFault → Result Solved InferError
+answer_of env func (end.Solved w) = Ok (solved_of func w)
+answer_of env func (end.Fault n fault) = Err (refusal env (block_at func.body.blocks n) fault)
+answer_of env func (end.NotSettled visits) = Err (error.NotSettled None visits not_settled_report)
 
--- what the entry's step records from the initial state, or its refusal
-abbrev pub entry_effects : Environment → HirFunction → Bool → Result BlockEffects InferError
-entry_effects env func is_function_expression =
-    entry_answer env func ((flow_of env func is_function_expression).step tt func.body.entry (initial_state func))
-
--- the solution of the function, or the refusal of its one visit
+-- the solution that the sequence of visits ends with, or its refusal
 abbrev pub inferred : Environment → HirFunction → Bool → Result Solved InferError
-inferred env func is_function_expression = do
-  recorded ← entry_effects env func is_function_expression
-  Ok (solved_by func recorded)
+inferred env func is_function_expression = answer_of env func (visits_end env func is_function_expression)
+
+-- the function with its effects on its instructions and terminals, or the refusal
+abbrev pub effects_inferred : Environment → HirFunction → Bool → Result HirFunction InferError
+effects_inferred env func is_function_expression = do
+  s ← inferred env func is_function_expression
+  Ok (recorded s func)
 
 -- Ok is the answer stated, and so is a refusal. Memory may fail at any time.
 abbrev pub Infers : {A : Type 0} → Result A InferError → Result A InferError → Type 0
 Infers answer (Ok x) = answer ≡ Ok x
+Infers answer (Err (error.NotSettled f n r)) = answer ≡ Err (error.NotSettled f n r)
 Infers answer (Err (error.Uninitialized f b x s r)) = answer ≡ Err (error.Uninitialized f b x s r)
 Infers answer (Err (error.Reinitialized f i x)) = answer ≡ Err (error.Reinitialized f i x)
 Infers answer (Err (error.Memory e)) = ⊤
 
 -- A refusal is the one stated, or memory failed.
 abbrev pub RefusesAs : InferError → InferError → Type 0
+RefusesAs stated (error.NotSettled f n r) = stated ≡ error.NotSettled f n r
 RefusesAs stated (error.Uninitialized f b x s r) = stated ≡ error.Uninitialized f b x s r
 RefusesAs stated (error.Reinitialized f i x) = stated ≡ error.Reinitialized f i x
 RefusesAs stated (error.Memory e) = ⊤
+
+-- At Ok the function has become the one stated, and a refusal is the one stated. Memory may fail at any time.
+abbrev pub InfersInto : Result HirFunction InferError → Result (Unit {0}) InferError → HirFunction → Type 0
+InfersInto answer (Ok u) func = answer ≡ Ok func
+InfersInto answer (Err e) func = Infers answer (Err e)

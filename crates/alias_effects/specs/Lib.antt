@@ -4,5 +4,6 @@ pub mod Signatures
 pub mod Blocks
 pub mod BlockResults
 pub mod Solutions
+pub mod Numbered
 pub mod Recording
 pub mod Inference

@@ -5,12 +5,11 @@ use Rattle.std.specs.Map.{keys_of}
 use Rattle.indexmap.specs.IndexMap.{set_value_at}
 use Rattle.alias_base.specs.Find.{same_block}
 use Rattle.alias_base.specs.declared.ids.BlockId.{BlockId}
+use Rattle.alias_hir.specs.Terminals.{with_terminal_effects}
 use Rattle.alias_hir.specs.declared.effect.AliasingEffect.{AliasingEffect}
 use Rattle.alias_hir.specs.declared.hir.BasicBlock.{BasicBlock}
 use Rattle.alias_hir.specs.declared.hir.HirFunction.{HirFunction}
 use Rattle.alias_hir.specs.declared.hir.Instruction.{Instruction}
-use Rattle.alias_hir.specs.declared.terminal.Terminal.{Terminal}
-use Rattle.alias_hir.specs.declared.terminal.Terminal.TheVariants.{Return}
 use Rattle.alias_effects.specs.declared.solved.InstructionEffects.{InstructionEffects}
 use Rattle.alias_effects.specs.declared.solved.TerminalEffects.{TerminalEffects}
 use Rattle.alias_effects.specs.declared.solved.Solved.{Solved}
@@ -23,11 +22,8 @@ abbrev pub recorded_instructions : List InstructionEffects → List Instruction 
 recorded_instructions [] xs = xs
 recorded_instructions (e ∷ es) xs = with_recorded e (recorded_instructions es xs)
 
-abbrev pub terminal_with : Terminal → List AliasingEffect → Terminal
-terminal_with (Return id value old) effects = Return id value (Some effects)
-
 abbrev pub block_with : BasicBlock → List AliasingEffect → BasicBlock
-block_with b effects = record b { terminal = terminal_with b.terminal effects }
+block_with b effects = record b { terminal = with_terminal_effects b.terminal effects }
 
 -- the block at a position carries the effects on its terminal
 abbrev pub with_terminal_at : List AliasingEffect → List (BlockId × BasicBlock) → ℕ → List (BlockId × BasicBlock)

@@ -4,6 +4,7 @@ pub mod Sends
 pub mod Solving
 pub mod OneRound
 pub mod Flagging
+pub mod EachEdge
 pub mod Ending
 pub mod Along
 pub mod InLine

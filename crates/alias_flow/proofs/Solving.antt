@@ -8,7 +8,7 @@ use Rattle.alias_lattice.specs.Laws.{LatticeLaws}
 use Rattle.alias_lattice.specs.Flows.{Outcome, Stepped, Refused, IsOneOf, IsReached, at_entry, by_edge, IsAbove, IsSolution}
 use Rattle.alias_flow.specs.Machine.{Rules, World, Run, Going, Stopped, End, Solved, NotSettled, after, ending, up, FlowLaws}
 use Rattle.alias_flow.specs.Flags.{Flagged, flag_sends, flag_seen, flag_outcome, flag_visit_at, flag_visit, flag_turn, flag_round, flag_rounds, flag_start, flag_solution}
-use Rattle.alias_flow.specs.Solutions.{entry_at, KeepsSteps}
+use Rattle.alias_flow.specs.Solutions.{entry_at, KeepsSteps, KeepsOthers}
 use Rattle.alias_flow.proofs.Order.{below_trans}
 use Rattle.alias_flow.proofs.Sends.{at, wants, Sound, Raised, sends_sound, sends_raise, sends_keep, sends_cover, sends_source}
 
@@ -27,6 +27,7 @@ module _ {P T K C : Type 0} {proper : P → Type 0} {join : P → P → P} {belo
     pub initial_below : IsAbove below rules.flow (entry_at w.desk.sent) rules.flow.initial rules.flow.entry
     pub settled : (b : ℕ) (s : P) → at l w.desk b ≡ Some s → wants l w.desk b ≡ false → Settles below rules w.tables w.desk.sent w.kept b s
     pub reached : (b : ℕ) (s : P) → at l w.desk b ≡ Some s → IsReached rules.flow b
+    pub others : KeepsOthers (entry_at w.desk.sent) kept₀ w.kept
 
   all_map : {A B : ℕ → Type 0} (es : List ℕ) → ((e : ℕ) → A e → B e) → AllByRecursion A es → AllByRecursion B es
   all_map [] g h = tt
@@ -34,6 +35,9 @@ module _ {P T K C : Type 0} {proper : P → Type 0} {join : P → P → P} {belo
 
   some_is : (s u : P) → Some s ≡ Some u → s ≡ u
   some_is s u e = cc
+
+  none_some : (s : P) → ◌≡◌ {A = Option P} None (Some s) → ⊥
+  none_some s e = cc
 
   module _ (w : World (Flagged P) T K) (h : Stands w) (b : ℕ) (lt : b < rules.blocks) (x : P) (was : at l w.desk b ≡ Some x) (y : P) (t : T) (k : K) (step : rules.flow.step w.tables b x ≡ Stepped y t k) where
     abbrev d : Flagged P
@@ -99,6 +103,17 @@ module _ {P T K C : Type 0} {proper : P → Type 0} {join : P → P → P} {belo
         (λ among. by_edge b q (h.reached b x was) among)
         (sends_source l y d (rules.flow.edges b) q s is)
 
+    -- where nothing was sent, nothing stood before, and no visit was
+    untouched : (q : ℕ) (o : Option P) → at l w.desk q ≡ o → at l d' q ≡ None → at l w.desk q ≡ None
+    untouched q None was none = was
+    untouched q (Some s) was none = let r = raised q s was in absurd (none_some r.0 (sym none ∙ r.1))
+
+    keeps_others : KeepsOthers (entry_at d'.sent) kept₀ kept'
+    keeps_others q none = ⊎_elim
+        (λ same. let r = raised b x was in absurd (none_some r.0 (sym none ∙ ap (at l d') same ∙ r.1)))
+        (λ other. get_or-set_other w.kept b q (Some k) None other ∙ h.others q (untouched q (at l w.desk q) refl none))
+        (cases_eq q b)
+
     pub visited : Stands (record { desk = d'; tables = t; kept = kept' })
     visited = record {
       sound = sound';
@@ -106,6 +121,7 @@ module _ {P T K C : Type 0} {proper : P → Type 0} {join : P → P → P} {belo
       initial_below = still_above rules.flow.initial rules.flow.entry f.initial_proper h.initial_below;
       settled = settles;
       reached = reaches;
+      others = keeps_others;
     }
 
   pub going_is : (u v : World (Flagged P) T K) → ◌≡◌ {A = Run (Flagged P) T K C} (Going u) (Going v) → u ≡ v
@@ -186,9 +202,6 @@ module _ {P T K C : Type 0} {proper : P → Type 0} {join : P → P → P} {belo
   nothing (suc n) zero = refl
   nothing (suc n) (suc q) = nothing n q
 
-  none_some : (s : P) → ◌≡◌ {A = Option P} None (Some s) → ⊥
-  none_some s e = cc
-
   module _ (tables : T) where
     abbrev pub empty : Flagged P
     empty = record { visits = []; sent = replicate rules.blocks None; wanted = replicate rules.blocks false }
@@ -209,12 +222,15 @@ module _ {P T K C : Type 0} {proper : P → Type 0} {join : P → P → P} {belo
           (λ v. absurd (none_some v.0 (sym (nothing rules.blocks b) ∙ v.1)))
           (λ among. ⊎_elim (λ same. subst (IsReached rules.flow) (sym same) at_entry) (λ no. absurd no) among)
           (sends_source l rules.flow.initial empty (rules.flow.entry ∷ []) b s is);
+      others = λ b none. refl;
     }
 
     -- what the sequence ends with: entry states that solve the flow under its tables, and what their steps give is kept
     pub record Solves (v : World (Flagged P) T K) : Type 0 where
       pub solves : IsSolution below rules.flow v.tables (entry_at v.desk.sent)
       pub keeps : KeepsSteps rules.flow v.tables (entry_at v.desk.sent) v.kept
+      pub others : KeepsOthers (entry_at v.desk.sent) kept₀ v.kept
+      pub length : length v.desk.sent ≡ rules.blocks
 
     pub solution_solves : (v : World (Flagged P) T K) → flag_solution join below rules tables kept₀ ≡ Solved v → Solves v
     unfolding flag_solution Ends
@@ -229,6 +245,8 @@ module _ {P T K C : Type 0} {proper : P → Type 0} {join : P → P → P} {belo
             steps = λ b s is. let h = settled b s is in (h.0, h.1, h.2, h.4);
           };
           keeps = λ b s is. let h = settled b s is in (h.0, h.1, h.2, h.3);
+          others = ends.0.others;
+          length = ends.0.sound.sent_length;
         }
 
     -- the same of the parts of what is handed out
@@ -241,3 +259,9 @@ module _ {P T K C : Type 0} {proper : P → Type 0} {join : P → P → P} {belo
         → (es : List (Option P)) → es ≡ v.desk.sent → KeepsSteps now.flow v.tables (entry_at es) v.kept
     kept_found now r v e es es_is =
         subst (λ i. KeepsSteps i.flow v.tables (entry_at es) v.kept) (sym r) (subst (λ i. KeepsSteps rules.flow v.tables (entry_at i) v.kept) (sym es_is) (solution_solves v e).keeps)
+
+    pub others_found : (v : World (Flagged P) T K) → flag_solution join below rules tables kept₀ ≡ Solved v → (es : List (Option P)) → es ≡ v.desk.sent → KeepsOthers (entry_at es) kept₀ v.kept
+    others_found v e es es_is = subst (λ i. KeepsOthers (entry_at i) kept₀ v.kept) (sym es_is) (solution_solves v e).others
+
+    pub length_found : (v : World (Flagged P) T K) → flag_solution join below rules tables kept₀ ≡ Solved v → (es : List (Option P)) → es ≡ v.desk.sent → length es ≡ rules.blocks
+    length_found v e es es_is = ap length es_is ∙ (solution_solves v e).length

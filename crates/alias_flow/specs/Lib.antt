@@ -7,3 +7,4 @@ pub mod Runs
 pub mod Desks
 pub mod Climbs
 pub mod Climbing
+pub mod Faults

@@ -1,8 +1,8 @@
 -- What the entry states and what is kept say of a flow over numbered blocks.
-use Rattle.std.specs.Prelude.{◌≡◌, ℕ, ◌<◌, Bool, List, [], ◌∷◌, Option, Some, None, slice_index_or}
-use Rattle.std.specs.List.{AllByRecursion}
+use Rattle.std.specs.Prelude.{◌≡◌, ℕ, ◌<◌, nat_lt, Bool, List, [], ◌∷◌, Option, Some, None, slice_index_or}
+use Rattle.std.specs.List.{list_all, AllByRecursion}
 use Rattle.alias_lattice.specs.Flows.{Flow, Stepped, IsSolution, AreJoins}
-use Rattle.alias_flow.specs.Machine.{Rules, Desk}
+use Rattle.alias_flow.specs.Machine.{Rules, Desk, up}
 
 -- the entry state of each block
 abbrev pub entry_at : {P : Type 0} → List (Option P) → ℕ → Option P
@@ -13,7 +13,14 @@ abbrev pub KeepsSteps : {P T K C : Type 0} → Flow ℕ P T K C → T → (ℕ �
 KeepsSteps {P} {T} {K} flow tables entry_state kept =
     (b : ℕ) (s : P) → entry_state b ≡ Some s → (y : P) × (k : K) × (flow.step tables b s ≡ Stepped y tables k) × (slice_index_or kept b None ≡ Some k)
 
+-- what is kept of a block with no entry state is what was kept before
+abbrev pub KeepsOthers : {P K : Type 0} → (ℕ → Option P) → List (Option K) → List (Option K) → Type 0
+KeepsOthers entry_state before kept = (b : ℕ) → entry_state b ≡ None → slice_index_or kept b None ≡ slice_index_or before b None
+
 -- each edge goes to a later block
+abbrev pub goes_forward : {P T K C : Type 0} → Rules P T K C → Bool
+goes_forward rules = list_all (λ b. list_all (λ e. nat_lt b e) (rules.flow.edges b)) (up 0 rules.blocks)
+
 abbrev pub IsForward : {P T K C : Type 0} → Rules P T K C → Type 0
 IsForward rules = (b : ℕ) → b < rules.blocks → AllByRecursion (λ e. b < e) (rules.flow.edges b)
 

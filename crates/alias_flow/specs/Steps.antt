@@ -1,6 +1,8 @@
 -- What a step's result says of its outcome.
 use Rattle.std.specs.Prelude.{◌≡◌, ℕ, List, Option, Some, Result, Ok, Err, slice_set}
 use Rattle.alias_lattice.specs.Flows.{Outcome, Stepped, Refused}
+use Rattle.alias_flow.specs.declared.flow.SolveFault.{SolveFault}
+use Rattle.alias_flow.specs.declared.flow.SolveFault.TheVariants.{Step, Memory as NoMemory}
 use Rattle.alias_flow.specs.declared.flow.StepFault.{StepFault}
 use Rattle.alias_flow.specs.declared.flow.StepFault.TheVariants.{Refused as Refuses, Memory}
 
@@ -9,3 +11,8 @@ abbrev pub StepGives : {P T K C E : Type 0} → (E → C) → Outcome P T K C �
 StepGives {K = K} cause outcome (Ok u) state tables block old_kept kept = (k : K) × (outcome ≡ Stepped state tables k) × (kept ≡ slice_set old_kept block (Some k))
 StepGives cause outcome (Err (Refuses e)) state tables block old_kept kept = outcome ≡ Refused (cause e)
 StepGives cause outcome (Err (Memory e)) state tables block old_kept kept = Unit {0}
+
+-- the fault of a step as that of a visit of the block
+abbrev pub fault_at : {E : Type 0} → ℕ → StepFault E → SolveFault E
+fault_at b (Refuses e) = Step b e
+fault_at b (Memory e) = NoMemory e

@@ -39,6 +39,21 @@ impl<E> From<AllocError> for SolveFault<E> {
     }
 }
 
+impl<E> StepFault<E> {
+    ghost use Rattle.std.specs.Prelude.{◌≡◌};
+    ghost use Rattle.alias_flow.specs.Steps.{fault_at};
+
+    /// The fault of a step as that of a visit of the block.
+    pub(crate) fn at(self, block: u32) -> SolveFault<E>
+        ensures { result ≡ fault_at block self }
+    {
+        match self {
+            StepFault::Refused(fault) => SolveFault::Step { block, fault },
+            StepFault::Memory(e) => SolveFault::Memory(e),
+        }
+    }
+}
+
 /// What solves a flow.
 #[derive(Drop)]
 pub struct Solution<S> {

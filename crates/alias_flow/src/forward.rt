@@ -1,13 +1,14 @@
 //! Flows whose edges all go to later blocks.
-ghost use Rattle.std.specs.Prelude.{◌≡◌, ◌<◌, ℕ, OnOk, List, Option, length};
-ghost use Rattle.std.specs.List.{AllByRecursion};
+ghost use Rattle.std.specs.Prelude.{◌≡◌, ◌<◌, ℕ, nat_lt, true, IfOk, OnOk, List, Option, length};
+ghost use Rattle.std.specs.List.{list_all, AllByRecursion};
 ghost use Rattle.alias_flow.specs.Machine.{up, send_all, solution};
 ghost use Rattle.alias_flow.specs.Lines.{line_turn, line_round};
 ghost use Rattle.alias_flow.specs.Runs.{world, RunGives, EndsWith};
-ghost use Rattle.alias_flow.specs.Solutions.{IsForward, SolvesInOrder};
+ghost use Rattle.alias_flow.specs.Solutions.{goes_forward, IsForward, SolvesInOrder};
 
-use crate::flow::{Flow, SolveFault, StepFault};
-use crate::sending::{none_sent, send_copy, send_state};
+use crate::flow::{Flow, SolveFault};
+use crate::nothing::nothing_yet;
+use crate::sending::{send_copy, send_state};
 use alias_lattice::Lattice;
 use std::alloc::{AllocError, Global};
 
@@ -44,10 +45,8 @@ fn turn<F: Flow>(
     let Some(mut state) = waiting[block as usize].take() else {
         return Ok(());
     };
-    match flow.step(block, &mut state) {
-        Ok(()) => {}
-        Err(StepFault::Refused(fault)) => return Err(SolveFault::Step { block, fault }),
-        Err(StepFault::Memory(e)) => return Err(SolveFault::Memory(e)),
+    if let Err(fault) = flow.step(block, &mut state) {
+        return Err(fault.at(block));
     }
     let edges = flow.edges(block)?;
     send_along(waiting, state, edges.as_slice())?;
@@ -73,6 +72,31 @@ fn line<F: Flow>(
     Ok(())
 }
 
+/// Each edge of the block goes to a later block.
+fn block_goes_forward<F: Flow>(flow: &F, block: u32) -> Result<bool, AllocError>
+    requires { block < (F.rules flow.now).blocks }
+    ensures { IfOk result (λ forward. forward ≡ list_all (λ e. nat_lt block e) ((F.rules flow.now).flow.edges block)) }
+{
+    let edges = flow.edges(block)?;
+    Ok(edges.as_slice().iter().all(|to| *to > block))
+}
+
+/// Whether each edge of each block goes to a later block, which `solve_forward` asks for. The one error is
+/// want of memory.
+#[tactic(auto, using(crate::proofs::Rounds::up_more, crate::proofs::EachEdge::forward_is))]
+pub fn is_forward<F: Flow>(flow: &F) -> Result<bool, AllocError>
+    ensures answer { IfOk result (λ forward. forward ≡ goes_forward (F.rules flow.now)) }
+    ensures forward { IfOk result (λ forward. forward ≡ true → IsForward (F.rules flow.now)) }
+{
+    let count = flow.blocks();
+    for block in 0..count {
+        if !block_goes_forward(flow, block)? {
+            return Ok(false);
+        }
+    }
+    Ok(true)
+}
+
 /// Solves a flow each of whose edges goes to a later block. Its blocks are visited in stored order, each at
 /// most once, and no entry state outlives its visit: a state moves along the last edge of its block. The
 /// tables and what the flow keeps end as `solve` would leave them. An `Err` says which visit was refused,
@@ -86,7 +110,7 @@ pub fn solve_forward<F: Flow>(alloc: Global, flow: &mut F) -> Result<(), SolveFa
 {
     let count = flow.blocks();
     let entry = flow.entry();
-    let mut states = none_sent(alloc, count)?;
+    let mut states = nothing_yet(alloc, count)?;
     let initial = flow.initial()?;
     let waiting = states.as_mut_slice();
     send_state(waiting, initial, entry)?;

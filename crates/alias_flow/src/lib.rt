@@ -3,12 +3,14 @@
 
 pub mod flow;
 pub mod forward;
+pub mod nothing;
 mod sending;
 pub mod solver;
 mod work;
 
 pub use flow::{Flow, Solution, SolveFault, StepFault};
-pub use forward::solve_forward;
+pub use forward::{is_forward, solve_forward};
+pub use nothing::nothing_yet;
 pub use solver::solve;
 
 #[cfg(test)]

@@ -1,23 +1,11 @@
 //! States on their way to blocks.
-ghost use Rattle.std.specs.Prelude.{◌≡◌, ◌<◌, ℕ, IfOk, OnOk, List, Option, None, slice_index_or, length, replicate, vec_len};
+ghost use Rattle.std.specs.Prelude.{◌≡◌, ◌<◌, ℕ, IfOk, OnOk, List, Option, None, slice_index_or, length};
 ghost use Rattle.std.specs.List.{AllByRecursion};
 ghost use Rattle.alias_flow.specs.Machine.{send, send_all};
 ghost use Rattle.alias_flow.specs.Flags.{grows};
 
 use alias_lattice::Lattice;
-use std::alloc::{AllocError, Global};
-
-/// Nothing was sent to any of the blocks.
-pub(crate) fn none_sent<S: Drop>(alloc: Global, count: u32) -> Result<Vec<Option<S>>, AllocError>
-    ensures states { IfOk result (λ sent. sent.items ≡ replicate count None) }
-    ensures length { IfOk result (λ sent. vec_len sent ≡ count) }
-{
-    let mut sent = Vec::new(alloc);
-    for _ in 0..count {
-        sent.push(None)?;
-    }
-    Ok(sent)
-}
+use std::alloc::AllocError;
 
 /// Sends a copy of the state to the block, and answers whether what was sent to it grew.
 pub(crate) fn send_copy<S: Lattice + Drop>(

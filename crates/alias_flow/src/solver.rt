@@ -1,13 +1,13 @@
 //! The solution of a flow.
-ghost use Rattle.std.specs.Prelude.{◌≡◌, ◌<◌, ℕ, IfOk, OnOk, List, Option, vec_len};
+ghost use Rattle.std.specs.Prelude.{◌≡◌, ◌<◌, ℕ, IfOk, OnOk, List, Option, length, vec_len};
 ghost use Rattle.alias_lattice.specs.Flows.{IsSolution, AreJoins};
 ghost use Rattle.alias_flow.specs.Machine.{up, solution};
 ghost use Rattle.alias_flow.specs.Flags.{flag_visit, flag_round};
 ghost use Rattle.alias_flow.specs.Desks.{desk_of};
 ghost use Rattle.alias_flow.specs.Runs.{world, RunGives, EndGives, IsSettled};
-ghost use Rattle.alias_flow.specs.Solutions.{entry_at, KeepsSteps, IsForward};
+ghost use Rattle.alias_flow.specs.Solutions.{entry_at, KeepsSteps, KeepsOthers, IsForward};
 
-use crate::flow::{Flow, Solution, SolveFault, StepFault};
+use crate::flow::{Flow, Solution, SolveFault};
 use crate::work::Work;
 use alias_lattice::Lattice;
 use std::alloc::Global;
@@ -29,10 +29,8 @@ fn visit<F: Flow>(
     let Some(mut state) = work.sent_to(block)? else {
         return Ok(());
     };
-    match flow.step(block, &mut state) {
-        Ok(()) => {}
-        Err(StepFault::Refused(fault)) => return Err(SolveFault::Step { block, fault }),
-        Err(StepFault::Memory(e)) => return Err(SolveFault::Memory(e)),
+    if let Err(fault) = flow.step(block, &mut state) {
+        return Err(fault.at(block));
     }
     work.see(block)?;
     let edges = flow.edges(block)?;
@@ -70,8 +68,9 @@ fn pass<F: Flow>(
 /// isn't the state of its last visit. Each round goes once over the blocks in stored order and visits those
 /// that are wanted, and rounds go on until none is.
 ///
-/// The entry states of the answer solve the flow under the tables that it ends with, and are the joins of
-/// what arrives where all edges go forward. An `Err` says which visit was refused, that blocks were still
+/// The entry states of the answer, one for each block or none where it isn't reached, solve the flow under
+/// the tables that it ends with, and are the joins of what arrives where all edges go forward. What the flow
+/// keeps of a block that isn't reached stays. An `Err` says which visit was refused, that blocks were still
 /// wanted after 100 rounds, which never comes where all edges go forward, or that memory ran out. It leaves
 /// what the flow does as it was, and its tables and what it keeps as some visits left them.
 #[tactic(auto, using(crate::proofs::Rounds::rounds_more))]
@@ -82,6 +81,8 @@ pub fn solve<F: Flow>(
     ensures end { EndGives F.cause (solution F.State.join F.State.below (F.rules flow.old) (F.tables flow.old) (F.kept flow.old)) result (F.tables flow.new) (F.kept flow.new) }
     ensures solves { IfOk result (λ solution. IsSolution F.State.below (F.rules flow.new).flow (F.tables flow.new) (entry_at solution.entries)) }
     ensures keeps { IfOk result (λ solution. KeepsSteps (F.rules flow.new).flow (F.tables flow.new) (entry_at solution.entries) (F.kept flow.new)) }
+    ensures others { IfOk result (λ solution. KeepsOthers (entry_at solution.entries) (F.kept flow.old) (F.kept flow.new)) }
+    ensures count { IfOk result (λ solution. length solution.entries ≡ (F.rules flow.old).blocks) }
     ensures same { F.rules flow.new ≡ F.rules flow.old }
     ensures joins { IsForward (F.rules flow.old) → IfOk result (λ solution. AreJoins F.State.below (F.rules flow.old).flow F.State.proper (F.tables flow.new) (entry_at solution.entries)) }
     ensures settles { IsForward (F.rules flow.old) → IsSettled result }

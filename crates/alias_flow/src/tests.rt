@@ -4,7 +4,7 @@ ghost use Rattle.alias_flow.specs.Climbs.{higher, IsHeight, Extends, line_rules,
 ghost use Rattle.alias_flow.specs.Climbing.{height_laws, line_laws, loop_laws};
 
 use crate::flow::{Flow, StepFault};
-use crate::forward::solve_forward;
+use crate::forward::{is_forward, solve_forward};
 use crate::solver::solve;
 use alias_lattice::Lattice;
 use smallvec::SmallVec;
@@ -295,5 +295,20 @@ fn visits_a_loop_until_it_settles(rt: HostRuntime) -> Result<(), Fail> {
     assert_eq!(rt; flow.notes.second, Some(3));
     assert_eq!(rt; flow.notes.third, Some(3));
     assert_eq!(rt; flow.notes.fourth, None);
+    Ok(())
+}
+
+#[test]
+fn tells_a_line_from_a_loop(rt: HostRuntime) -> Result<(), Fail> {
+    let line = Line {
+        alloc: rt.alloc(),
+        notes: Notes::none(),
+    };
+    assert!(rt; is_forward(&line)?);
+    let around = Loop {
+        alloc: rt.alloc(),
+        notes: Notes::none(),
+    };
+    assert!(rt; !is_forward(&around)?);
     Ok(())
 }

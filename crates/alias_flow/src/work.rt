@@ -5,7 +5,8 @@ ghost use Rattle.alias_flow.specs.Flags.{flag_send, flag_seen};
 ghost use Rattle.alias_flow.specs.Desks.{desk_of};
 
 use crate::flow::Solution;
-use crate::sending::{none_sent, send_copy};
+use crate::nothing::nothing_yet;
+use crate::sending::send_copy;
 use alias_base::List;
 use alias_lattice::Lattice;
 use std::alloc::{AllocError, Global};
@@ -18,18 +19,6 @@ pub(crate) struct Work<S> {
     wanted: Vec<bool>,
 }
 
-/// No block is wanted.
-fn none_wanted(alloc: Global, count: u32) -> Result<Vec<bool>, AllocError>
-    ensures flags { IfOk result (λ wanted. wanted.items ≡ replicate count false) }
-    ensures length { IfOk result (λ wanted. vec_len wanted ≡ count) }
-{
-    let mut wanted = Vec::new(alloc);
-    for _ in 0..count {
-        wanted.push(false)?;
-    }
-    Ok(wanted)
-}
-
 impl<S: Lattice + Drop> Work<S> {
     /// Nothing is visited, sent or wanted.
     pub(crate) fn start(alloc: Global, count: u32) -> Result<Work<S>, AllocError>
@@ -40,8 +29,8 @@ impl<S: Lattice + Drop> Work<S> {
     {
         Ok(Work {
             visits: Vec::new(alloc),
-            sent: none_sent(alloc, count)?,
-            wanted: none_wanted(alloc, count)?,
+            sent: nothing_yet(alloc, count)?,
+            wanted: vec![in alloc; false; count as usize]?,
         })
     }
 

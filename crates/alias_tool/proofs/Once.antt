@@ -1,6 +1,6 @@
 -- An instruction of a built unit makes its identifiers once.
 use Rattle.std.proofs.Common.{◌≡◌, ◌==◌, ℕ, Bool, true, false, not, ◌&&◌, ◌||◌, List, [], ◌∷◌, zero, suc, Option, Some, None, refl, ap, sym, ◌∙◌, subst}
-use Rattle.std.specs.Prelude.{Result, Ok, Err, ⊤, slice_get, if◌then◌else◌}
+use Rattle.std.specs.Prelude.{Result, Ok, Err, ⊤, length, replicate, slice_get, if◌then◌else◌}
 use Rattle.alias_base.specs.Answer.{◌>>=◌}
 use Rattle.alias_base.specs.Parts.{both_true}
 use Rattle.alias_base.specs.declared.ids.BlockId.{BlockId}
@@ -23,7 +23,11 @@ use Rattle.alias_hir.specs.declared.hir.Instruction.{Instruction}
 use Rattle.alias_hir.specs.declared.place.Place.{Place}
 use Rattle.alias_hir.specs.declared.value.InstructionValue.{InstructionValue}
 use Rattle.alias_hir.specs.declared.value.InstructionValue.TheVariants as value
-use Rattle.alias_lattice.specs.States.{State, look}
+use Rattle.alias_flow.specs.Machine.{Desk, End}
+use Rattle.alias_flow.specs.Machine as end
+use Rattle.alias_flow.specs.Faults.{IsRefusal, solution_refused}
+use Rattle.alias_lattice.specs.Flows.{Refused as Refuses}
+use Rattle.alias_lattice.specs.States.{State, look, state_join, state_below}
 use Rattle.alias_lattice.specs.declared.look.MissingLook.{MissingLook}
 use Rattle.alias_lattice.specs.declared.value.AbstractValue.{AbstractValue}
 use Rattle.alias_effects.specs.declared.block.BlockEffects.{BlockEffects}
@@ -32,20 +36,22 @@ use Rattle.alias_effects.specs.declared.faults.BlockFault.{BlockFault}
 use Rattle.alias_effects.specs.declared.faults.BlockFault.TheVariants as fault
 use Rattle.alias_effects.specs.declared.faults.StepFault.{StepFault}
 use Rattle.alias_effects.specs.declared.faults.StepFault.TheVariants as step
+use Rattle.alias_effects.specs.declared.solved.Solved.{Solved}
 use Rattle.alias_effects.specs.declared.solved.TerminalEffects.{TerminalEffects}
 use Rattle.alias_effects.specs.declared.spot.Spot.{Spot}
 use Rattle.alias_effects.specs.Spots.{is_made}
 use Rattle.alias_effects.specs.Rows.{rows, is_constant, is_frozen, may_be_frozen, captures, may_alias, kind_at, immutable_capture_row, assigned_as, maybe_alias_row, capture_row, mutated_as, mutate_row, looked_with_span}
 use Rattle.alias_effects.specs.Signatures.{value_effects}
-use Rattle.alias_effects.specs.Blocks.{spot_at, in_block, numbered_step, instruction_steps, stand_of, finished, block_step, outcome_of, outcome_at}
-use Rattle.alias_effects.specs.Inference.{entry_answer, entry_effects, inferred}
+use Rattle.alias_effects.specs.Blocks.{spot_at, in_block, numbered_step, instruction_steps, phi_steps, stand_of, finished, block_step, outcome_of}
+use Rattle.alias_effects.specs.Inference.{refusal, block_at, answer_of, inferred}
+use Rattle.alias_effects.specs.Numbered.{step_at, numbered, visits_end}
 use Rattle.alias_text.specs.Built.{all_built, instruction_built, value_built}
 use Rattle.alias_text.specs.Facts.{unit_is_built}
 use Rattle.alias_text.specs.Units.{UnitReading}
 use Rattle.alias_tool.specs.declared.inferred.Inferred.{Inferred}
 use Rattle.alias_tool.specs.declared.status.Status.{Status}
 use Rattle.alias_tool.specs.declared.status.Status.TheVariants.{Done, Words, Unfit, Refused, ReadFault, WriteFault, TooLong, Memory, NotBuilt}
-use Rattle.alias_tool.specs.Findings.{IsInferred, RefusesLooksAlone}
+use Rattle.alias_tool.specs.Findings.{IsInferred, NeverReinitialized}
 use Rattle.alias_tool.specs.Inferences.{inferred_unit}
 
 -- the step was taken
@@ -59,23 +65,11 @@ Once (Ok x) = ⊤
 Once (Err (fault.Uninitialized m)) = ⊤
 Once (Err e) = ⊥
 
--- a refusal is of a look alone
-abbrev Looks : {A : Type 0} → Result A InferError → Type 0
-Looks (Ok x) = ⊤
-Looks (Err (error.Uninitialized f b x s r)) = ⊤
-Looks (Err e) = ⊥
-
 once_bind : {A B : Type 0} (r : Result A BlockFault) (f : A → Result B BlockFault) → Once r → ((x : A) → Once (f x)) → Once (r >>= f)
 once_bind (Ok x) f o h = h x
 once_bind (Err (fault.Reinitialized i x)) f o h = o
 once_bind (Err (fault.Uninitialized m)) f o h = tt
 once_bind (Err (fault.Memory e)) f o h = o
-
-looks_bind : {A B : Type 0} (r : Result A InferError) (f : A → Result B InferError) → Looks r → ((x : A) → Looks (f x)) → Looks (r >>= f)
-looks_bind (Ok x) f o h = h x
-looks_bind (Err (error.Uninitialized g b x s r)) f o h = tt
-looks_bind (Err (error.Reinitialized g i x)) f o h = o
-looks_bind (Err (error.Memory e)) f o h = o
 
 once_in_block : (i : InstructionId) (r : Result Spot StepFault) → Made r → Once (in_block i r)
 once_in_block i (Ok s) m = tt
@@ -170,44 +164,70 @@ finished_once : (m : Option MissingLook) (terminal : List TerminalEffects) (s : 
 finished_once None terminal s = tt
 finished_once (Some m) terminal s = tt
 
-answer_looks : (env : Environment) (func : HirFunction) (r : Result (State × BlockEffects) BlockFault) → Once r → Looks (entry_answer env func (outcome_of r))
-answer_looks env func (Ok x) o = tt
-answer_looks env func (Err (fault.Reinitialized i x)) o = o
-answer_looks env func (Err (fault.Uninitialized m)) o = tt
-answer_looks env func (Err (fault.Memory e)) o = o
+block_once : (env : Environment) (xs : List Instruction) (f : Bool) (b : BlockId) (block : BasicBlock) (x : State) → all_built xs ≡ true → Once (block_step env xs f b block x)
+block_once env xs f b block x h =
+    let begun = stand_of (phi_steps block.phis x) in
+    once_bind (instruction_steps env xs block.instructions begun) _ (instructions_once env xs block.instructions begun h) (λ s. finished_once s.missing _ s)
 
-entry_looks : (env : Environment) (func : HirFunction) (f : Bool) (b : BlockId) (o : Option BasicBlock) (x : State) → all_built func.instructions ≡ true
-    → Looks (entry_answer env func (outcome_at env func.instructions f b o x))
-entry_looks env func f b None x h = tt
-entry_looks env func f b (Some block) x h =
-    answer_looks env func (block_step env func.instructions f b block x)
-    (once_bind (instruction_steps env func.instructions block.instructions (stand_of x)) _ (instructions_once env func.instructions block.instructions (stand_of x) h)
-    (λ s. finished_once s.missing _ s))
+err_once : (d : BlockFault) → Once {A = State × BlockEffects} (Err d) → Once {A = Unit {0}} (Err d)
+err_once (fault.Reinitialized i x) o = o
+err_once (fault.Uninitialized m) o = tt
+err_once (fault.Memory e) o = o
 
-inferred_looks : (env : Environment) (func : HirFunction) (f : Bool) → all_built func.instructions ≡ true → Looks (inferred env func f)
-inferred_looks env func f h = looks_bind (entry_effects env func f) _ (entry_looks env func f func.body.entry _ _ h) (λ r. tt)
+refused_once : (r : Result (State × BlockEffects) BlockFault) (c : BlockFault) → Once r → outcome_of r ≡ Refuses c → Once {A = Unit {0}} (Err c)
+refused_once (Ok x) c o e = cc
+refused_once (Err d) c o e = let same : d ≡ c = cc in subst (λ z. Once {A = Unit {0}} (Err z)) same (err_once d o)
 
-unit_looks : (u : HirUnit) → all_built u.function.instructions ≡ true → Looks (inferred_unit u)
-unit_looks u h = looks_bind (inferred u.env u.function false) _ (inferred_looks u.env u.function false h) (λ s. tt)
+step_once : (env : Environment) (xs : List Instruction) (f : Bool) (o : Option (BlockId × BasicBlock)) (x : State) (c : BlockFault) → all_built xs ≡ true → step_at env xs f o x ≡ Refuses c → Once {A = Unit {0}} (Err c)
+step_once env xs f None x c h e = cc
+step_once env xs f (Some b) x c h e = refused_once (block_step env xs f b.0 b.1 x) c (block_once env xs f b.0 b.1 x h) e
 
-looks_alone : (e : InferError) → Looks {A = Inferred} (Err e) → RefusesLooksAlone (Refused e)
-looks_alone (error.Uninitialized f b x s r) h = tt
-looks_alone (error.Reinitialized f i x) h = h
-looks_alone (error.Memory e) h = h
+-- a refusal is not of an identifier that is made twice
+abbrev Never : {A : Type 0} → Result A InferError → Type 0
+Never (Err (error.Reinitialized f i x)) = ⊥
+Never r = ⊤
 
--- the refusal of a unit whose instructions are built is of a look
-inferred_alone : (u : HirUnit) (status : Status) (i : Option Inferred) → IsInferred u status i → all_built u.function.instructions ≡ true → RefusesLooksAlone status
-inferred_alone u Done i h b = tt
-inferred_alone u Words i h b = tt
-inferred_alone u (Unfit fault) i h b = tt
-inferred_alone u (Refused e) None h b = looks_alone e (subst (λ (r : Result Inferred InferError). Looks r) h (unit_looks u b))
-inferred_alone u (Refused e) (Some x) h b = absurd h
-inferred_alone u ReadFault i h b = tt
-inferred_alone u WriteFault i h b = tt
-inferred_alone u TooLong i h b = tt
-inferred_alone u Memory i h b = tt
-inferred_alone u NotBuilt i h b = tt
+never_bind : {A B : Type 0} (r : Result A InferError) (f : A → Result B InferError) → Never r → ((x : A) → Never (f x)) → Never (r >>= f)
+never_bind (Ok x) f o h = h x
+never_bind (Err (error.NotSettled g n r)) f o h = tt
+never_bind (Err (error.Uninitialized g b x s r)) f o h = tt
+never_bind (Err (error.Reinitialized g i x)) f o h = o
+never_bind (Err (error.Memory e)) f o h = tt
 
--- the refusal of a unit that was read is of a look
-pub refuses_looks : (bytes : List ℕ) (u : HirUnit) (status : Status) (i : Option Inferred) → UnitReading bytes u → IsInferred u status i → RefusesLooksAlone status
-refuses_looks bytes u status i r h = inferred_alone u status i h (both_true _ _ (unit_is_built r.0 u r.2)).1
+refusal_never : (env : Environment) (b : BlockId) (c : BlockFault) → Once {A = Unit {0}} (Err c) → Never {A = Solved} (Err (refusal env b c))
+refusal_never env b (fault.Reinitialized i x) o = o
+refusal_never env b (fault.Uninitialized m) o = tt
+refusal_never env b (fault.Memory e) o = tt
+
+answer_never : (env : Environment) (func : HirFunction) (f : Bool) (e : End (Desk State) (Unit {0}) BlockEffects BlockFault) → all_built func.instructions ≡ true → visits_end env func f ≡ e → Never (answer_of env func e)
+answer_never env func f (end.Solved w) h is = tt
+answer_never env func f (end.Fault n c) h is =
+    let r : IsRefusal (numbered env func f).flow n c = solution_refused state_join state_below (numbered env func f) n c tt (replicate (length func.body.blocks) None) is in
+    refusal_never env (block_at func.body.blocks n) c (step_once env func.instructions f (slice_get func.body.blocks n) r.1 c h r.2)
+answer_never env func f (end.NotSettled n) h is = tt
+
+unit_never : (u : HirUnit) → all_built u.function.instructions ≡ true → Never (inferred_unit u)
+unit_never u h = never_bind (inferred u.env u.function false) _ (answer_never u.env u.function false (visits_end u.env u.function false) h refl) (λ s. tt)
+
+never_refused : (e : InferError) → Never {A = Inferred} (Err e) → NeverReinitialized (Refused e)
+never_refused (error.NotSettled f n r) h = tt
+never_refused (error.Uninitialized f b x s r) h = tt
+never_refused (error.Reinitialized f i x) h = h
+never_refused (error.Memory e) h = tt
+
+-- a unit whose instructions are built isn't refused so
+inferred_never : (u : HirUnit) (status : Status) (i : Option Inferred) → IsInferred u status i → all_built u.function.instructions ≡ true → NeverReinitialized status
+inferred_never u Done i h b = tt
+inferred_never u Words i h b = tt
+inferred_never u (Unfit fault) i h b = tt
+inferred_never u (Refused e) None h b = never_refused e (subst (λ (r : Result Inferred InferError). Never r) h (unit_never u b))
+inferred_never u (Refused e) (Some x) h b = absurd h
+inferred_never u ReadFault i h b = tt
+inferred_never u WriteFault i h b = tt
+inferred_never u TooLong i h b = tt
+inferred_never u Memory i h b = tt
+inferred_never u NotBuilt i h b = tt
+
+-- a unit that was read isn't refused so
+pub read_never : (bytes : List ℕ) (u : HirUnit) (status : Status) (i : Option Inferred) → UnitReading bytes u → IsInferred u status i → NeverReinitialized status
+read_never bytes u status i r h = inferred_never u status i h (both_true _ _ (unit_is_built r.0 u r.2)).1

@@ -15,11 +15,10 @@ use Rattle.alias_tool.specs.Words.{is_command}
 abbrev pub greatest_input : ℕ
 greatest_input = 16777216
 
--- a refusal is of a look without a value alone: an instruction of a built unit makes its identifiers once
-abbrev pub RefusesLooksAlone : Status → Type 0
-RefusesLooksAlone (Refused (error.Uninitialized f b x s r)) = ⊤
-RefusesLooksAlone (Refused e) = ⊥
-RefusesLooksAlone status = ⊤
+-- no refusal is of an identifier that is made twice: an instruction of a built unit makes its identifiers once
+abbrev pub NeverReinitialized : Status → Type 0
+NeverReinitialized (Refused (error.Reinitialized f i x)) = ⊥
+NeverReinitialized status = ⊤
 
 -- what a unit that keeps the rules leads to: its functions are solved, or its root is refused
 abbrev pub IsInferred : HirUnit → Status → Option Inferred → Type 0

@@ -1,4 +1,6 @@
 //! Whole runs over memory.
+mod blocks;
+
 use crate::run::run_alias;
 use alias_base::{List, Text};
 use alias_stream::{MemorySink, MemorySource};

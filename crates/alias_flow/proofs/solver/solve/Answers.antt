@@ -3,7 +3,7 @@ use Rattle.alias_flow.specs.Flags.{flag_round, flag_rounds}
 use Rattle.alias_flow.specs.Machine.{up, ending, NotSettled}
 use Rattle.alias_flow.specs.Desks.{desk_of}
 use Rattle.alias_flow.specs.Runs.{world}
-use Rattle.alias_flow.proofs.Solving.{solution_found, kept_found}
+use Rattle.alias_flow.proofs.Solving.{solution_found, kept_found, others_found, length_found}
 use Rattle.alias_flow.proofs.OneRound.{forward_joins, forward_settles}
 use Rattle.alias_flow.proofs.Flagging.{unsettled_by_flags}
 use Rattle.alias_flow.proofs.Ending.{solved_ends, passed_on}
@@ -110,3 +110,35 @@ returns-then-is_wanted-clause-settles g c forward =
     let over : 100 - c.rounds.counter ≡ 0 = omega arith in
     forward_settles g.met.F.State.Lattice.laws (g.met.F.Flow.laws c.args.flow.now) forward (g.F.Flow.tables c.args.flow.now) _
     (sym c.rounds.invariant.4 ∙ ap (λ n. flag_rounds l.join l.below (g.F.Flow.rules f) n w) over ∙ rounds_over l.join l.below (g.F.Flow.rules f) w (sym c.if-is_wanted.ensures))
+
+pub returns-then-not-is_wanted-clause-others : goal.returns-then-not-is_wanted-clause-others
+returns-then-not-is_wanted-clause-others g c =
+    let l = g.F.State.Lattice in
+    let f = c.rounds.flow in
+    let w = world (desk_of c.rounds.work) (g.F.Flow.tables f) (g.F.Flow.kept f) in
+    others_found g.met.F.State.Lattice.laws (g.met.F.Flow.laws c.args.flow.now) (g.F.Flow.tables c.args.flow.now) w
+    (sym c.rounds.invariant.4 ∙ rounds_settled l.join l.below (g.F.Flow.rules f) _ w (sym c.if-not-is_wanted.ensures)) _ c.into_solution.ensures.entries
+
+pub returns-else-is_wanted-clause-others : goal.returns-else-is_wanted-clause-others
+returns-else-is_wanted-clause-others g c =
+    let l = g.F.State.Lattice in
+    let f = c.rounds.flow in
+    let w = world (desk_of c.rounds.work) (g.F.Flow.tables f) (g.F.Flow.kept f) in
+    others_found g.met.F.State.Lattice.laws (g.met.F.Flow.laws c.args.flow.now) (g.F.Flow.tables c.args.flow.now) w
+    (sym c.rounds.invariant.4 ∙ rounds_settled l.join l.below (g.F.Flow.rules f) _ w (sym c.if-is_wanted.ensures)) _ c.into_solution-else-is_wanted.ensures.entries
+
+pub returns-then-not-is_wanted-clause-count : goal.returns-then-not-is_wanted-clause-count
+returns-then-not-is_wanted-clause-count g c =
+    let l = g.F.State.Lattice in
+    let f = c.rounds.flow in
+    let w = world (desk_of c.rounds.work) (g.F.Flow.tables f) (g.F.Flow.kept f) in
+    length_found g.met.F.State.Lattice.laws (g.met.F.Flow.laws c.args.flow.now) (g.F.Flow.tables c.args.flow.now) w
+    (sym c.rounds.invariant.4 ∙ rounds_settled l.join l.below (g.F.Flow.rules f) _ w (sym c.if-not-is_wanted.ensures)) _ c.into_solution.ensures.entries
+
+pub returns-else-is_wanted-clause-count : goal.returns-else-is_wanted-clause-count
+returns-else-is_wanted-clause-count g c =
+    let l = g.F.State.Lattice in
+    let f = c.rounds.flow in
+    let w = world (desk_of c.rounds.work) (g.F.Flow.tables f) (g.F.Flow.kept f) in
+    length_found g.met.F.State.Lattice.laws (g.met.F.Flow.laws c.args.flow.now) (g.F.Flow.tables c.args.flow.now) w
+    (sym c.rounds.invariant.4 ∙ rounds_settled l.join l.below (g.F.Flow.rules f) _ w (sym c.if-is_wanted.ensures)) _ c.into_solution-else-is_wanted.ensures.entries

@@ -3,7 +3,7 @@ use Rattle.alias_rules.specs.Rules.{rules_hold}
 use Rattle.alias_text.specs.Fault.{IsMemory}
 use Rattle.alias_tool.specs.declared.finding.Finding.{Finding}
 use Rattle.alias_tool.specs.Findings.{IsInferred}
-use Rattle.alias_tool.proofs.Once.{refuses_looks}
+use Rattle.alias_tool.proofs.Once.{read_never}
 use Rattle.alias_tool.proofs.Running.{checked_is, judged, judged_none}
 use Rattle.alias_tool.proofs.finding.judge.Goals as goal
 
@@ -23,4 +23,4 @@ pub returns-in-Ok-check_unit-clause-refused : goal.returns-in-Ok-check_unit-clau
 returns-in-Ok-check_unit-clause-refused c =
     let k = checked_is (rules_hold c.in-Ok.unit) c.in-Ok.unit c.in-Ok-check_unit.checked c.in-Ok-check_unit.ensures in
     let f = c.infer_checked.result in
-    refuses_looks c.args.bytes.now c.in-Ok.unit f.status f.inferred c.in-Ok.ensures.unit (subst (λ u. IsInferred u f.status f.inferred) (sym k.1) c.infer_checked.ensures)
+    read_never c.args.bytes.now c.in-Ok.unit f.status f.inferred c.in-Ok.ensures.unit (subst (λ u. IsInferred u f.status f.inferred) (sym k.1) c.infer_checked.ensures)

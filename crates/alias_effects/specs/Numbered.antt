@@ -1,0 +1,65 @@
+-- A function as a flow over the positions of its blocks, which the solver works with.
+use Rattle.std.specs.Prelude.{ℕ, Bool, List, [], ◌∷◌, length, Option, Some, None, position, replicate, slice_get}
+use Rattle.std.specs.Option.{option_map_or}
+use Rattle.std.specs.Map.{keys_of}
+use Rattle.alias_base.specs.Find.{same_block}
+use Rattle.alias_base.specs.declared.ids.BlockId.{BlockId}
+use Rattle.alias_hir.specs.Terminals.{successors}
+use Rattle.alias_hir.specs.declared.env.Environment.{Environment}
+use Rattle.alias_hir.specs.declared.hir.BasicBlock.{BasicBlock}
+use Rattle.alias_hir.specs.declared.hir.HirFunction.{HirFunction}
+use Rattle.alias_hir.specs.declared.hir.Instruction.{Instruction}
+use Rattle.alias_lattice.specs.Flows.{Outcome, Stepped}
+use Rattle.alias_lattice.specs.States.{State, state_below, state_join}
+use Rattle.alias_flow.specs.Machine.{Rules, Desk, End, solution}
+use Rattle.alias_effects.specs.Blocks.{block_step, outcome_of, no_effects, initial_state}
+use Rattle.alias_effects.specs.declared.block.BlockEffects.{BlockEffects}
+use Rattle.alias_effects.specs.declared.faults.BlockFault.{BlockFault}
+
+-- the blocks of a function in stored order, with their names
+abbrev pub Blocks : Type 0
+Blocks = List (BlockId × BasicBlock)
+
+-- where the block stands in stored order, if it is one
+abbrev pub position_of : Blocks → BlockId → Option ℕ
+position_of blocks b = position (same_block b) (keys_of blocks)
+
+abbrev pub with_position : Option ℕ → List ℕ → List ℕ
+with_position None ns = ns
+with_position (Some n) ns = n ∷ ns
+
+-- where those of the list that are blocks stand
+abbrev pub positions_of : Blocks → List BlockId → List ℕ
+positions_of blocks [] = []
+positions_of blocks (b ∷ bs) = with_position (position_of blocks b) (positions_of blocks bs)
+
+-- where the successors of a block stand
+abbrev pub edges_at : Blocks → Option (BlockId × BasicBlock) → List ℕ
+edges_at blocks None = []
+edges_at blocks (Some b) = positions_of blocks (successors b.1.terminal)
+
+-- a position past the end does nothing
+abbrev pub step_at : Environment → List Instruction → Bool → Option (BlockId × BasicBlock) → State → Outcome State (Unit {0}) BlockEffects BlockFault
+step_at env instructions is_function_expression None x = Stepped x tt no_effects
+step_at env instructions is_function_expression (Some b) x = outcome_of (block_step env instructions is_function_expression b.0 b.1 x)
+
+-- where the entry stands; a function that keeps the rules has one
+abbrev pub entry_position : HirFunction → ℕ
+entry_position func = option_map_or (λ n. n) (position_of func.body.blocks func.body.entry) 0
+
+-- a function as a flow over the positions of its blocks; there are no tables yet
+abbrev pub numbered : Environment → HirFunction → Bool → Rules State (Unit {0}) BlockEffects BlockFault
+numbered env func is_function_expression = record {
+  blocks = length func.body.blocks;
+  flow = record {
+    entry = entry_position func;
+    initial = initial_state func;
+    edges = λ n. edges_at func.body.blocks (slice_get func.body.blocks n);
+    step = λ tables n x. step_at env func.instructions is_function_expression (slice_get func.body.blocks n) x;
+  };
+}
+
+-- how the sequence of visits of the function ends
+abbrev pub visits_end : Environment → HirFunction → Bool → End (Desk State) (Unit {0}) BlockEffects BlockFault
+visits_end env func is_function_expression =
+    solution state_join state_below (numbered env func is_function_expression) tt (replicate (length func.body.blocks) None)
