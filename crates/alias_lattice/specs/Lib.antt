@@ -17,4 +17,5 @@ pub mod SiteOrder
 pub mod States
 pub mod Standing
 pub mod Joins
+pub mod Proper
 pub mod Flows

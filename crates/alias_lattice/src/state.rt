@@ -5,7 +5,7 @@ ghost use Rattle.std.specs.Option.{is_some};
 ghost use Rattle.std.specs.FinMap.{find};
 ghost use Rattle.alias_lattice.specs.Maps.{join_option};
 ghost use Rattle.alias_lattice.specs.Keys.{id_cmp};
-ghost use Rattle.alias_lattice.specs.States.{State, empty_state, initialized, defined, defined_as, defaulted, assigned, given, look_with_span, value_at, sites_of, next_value, next_variable, frozen, does_freeze, does_freeze_at, frozen_at, freezes, freezes_value, value_over, all_set, mutable_other, one_site, look_at, union_over, sites_join, both_sites, phied, appended, state_join, state_below};
+ghost use Rattle.alias_lattice.specs.States.{State, empty_state, initialized, defined, defined_as, defaulted, assigned, given, look_with_span, value_at, sites_of, next_value, next_variable, frozen, does_freeze, does_freeze_at, frozen_at, freezes, freezes_value, value_over, all_set, mutable_other, one_site, look_at, union_over, operand_ids, sites_join, both_sites, phied, appended, state_join, state_below};
 ghost use Rattle.alias_lattice.specs.Standing.{StateProper, Stands, AreValued};
 ghost use Rattle.alias_lattice.specs.Joins.{state_laws};
 ghost use Rattle.alias_lattice.specs.declared.site.Site.TheVariants.{Default};
@@ -17,9 +17,9 @@ use crate::reasons::ReasonSet;
 use crate::site::Site;
 use crate::site_set::SiteSet;
 use crate::value::AbstractValue;
-use alias_base::IdentifierId;
+use alias_base::{BlockMap, IdentifierId};
 use alias_hir::effect::{ValueKind, ValueReason};
-use alias_hir::place::Span;
+use alias_hir::place::{Place, Span};
 use std::alloc::{AllocError, Global};
 use std::marker::Model;
 
@@ -227,11 +227,11 @@ impl InferenceState {
         }
     }
 
-    /// The union of the sets of the defined places.
-    fn union_over(&self, places: &[IdentifierId]) -> Result<Option<SiteSet>, AllocError>
-        ensures { IfOk result (λ sites. sites ≡ union_over self.now.variables places.now None) }
+    /// The union of the sets of the defined operands.
+    fn union_over(&self, operands: &BlockMap<Place>) -> Result<Option<SiteSet>, AllocError>
+        ensures { IfOk result (λ sites. sites ≡ union_over self.now.variables (operand_ids operands.now) None) }
     {
-        union_over(&self.variables, places)
+        union_over(&self.variables, operands)
     }
 
     /// The phi takes the union of the sets of its defined operands, and stays where none is defined. An `Err`
@@ -239,7 +239,7 @@ impl InferenceState {
     pub fn infer_phi(
         &mut self,
         phi: IdentifierId,
-        operands: &[IdentifierId],
+        operands: &BlockMap<Place>,
     ) -> Result<(), AllocError>
         ensures ok { OnOk result (self.new ≡ phied phi operands.now self.old) }
         ensures err { OnErr result (self.new ≡ self.old) }
@@ -456,16 +456,16 @@ fn union(so_far: Option<SiteSet>, more: &SiteSet) -> Result<Option<SiteSet>, All
     }
 }
 
-/// The union of the sets of the places that have one.
+/// The union of the sets of the operands that have one.
 fn union_over(
     variables: &LatticeMap<IdentifierId, SiteSet>,
-    places: &[IdentifierId],
+    operands: &BlockMap<Place>,
 ) -> Result<Option<SiteSet>, AllocError>
-    ensures { IfOk result (λ sites. sites ≡ union_over variables.now places.now None) }
+    ensures { IfOk result (λ sites. sites ≡ union_over variables.now (operand_ids operands.now) None) }
 {
     let mut sites = None;
-    for place in places {
-        sites = match variables.get(*place) {
+    for (_, place) in operands.iter() {
+        sites = match variables.get(place.identifier) {
             Some(more) => union(sites, more)?,
             None => sites,
         };

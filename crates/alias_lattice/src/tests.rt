@@ -9,8 +9,9 @@ use crate::site::Site;
 use crate::site_set::SiteSet;
 use crate::state::InferenceState;
 use crate::value::AbstractValue;
-use alias_base::{FunctionId, IdentifierId};
+use alias_base::{BlockId, BlockMap, FunctionId, IdentifierId};
 use alias_hir::effect::{ValueKind, ValueReason};
+use alias_hir::place::Place;
 use std::alloc::Global;
 use std::test::Fail;
 
@@ -82,13 +83,22 @@ fn joins_maps_key_by_key(rt: HostRuntime) -> Result<(), Fail> {
     Ok(())
 }
 
+#[test]
+fn joins_frozen_with_mutable(rt: HostRuntime) -> Result<(), Fail> {
+    let mut one: LatticeMap<u32, ValueKind> = LatticeMap::empty(rt.alloc());
+    let mut two: LatticeMap<u32, ValueKind> = LatticeMap::empty(rt.alloc());
+    one.set(1, ValueKind::Frozen)?;
+    two.set(1, ValueKind::Mutable)?;
+    assert!(rt; one.join_from(&two)?);
+    assert_eq!(rt; one.get(1).copied(), Some(ValueKind::MaybeFrozen));
+    Ok(())
+}
+
 fn one_value(alloc: Global) -> Result<InferenceState, Fail> {
+    let site = created(1);
     let mut state = InferenceState::empty(alloc);
-    state.give(
-        IdentifierId(1),
-        created(1),
-        value(ValueKind::Mutable, ValueReason::Other),
-    )?;
+    state.initialize(site, value(ValueKind::Mutable, ValueReason::Other))?;
+    state.define(IdentifierId(1), site)?;
     Ok(state)
 }
 
@@ -154,6 +164,38 @@ fn defines_by_two_sites(rt: HostRuntime) -> Result<(), Fail> {
 }
 
 #[test]
+fn gives_the_set_that_was_defined(rt: HostRuntime) -> Result<(), Fail> {
+    let (one, context) = (created(1), Site::Context(IdentifierId(9)));
+    let mut state = InferenceState::empty(rt.alloc());
+    state.initialize(one, value(ValueKind::Mutable, ValueReason::Other))?;
+    state.initialize(context, value(ValueKind::Context, ValueReason::Other))?;
+    let mut sites = SiteSet::empty(rt.alloc());
+    sites.insert(one)?;
+    sites.insert(context)?;
+    let same = sites.try_clone()?;
+    state.define_all(IdentifierId(4), sites)?;
+    assert!(rt;
+        state
+            .values_for(IdentifierId(4))
+            .is_some_and(|set| set.entries() == same.entries())
+    );
+    Ok(())
+}
+
+/// The operands of a phi, each from a block of its own.
+fn operands(alloc: Global, identifiers: &[u32]) -> Result<BlockMap<Place>, Fail> {
+    let mut map = BlockMap::new(alloc);
+    for identifier in identifiers {
+        let place = Place {
+            identifier: IdentifierId(*identifier),
+            ..Place::default()
+        };
+        map.insert(BlockId(*identifier), place)?;
+    }
+    Ok(map)
+}
+
+#[test]
 fn unites_sets(rt: HostRuntime) -> Result<(), Fail> {
     let (one, two, three) = (IdentifierId(1), IdentifierId(2), IdentifierId(3));
     let mut state = one_value(rt.alloc())?;
@@ -162,7 +204,7 @@ fn unites_sets(rt: HostRuntime) -> Result<(), Fail> {
         created(2),
         value(ValueKind::Context, ValueReason::Other),
     )?;
-    state.infer_phi(three, [two, IdentifierId(9)].as_slice())?;
+    state.infer_phi(three, &operands(rt.alloc(), [2, 9].as_slice())?)?;
     state.append_alias(one, three)?;
     let kind = state.kind_with_span(one, None).value.kind;
     assert_eq!(rt; kind, ValueKind::Context);
@@ -170,14 +212,35 @@ fn unites_sets(rt: HostRuntime) -> Result<(), Fail> {
 }
 
 #[test]
+fn unites_nothing_with_what_is_not_defined(rt: HostRuntime) -> Result<(), Fail> {
+    let (one, two, three) = (IdentifierId(1), IdentifierId(2), IdentifierId(3));
+    let mut state = one_value(rt.alloc())?;
+    state.assign(two, one)?;
+    let before = state.try_clone()?;
+    state.infer_phi(three, &operands(rt.alloc(), [8, 9].as_slice())?)?;
+    state.append_alias(two, IdentifierId(9))?;
+    assert!(rt; state.is_below(&before) && before.is_below(&state));
+    assert!(rt; !state.is_defined(three));
+    Ok(())
+}
+
+#[test]
 fn merges_what_grows(rt: HostRuntime) -> Result<(), Fail> {
-    let mut one = one_value(rt.alloc())?;
-    let mut two = one.try_clone()?;
-    assert!(rt; one.merge(&two)?.is_none());
-    two.freeze(IdentifierId(1), ValueReason::State)?;
-    assert!(rt; one.merge(&two)?.is_some());
-    assert!(rt; one.merge_from(&two)? && !one.merge_from(&two)?);
-    let kind = one.kind_with_span(IdentifierId(1), None).value.kind;
-    assert_eq!(rt; kind, ValueKind::MaybeFrozen);
+    let (one, two) = (IdentifierId(1), IdentifierId(2));
+    let mut state = one_value(rt.alloc())?;
+    state.assign(two, one)?;
+    let mut frozen = state.try_clone()?;
+    assert!(rt; state.merge(&frozen)?.is_none());
+    frozen.freeze(two, ValueReason::JsxCaptured)?;
+    let both = AbstractValue {
+        kind: ValueKind::MaybeFrozen,
+        reason: ReasonSet::single(ValueReason::JsxCaptured).union(&ReasonSet::single(
+            ValueReason::Other,
+        )),
+    };
+    let merged = state.merge(&frozen)?;
+    assert!(rt; merged.is_some_and(|m| m.kind_with_span(one, None).value == both));
+    assert!(rt; state.merge_from(&frozen)? && !state.merge_from(&frozen)?);
+    assert_eq!(rt; state.kind_with_span(one, None).value, both);
     Ok(())
 }
