@@ -6,7 +6,7 @@ use alias_base::{
     TypeId,
 };
 use alias_hir::env::{Environment, Identifier, IdentifierName, MutableRange, Unit};
-use alias_hir::hir::{BasicBlock, FunctionType, Hir, HirFunction, Instruction};
+use alias_hir::hir::{BasicBlock, FunctionType, Hir, HirFunction, Instruction, Phi};
 use alias_hir::place::{Effect, Place, Span};
 use alias_hir::terminal::Terminal;
 use alias_hir::types::Ty;
@@ -65,12 +65,12 @@ fn instructions(alloc: Global) -> Result<List<Instruction>, AllocError> {
 }
 
 /// A unit of one block, with number 0, and four instructions.
-fn unit(
+fn unit_ending(
     alloc: Global,
     type_: u32,
     standing: &[u32],
     entry: u32,
-    order: u32,
+    terminal: Terminal,
 ) -> Result<Unit, AllocError> {
     let mut numbers = List::new(alloc);
     for number in standing {
@@ -80,11 +80,7 @@ fn unit(
     let block = BasicBlock {
         phis: List::new(alloc),
         instructions: numbers,
-        terminal: Terminal::Return {
-            id: EvaluationOrder(order),
-            value: place(1),
-            effects: None,
-        },
+        terminal,
     };
     blocks.insert(BlockId(0), block)?;
     Ok(Unit {
@@ -102,6 +98,24 @@ fn unit(
         },
         env: environment(alloc, type_)?,
     })
+}
+
+fn returning(order: u32) -> Terminal {
+    Terminal::Return {
+        id: EvaluationOrder(order),
+        value: place(1),
+        effects: None,
+    }
+}
+
+fn unit(
+    alloc: Global,
+    type_: u32,
+    standing: &[u32],
+    entry: u32,
+    order: u32,
+) -> Result<Unit, AllocError> {
+    unit_ending(alloc, type_, standing, entry, returning(order))
 }
 
 fn refusal(
@@ -196,5 +210,183 @@ fn names_the_later_rules(rt: HostRuntime) -> Result<(), Fail> {
             })
         )
     );
+    Ok(())
+}
+
+fn goto(block: u32) -> Terminal {
+    Terminal::Goto {
+        id: EvaluationOrder(6),
+        block: BlockId(block),
+    }
+}
+
+fn entering(block: u32, handler: u32) -> Terminal {
+    Terminal::Try {
+        id: EvaluationOrder(7),
+        block: BlockId(block),
+        handler: BlockId(handler),
+        handler_binding: None,
+    }
+}
+
+fn branching(consequent: u32, alternate: u32) -> Terminal {
+    Terminal::Branch {
+        id: EvaluationOrder(8),
+        test: place(0),
+        consequent: BlockId(consequent),
+        alternate: BlockId(alternate),
+    }
+}
+
+/// A unit whose block 0 has the four instructions of the list.
+fn beginning(alloc: Global, terminal: Terminal) -> Result<Unit, AllocError> {
+    unit_ending(alloc, 0, &[0, 1, 2, 3], 0, terminal)
+}
+
+/// Adds a block with no instructions.
+fn put(
+    alloc: Global,
+    unit: &mut Unit,
+    number: u32,
+    phis: List<Phi>,
+    terminal: Terminal,
+) -> Result<(), AllocError> {
+    let block = BasicBlock {
+        phis,
+        instructions: List::new(alloc),
+        terminal,
+    };
+    unit.function.body.blocks.insert(BlockId(number), block)?;
+    Ok(())
+}
+
+/// A phi of the place, whose operands are `operand` for each of the blocks.
+fn phi_of(
+    alloc: Global,
+    place: Place,
+    blocks: &[u32],
+    operand: Place,
+) -> Result<List<Phi>, AllocError> {
+    let mut operands = BlockMap::new(alloc);
+    for block in blocks {
+        operands.insert(BlockId(*block), operand)?;
+    }
+    let mut phis = List::new(alloc);
+    phis.push(Phi { place, operands })?;
+    Ok(phis)
+}
+
+/// A loop of blocks 1 and 2, with a phi in block 1.
+fn looping(alloc: Global, phis: List<Phi>) -> Result<Unit, AllocError> {
+    let mut unit = beginning(alloc, goto(1))?;
+    put(alloc, &mut unit, 1, phis, branching(2, 3))?;
+    put(alloc, &mut unit, 2, List::new(alloc), goto(1))?;
+    put(alloc, &mut unit, 3, List::new(alloc), returning(9))?;
+    Ok(unit)
+}
+
+fn fault(rt: &impl Abort, alloc: Global, unit: Unit) -> Option<UnitFault> {
+    assert!(rt; unit.function.instructions.len() == 4);
+    check_unit(alloc, unit).err()
+}
+
+#[test]
+fn accepts_a_loop_with_a_phi(rt: HostRuntime) -> Result<(), Fail> {
+    let alloc = rt.alloc();
+    let phis = phi_of(alloc, place(1), &[0, 2], place(0))?;
+    let unit = looping(alloc, phis)?;
+    assert!(rt; check_function(alloc, &unit.function, &unit.env)?);
+    assert!(rt; fault(&rt, alloc, unit).is_none());
+    Ok(())
+}
+
+#[test]
+fn terminals_lead_to_blocks(rt: HostRuntime) -> Result<(), Fail> {
+    let alloc = rt.alloc();
+    let unit = unit_ending(alloc, 0, &[0, 1], 0, goto(7))?;
+    assert!(rt; !check_function(alloc, &unit.function, &unit.env)?);
+    assert!(rt;
+        matches!(
+            fault(&rt, alloc, unit),
+            Some(UnitFault::SuccessorMissing {
+                function: None,
+                block: BlockId(0),
+                named: BlockId(7),
+            })
+        )
+    );
+    let mut unit = beginning(alloc, goto(1))?;
+    put(alloc, &mut unit, 1, List::new(alloc), entering(0, 8))?;
+    assert!(rt;
+        matches!(
+            fault(&rt, alloc, unit),
+            Some(UnitFault::SuccessorMissing {
+                function: None,
+                block: BlockId(1),
+                named: BlockId(8),
+            })
+        )
+    );
+    Ok(())
+}
+
+#[test]
+fn a_handler_has_one_try(rt: HostRuntime) -> Result<(), Fail> {
+    let alloc = rt.alloc();
+    let mut unit = beginning(alloc, entering(1, 2))?;
+    let phis = phi_of(alloc, place(1), &[2], place(0))?;
+    put(alloc, &mut unit, 1, phis, entering(2, 2))?;
+    put(alloc, &mut unit, 2, List::new(alloc), returning(0))?;
+    assert!(rt; !check_function(alloc, &unit.function, &unit.env)?);
+    assert!(rt;
+        matches!(
+            fault(&rt, alloc, unit),
+            Some(UnitFault::TwoTrys {
+                function: None,
+                handler: BlockId(2),
+            })
+        )
+    );
+    Ok(())
+}
+
+#[test]
+fn operands_are_for_predecessors(rt: HostRuntime) -> Result<(), Fail> {
+    let alloc = rt.alloc();
+    let phis = phi_of(alloc, place(1), &[0, 2, 3], place(0))?;
+    let unit = looping(alloc, phis)?;
+    assert!(rt; !check_function(alloc, &unit.function, &unit.env)?);
+    assert!(rt;
+        matches!(
+            fault(&rt, alloc, unit),
+            Some(UnitFault::PhiNoPredecessor {
+                function: None,
+                block: BlockId(1),
+                named: BlockId(3),
+            })
+        )
+    );
+    Ok(())
+}
+
+#[test]
+fn looks_at_the_places_of_phis(rt: HostRuntime) -> Result<(), Fail> {
+    let alloc = rt.alloc();
+    let phis = phi_of(alloc, place(1), &[0, 5], place(2))?;
+    let unit = looping(alloc, phis)?;
+    assert!(rt;
+        matches!(
+            fault(&rt, alloc, unit),
+            Some(UnitFault::IdOutOfRange {
+                table: Table::Identifiers,
+                number: 2,
+            })
+        )
+    );
+    let mut captured = place(0);
+    captured.effect = Effect::Capture;
+    let phis = phi_of(alloc, place(1), &[0, 2], captured)?;
+    let unit = looping(alloc, phis)?;
+    assert!(rt; matches!(fault(&rt, alloc, unit), Some(UnitFault::SomethingInferred)));
     Ok(())
 }
