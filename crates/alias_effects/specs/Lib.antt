@@ -3,6 +3,8 @@ pub mod Rows
 pub mod Signatures
 pub mod Blocks
 pub mod BlockResults
+pub mod RowProper
+pub mod BlockProper
 pub mod Solutions
 pub mod Numbered
 pub mod Recording

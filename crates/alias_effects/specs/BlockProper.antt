@@ -1,0 +1,89 @@
+-- The step of a block keeps the state proper.
+use Rattle.std.specs.Prelude.{◌≡◌, Bool, true, false, List, [], ◌∷◌, Option, Some, None, Result, Ok, Err, slice_get}
+use Rattle.std.proofs.Common.{subst}
+use Rattle.std.specs.Option.{is_some}
+use Rattle.alias_base.specs.Answer.{◌>>=◌}
+use Rattle.alias_base.specs.declared.ids.BlockId.{BlockId}
+use Rattle.alias_base.specs.declared.ids.IdentifierId.{IdentifierId}
+use Rattle.alias_base.specs.declared.ids.InstructionId.{InstructionId}
+use Rattle.alias_hir.specs.declared.env.Environment.{Environment}
+use Rattle.alias_hir.specs.declared.hir.BasicBlock.{BasicBlock}
+use Rattle.alias_hir.specs.declared.hir.Instruction.{Instruction}
+use Rattle.alias_hir.specs.declared.hir.Phi.{Phi}
+use Rattle.alias_lattice.specs.declared.look.MissingLook.{MissingLook}
+use Rattle.alias_lattice.specs.declared.site.Site.TheVariants.{Default}
+use Rattle.alias_lattice.specs.States.{State, sites_of, phied}
+use Rattle.alias_lattice.specs.Standing.{StateProper}
+use Rattle.alias_lattice.specs.Proper.{proper-phied, proper-defined_default}
+use Rattle.alias_effects.specs.declared.block.BlockEffects.{BlockEffects}
+use Rattle.alias_effects.specs.declared.block.Stand.{Stand}
+use Rattle.alias_effects.specs.declared.faults.BlockFault.{BlockFault}
+use Rattle.alias_effects.specs.declared.faults.StepFault.{StepFault}
+use Rattle.alias_effects.specs.declared.solved.TerminalEffects.{TerminalEffects}
+use Rattle.alias_effects.specs.declared.spot.Spot.{Spot}
+use Rattle.alias_effects.specs.RowProper.{SpotProper, StepProper, steps_proper}
+use Rattle.alias_effects.specs.Signatures.{raised_effects}
+use Rattle.alias_effects.specs.Rows.{rows}
+use Rattle.alias_effects.specs.Blocks.{spot_at, with_default, after_list, in_block, instruction_step, numbered_step, instruction_steps, stand_of, phi_steps, terminal_effects, finished, block_step}
+
+-- the state of the stand is proper
+abbrev pub StandProper : Stand → Type 0
+StandProper s = StateProper s.state
+
+-- where the step is Ok, the stand after it has a proper state
+abbrev pub StandStepProper : Result Stand BlockFault → Type 0
+StandStepProper (Ok s) = StandProper s
+StandStepProper (Err e) = Unit {0}
+
+-- where the block's step is Ok, the state after it is proper
+abbrev pub BlockStepProper : Result (State × BlockEffects) BlockFault → Type 0
+BlockStepProper (Ok r) = StateProper r.0
+BlockStepProper (Err e) = Unit {0}
+
+phis_proper : (ps : List Phi) (x : State) → StateProper x → StateProper (phi_steps ps x)
+phis_proper [] x h = h
+phis_proper (p ∷ ps) x h = phis_proper ps (phied p.place.identifier p.operands x) (proper-phied p.place.identifier p.operands x h)
+
+default_proper : (b : Bool) (x : IdentifierId) (s : State) → StateProper s → StateProper (with_default b x s)
+default_proper true x s h = h
+default_proper false x s h = proper-defined_default x (Default x) s h
+
+-- an instruction's list, and then the default of its result
+list_proper : (i : InstructionId) (f : Spot → Stand) (r : Result Spot StepFault) → StepProper r → ((u : Spot) → SpotProper u → StandProper (f u)) → StandStepProper (in_block i r >>= (λ u. Ok (f u)))
+list_proper i f (Ok u) h g = g u h
+list_proper i f (Err e) h g = tt
+
+instruction_proper : (env : Environment) (i : InstructionId) (x : Instruction) (s : Stand) → StandProper s → StandStepProper (instruction_step env i x s)
+instruction_proper env i x s h =
+    list_proper i (after_list i x.lvalue.identifier s.effects) (rows (raised_effects env x) (spot_at s)) (steps_proper (raised_effects env x) (spot_at s) h)
+    (λ u g. default_proper (is_some (sites_of u.state x.lvalue.identifier)) x.lvalue.identifier u.state g)
+
+numbered_proper : (env : Environment) (i : InstructionId) (o : Option Instruction) (s : Stand) → StandProper s → StandStepProper (numbered_step env i o s)
+numbered_proper env i None s h = h
+numbered_proper env i (Some x) s h = instruction_proper env i x s h
+
+-- both of two steps that follow one another keep it
+both_proper : (r : Result Stand BlockFault) (f : Stand → Result Stand BlockFault) → StandStepProper r → ((s : Stand) → StandProper s → StandStepProper (f s)) → StandStepProper (r >>= f)
+both_proper (Ok s) f h g = g s h
+both_proper (Err e) f h g = tt
+
+instructions_proper : (env : Environment) (xs : List Instruction) (is : List InstructionId) (s : Stand) → StandProper s → StandStepProper (instruction_steps env xs is s)
+instructions_proper env xs [] s h = h
+instructions_proper env xs (i ∷ is) s h =
+    both_proper (numbered_step env i (slice_get xs i.0) s) (instruction_steps env xs is) (numbered_proper env i (slice_get xs i.0) s h) (λ t g. instructions_proper env xs is t g)
+
+finished_proper : (m : Option MissingLook) (terminal : List TerminalEffects) (s : Stand) → StandProper s → BlockStepProper (finished m terminal s)
+finished_proper (Some m) terminal s h = tt
+finished_proper None terminal s h = h
+
+end_proper : (terminal : List TerminalEffects) (r : Result Stand BlockFault) → StandStepProper r → BlockStepProper (r >>= (λ s. finished s.missing terminal s))
+end_proper terminal (Ok s) h = finished_proper s.missing terminal s h
+end_proper terminal (Err e) h = tt
+
+-- the step of a block from a proper state gives a proper state
+pub block_proper : (env : Environment) (instructions : List Instruction) (is_function_expression : Bool) (b : BlockId) (block : BasicBlock) (x : State) (r : State × BlockEffects)
+    → block_step env instructions is_function_expression b block x ≡ Ok r → StateProper x → StateProper r.0
+block_proper env instructions is_function_expression b block x r e h =
+    subst BlockStepProper e
+    (end_proper (terminal_effects is_function_expression b block.terminal) (instruction_steps env instructions block.instructions (stand_of (phi_steps block.phis x)))
+    (instructions_proper env instructions block.instructions (stand_of (phi_steps block.phis x)) (phis_proper block.phis x h)))
