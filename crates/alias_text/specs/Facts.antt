@@ -1,5 +1,5 @@
 -- What follows for a unit that was read.
-use Rattle.std.specs.Prelude.{refl, ◌≡◌, ℕ, ◌^◌, ◌<◌, Bool, true, false, ◌&&◌, ◌==◌, List, [], length, Some, Result, Ok, Err, if◌then◌else◌}
+use Rattle.std.specs.Prelude.{refl, ◌≡◌, ℕ, ◌^◌, ◌<◌, Bool, true, false, ◌&&◌, List, [], length, Some, Result, Ok, Err, if◌then◌else◌}
 use Rattle.std.proofs.Common.{sym, ◌∙◌}
 use Rattle.std.proofs.lemmas.Bool.{ltb-true}
 use Rattle.alias_base.specs.Answer.{◌>>=◌}
@@ -28,12 +28,17 @@ built_after (Err x) u e = cc
 pub unit_is_built : (d : Data) (u : HirUnit) → unit_of d ≡ Ok u → built u ≡ true
 unit_is_built d u e = built_after (unit_at [] d) u e
 
--- 32 bits count the instructions of a built unit
-pub built_fits : (u : HirUnit) → built u ≡ true → length u.function.instructions < 2 ^ 32
+-- 32 bits count the blocks and the instructions of a built unit
+pub built_fits : (u : HirUnit) → built u ≡ true → (length u.function.body.blocks < 2 ^ 32) × (length u.function.instructions < 2 ^ 32)
 built_fits u e =
-    let first : ((length u.function.body.blocks == 1) && fits u.env.identifiers && fits u.env.types && fits u.function.instructions) ≡ true = (both_true _ _ e).0 in
-    let fit : fits u.function.instructions ≡ true = (both_true _ _ first).1 in
-    ltb-true (length u.function.instructions) (2 ^ 32) fit
+    let tables : (fits u.function.body.blocks && fits u.env.identifiers && fits u.env.types && fits u.function.instructions) ≡ true = (both_true _ _ e).0 in
+    let three : (fits u.function.body.blocks && fits u.env.identifiers && fits u.env.types) ≡ true = (both_true _ _ tables).0 in
+    let blocks : fits u.function.body.blocks ≡ true = (both_true _ _ (both_true _ _ three).0).0 in
+    let instructions : fits u.function.instructions ≡ true = (both_true _ _ tables).1 in
+    (ltb-true (length u.function.body.blocks) (2 ^ 32) blocks, ltb-true (length u.function.instructions) (2 ^ 32) instructions)
+
+pub blocks_fit : (d : Data) (u : HirUnit) → unit_of d ≡ Ok u → length u.function.body.blocks < 2 ^ 32
+blocks_fit d u e = (built_fits u (unit_is_built d u e)).0
 
 pub instructions_fit : (d : Data) (u : HirUnit) → unit_of d ≡ Ok u → length u.function.instructions < 2 ^ 32
-instructions_fit d u e = built_fits u (unit_is_built d u e)
+instructions_fit d u e = (built_fits u (unit_is_built d u e)).1
