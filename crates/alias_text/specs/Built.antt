@@ -35,5 +35,4 @@ fits xs = nat_lt (length xs) (2 ^ 32)
 
 abbrev pub built : HirUnit → Bool
 built u =
-    (length u.function.body.blocks == 1) && fits u.env.identifiers && fits u.env.types && fits u.function.instructions
-    && all_built u.function.instructions
+    fits u.function.body.blocks && fits u.env.identifiers && fits u.env.types && fits u.function.instructions && all_built u.function.instructions

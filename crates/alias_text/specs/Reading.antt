@@ -1,9 +1,9 @@
 -- How parts of a unit are read from JSON data.
-use Rattle.std.specs.Prelude.{ℕ, ◌+◌, ◌++◌, ◌^◌, Bool, true, false, ◌||◌, nat_eq, List, [], ◌∷◌, Option, Some, None, Result, Ok, ⊤, nat_lt, if◌then◌else◌}
+use Rattle.std.specs.Prelude.{ℕ, ◌+◌, ◌++◌, ◌^◌, Bool, true, false, not, ◌&&◌, ◌||◌, nat_eq, List, [], ◌∷◌, Option, Some, None, Result, Ok, ⊤, nat_lt, is_some, if◌then◌else◌}
 use Rattle.alias_base.specs.Answer.{◌>>=◌}
 use Rattle.serde_json.specs.Data.{Num, unsigned, negative, float, Data, null, boolean, number, string, array, object, Items, no_items, item, Members, no_members, member}
 use Rattle.std.specs.Cmp.Lexicographic.{pointwise}
-use Rattle.serde_json.specs.Find.{get}
+use Rattle.serde_json.specs.Find.{get, at}
 use Rattle.alias_text.specs.Pointer.{at_key, at_index}
 use Rattle.alias_text.specs.Fault.{refusal}
 use Rattle.alias_text.specs.declared.read.fault.TextFault.{TextFault}
@@ -92,6 +92,18 @@ option_at f p (number n) = some (f p (number n))
 option_at f p (string s) = some (f p (string s))
 option_at f p (array ds) = some (f p (array ds))
 option_at f p (object ms) = some (f p (object ms))
+
+-- an array of two
+abbrev pub pair_at : Reads ⊤
+pair_at p d = if is_some (at 1 d) && not (is_some (at 2 d)) then Ok tt else refusal p Kind
+
+abbrev pub if_item : {A : Type 0} → Reads A → List ℕ → ℕ → Option Data → Result A TextFault
+if_item f p i None = refusal p Kind
+if_item f p i (Some d) = f (at_index p i) d
+
+-- the item at an index of an array that has one there
+abbrev pub element : {A : Type 0} → Reads A → List ℕ → ℕ → Data → Result A TextFault
+element f p i d = if_item f p i (at i d)
 
 abbrev pub text_is : List ℕ → List ℕ → Bool
 text_is a b = pointwise nat_eq a b

@@ -1,9 +1,11 @@
 //! Reads a unit, which is written as JSON.
 
 pub mod built;
+pub mod entries;
 pub mod fault;
 pub mod functions;
 pub mod json;
+pub mod kinds;
 pub mod only;
 pub mod path;
 pub mod tables;

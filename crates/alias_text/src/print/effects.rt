@@ -40,11 +40,11 @@ fn reason_word(reason: ValueReason) -> &'static str
 }
 
 /// Appends a space and a number.
-pub(super) fn push_spaced(out: &mut Text, number: u32) -> Result<(), AllocError>
+pub(super) fn push_spaced(out: &mut Text, number: u64) -> Result<(), AllocError>
     ensures { OnOk result (out.new ≡ out.old ++ spaced number) }
 {
     out.push_str(" ")?;
-    out.push_number(number as u64)
+    out.push_number(number)
 }
 
 /// Appends a name and one identifier.
@@ -52,7 +52,7 @@ fn push_one(out: &mut Text, name: &str, place: &Place) -> Result<(), AllocError>
     ensures { OnOk result (out.new ≡ out.old ++ one_text name.now place.now) }
 {
     out.push_str(name)?;
-    push_spaced(out, place.identifier.0)
+    push_spaced(out, u64::from(place.identifier.0))
 }
 
 /// Appends a name and two identifiers.
@@ -60,7 +60,7 @@ fn push_pair(out: &mut Text, name: &str, from: &Place, into: &Place) -> Result<(
     ensures { OnOk result (out.new ≡ out.old ++ pair_text name.now from.now into.now) }
 {
     push_one(out, name, from)?;
-    push_spaced(out, into.identifier.0)
+    push_spaced(out, u64::from(into.identifier.0))
 }
 
 fn push_create(

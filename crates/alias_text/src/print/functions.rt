@@ -83,11 +83,9 @@ fn push_instructions(
 fn push_terminal(out: &mut Text, terminal: &Terminal) -> Result<(), AllocError>
     ensures { OnOk result (out.new ≡ out.old ++ terminal_lines terminal.now) }
 {
-    match terminal {
-        Terminal::Return { effects, .. } => match effects {
-            Some(effects) => push_end_lines(out, effects.as_slice()),
-            None => Ok(()),
-        },
+    match terminal.effects() {
+        Some(effects) => push_end_lines(out, effects.as_slice()),
+        None => Ok(()),
     }
 }
 

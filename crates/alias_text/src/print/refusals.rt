@@ -40,7 +40,7 @@ fn push_at_number(
     out: &mut Text,
     name: &str,
     function: Option<FunctionId>,
-    number: u32,
+    number: u64,
 ) -> Result<(), AllocError>
     ensures { OnOk result (out.new ≡ out.old ++ at_number_text name.now function number) }
 {
@@ -60,8 +60,8 @@ fn push_at_numbers(
     ensures { OnOk result (out.new ≡ out.old ++ at_numbers_text name.now function first second) }
 {
     push_refused_head(out, name, function)?;
-    push_spaced(out, first)?;
-    push_spaced(out, second)?;
+    push_spaced(out, u64::from(first))?;
+    push_spaced(out, u64::from(second))?;
     out.push_str("\n")
 }
 
@@ -71,6 +71,11 @@ pub fn push_refusal(out: &mut Text, error: &InferError) -> Result<(), AllocError
     ensures { OnOk result (out.new ≡ out.old ++ refused_text error.now) }
 {
     match error {
+        InferError::NotSettled {
+            function,
+            visits,
+            ..
+        } => push_at_number(out, "NotSettled", *function, *visits),
         InferError::Uninitialized {
             function,
             block,
@@ -103,7 +108,7 @@ fn push_out_of_table(out: &mut Text, table: Table, number: u32) -> Result<(), Al
 {
     out.push_str("refused Unfit 1 ")?;
     out.push_str(table_word(table))?;
-    push_spaced(out, number)?;
+    push_spaced(out, u64::from(number))?;
     out.push_str("\n")
 }
 
@@ -115,16 +120,29 @@ pub fn push_unfit(out: &mut Text, fault: UnitFault) -> Result<(), AllocError>
     match fault {
         UnitFault::IdOutOfRange { table, number } => push_out_of_table(out, table, number),
         UnitFault::EntryMissing { function } => push_at_function(out, "Unfit 2", function),
+        UnitFault::SuccessorMissing {
+            function,
+            block,
+            named,
+        } => push_at_numbers(out, "Unfit 3", function, block.0, named.0),
         UnitFault::InstructionMissing {
             function,
             instruction,
-        } => push_at_number(out, "Unfit 7", function, instruction.0),
+        } => push_at_number(out, "Unfit 7", function, u64::from(instruction.0)),
         UnitFault::InstructionTwice {
             function,
             instruction,
-        } => push_at_number(out, "Unfit 8", function, instruction.0),
+        } => push_at_number(out, "Unfit 8", function, u64::from(instruction.0)),
+        UnitFault::TwoTrys { function, handler } => {
+            push_at_number(out, "Unfit 9", function, u64::from(handler.0))
+        }
+        UnitFault::PhiNoPredecessor {
+            function,
+            block,
+            named,
+        } => push_at_numbers(out, "Unfit 10", function, block.0, named.0),
         UnitFault::OrderOutOfRange { function, order } => {
-            push_at_number(out, "Unfit 11", function, order.0)
+            push_at_number(out, "Unfit 11", function, u64::from(order.0))
         }
         UnitFault::SomethingInferred => out.push_str("refused Unfit 12\n"),
         UnitFault::Memory(_) => Ok(()),

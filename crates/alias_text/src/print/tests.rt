@@ -8,9 +8,10 @@ use alias_hir::effect::{AliasingEffect, AliasingEffects, MutationReason, ValueKi
 use alias_hir::error::InferError;
 use alias_hir::hir::{BasicBlock, FunctionType, Hir, HirFunction, Instruction};
 use alias_hir::place::{Effect, Place};
-use alias_rules::fault::{Table, UnitFault};
+use alias_hir::report::{ErrorCategory, Report};
 use alias_hir::terminal::Terminal;
 use alias_hir::value::InstructionValue;
+use alias_rules::fault::{Table, UnitFault};
 use std::alloc::{AllocError, Global};
 use std::process::Abort;
 use std::test::Fail;
@@ -50,6 +51,7 @@ fn function(alloc: Global) -> Result<HirFunction, AllocError> {
     })?;
     let mut blocks = BlockMap::new(alloc);
     let block = BasicBlock {
+        phis: List::new(alloc),
         instructions: List::from_slice(alloc, &[InstructionId(0)])?,
         terminal: Terminal::Return {
             id: EvaluationOrder(2),
@@ -135,6 +137,45 @@ fn prints_refusals(rt: HostRuntime) -> Result<(), Fail> {
     }
     let want =
         "refused Reinitialized 1 2 3\nrefused Unfit 1 Types 9\nrefused Unfit 2 root\nrefused Unfit 11 root 0\nrefused Unfit 12\n";
+    assert_eq!(rt; out.as_str(), want);
+    Ok(())
+}
+
+#[test]
+fn prints_refusals_of_blocks(rt: HostRuntime) -> Result<(), Fail> {
+    let alloc = rt.alloc();
+    let mut out = Text::new(alloc);
+    let unsettled = InferError::NotSettled {
+        function: None,
+        visits: 301,
+        report: Report {
+            category: ErrorCategory::Invariant,
+            message: Text::new(alloc),
+            help: None,
+            labels: List::new(alloc),
+        },
+    };
+    push_refusal(&mut out, &unsettled)?;
+    for fault in [
+        UnitFault::SuccessorMissing {
+            function: None,
+            block: BlockId(0),
+            named: BlockId(7),
+        },
+        UnitFault::TwoTrys {
+            function: None,
+            handler: BlockId(4),
+        },
+        UnitFault::PhiNoPredecessor {
+            function: None,
+            block: BlockId(3),
+            named: BlockId(5),
+        },
+    ] {
+        push_unfit(&mut out, fault)?;
+    }
+    let want =
+        "refused NotSettled root 301\nrefused Unfit 3 root 0 7\nrefused Unfit 9 root 4\nrefused Unfit 10 root 3 5\n";
     assert_eq!(rt; out.as_str(), want);
     Ok(())
 }

@@ -7,12 +7,12 @@ use alias_hir::env::Unit;
 use alias_hir::hir::Instruction;
 use alias_hir::value::{InstructionValue, PropertyLiteral};
 
-/// Whether the unit is one that is inferred by now: it has one block, no store to the place of its own
-/// result, no write of a property `current`, and tables whose entries 32 bits count.
+/// Whether the unit is one that is inferred by now: it has no store to the place of its own result, no
+/// write of a property `current`, and blocks and tables whose entries 32 bits count.
 pub fn is_built(unit: &Unit) -> bool
     ensures { result ≡ built unit.now }
 {
-    unit.function.body.blocks.len() == 1
+    unit.function.body.blocks.len() < 4_294_967_296
         && fits(&unit.env.identifiers)
         && fits(&unit.env.types)
         && fits(&unit.function.instructions)

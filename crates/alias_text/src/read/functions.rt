@@ -1,16 +1,18 @@
 //! Reads instructions, blocks and functions.
 ghost use Rattle.std.specs.Prelude.{◌≡◌, [], Result};
-ghost use Rattle.serde_json.specs.View.{view, items_view};
+ghost use Rattle.serde_json.specs.View.{view};
 ghost use Rattle.alias_text.specs.Pointer.{pointer};
 ghost use Rattle.alias_text.specs.Fault.{Gives};
-ghost use Rattle.alias_text.specs.Functions.{instruction_at, block_id_at, instruction_id_at, function_type_at, function_type_named, new_block, block_at, block_items_at, blocks_at, root_keys, root_at};
+ghost use Rattle.alias_text.specs.Functions.{instruction_at, instruction_id_at, operand_at, phi_at, block_at, function_type_at, function_type_named, root_keys, root_at};
 
+use crate::read::entries::{FromEntry, new_block};
 use crate::read::fault::{TextFault, TextRule};
-use crate::read::json::{FromJson, given_or, known_keys, object, refused, required};
+use crate::read::json::{FromJson, element, given_or, known_keys, object, pair, refused, required};
 use crate::read::only::{no_array, only_empty, only_false};
 use crate::read::path::Path;
 use alias_base::{BlockId, BlockMap, EvaluationOrder, InstructionId, List};
-use alias_hir::hir::{BasicBlock, FunctionType, Hir, HirFunction, Instruction};
+use alias_hir::hir::{BasicBlock, FunctionType, Hir, HirFunction, Instruction, Phi};
+use alias_hir::place::Place;
 use serde_json::Value;
 use std::alloc::Global;
 
@@ -31,14 +33,6 @@ impl FromJson for Instruction {
             span: None,
             effects: None,
         })
-    }
-}
-
-impl FromJson for BlockId {
-    ghost reads = { block_id_at };
-
-    fn from_json(alloc: Global, path: &Path, value: &Value) -> Result<BlockId, TextFault> {
-        Ok(BlockId(u32::from_json(alloc, path, value)?))
     }
 }
 
@@ -71,81 +65,71 @@ fn function_type(alloc: Global, path: &Path, name: &str) -> Result<FunctionType,
     }
 }
 
-fn new_block(
-    alloc: Global,
-    path: &Path,
-    found: &BlockMap<BasicBlock>,
-    id: BlockId,
-) -> Result<(), TextFault>
-    ensures { Gives result (new_block found.now (pointer path.now) id) }
-{
-    if found.get(id).is_some() {
+impl FromEntry for Place {
+    ghost reads_entry = { operand_at };
+
+    fn from_entry(
+        alloc: Global,
+        path: &Path,
+        found: &BlockMap<Place>,
+        value: &Value,
+    ) -> Result<(BlockId, Place), TextFault> {
+        pair(alloc, path, value)?;
+        let block = element(alloc, path, 0, value)?;
+        let here = Path::Index {
+            above: path,
+            index: 0,
+        };
+        new_block(alloc, &here, found, block)?;
+        let place = element(alloc, path, 1, value)?;
+        Ok((block, place))
+    }
+}
+
+impl FromJson for Phi {
+    ghost reads = { phi_at };
+
+    fn from_json(alloc: Global, path: &Path, value: &Value) -> Result<Phi, TextFault> {
+        object(alloc, path, value)?;
+        let place = required(alloc, path, "place", value)?;
+        let operands = required(alloc, path, "operands", value)?;
+        known_keys(alloc, path, &["place", "operands"], value)?;
+        Ok(Phi { place, operands })
+    }
+}
+
+impl FromEntry for BasicBlock {
+    ghost reads_entry = { block_at };
+
+    fn from_entry(
+        alloc: Global,
+        path: &Path,
+        found: &BlockMap<BasicBlock>,
+        value: &Value,
+    ) -> Result<(BlockId, BasicBlock), TextFault> {
+        object(alloc, path, value)?;
+        let id = required(alloc, path, "id", value)?;
         let here = Path::Key {
             above: path,
             key: "id",
         };
-        return refused(alloc, &here, TextRule::Twice);
-    }
-    Ok(())
-}
-
-fn block(
-    alloc: Global,
-    path: &Path,
-    found: &BlockMap<BasicBlock>,
-    value: &Value,
-) -> Result<(BlockId, BasicBlock), TextFault>
-    ensures { Gives result (block_at found.now (pointer path.now) (view value.now)) }
-{
-    object(alloc, path, value)?;
-    let id = required(alloc, path, "id", value)?;
-    new_block(alloc, path, found, id)?;
-    only_empty(alloc, path, "phis", value)?;
-    let instructions = given_or(alloc, path, "instructions", value, List::new(alloc))?;
-    let terminal = required(alloc, path, "terminal", value)?;
-    known_keys(
-        alloc,
-        path,
-        &["id", "phis", "instructions", "terminal"],
-        value,
-    )?;
-    Ok((
-        id,
-        BasicBlock {
+        new_block(alloc, &here, found, id)?;
+        let phis = given_or(alloc, path, "phis", value, List::new(alloc))?;
+        let instructions = given_or(alloc, path, "instructions", value, List::new(alloc))?;
+        let terminal = required(alloc, path, "terminal", value)?;
+        known_keys(
+            alloc,
+            path,
+            &["id", "phis", "instructions", "terminal"],
+            value,
+        )?;
+        let block = BasicBlock {
+            phis,
             instructions,
             terminal,
-        },
-    ))
-}
-
-impl FromJson for BlockMap<BasicBlock> {
-    ghost reads = { blocks_at };
-
-    fn from_json(
-        alloc: Global,
-        path: &Path,
-        value: &Value,
-    ) -> Result<BlockMap<BasicBlock>, TextFault> {
-        match value.as_array() {
-            Some(values) => blocks(alloc, path, values.as_slice()),
-            None => refused(alloc, path, TextRule::Kind),
-        }
-    }
-}
-
-fn blocks(alloc: Global, path: &Path, values: &[Value]) -> Result<BlockMap<BasicBlock>, TextFault>
-    ensures { Gives result (block_items_at (pointer path.now) 0 [] (items_view values.now)) }
-{
-    let mut found = BlockMap::new(alloc);
-    for (index, value) in values.iter().enumerate() {
-        let here = Path::Index {
-            above: &*path,
-            index,
         };
-        let (id, block) = block(alloc, &here, &found, value)?;
-        found.insert(id, block)?;
+        Ok((id, block))
     }
-    Ok(found)
 }
 
 fn root_keys(alloc: Global, path: &Path, value: &Value) -> Result<(), TextFault>

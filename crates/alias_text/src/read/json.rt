@@ -4,7 +4,7 @@ ghost use Rattle.serde_json.specs.Data.{Data};
 ghost use Rattle.serde_json.specs.View.{view, items_view};
 ghost use Rattle.alias_text.specs.Pointer.{pointer};
 ghost use Rattle.alias_text.specs.Fault.{Gives, refusal};
-ghost use Rattle.alias_text.specs.Reading.{number_at, boolean_at, text_at, list_at, items_at, object_at, required, given_or, option_at, is_known, known_keys};
+ghost use Rattle.alias_text.specs.Reading.{number_at, boolean_at, text_at, list_at, items_at, object_at, required, given_or, option_at, pair_at, element, is_known, known_keys};
 ghost use Rattle.alias_text.specs.declared.read.fault.TextFault.{TextFault};
 
 use crate::read::fault::{TextFault, TextRule};
@@ -155,6 +155,32 @@ pub fn given_or<T: FromJson + Drop>(
     match value.get(key) {
         Some(found) => T::from_json(alloc, &here, found),
         None => Ok(default),
+    }
+}
+
+/// Refuses a value that is no array of two.
+pub fn pair(alloc: Global, path: &Path, value: &Value) -> Result<(), TextFault>
+    ensures { Gives result (pair_at (pointer path.now) (view value.now)) }
+{
+    if value.get(1).is_some() && value.get(2).is_none() {
+        Ok(())
+    } else {
+        refused(alloc, path, TextRule::Kind)
+    }
+}
+
+/// The item at an index of an array that has one there.
+pub fn element<T: FromJson>(
+    alloc: Global,
+    path: &Path,
+    index: usize,
+    value: &Value,
+) -> Result<T, TextFault>
+    ensures { Gives result (element T.reads (pointer path.now) index (view value.now)) }
+{
+    match value.get(index) {
+        Some(found) => T::from_json(alloc, &Path::Index { above: path, index }, found),
+        None => refused(alloc, path, TextRule::Kind),
     }
 }
 
