@@ -13,6 +13,7 @@ use Rattle.alias_hir.specs.declared.hir.Phi.{Phi}
 use Rattle.alias_lattice.specs.declared.look.MissingLook.{MissingLook}
 use Rattle.alias_lattice.specs.declared.site.Site.TheVariants.{Default}
 use Rattle.alias_lattice.specs.States.{State, sites_of, phied}
+use Rattle.alias_lattice.specs.Flows.{Stepped}
 use Rattle.alias_lattice.specs.Standing.{StateProper}
 use Rattle.alias_lattice.specs.Proper.{proper-phied, proper-defined_default}
 use Rattle.alias_effects.specs.declared.block.BlockEffects.{BlockEffects}
@@ -24,7 +25,8 @@ use Rattle.alias_effects.specs.declared.spot.Spot.{Spot}
 use Rattle.alias_effects.specs.RowProper.{SpotProper, StepProper, steps_proper}
 use Rattle.alias_effects.specs.Signatures.{raised_effects}
 use Rattle.alias_effects.specs.Rows.{rows}
-use Rattle.alias_effects.specs.Blocks.{spot_at, with_default, after_list, in_block, instruction_step, numbered_step, instruction_steps, stand_of, phi_steps, terminal_effects, finished, block_step}
+use Rattle.alias_effects.specs.Blocks.{spot_at, with_default, after_list, in_block, instruction_step, numbered_step, instruction_steps, stand_of, phi_steps, terminal_effects, finished, block_step, outcome_of}
+use Rattle.alias_effects.specs.Numbered.{step_at}
 
 -- the state of the stand is proper
 abbrev pub StandProper : Stand → Type 0
@@ -80,10 +82,23 @@ end_proper : (terminal : List TerminalEffects) (r : Result Stand BlockFault) →
 end_proper terminal (Ok s) h = finished_proper s.missing terminal s h
 end_proper terminal (Err e) h = tt
 
+step_proper : (env : Environment) (instructions : List Instruction) (is_function_expression : Bool) (b : BlockId) (block : BasicBlock) (x : State) → StateProper x → BlockStepProper (block_step env instructions is_function_expression b block x)
+step_proper env instructions is_function_expression b block x h =
+    end_proper (terminal_effects is_function_expression b block.terminal) (instruction_steps env instructions block.instructions (stand_of (phi_steps block.phis x)))
+    (instructions_proper env instructions block.instructions (stand_of (phi_steps block.phis x)) (phis_proper block.phis x h))
+
 -- the step of a block from a proper state gives a proper state
 pub block_proper : (env : Environment) (instructions : List Instruction) (is_function_expression : Bool) (b : BlockId) (block : BasicBlock) (x : State) (r : State × BlockEffects)
     → block_step env instructions is_function_expression b block x ≡ Ok r → StateProper x → StateProper r.0
-block_proper env instructions is_function_expression b block x r e h =
-    subst BlockStepProper e
-    (end_proper (terminal_effects is_function_expression b block.terminal) (instruction_steps env instructions block.instructions (stand_of (phi_steps block.phis x)))
-    (instructions_proper env instructions block.instructions (stand_of (phi_steps block.phis x)) (phis_proper block.phis x h)))
+block_proper env instructions is_function_expression b block x r e h = subst BlockStepProper e (step_proper env instructions is_function_expression b block x h)
+
+outcome_proper : (r : Result (State × BlockEffects) BlockFault) (y : State) (u : Unit {0}) (k : BlockEffects) → BlockStepProper r → outcome_of r ≡ Stepped y u k → StateProper y
+outcome_proper (Ok r) y u k h e = let same : r.0 ≡ y = cc in subst StateProper same h
+outcome_proper (Err f) y u k h e = cc
+
+-- what the step at a position leaves is proper, where it began with what is
+pub step_at_proper : (env : Environment) (instructions : List Instruction) (is_function_expression : Bool) (o : Option (BlockId × BasicBlock)) (x y : State) (u : Unit {0}) (k : BlockEffects)
+    → StateProper x → step_at env instructions is_function_expression o x ≡ Stepped y u k → StateProper y
+step_at_proper env instructions is_function_expression None x y u k h e = let same : x ≡ y = cc in subst StateProper same h
+step_at_proper env instructions is_function_expression (Some b) x y u k h e =
+    outcome_proper (block_step env instructions is_function_expression b.0 b.1 x) y u k (step_proper env instructions is_function_expression b.0 b.1 x h) e

@@ -1,6 +1,6 @@
 -- The steps of effects keep the state proper.
-use Rattle.std.specs.Prelude.{◌≡◌, Bool, true, false, List, [], ◌∷◌, Option, Result, Ok, Err, if◌then◌else◌, refl}
-use Rattle.std.proofs.Common.{subst, sym}
+use Rattle.std.specs.Prelude.{◌≡◌, Bool, true, false, List, [], ◌∷◌, Option, Result, Ok, Err, if◌then◌else◌}
+use Rattle.std.proofs.Common.{subst}
 use Rattle.alias_base.specs.Answer.{◌>>=◌}
 use Rattle.alias_base.specs.declared.ids.IdentifierId.{IdentifierId}
 use Rattle.alias_hir.specs.declared.place.Place.{Place}
@@ -20,7 +20,7 @@ use Rattle.alias_effects.specs.declared.spot.Spot.{Spot}
 use Rattle.alias_effects.specs.declared.faults.StepFault.{StepFault}
 use Rattle.alias_effects.specs.declared.faults.StepFault.TheVariants.{Reinitialized}
 use Rattle.alias_effects.specs.Spots.{made, is_made}
-use Rattle.alias_effects.specs.Rows.{row, rows, is_constant, is_frozen, may_be_frozen, captures, may_alias, kind_at, immutable_capture_row, created_from_as, assigned_as, maybe_alias_row, capture_row, mutated_as, mutate_row, freeze_row, looked_at, looked_with_span}
+use Rattle.alias_effects.specs.Rows.{row, rows, is_constant, is_frozen, may_be_frozen, captures, may_alias, kind_at, immutable_capture_row, created_from_as, assigned_as, maybe_alias_row, capture_row, mutated_as, freeze_row, looked_with_span}
 
 -- the state of the spot is proper
 abbrev pub SpotProper : Spot → Type 0
