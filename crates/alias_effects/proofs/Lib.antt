@@ -1,2 +1,4 @@
 pub mod Recordings
+pub mod Moving
+pub mod Entering
 pub mod Solving

@@ -1,115 +1,319 @@
--- The entry alone is reached, and its one visit solves the flow.
-use Rattle.std.proofs.Common.{◌≡◌, ◌⊎◌, inl, inr, Bool, true, false, List, [], ◌∷◌, ◌++◌, Option, Some, None, refl, ap, sym, ◌∙◌, subst, eq-eqb, append-nil}
-use Rattle.std.specs.Prelude.{cond, IsTrue, is_some, Ok}
-use Rattle.std.specs.List.{AllByRecursion}
+-- What solves the flow over positions solves the flow over blocks.
+use Rattle.std.specs.Prelude.{◌≡◌, ℕ, zero, suc, ◌<◌, Bool, true, IsTrue, List, [], ◌∷◌, length, Option, Some, None, option_map, is_some, slice_get, slice_index_or, replicate, refl}
+use Rattle.std.proofs.Common.{sym, ◌∙◌, ap, subst, inl, inr, arith}
 use Rattle.std.specs.Map.{keys_of}
-use Rattle.std.proofs.Math.Dec.{eqb→eq, T}
+use Rattle.std.specs.List.{list_all, AllByRecursion, IsDistinct}
+use Rattle.std.specs.Option.{option_map_or}
+use Rattle.std.proofs.lemmas.Option.{slice_get_within}
+use Rattle.std.proofs.lemmas.List.{get_or-replicate}
 use Rattle.alias_base.specs.Find.{same_block, value_at}
+use Rattle.alias_base.specs.Parts.{both_true}
 use Rattle.alias_base.specs.declared.ids.BlockId.{BlockId}
 use Rattle.alias_hir.specs.declared.env.Environment.{Environment}
 use Rattle.alias_hir.specs.declared.hir.BasicBlock.{BasicBlock}
 use Rattle.alias_hir.specs.declared.hir.HirFunction.{HirFunction}
-use Rattle.alias_hir.specs.declared.terminal.Terminal.{Terminal}
-use Rattle.alias_hir.specs.declared.terminal.Terminal.TheVariants.{Return}
-use Rattle.alias_lattice.specs.Flows.{Flow, Outcome, Stepped, Refused, IsOneOf, IsReached, at_entry, by_edge, IsAbove}
-use Rattle.alias_lattice.specs.Laws.{below_self}
-use Rattle.alias_lattice.specs.Joins.{state_laws}
-use Rattle.alias_lattice.specs.Standing.{StateProper, SitesProper}
-use Rattle.alias_lattice.specs.Puts.{proper_nil}
-use Rattle.alias_lattice.specs.AbstractValues.{AbstractProper}
-use Rattle.alias_lattice.specs.Keys.{id_cmp}
-use Rattle.alias_lattice.specs.SiteOrder.{site_cmp}
-use Rattle.alias_lattice.specs.States.{State, empty_state, state_below}
+use Rattle.alias_hir.specs.Terminals.{successors}
+use Rattle.alias_lattice.specs.States.{State, state_below}
+use Rattle.alias_lattice.specs.Standing.{StateProper}
 use Rattle.alias_effects.specs.declared.block.BlockEffects.{BlockEffects}
 use Rattle.alias_effects.specs.declared.faults.BlockFault.{BlockFault}
-use Rattle.alias_effects.specs.declared.solved.BlockEntry.{BlockEntry}
-use Rattle.alias_effects.specs.Blocks.{successors, successors_at, flow_of}
-use Rattle.alias_effects.specs.Inference.{solved_by, entry_answer, entry_effects}
-use Rattle.alias_effects.specs.Solutions.{IsSubsequence, IsSolved, entry_state, effects_recorded}
+use Rattle.alias_lattice.specs.Flows.{Flow, IsOneOf, IsReached, at_entry, by_edge, IsAbove, IsSolution, AreJoins}
+use Rattle.alias_flow.specs.Machine.{World, Desk}
+use Rattle.alias_flow.specs.Solutions.{entry_at, KeepsSteps, KeepsOthers, IsForward}
+use Rattle.alias_effects.specs.Blocks.{flow_of, successors_at, outcome_at}
+use Rattle.alias_effects.specs.Numbered.{Blocks, numbered, position_of, with_position, positions_of, edges_at, entry_position, step_at}
+use Rattle.alias_effects.specs.Inference.{entries_of, solved_of, instructions_kept, terminal_kept}
+use Rattle.alias_effects.specs.Solutions.{entry_state, IsSolved, effects_recorded, recorded_from, IsForwardFrom}
+use Rattle.alias_effects.specs.Positions.{StandsAt, found_stands, some_is, position_stands, stands_position, stands_value}
+use Rattle.alias_effects.proofs.Entering.{entered, has_entered, entries_in_order, KeepsRecorded, kept_over}
 
-proper-empty : StateProper empty_state
-proper-empty = record { values = proper_nil site_cmp AbstractProper; variables = proper_nil id_cmp SitesProper; stands = λ x t e. cc }
+-- what the pass asks of a function: no two blocks have one name, and the entry and all successors are blocks
+pub record Numbers (func : HirFunction) : Type 0 where
+  pub distinct : IsDistinct same_block (keys_of func.body.blocks)
+  pub entry : is_some (value_at func.body.blocks func.body.entry) ≡ true
+  pub successors : (n : ℕ) (b : BlockId) (x : BasicBlock) → slice_get func.body.blocks n ≡ Some (b, x) → list_all (λ c. is_some (value_at func.body.blocks c)) (successors x.terminal) ≡ true
 
-same_is : (a b : BlockId) → same_block a b ≡ true → a ≡ b
-same_is a b h = ap (λ n. let x : BlockId = record { 0 = n } in x) (eqb→eq a.0 b.0 (subst T (sym h) tt))
+-- ---- positions of a list
 
-no_successors : (t : Terminal) → successors t ≡ []
-no_successors (Return id value effects) = refl
+-- one of the positions is that of one of the list
+pub record Among (es : Blocks) (m : ℕ) (cs : List BlockId) : Type 0 where
+  pub block : BlockId
+  pub one : IsOneOf block cs
+  pub at : position_of es block ≡ Some m
 
-no_edges : (o : Option BasicBlock) → successors_at o ≡ []
-no_edges None = refl
-no_edges (Some b) = no_successors b.terminal
+more_among : (es : Blocks) (m : ℕ) (c : BlockId) (cs : List BlockId) → Among es m cs → Among es m (c ∷ cs)
+more_among es m c cs a = record { block = a.block; one = inr a.one; at = a.at }
 
-found_is : (t : Bool) (x s : State) → cond t (Some x) None ≡ Some s → (t ≡ true) × (s ≡ x)
-found_is true x s h = (refl, cc)
-found_is false x s h = cc
+among_case : (es : Blocks) (m : ℕ) (c : BlockId) (cs : List BlockId) (o : Option ℕ) → position_of es c ≡ o → IsOneOf m (with_position o (positions_of es cs)) → (IsOneOf m (positions_of es cs) → Among es m cs) → Among es m (c ∷ cs)
+among_case es m c cs None q h f = more_among es m c cs (f h)
+among_case es m c cs (Some n) q (inl e) f = record { block = c; one = inl refl; at = q ∙ ap Some (sym e) }
+among_case es m c cs (Some n) q (inr h) f = more_among es m c cs (f h)
 
--- a key that is found stands among the keys
-key_stands : (es : List (BlockId × BasicBlock)) (k : BlockId) → is_some (value_at es k) ≡ true → IsSubsequence (k ∷ []) (keys_of es)
-key_stands [] k h = cc
-key_stands (e ∷ es) k h =
-    elim (same_block k e.0) as (λ t. same_block k e.0 ≡ t → is_some (cond t (Some e.1) (value_at es k)) ≡ true → ((k ≡ e.0) × Unit {0}) ⊎ IsSubsequence (k ∷ []) (keys_of es)) [
-      | true ↦ λ t g. inl (same_is k e.0 t, tt)
-      | false ↦ λ t g. inr (key_stands es k g)
-    ] refl h
+pub position_among : (es : Blocks) (m : ℕ) (cs : List BlockId) → IsOneOf m (positions_of es cs) → Among es m cs
+position_among es m [] h = absurd h
+position_among es m (c ∷ cs) h = among_case es m c cs (position_of es c) refl h (position_among es m cs)
 
-module _ (env : Environment) (func : HirFunction) (is_function_expression : Bool) (recorded : BlockEffects) (y : State) where
-  abbrev flow : Flow BlockId State (Unit {0}) BlockEffects BlockFault
-  flow = flow_of env func is_function_expression
+kept_with : (m : ℕ) (o : Option ℕ) (ns : List ℕ) → IsOneOf m ns → IsOneOf m (with_position o ns)
+kept_with m None ns h = h
+kept_with m (Some n) ns h = inr h
 
-  abbrev entry : BlockId
-  entry = func.body.entry
+pub among_positions : (es : Blocks) (m : ℕ) (c : BlockId) (cs : List BlockId) → IsOneOf c cs → position_of es c ≡ Some m → IsOneOf m (positions_of es cs)
+among_positions es m c [] h e = absurd h
+among_positions es m c (d ∷ ds) (inl s) e = subst (λ o. IsOneOf m (with_position o (positions_of es ds))) (sym (ap (position_of es) (sym s) ∙ e)) (inl refl)
+among_positions es m c (d ∷ ds) (inr h) e = kept_with m (position_of es d) (positions_of es ds) (among_positions es m c ds h e)
 
-  abbrev entries : List BlockEntry
-  entries = record { block = entry; state = empty_state } ∷ []
+first_of : (A : ℕ → Type 0) (m : ℕ) (o : Option ℕ) (ns : List ℕ) → o ≡ Some m → AllByRecursion A (with_position o ns) → A m × AllByRecursion A ns
+first_of A m None ns e a = cc
+first_of A m (Some n) ns e a = let same : n ≡ m = cc in (subst A same a.0, a.1)
 
-  at_start : entry_state entries entry ≡ Some empty_state
-  at_start = ap (λ t. cond t (Some empty_state) None) (eq-eqb entry.0 entry.0 refl)
+-- what holds of the positions holds of the blocks that stand there
+pub all_at_positions : (A : ℕ → Type 0) (B : BlockId → Type 0) (es : Blocks) (cs : List BlockId) → ((c : BlockId) (m : ℕ) → position_of es c ≡ Some m → A m → B c)
+    → list_all (λ c. is_some (value_at es c)) cs ≡ true → AllByRecursion A (positions_of es cs) → AllByRecursion B cs
+all_at_positions A B es [] f h a = tt
+all_at_positions A B es (c ∷ cs) f h a =
+    let both : (is_some (value_at es c) ≡ true) × (list_all (λ c. is_some (value_at es c)) cs ≡ true) = both_true _ _ h in
+    let p = some_is (position_of es c) (found_stands es c both.0) in
+    let r = first_of A p.0 (position_of es c) (positions_of es cs) p.1 a in
+    (f c p.0 p.1 r.0, all_at_positions A B es cs f both.1 r.1)
 
-  only : (b : BlockId) (s : State) → entry_state entries b ≡ Some s → (b ≡ entry) × (s ≡ empty_state)
-  only b s h = let f = found_is (same_block b entry) empty_state s h in (same_is b entry f.0, f.1)
+with_first : (A : ℕ → Type 0) (o : Option ℕ) (ns : List ℕ) → ((m : ℕ) → o ≡ Some m → A m) → AllByRecursion A ns → AllByRecursion A (with_position o ns)
+with_first A None ns f a = a
+with_first A (Some n) ns f a = (f n refl, a)
 
-  nowhere : {X : Type 0} (b c : BlockId) → IsOneOf c (flow.edges b) → X
-  nowhere b c h = absurd (subst (IsOneOf c) (no_edges (value_at func.body.blocks b)) h)
+-- what holds of blocks holds of their positions
+pub all_of_blocks : (A : ℕ → Type 0) (B : BlockId → Type 0) (es : Blocks) (cs : List BlockId) → ((c : BlockId) (m : ℕ) → position_of es c ≡ Some m → B c → A m)
+    → AllByRecursion B cs → AllByRecursion A (positions_of es cs)
+all_of_blocks A B es [] f b = tt
+all_of_blocks A B es (c ∷ cs) f b = with_first A (position_of es c) (positions_of es cs) (λ m e. f c m e b.0) (all_of_blocks A B es cs f b.1)
 
-  has_state : (b : BlockId) → IsReached flow b → IsTrue (is_some (entry_state entries b))
-  has_state b at_entry = ap is_some at_start
-  has_state b (by_edge a c r o) = nowhere a c o
+-- one of a list that are all blocks is a block
+one_is_block : (es : Blocks) (c : BlockId) (cs : List BlockId) → list_all (λ c. is_some (value_at es c)) cs ≡ true → IsOneOf c cs → is_some (value_at es c) ≡ true
+one_is_block es c [] h o = absurd o
+one_is_block es c (d ∷ ds) h (inl s) =
+    let both : (is_some (value_at es d) ≡ true) × (list_all (λ c. is_some (value_at es c)) ds ≡ true) = both_true _ _ h in
+    ap (λ k. is_some (value_at es k)) s ∙ both.0
+one_is_block es c (d ∷ ds) h (inr o) =
+    let both : (is_some (value_at es d) ≡ true) × (list_all (λ c. is_some (value_at es c)) ds ≡ true) = both_true _ _ h in
+    one_is_block es c ds both.1 o
 
-  is_reached : (b : BlockId) → b ≡ entry → IsReached flow b
-  is_reached b h = subst (IsReached flow) (sym h) at_entry
+same_first : (p q : BlockId × BasicBlock) → Some p ≡ Some q → p.0 ≡ q.0
+same_first p q h = let same : p ≡ q = cc in ap (λ (e : BlockId × BasicBlock). e.0) same
 
-  pub solved : is_some (value_at func.body.blocks entry) ≡ true → flow.step tt entry empty_state ≡ Stepped y tt recorded → IsSolved env func is_function_expression (solved_by func recorded)
-  solved there stepped = record {
-    in_order = key_stands func.body.blocks entry there;
-    solution = record {
-      reached = has_state;
-      only_reached = λ b s h. is_reached b (only b s h).0;
-      initial = (empty_state, at_start, below_self state_laws empty_state proper-empty);
-      steps = λ b s h. (
-        y,
-        recorded,
-        ap (λ z. flow.step tt z s) (only b s h).0 ∙ ap (flow.step tt entry) (only b s h).1 ∙ stepped,
-        subst (AllByRecursion (IsAbove state_below flow (entry_state entries) y)) (sym (no_edges (value_at func.body.blocks b))) tt,
-      );
-    };
-    effects = sym (ap (λ o. (effects_recorded o).instructions ++ []) stepped ∙ append-nil recorded.instructions);
-    terminal_effects = sym (ap (λ o. (effects_recorded o).terminal ++ []) stepped ∙ append-nil recorded.terminal);
-    joins = λ forward b s h. record {
-      above = record {
-        initial = λ e. subst (λ z. IsTrue (state_below empty_state z)) (sym (only b s h).1) (below_self state_laws empty_state proper-empty);
-        stepped = λ c x z r e f o. nowhere c b o;
-      };
-      least = λ u p a. subst (λ z. IsTrue (state_below z u)) (sym (only b s h).1) (a.initial (only b s h).0);
-    };
-  }
+same_number : (m n : ℕ) → Some m ≡ Some n → m ≡ n
+same_number m n h = cc
 
--- where the entry's effects are Ok, its step gave them
-pub stepped_from : (env : Environment) (func : HirFunction) (o : Outcome State (Unit {0}) BlockEffects BlockFault) (r : BlockEffects) → entry_answer env func o ≡ Ok r → (y : State) × (o ≡ Stepped y tt r)
-stepped_from env func (Stepped y tables recorded) r h = let same : recorded ≡ r = cc in (y, ap (Stepped y tt) same)
-stepped_from env func (Refused fault) r h = cc
+-- ---- forward edges
 
-pub solved_at : (env : Environment) (func : HirFunction) (e : Bool) (recorded : BlockEffects) → is_some (value_at func.body.blocks func.body.entry) ≡ true → entry_effects env func e ≡ Ok recorded → IsSolved env func e (solved_by func recorded)
-solved_at env func e recorded there h =
-    let s = stepped_from env func ((flow_of env func e).step tt func.body.entry empty_state) recorded h in
-    solved env func e recorded s.0 there s.1
+all_along : {X : Type 0} (A B : X → Type 0) (xs : List X) → ((x : X) → A x → B x) → AllByRecursion A xs → AllByRecursion B xs
+all_along A B [] f a = tt
+all_along A B (x ∷ xs) f a = (f x a.0, all_along A B xs f a.1)
+
+-- the block stands past the position
+abbrev Later : Blocks → ℕ → BlockId → Type 0
+Later es n c = (m : ℕ) × (n < m) × StandsAt es m c
+
+one_stands : (es : Blocks) (c : BlockId) → IsOneOf c (keys_of es) → (m : ℕ) × StandsAt es m c
+one_stands [] c h = absurd h
+one_stands (e ∷ es) c (inl s) = (0, (e.1, ap (λ k. Some (k, e.1)) (sym s)))
+one_stands (e ∷ es) c (inr h) = let r = one_stands es c h in (suc r.0, (r.1.0, r.1.1))
+
+later_more : (e : BlockId × BasicBlock) (es : Blocks) (n : ℕ) (c : BlockId) → Later es n c → Later (e ∷ es) (suc n) c
+later_more e es n c r = let h : n < r.0 = r.1 in (suc r.0, omega arith, r.2)
+
+later_first : (e : BlockId × BasicBlock) (es : Blocks) (c : BlockId) → IsOneOf c (keys_of es) → Later (e ∷ es) 0 c
+later_first e es c h = let r = one_stands es c h in (suc r.0, omega arith, r.1)
+
+later_at : (edges : BlockId → List BlockId) (es : Blocks) (n : ℕ) (b : BlockId) (x : BasicBlock) → IsForwardFrom edges (keys_of es) → slice_get es n ≡ Some (b, x) → AllByRecursion (Later es n) (edges b)
+later_at edges [] n b x f h = cc
+later_at edges (e ∷ es) zero b x f h =
+    let same : e.0 ≡ b = same_first e (b, x) h in
+    subst (λ k. AllByRecursion (Later (e ∷ es) 0) (edges k)) same (all_along (λ c. IsOneOf c (keys_of es)) (Later (e ∷ es) 0) (edges e.0) (later_first e es) f.0)
+later_at edges (e ∷ es) (suc n) b x f h = all_along (Later es n) (Later (e ∷ es) (suc n)) (edges b) (later_more e es n) (later_at edges es n b x f.1 h)
+
+within : (es : Blocks) (n : ℕ) → n < length es → (e : BlockId × BasicBlock) × (slice_get es n ≡ Some e)
+within [] n h = let no : ⊥ = omega arith in absurd no
+within (e ∷ es) zero h = (e, refl)
+within (e ∷ es) (suc n) h = within es n (omega arith)
+
+entry_within : (xs : List (Option State)) (n : ℕ) (s : State) → entry_at xs n ≡ Some s → n < length xs
+entry_within [] n s h = cc
+entry_within (x ∷ xs) zero s h = omega arith
+entry_within (x ∷ xs) (suc n) s h = let r : n < length xs = entry_within xs n s h in omega arith
+
+-- ---- the two flows
+
+module _ (env : Environment) (func : HirFunction) (is_function_expression : Bool) (fits : Numbers func) where
+  abbrev es : Blocks
+  es = func.body.blocks
+
+  -- over blocks
+  abbrev over : Flow BlockId State (Unit {0}) BlockEffects BlockFault
+  over = flow_of env func is_function_expression
+
+  -- over positions
+  abbrev under : Flow ℕ State (Unit {0}) BlockEffects BlockFault
+  under = (numbered env func is_function_expression).flow
+
+  edges_over : (n : ℕ) (b : BlockId) (x : BasicBlock) → slice_get es n ≡ Some (b, x) → over.edges b ≡ successors x.terminal
+  edges_over n b x h = ap successors_at (stands_value es n b x fits.distinct h)
+
+  edges_under : (n : ℕ) (b : BlockId) (x : BasicBlock) → slice_get es n ≡ Some (b, x) → under.edges n ≡ positions_of es (successors x.terminal)
+  edges_under n b x h = ap (edges_at es) h
+
+  steps_same : (n : ℕ) (b : BlockId) (x : BasicBlock) (s : State) → slice_get es n ≡ Some (b, x) → over.step tt b s ≡ under.step tt n s
+  steps_same n b x s h =
+      ap (λ o. outcome_at env func.instructions is_function_expression b o s) (stands_value es n b x fits.distinct h)
+      ∙ sym (ap (λ o. step_at env func.instructions is_function_expression o s) h)
+
+  entry_is : (o : Option ℕ) → is_some o ≡ true → o ≡ Some (option_map_or (λ n. n) o 0)
+  entry_is None h = cc
+  entry_is (Some n) h = refl
+
+  entry_at_position : position_of es func.body.entry ≡ Some (entry_position func)
+  entry_at_position = entry_is (position_of es func.body.entry) (found_stands es func.body.entry fits.entry)
+
+  entry_block : StandsAt es (entry_position func) func.body.entry
+  entry_block = position_stands es func.body.entry (entry_position func) entry_at_position
+
+  -- a block that stands at a position, which is reached
+  record ReachedAt (b : BlockId) : Type 0 where
+    at : ℕ
+    block : BasicBlock
+    stands : slice_get es at ≡ Some (b, block)
+    reached : IsReached under at
+
+  reached_at : (b : BlockId) → IsReached over b → ReachedAt b
+  reached_at b at_entry = record { at = entry_position func; block = entry_block.0; stands = entry_block.1; reached = at_entry }
+  reached_at b (by_edge a c r o) =
+      let u = reached_at a r in
+      let one : IsOneOf c (successors u.block.terminal) = subst (IsOneOf c) (edges_over u.at a u.block u.stands) o in
+      let p = some_is (position_of es c) (found_stands es c (one_is_block es c (successors u.block.terminal) (fits.successors u.at a u.block u.stands) one)) in
+      let q = position_stands es c p.0 p.1 in
+      record {
+        at = p.0;
+        block = q.0;
+        stands = q.1;
+        reached = by_edge u.at p.0 u.reached (subst (IsOneOf p.0) (sym (edges_under u.at a u.block u.stands)) (among_positions es p.0 c (successors u.block.terminal) one p.1));
+      }
+
+  -- what stands at a position, and is reached
+  record ReachedOver (n : ℕ) : Type 0 where
+    name : BlockId
+    block : BasicBlock
+    stands : slice_get es n ≡ Some (name, block)
+    reached : IsReached over name
+
+  reached_over : (n : ℕ) → IsReached under n → ReachedOver n
+  reached_over n at_entry = record { name = func.body.entry; block = entry_block.0; stands = entry_block.1; reached = at_entry }
+  reached_over n (by_edge m k r o) =
+      let u = reached_over m r in
+      let w = position_among es k (successors u.block.terminal) (subst (IsOneOf k) (edges_under m u.name u.block u.stands) o) in
+      let q = position_stands es w.block k w.at in
+      record {
+        name = w.block;
+        block = q.0;
+        stands = q.1;
+        reached = by_edge u.name w.block u.reached (subst (IsOneOf w.block) (sym (edges_over m u.name u.block u.stands)) w.one);
+      }
+
+  same_name : (n : ℕ) (b c : BlockId) (x y : BasicBlock) → slice_get es n ≡ Some (b, x) → slice_get es n ≡ Some (c, y) → b ≡ c
+  same_name n b c x y h i = same_first (b, x) (c, y) (sym h ∙ i)
+
+  module _ (xs : List (Option State)) where
+    abbrev state_over : BlockId → Option State
+    state_over = entry_state (entries_of es xs)
+
+    above_over : (y : State) (c : BlockId) (m : ℕ) → position_of es c ≡ Some m → IsAbove state_below under (entry_at xs) y m → IsAbove state_below over state_over y c
+    above_over y c m p a =
+        let q = position_stands es c m p in
+        (a.0, entered es xs m c q.0 fits.distinct q.1 ∙ a.1, a.2)
+
+    pub solution_over : IsSolution state_below under tt (entry_at xs) → IsSolution state_below over tt state_over
+    solution_over sol = record {
+      reached = λ b r.
+          let u = reached_at b r in
+          subst (λ o. IsTrue (is_some o)) (sym (entered es xs u.at b u.block fits.distinct u.stands)) (sol.reached u.at u.reached);
+      only_reached = λ b s h.
+          let a = has_entered es xs b s h in
+          let u = reached_over a.at (sol.only_reached a.at s a.state) in
+          subst (IsReached over) (same_name a.at u.name b u.block a.block u.stands a.stands) u.reached;
+      initial = above_over under.initial func.body.entry (entry_position func) entry_at_position sol.initial;
+      steps = λ b s h.
+          let a = has_entered es xs b s h in
+          let t = sol.steps a.at s a.state in (
+            t.0,
+            t.1,
+            steps_same a.at b a.block s a.stands ∙ t.2,
+            subst (AllByRecursion (IsAbove state_below over state_over t.0)) (sym (edges_over a.at b a.block a.stands))
+                (all_at_positions (IsAbove state_below under (entry_at xs) t.0) (IsAbove state_below over state_over t.0) es (successors a.block.terminal) (above_over t.0)
+                (fits.successors a.at b a.block a.stands)
+                (subst (AllByRecursion (IsAbove state_below under (entry_at xs) t.0)) (edges_under a.at b a.block a.stands) t.3)),
+          );
+    }
+
+    -- forward edges of blocks go forward by positions
+    forward_under : IsForwardFrom over.edges (keys_of es) → (n : ℕ) → n < length es → AllByRecursion (λ m. n < m) (under.edges n)
+    forward_under f n h =
+        let e = within es n h in
+        let b = e.0.0 in
+        let x = e.0.1 in
+        let later : AllByRecursion (Later es n) (successors x.terminal) = subst (AllByRecursion (Later es n)) (edges_over n b x e.1) (later_at over.edges es n b x f e.1) in
+        subst (AllByRecursion (λ m. n < m)) (sym (edges_under n b x e.1))
+        (all_of_blocks (λ m. n < m) (Later es n) es (successors x.terminal)
+        (λ c m p l. subst (λ k. n < k) (same_number l.0 m (sym (stands_position es l.0 c l.2.0 fits.distinct l.2.1) ∙ p)) l.1) later)
+
+    pub joins_over : length xs ≡ length es → AreJoins state_below under StateProper tt (entry_at xs) → AreJoins state_below over StateProper tt state_over
+    joins_over long js b s h =
+        let a = has_entered es xs b s h in
+        let at : position_of es b ≡ Some a.at = stands_position es a.at b a.block fits.distinct a.stands in
+        let j = js a.at s a.state in
+        record {
+          above = record {
+            initial = λ e. j.above.initial (same_number a.at (entry_position func) (sym at ∙ ap (position_of es) e ∙ entry_at_position));
+            stepped = λ c x y r i t o.
+                let w = has_entered es xs c x i in
+                j.above.stepped w.at x y r w.state (sym (steps_same w.at c w.block x w.stands) ∙ t)
+                (subst (IsOneOf a.at) (sym (edges_under w.at c w.block w.stands)) (among_positions es a.at b (successors w.block.terminal) (subst (IsOneOf b) (edges_over w.at c w.block w.stands) o) at));
+          };
+          least = λ u p v. j.least u p (record {
+            initial = λ e. v.initial (same_name a.at b func.body.entry a.block entry_block.0 a.stands (ap (slice_get es) e ∙ entry_block.1));
+            stepped = λ m x y r i t o.
+                let e = within es m (subst (λ k. m < k) long (entry_within xs m x i)) in
+                let c = e.0.0 in
+                let z = e.0.1 in
+                let w = position_among es a.at (successors z.terminal) (subst (IsOneOf a.at) (edges_under m c z e.1) o) in
+                let q = position_stands es w.block a.at w.at in
+                v.stepped c x y r (entered es xs m c z fits.distinct e.1 ∙ i) (steps_same m c z x e.1 ∙ t)
+                (subst (IsOneOf b) (sym (edges_over m c z e.1)) (subst (λ k. IsOneOf k (successors z.terminal)) (same_name a.at w.block b q.0 a.block q.1 a.stands) w.one));
+          });
+        }
+
+    kept_case : (kept : List (Option BlockEffects)) (n : ℕ) (b : BlockId) (x : BasicBlock) (o : Option State) → slice_get es n ≡ Some (b, x) → entry_at xs n ≡ o
+        → KeepsSteps under tt (entry_at xs) kept → (entry_at xs n ≡ None → slice_index_or kept n None ≡ None)
+        → slice_index_or kept n None ≡ option_map (λ s. recorded_from env func is_function_expression (record { block = b; state = s })) o
+    kept_case kept n b x None h i k z = z i
+    kept_case kept n b x (Some s) h i k z =
+        let r = k n s i in
+        r.3 ∙ ap (λ o. Some (effects_recorded o)) (sym (steps_same n b x s h ∙ r.2))
+
+    keeps_recorded : (kept : List (Option BlockEffects)) → KeepsSteps under tt (entry_at xs) kept → KeepsOthers (entry_at xs) (replicate (length es) None) kept
+        → KeepsRecorded (recorded_from env func is_function_expression) es xs kept
+    keeps_recorded kept k z n e h =
+        let h' : slice_get es n ≡ Some (e.0, e.1) = h in
+        kept_case kept n e.0 e.1 (entry_at xs n) h' refl k (λ i. z n i ∙ get_or-replicate (length es) n None None (slice_get_within es n e h))
+
+  -- what the solver leaves of the flow over positions solves the function's flow over blocks
+  pub solved_over : (w : World (Desk State) (Unit {0}) BlockEffects) → length w.desk.sent ≡ length es → length w.kept ≡ length es
+      → IsSolution state_below under tt (entry_at w.desk.sent) → KeepsSteps under tt (entry_at w.desk.sent) w.kept → KeepsOthers (entry_at w.desk.sent) (replicate (length es) None) w.kept
+      → (IsForward (numbered env func is_function_expression) → AreJoins state_below under StateProper tt (entry_at w.desk.sent))
+      → IsSolved env func is_function_expression (solved_of func w)
+  solved_over w long kept_long sol k z joins =
+      let r = recorded_from env func is_function_expression in
+      let keeps = keeps_recorded w.desk.sent w.kept k z in
+      record {
+        in_order = entries_in_order es w.desk.sent;
+        solution = solution_over w.desk.sent sol;
+        effects = kept_over (λ (e : BlockEffects). e.instructions) instructions_kept refl (λ e. refl) r es w.desk.sent w.kept long kept_long keeps;
+        terminal_effects = kept_over (λ (e : BlockEffects). e.terminal) terminal_kept refl (λ e. refl) r es w.desk.sent w.kept long kept_long keeps;
+        joins = λ f. joins_over w.desk.sent long (joins (forward_under w.desk.sent f));
+      }

@@ -6,6 +6,9 @@ pub mod BlockResults
 pub mod RowProper
 pub mod BlockProper
 pub mod Solutions
+pub mod Positions
 pub mod Numbered
+pub mod PassLaws
 pub mod Recording
 pub mod Inference
+pub mod Handing

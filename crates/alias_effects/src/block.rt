@@ -2,7 +2,7 @@
 ghost use Rattle.std.specs.Prelude.{◌≡◌, ◌++◌, OnOk, IfOk, option_map};
 ghost use Rattle.std.specs.Option.{is_some};
 ghost use Rattle.alias_lattice.specs.States.{sites_of};
-ghost use Rattle.alias_effects.specs.Blocks.{with_default, recorded_as, instruction_step, numbered_step, instruction_steps, stand_of, return_effects, terminal_recorded_as, terminal_effects, finished, block_step, fault_at};
+ghost use Rattle.alias_effects.specs.Blocks.{with_default, recorded_as, instruction_step, numbered_step, instruction_steps, phi_steps, stand_of, return_effects, action_effects, terminal_recorded_as, terminal_effects, finished, block_step, fault_at};
 ghost use Rattle.alias_effects.specs.BlockResults.{StandFollows, BlockGives};
 
 use crate::faults::{BlockFault, StepFault};
@@ -13,7 +13,8 @@ use crate::spot::Spot;
 use alias_base::{BlockId, IdentifierId, InstructionId, List};
 use alias_hir::effect::{AliasingEffect, AliasingEffects, ValueReason};
 use alias_hir::env::Environment;
-use alias_hir::hir::{BasicBlock, Instruction};
+use alias_hir::hir::{BasicBlock, Instruction, Phi};
+use alias_hir::place::Place;
 use alias_hir::terminal::Terminal;
 use alias_lattice::{InferenceState, MissingLook};
 use std::alloc::{AllocError, Global};
@@ -145,25 +146,44 @@ fn instruction_steps(
     Ok(stand)
 }
 
+/// Each phi takes the values of its operands, in order.
+fn phi_steps(phis: &List<Phi>, state: &mut InferenceState) -> Result<(), AllocError>
+    ensures { OnOk result (state.new ≡ phi_steps phis.now state.old) }
+{
+    for phi in phis.as_slice() {
+        state.infer_phi(phi.place.identifier, &phi.operands)?;
+    }
+    Ok(())
+}
+
 fn return_effects(
+    alloc: Global,
+    is_function_expression: bool,
+    value: &Place,
+) -> Result<AliasingEffects, AllocError>
+    ensures { IfOk result (λ effects. effects ≡ return_effects is_function_expression value.now) }
+{
+    let mut effects = List::new(alloc);
+    if !is_function_expression {
+        effects.push(AliasingEffect::Freeze {
+            value: *value,
+            reason: ValueReason::JsxCaptured,
+        })?;
+    }
+    Ok(effects)
+}
+
+fn action_effects(
     alloc: Global,
     is_function_expression: bool,
     terminal: &Terminal,
 ) -> Result<AliasingEffects, AllocError>
-    ensures { IfOk result (λ effects. effects ≡ return_effects is_function_expression terminal.now) }
+    ensures { IfOk result (λ effects. effects ≡ action_effects is_function_expression terminal.now) }
 {
-    let mut effects = List::new(alloc);
     match terminal {
-        Terminal::Return { value, .. } => {
-            if !is_function_expression {
-                effects.push(AliasingEffect::Freeze {
-                    value: *value,
-                    reason: ValueReason::JsxCaptured,
-                })?;
-            }
-        }
+        Terminal::Return { value, .. } => return_effects(alloc, is_function_expression, value),
+        _ => Ok(List::new(alloc)),
     }
-    Ok(effects)
 }
 
 fn terminal_recorded_as(
@@ -188,7 +208,7 @@ fn terminal_effects(
 ) -> Result<List<TerminalEffects>, AllocError>
     ensures { IfOk result (λ recorded. recorded ≡ terminal_effects is_function_expression block terminal.now) }
 {
-    let effects = return_effects(alloc, is_function_expression, terminal)?;
+    let effects = action_effects(alloc, is_function_expression, terminal)?;
     terminal_recorded_as(alloc, block, effects)
 }
 
@@ -227,6 +247,8 @@ pub fn block_step(
 ) -> Result<(InferenceState, BlockEffects), BlockFault>
     ensures { BlockGives (block_step env.now instructions.now is_function_expression id block.now state) result }
 {
+    let mut state = state;
+    phi_steps(&block.phis, &mut state)?;
     let stand = Stand {
         state,
         effects: List::new(alloc),

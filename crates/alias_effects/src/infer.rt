@@ -1,20 +1,22 @@
 //! The effects pass over a function.
 ghost use Rattle.std.specs.Prelude.{◌≡◌, true, IfOk, OnErr};
 ghost use Rattle.alias_rules.specs.Fitting.{function_fits};
-ghost use Rattle.alias_effects.specs.Inference.{refusal, solved_by, entry_effects, inferred, Infers, RefusesAs};
+ghost use Rattle.alias_effects.specs.Handing.{unsettled, unsolved};
+ghost use Rattle.alias_effects.specs.Inference.{refusal, inferred, Infers, RefusesAs};
 ghost use Rattle.alias_effects.specs.Recording.{recorded};
 ghost use Rattle.alias_effects.specs.Solutions.{IsSolved};
 
-use crate::block::{BlockEffects, block_step};
 use crate::faults::BlockFault;
+use crate::handing::{block_at, solved_of};
+use crate::pass::EffectsPass;
 use crate::recording::{record_instructions, record_terminals};
-use crate::solved::{BlockEntry, Solved};
-use alias_base::{BlockId, List, TryClone};
+use crate::solved::Solved;
+use alias_base::{BlockId, TryClone};
+use alias_flow::{SolveFault, nothing_yet, solve};
 use alias_hir::env::Environment;
 use alias_hir::error::InferError;
 use alias_hir::hir::HirFunction;
-use alias_hir::report::uninitialized_report;
-use alias_lattice::InferenceState;
+use alias_hir::report::{not_settled_report, uninitialized_report};
 use std::alloc::{AllocError, Global};
 
 fn refusal(alloc: Global, env: &Environment, block: BlockId, fault: BlockFault) -> InferError
@@ -45,69 +47,74 @@ fn refusal(alloc: Global, env: &Environment, block: BlockId, fault: BlockFault) 
     }
 }
 
-/// What the entry's step records from the initial state.
-fn entry_effects(
+fn not_settled(alloc: Global, visits: u64) -> InferError
+    ensures { RefusesAs (unsettled visits) result }
+{
+    match not_settled_report(alloc) {
+        Ok(report) => InferError::NotSettled {
+            function: None,
+            visits,
+            report,
+        },
+        Err(e) => InferError::Memory(e),
+    }
+}
+
+fn unsolved(
+    alloc: Global,
+    env: &Environment,
+    func: &HirFunction,
+    fault: SolveFault<BlockFault>,
+) -> InferError
+    ensures { RefusesAs (unsolved env.now func.now fault) result }
+{
+    match fault {
+        SolveFault::Step { block, fault } => {
+            let name = block_at(&func.body.blocks, block as usize);
+            refusal(alloc, env, name, fault)
+        }
+        SolveFault::NotSettled { visits } => not_settled(alloc, visits),
+        SolveFault::Memory(e) => InferError::Memory(e),
+    }
+}
+
+/// The solution of the function.
+fn solved(
     alloc: Global,
     func: &HirFunction,
     env: &Environment,
     is_function_expression: bool,
-) -> Result<BlockEffects, InferError>
-    ensures { Infers (entry_effects env.now func.now is_function_expression) result }
+) -> Result<Solved, InferError>
+    requires { function_fits func.now env.now ≡ true }
+    ensures answer { Infers (inferred env.now func.now is_function_expression) result }
+    ensures solves { IfOk result (λ s. IsSolved env.now func.now is_function_expression s) }
 {
-    let entry = func.body.entry;
-    let Some(block) = func.body.blocks.get(entry) else {
-        return Ok(BlockEffects {
-            instructions: List::new(alloc),
-            terminal: List::new(alloc),
-        });
-    };
-    let state = InferenceState::empty(alloc);
-    match block_step(
+    let count = func.body.blocks.len();
+    if count > u32::MAX as usize {
+        return Err(InferError::Memory(AllocError));
+    }
+    let mut pass = EffectsPass {
         alloc,
         env,
-        &func.instructions,
+        func,
         is_function_expression,
-        entry,
-        block,
-        state,
-    ) {
-        Ok((_after, effects)) => Ok(effects),
-        Err(fault) => Err(refusal(alloc, env, entry, fault)),
+        kept: nothing_yet(alloc, count as u32)?,
+    };
+    let answer = solve(alloc, &mut pass);
+    let EffectsPass { kept, .. } = pass;
+    match answer {
+        Ok(solution) => Ok(solved_of(alloc, func, solution, kept)?),
+        Err(fault) => Err(unsolved(alloc, env, func, fault)),
     }
-}
-
-/// The solution that the entry's effects make.
-fn solved_by(
-    alloc: Global,
-    func: &HirFunction,
-    effects: &BlockEffects,
-) -> Result<Solved, AllocError>
-    ensures { IfOk result (λ s. s ≡ solved_by func.now effects.now) }
-{
-    let block = func.body.entry;
-    let mut visits = List::new(alloc);
-    visits.push(block)?;
-    let mut entries = List::new(alloc);
-    entries.push(BlockEntry {
-        block,
-        state: InferenceState::empty(alloc),
-    })?;
-    Ok(Solved {
-        function: None,
-        visits,
-        entries,
-        effects: effects.instructions.try_clone(alloc)?,
-        terminal_effects: effects.terminal.try_clone(alloc)?,
-    })
 }
 
 /// Infers what each instruction of the function creates, aliases, freezes and mutates.
 ///
 /// At `Ok` the effects stand on the instructions and terminals, and what is handed out has them too, with
 /// entry states that solve the function's flow. An `Err` leaves the function unchanged. The environment
-/// doesn't change. `Uninitialized` comes exactly where the visited block's step looks at an identifier
-/// without a value, and `Reinitialized` exactly where an instruction's effects make an identifier twice.
-/// docs/MODEL.md has the rules.
+/// doesn't change. `Uninitialized` comes exactly where the step of a visited block looks at an identifier
+/// without a value, `Reinitialized` exactly where an instruction's effects make an identifier twice, and
+/// `NotSettled` exactly where a block is still wanted after 100 rounds. docs/MODEL.md has the rules.
 pub fn infer_effects_certified(
     alloc: Global,
     func: &mut HirFunction,
@@ -121,12 +128,9 @@ pub fn infer_effects_certified(
     ensures err { OnErr result (func.new ≡ func.old) }
     ensures env { env.new ≡ env.old }
 {
-    let effects = entry_effects(alloc, func, env, is_function_expression)?;
-    let solved = solved_by(alloc, func, &effects)?;
-    let BlockEffects {
-        instructions,
-        terminal,
-    } = effects;
+    let solved = solved(alloc, func, env, is_function_expression)?;
+    let instructions = solved.effects.try_clone(alloc)?;
+    let terminal = solved.terminal_effects.try_clone(alloc)?;
     record_instructions(&mut func.instructions, instructions);
     record_terminals(&mut func.body.blocks, terminal);
     Ok(solved)

@@ -4,7 +4,9 @@
 
 mod block;
 pub mod faults;
+mod handing;
 mod infer;
+mod pass;
 mod recording;
 mod rows;
 mod signature;

@@ -1,12 +1,11 @@
 //! What was recorded of a function, on its instructions and terminals.
 ghost use Rattle.std.specs.Prelude.{◌≡◌};
-ghost use Rattle.alias_effects.specs.Recording.{with_recorded, recorded_instructions, terminal_with, with_terminal_at, with_terminal, recorded_terminals};
+ghost use Rattle.alias_effects.specs.Recording.{with_recorded, recorded_instructions, with_terminal_at, with_terminal, recorded_terminals};
 
 use crate::solved::{InstructionEffects, TerminalEffects};
 use alias_base::{BlockMap, List};
 use alias_hir::effect::AliasingEffects;
 use alias_hir::hir::{BasicBlock, Instruction};
-use alias_hir::terminal::Terminal;
 
 fn record_instruction(instructions: &mut List<Instruction>, recorded: InstructionEffects)
     ensures { instructions.new ≡ with_recorded recorded instructions.old }
@@ -32,19 +31,11 @@ pub fn record_instructions(instructions: &mut List<Instruction>, recorded: List<
     }
 }
 
-fn put_effects(terminal: &mut Terminal, effects: AliasingEffects)
-    ensures { terminal.new ≡ terminal_with terminal.old effects }
-{
-    match terminal {
-        Terminal::Return { effects: place, .. } => *place = Some(effects),
-    }
-}
-
 fn record_terminal_at(blocks: &mut BlockMap<BasicBlock>, index: usize, effects: AliasingEffects)
     ensures { blocks.new ≡ with_terminal_at effects blocks.old index }
 {
     if let Some(block) = blocks.get_index_mut(index) {
-        put_effects(&mut block.terminal, effects);
+        block.terminal.set_effects(effects);
     }
 }
 

@@ -11,10 +11,10 @@ use alias_hir::env::{Environment, Identifier, MutableRange};
 use alias_hir::error::InferError;
 use alias_hir::hir::{BasicBlock, FunctionType, Hir, HirFunction, Instruction};
 use alias_hir::place::{Effect, Place};
-use alias_rules::function::check_function;
 use alias_hir::terminal::Terminal;
 use alias_hir::types::Ty;
 use alias_hir::value::{InstructionKind, InstructionValue, LValue, PropertyLiteral};
+use alias_rules::function::check_function;
 use std::alloc::{AllocError, Global};
 use std::process::Abort;
 use std::test::Fail;
@@ -81,6 +81,7 @@ fn function(
     }
     let mut blocks = BlockMap::new(alloc);
     let block = BasicBlock {
+        phis: List::new(alloc),
         instructions: numbers,
         terminal: Terminal::Return {
             id: EvaluationOrder(5),

@@ -1,0 +1,66 @@
+-- Lists that are made of what is left of others.
+use Rattle.std.proofs.Common.{◌≡◌, ℕ, ◌+◌, ◌<◌, zero, suc, List, [], ◌∷◌, ◌++◌, length, drop, Option, Some, None, refl, ap, sym, ◌∙◌, arith, append_assoc, add-one, drop-set-lt, get_or}
+use Rattle.std.specs.Prelude.{slice_get, slice_set}
+use Rattle.std.specs.List.{flat_map}
+use Rattle.alias_base.specs.declared.ids.BlockId.{BlockId}
+use Rattle.alias_lattice.specs.States.{State}
+use Rattle.alias_effects.specs.declared.block.BlockEffects.{BlockEffects}
+use Rattle.alias_effects.specs.declared.solved.BlockEntry.{BlockEntry}
+use Rattle.alias_effects.specs.Inference.{block_at, entries_of}
+use Rattle.alias_effects.specs.Handing.{entry_as}
+use Rattle.alias_effects.specs.Numbered.{Blocks, position_of, with_position, positions_of}
+
+step_entries : (es : Blocks) (xs : List (Option State)) (i : ℕ) (x : Option State) → length xs ≡ length es → slice_get xs i ≡ Some x
+    → entries_of (drop i es) (drop i xs) ≡ entry_as (block_at es i) x ++ entries_of (drop (suc i) es) (drop (suc i) xs)
+step_entries [] [] i x l h = cc
+step_entries [] (y ∷ ys) i x l h = cc
+step_entries (e ∷ es) [] i x l h = cc
+step_entries (e ∷ es) (None ∷ ys) zero None l h = refl
+step_entries (e ∷ es) (None ∷ ys) zero (Some x) l h = cc
+step_entries (e ∷ es) (Some y ∷ ys) zero None l h = cc
+step_entries (e ∷ es) (Some y ∷ ys) zero (Some x) l h = let same : y ≡ x = cc in ap (λ z. let r : BlockEntry = record { block = e.0; state = z } in r ∷ entries_of es ys) same
+step_entries (e ∷ es) (y ∷ ys) (suc i) x l h = let m : length ys ≡ length es = cc in step_entries es ys i x m h
+
+-- one more entry is made of what is left
+pub entries_left : (es : Blocks) (xs ys : List (Option State)) (i : ℕ) (x : Option State) (old new : List BlockEntry) → length xs ≡ length es → slice_get xs i ≡ Some x → ys ≡ slice_set xs i None
+    → new ≡ old ++ entry_as (block_at es i) x → new ++ entries_of (drop (i + 1) es) (drop (i + 1) ys) ≡ old ++ entries_of (drop i es) (drop i xs)
+entries_left es xs ys i x old new l h e n =
+    let rest = entries_of (drop (i + 1) es) (drop (i + 1) xs) in
+    ap (λ z. new ++ entries_of (drop (i + 1) es) (drop (i + 1) z)) e
+    ∙ ap (λ z. new ++ entries_of (drop (i + 1) es) z) (drop-set-lt (i + 1) xs i None (omega arith))
+    ∙ ap (λ z. z ++ rest) n
+    ∙ append_assoc old (entry_as (block_at es i) x) rest
+    ∙ ap (λ z. old ++ z) (sym (rw (add-one i) (step_entries es xs i x l h)))
+
+step_kept : {A : Type 0} (f : Option BlockEffects → List A) (xs : List (Option BlockEffects)) (i : ℕ) (x : Option BlockEffects) → slice_get xs i ≡ Some x → flat_map f (drop i xs) ≡ f x ++ flat_map f (drop (suc i) xs)
+step_kept f [] i x h = cc
+step_kept f (y ∷ ys) zero x h = let same : y ≡ x = cc in ap (λ z. f z ++ flat_map f ys) same
+step_kept f (y ∷ ys) (suc i) x h = step_kept f ys i x h
+
+-- what was kept of one more block is taken from what is left
+pub kept_left : {A : Type 0} (f : Option BlockEffects → List A) (xs ys : List (Option BlockEffects)) (i : ℕ) (x : Option BlockEffects) (old new : List A) → slice_get xs i ≡ Some x → ys ≡ slice_set xs i None
+    → new ≡ old ++ f x → new ++ flat_map f (drop (i + 1) ys) ≡ old ++ flat_map f (drop i xs)
+kept_left f xs ys i x old new h e n =
+    ap (λ z. new ++ flat_map f (drop (i + 1) z)) e
+    ∙ ap (λ z. new ++ flat_map f z) (drop-set-lt (i + 1) xs i None (omega arith))
+    ∙ ap (λ z. z ++ flat_map f (drop (i + 1) xs)) n
+    ∙ append_assoc old (f x) (flat_map f (drop (i + 1) xs))
+    ∙ ap (λ z. old ++ z) (sym (rw (add-one i) (step_kept f xs i x h)))
+
+first_position : (o : Option ℕ) (ns : List ℕ) → with_position o ns ≡ with_position o [] ++ ns
+first_position None ns = refl
+first_position (Some n) ns = refl
+
+step_positions : (es : Blocks) (bs : List BlockId) (i : ℕ) (d : BlockId) → i < length bs → positions_of es (drop i bs) ≡ with_position (position_of es (get_or bs i d)) [] ++ positions_of es (drop (suc i) bs)
+step_positions es [] i d h = let no : ⊥ = omega arith in absurd no
+step_positions es (b ∷ bs) zero d h = first_position (position_of es b) (positions_of es bs)
+step_positions es (b ∷ bs) (suc i) d h = step_positions es bs i d (omega arith)
+
+-- one more position is found of what is left
+pub positions_left : (es : Blocks) (bs : List BlockId) (i : ℕ) (d : BlockId) (o : Option ℕ) (old new : List ℕ) → i < length bs → o ≡ position_of es (get_or bs i d) → new ≡ old ++ with_position o []
+    → new ++ positions_of es (drop (i + 1) bs) ≡ old ++ positions_of es (drop i bs)
+positions_left es bs i d o old new h e n =
+    let rest = positions_of es (drop (i + 1) bs) in
+    ap (λ z. z ++ rest) n
+    ∙ append_assoc old (with_position o []) rest
+    ∙ ap (λ z. old ++ z) (ap (λ z. with_position z [] ++ rest) e ∙ sym (rw (add-one i) (step_positions es bs i d h)))

@@ -1,0 +1,32 @@
+use Rattle.std.proofs.Common.{◌≡◌, ◌∙◌, ap, sym, subst, None, length}
+use Rattle.std.specs.Prelude.{replicate}
+use Rattle.alias_lattice.specs.Flows.{IsSolution}
+use Rattle.alias_lattice.specs.States.{state_below}
+use Rattle.alias_flow.specs.Solutions.{entry_at, KeepsSteps, KeepsOthers}
+use Rattle.alias_rules.specs.RuleFacts.{fitting_entry, fitting_successors}
+use Rattle.alias_effects.specs.Handing.{world_with}
+use Rattle.alias_effects.specs.Solutions.{IsSolved}
+use Rattle.alias_effects.proofs.Solving.{Numbers, solved_over}
+use Rattle.alias_effects.proofs.infer.solved.Goals as goal
+
+pub returns-in_ok-solved_of-in-Ok-clause-solves : goal.returns-in_ok-solved_of-in-Ok-clause-solves
+returns-in_ok-solved_of-in-Ok-clause-solves c =
+    let func = c.args.func.now in
+    let env = c.args.env.now in
+    let e = c.args.is_function_expression in
+    let said = c.in-Ok.ensures in
+    let entries = c.in-Ok.solution.entries in
+    let flow = c.solve-answer.new.flow in
+    let kept = flow.kept in
+    let fits : Numbers func = record {
+      distinct = c.len-count.ensures.distinct;
+      entry = fitting_entry func env c.requires;
+      successors = λ n b x h. fitting_successors func env n b x c.requires h;
+    } in
+    let long : length kept.items ≡ length func.body.blocks = sym kept.ok.0 ∙ flow.kept_long ∙ ap (λ r. r.blocks) said.same in
+    let others = subst (λ k. KeepsOthers (entry_at entries) k kept.items) (c.in_ok-nothing_yet.ensures.items ∙ ap (λ n. replicate n None) c.len-count.ensures.count) said.others in
+    subst (IsSolved env func e) (sym c.in_ok-solved_of-in-Ok.ensures)
+    (solved_over env func e fits (world_with c.in-Ok.solution kept.items) said.count long
+    (subst (λ r. IsSolution state_below r.flow tt (entry_at entries)) said.same said.solves)
+    (subst (λ r. KeepsSteps r.flow tt (entry_at entries) kept.items) said.same said.keeps)
+    others said.joins)

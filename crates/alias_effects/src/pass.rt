@@ -1,0 +1,149 @@
+//! The effects pass as a flow over the positions of blocks.
+ghost use Rattle.std.specs.Prelude.{◌≡◌, ◌<◌, ◌^◌, true, ℕ, IfOk, length, is_some, List, Option, vec_len};
+ghost use Rattle.std.proofs.Common.{sym, ◌∙◌};
+ghost use Rattle.std.specs.Borrow.{Bor};
+ghost use Rattle.alias_base.specs.Find.{value_at};
+ghost use Rattle.alias_hir.specs.declared.env.Environment.{Environment};
+ghost use Rattle.alias_hir.specs.declared.hir.HirFunction.{HirFunction};
+ghost use Rattle.alias_effects.specs.declared.block.BlockEffects.{BlockEffects};
+ghost use Rattle.alias_effects.specs.declared.faults.BlockFault.{BlockFault};
+ghost use Rattle.alias_effects.specs.Numbered.{positions_of, entry_position, numbered};
+ghost use Rattle.alias_effects.specs.PassLaws.{Extends, step_fault, pass_laws};
+
+use crate::block::{BlockEffects, block_step};
+use crate::faults::BlockFault;
+use alias_base::{BlockId, BlockMap, List};
+use alias_flow::{Flow, StepFault};
+use alias_hir::env::Environment;
+use alias_hir::hir::{BasicBlock, HirFunction};
+use alias_hir::successors::terminal_successors;
+use alias_lattice::InferenceState;
+use smallvec::SmallVec;
+use std::alloc::{AllocError, Global};
+use std::mem;
+
+/// The pass over a function, with what the last visit of each block recorded.
+#[derive(Drop)]
+pub(crate) struct EffectsPass<'a> {
+    pub(crate) alloc: Global,
+    pub(crate) env: &'a Environment,
+    pub(crate) func: &'a HirFunction,
+    pub(crate) is_function_expression: bool,
+    pub(crate) kept: Vec<Option<BlockEffects>>,
+    ghost entry_stands: { is_some (value_at func.now.body.blocks func.now.body.entry) ≡ true },
+    ghost few: { length func.now.body.blocks < 2 ^ 32 },
+    ghost kept_long: { vec_len kept ≡ length func.now.body.blocks },
+}
+
+/// Where the function's entry stands.
+fn entry_position(func: &HirFunction) -> usize
+    ensures { result ≡ entry_position func.now }
+{
+    match func.body.blocks.position(func.body.entry) {
+        Some(position) => position,
+        None => 0,
+    }
+}
+
+/// Where those of the list that are blocks stand.
+fn positions_of(
+    alloc: Global,
+    blocks: &BlockMap<BasicBlock>,
+    names: &[BlockId],
+) -> Result<SmallVec<u32, 2, Global>, AllocError>
+    requires { length blocks.now < 2 ^ 32 }
+    ensures { IfOk result (λ positions. positions.items ≡ positions_of blocks.now names.now) }
+{
+    let mut positions = SmallVec::new(alloc);
+    for name in names {
+        if let Some(position) = blocks.position(*name) {
+            positions.push(position as u32)?;
+        }
+    }
+    Ok(positions)
+}
+
+fn step_fault(fault: BlockFault) -> StepFault<BlockFault>
+    ensures { result ≡ step_fault fault }
+{
+    match fault {
+        BlockFault::Memory(e) => StepFault::Memory(e),
+        refusal => StepFault::Refused(refusal),
+    }
+}
+
+impl<'a> Flow for EffectsPass<'a> {
+    type State = InferenceState;
+
+    type Fault = BlockFault;
+
+    ghost Tables = { Unit {0} };
+
+    ghost Kept = { BlockEffects };
+
+    ghost Cause = { BlockFault };
+
+    ghost cause = { λ e. e };
+
+    ghost rules = { λ p. numbered p.env.now p.func.now p.is_function_expression };
+
+    ghost tables = { λ p. tt };
+
+    ghost kept = { λ p. p.kept.items };
+
+    ghost Loan = { Bor Environment × Bor HirFunction };
+
+    ghost loan = { λ p. (p.env, p.func) };
+
+    ghost extends = { Extends };
+
+    ghost laws = { λ p. pass_laws p.env.now p.func.now p.is_function_expression p.entry_stands p.kept.items (sym p.kept.ok.0 ∙ p.kept_long) };
+
+    fn blocks(&self) -> u32 {
+        self.func.body.blocks.len() as u32
+    }
+
+    fn entry(&self) -> u32 {
+        entry_position(self.func) as u32
+    }
+
+    fn initial(&self) -> Result<InferenceState, AllocError> {
+        Ok(InferenceState::empty(self.alloc))
+    }
+
+    fn edges(&self, block: u32) -> Result<SmallVec<u32, 2, Global>, AllocError> {
+        let blocks = &self.func.body.blocks;
+        let Some((_, from)) = blocks.get_index(block as usize) else {
+            return Ok(SmallVec::new(self.alloc));
+        };
+        let names = terminal_successors(self.alloc, &from.terminal)?;
+        positions_of(self.alloc, blocks, names.as_slice())
+    }
+
+    fn step(
+        &mut self,
+        block: u32,
+        state: &mut InferenceState,
+    ) -> Result<(), StepFault<BlockFault>> {
+        let Some((name, at)) = self.func.body.blocks.get_index(block as usize) else {
+            unreachable!()
+        };
+        let entered = mem::replace(state, InferenceState::empty(self.alloc));
+        match block_step(
+            self.alloc,
+            self.env,
+            &self.func.instructions,
+            self.is_function_expression,
+            *name,
+            at,
+            entered,
+        ) {
+            Ok((after, effects)) => {
+                *state = after;
+                self.kept[block as usize] = Some(effects);
+                Ok(())
+            }
+            Err(fault) => Err(step_fault(fault)),
+        }
+    }
+}
