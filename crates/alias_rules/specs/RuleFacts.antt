@@ -1,15 +1,15 @@
 -- What follows for a caller from the rules.
-use Rattle.std.specs.Prelude.{◌≡◌, ℕ, zero, suc, Bool, true, false, cond, ◌&&◌, ◌||◌, ◌==◌, List, [], ◌∷◌, length, slice_get, is_some, is_none, is_ok, Option, Some, None, Result, Ok, Err, ⊤, if◌then◌else◌}
+use Rattle.std.specs.Prelude.{◌≡◌, ℕ, zero, suc, Bool, true, false, cond, ◌||◌, ◌==◌, List, [], ◌∷◌, length, slice_get, is_some, is_none, is_ok, Option, Some, None, Result, Ok, Err, ⊤, if◌then◌else◌}
 use Rattle.std.specs.List.{list_all, list_any}
 use Rattle.std.proofs.Common.{refl, ap, sym, ◌∙◌, arith}
 use Rattle.std.proofs.lemmas.Bool.{eqb-true}
 use Rattle.std.proofs.lemmas.Grind.{common_steps}
-use Rattle.alias_base.specs.Answer.{◌>>=◌, all_pass}
+use Rattle.alias_base.specs.Answer.{all_pass}
 use Rattle.alias_base.specs.Find.{same_block, value_at}
 use Rattle.alias_base.specs.Parts.{both_true, both_pass}
 use Rattle.alias_base.specs.declared.ids.BlockId.{BlockId}
 use Rattle.alias_rules.specs.Fitting.{recorded_fit, effects_fit, function_rules, tells_invariant, function_fits}
-use Rattle.alias_rules.specs.Rules.{identifier_is_bare, instruction_is_bare, terminal_is_bare, block_is_bare, tables_fit, numbers_fit, is_block, entry_stands, handler_of, named_stands, leads_to_blocks, successors_stand, instructions_stand, none_stands_twice, handlers_distinct, phis_fit, orders_fit, environment_is_bare, function_is_bare, rules_hold}
+use Rattle.alias_rules.specs.Rules.{identifier_is_bare, instruction_is_bare, terminal_is_bare, block_is_bare, tables_fit, numbers_fit, is_block, entry_stands, named_stands, leads_to_blocks, successors_stand, instructions_stand, none_stands_twice, handlers_distinct, phis_fit, orders_fit, environment_is_bare, function_is_bare, rules_hold}
 use Rattle.alias_hir.specs.Terminals.{terminal_effects, successors}
 use Rattle.alias_hir.specs.declared.effect.AliasingEffect.{AliasingEffect}
 use Rattle.alias_hir.specs.declared.env.Environment.{Environment}

@@ -3,9 +3,10 @@ ghost use Rattle.std.specs.Prelude.{◌≡◌, map};
 ghost use Rattle.alias_base.specs.Answer.{all_pass};
 ghost use Rattle.alias_hir.specs.declared.terminal.SwitchCase.{SwitchCase};
 ghost use Rattle.alias_hir.specs.Terminals.{optional_block, successors};
-ghost use Rattle.alias_rules.specs.Rules.{is_block, entry_stands, handler_of, named_stands, leads_to_blocks, successors_stand};
+ghost use Rattle.alias_rules.specs.Rules.{is_block, entry_stands, named_stands, leads_to_blocks, successors_stand};
 
 use crate::fault::UnitFault;
+use crate::ways::{handler_of, ways};
 use alias_base::{BlockId, FunctionId};
 use alias_hir::hir::HirFunction;
 use alias_hir::terminal::{SwitchCase, Terminal};
@@ -24,16 +25,6 @@ pub fn entry_stands(function: Option<FunctionId>, func: &HirFunction) -> Result<
         Ok(())
     } else {
         Err(UnitFault::EntryMissing { function })
-    }
-}
-
-/// The handler of a `Try`, and `None` of another terminal.
-pub fn handler_of(terminal: &Terminal) -> Option<BlockId>
-    ensures { result ≡ handler_of terminal.now }
-{
-    match terminal {
-        Terminal::Try { handler, .. } => Some(*handler),
-        _ => None,
     }
 }
 
@@ -84,6 +75,7 @@ fn cases_stand(
     Ok(())
 }
 
+#[tactic(auto, using(crate::proofs::Edges::passes_of_parts))]
 fn terminal_stands(
     function: Option<FunctionId>,
     func: &HirFunction,
@@ -92,50 +84,10 @@ fn terminal_stands(
 ) -> Result<(), UnitFault>
     ensures { result ≡ all_pass (named_stands function func.now block) (successors terminal.now) }
 {
-    match terminal {
-        Terminal::Goto { block: named, .. }
-        | Terminal::For { init: named, .. }
-        | Terminal::ForOf { init: named, .. }
-        | Terminal::ForIn { init: named, .. }
-        | Terminal::DoWhile {
-            loop_block: named,
-            ..
-        }
-        | Terminal::While { test: named, .. }
-        | Terminal::Logical { test: named, .. }
-        | Terminal::Ternary { test: named, .. }
-        | Terminal::Optional { test: named, .. }
-        | Terminal::Try { block: named, .. }
-        | Terminal::Label { block: named, .. }
-        | Terminal::Sequence { block: named, .. }
-        | Terminal::Scope { block: named, .. }
-        | Terminal::PrunedScope { block: named, .. } => {
-            named_stands(function, func, block, *named)
-        }
-        Terminal::If {
-            consequent,
-            alternate,
-            ..
-        }
-        | Terminal::Branch {
-            consequent,
-            alternate,
-            ..
-        } => {
-            named_stands(function, func, block, *consequent)?;
-            named_stands(function, func, block, *alternate)
-        }
-        Terminal::Switch { cases, .. } => cases_stand(function, func, block, cases.as_slice()),
-        Terminal::MaybeThrow {
-            continuation,
-            handler,
-            ..
-        } => {
-            named_stands(function, func, block, *continuation)?;
-            optional_stands(function, func, block, *handler)
-        }
-        Terminal::Return { .. } | Terminal::Throw { .. } | Terminal::Unreachable { .. } => Ok(()),
-    }
+    let (first, second, cases) = ways(terminal);
+    optional_stands(function, func, block, first)?;
+    optional_stands(function, func, block, second)?;
+    cases_stand(function, func, block, cases)
 }
 
 fn leads_to_blocks(

@@ -3,9 +3,9 @@ ghost use Rattle.std.specs.Prelude.{◌≡◌, IfOk};
 ghost use Rattle.alias_rules.specs.Fault.{Gives};
 ghost use Rattle.alias_rules.specs.Rules.{handlers, handlers_distinct};
 
-use crate::blocks::handler_of;
 use crate::fault::UnitFault;
 use crate::standing::first_again;
+use crate::ways::handler_of;
 use alias_base::{BlockId, FunctionId};
 use alias_hir::hir::HirFunction;
 use std::alloc::{AllocError, Global};

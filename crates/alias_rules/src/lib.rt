@@ -14,3 +14,4 @@ mod phis;
 mod standing;
 #[cfg(test)]
 mod tests;
+mod ways;

@@ -1,63 +1,47 @@
 //! Each operand of a phi is for a block that has an edge to that of the phi.
-ghost use Rattle.std.specs.Prelude.{◌≡◌};
+ghost use Rattle.std.specs.Prelude.{◌≡◌, ◌++◌};
 ghost use Rattle.std.specs.List.{list_any};
 ghost use Rattle.alias_base.specs.Answer.{all_pass};
 ghost use Rattle.alias_base.specs.Find.{same_block};
 ghost use Rattle.alias_hir.specs.declared.terminal.SwitchCase.{SwitchCase};
+ghost use Rattle.alias_hir.specs.Terminals.{optional_block};
 ghost use Rattle.alias_rules.specs.Rules.{goes_to, has_edge, operand_fits, operands_fit, phis_fit};
 
 use crate::fault::UnitFault;
+use crate::ways::ways;
 use alias_base::{BlockId, FunctionId};
 use alias_hir::hir::{HirFunction, Phi};
 use alias_hir::terminal::{SwitchCase, Terminal};
 
-fn a_case_goes_to(to: BlockId, cases: &[SwitchCase]) -> bool
+fn a_case_is(to: BlockId, cases: &[SwitchCase]) -> bool
     ensures { result ≡ list_any (λ (c : SwitchCase). same_block to c.block) cases.now }
 {
     cases.iter().any(|case| to == case.block)
 }
 
+fn optional_is(to: BlockId, block: Option<BlockId>) -> bool
+    ensures { result ≡ list_any (same_block to) (optional_block block) }
+{
+    match block {
+        None => false,
+        Some(block) => to == block,
+    }
+}
+
+#[tactic(auto, using(crate::proofs::Edges::any_of_both))]
+fn either_is(to: BlockId, first: Option<BlockId>, second: Option<BlockId>) -> bool
+    ensures { result ≡ list_any (same_block to) (optional_block first ++ optional_block second) }
+{
+    optional_is(to, first) || optional_is(to, second)
+}
+
 /// Whether control may go on from the terminal to the block.
-#[tactic(auto, using(crate::proofs::Edges::any_of_map))]
+#[tactic(auto, using(crate::proofs::Edges::any_of_parts))]
 fn goes_to(to: BlockId, terminal: &Terminal) -> bool
     ensures { result ≡ goes_to to terminal.now }
 {
-    match terminal {
-        Terminal::Goto { block, .. }
-        | Terminal::For { init: block, .. }
-        | Terminal::ForOf { init: block, .. }
-        | Terminal::ForIn { init: block, .. }
-        | Terminal::DoWhile {
-            loop_block: block,
-            ..
-        }
-        | Terminal::While { test: block, .. }
-        | Terminal::Logical { test: block, .. }
-        | Terminal::Ternary { test: block, .. }
-        | Terminal::Optional { test: block, .. }
-        | Terminal::Try { block, .. }
-        | Terminal::Label { block, .. }
-        | Terminal::Sequence { block, .. }
-        | Terminal::Scope { block, .. }
-        | Terminal::PrunedScope { block, .. } => to == *block,
-        Terminal::If {
-            consequent,
-            alternate,
-            ..
-        }
-        | Terminal::Branch {
-            consequent,
-            alternate,
-            ..
-        } => to == *consequent || to == *alternate,
-        Terminal::Switch { cases, .. } => a_case_goes_to(to, cases.as_slice()),
-        Terminal::MaybeThrow {
-            continuation,
-            handler,
-            ..
-        } => to == *continuation || *handler == Some(to),
-        Terminal::Return { .. } | Terminal::Throw { .. } | Terminal::Unreachable { .. } => false,
-    }
+    let (first, second, cases) = ways(terminal);
+    either_is(to, first, second) || a_case_is(to, cases)
 }
 
 fn has_edge(func: &HirFunction, from: BlockId, to: BlockId) -> bool
