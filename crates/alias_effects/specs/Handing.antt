@@ -1,6 +1,7 @@
 -- The parts of what is handed out.
-use Rattle.std.specs.Prelude.{ℕ, List, [], ◌∷◌, Option, Some, None}
+use Rattle.std.specs.Prelude.{◌≡◌, ℕ, Bool, List, [], ◌∷◌, Option, Some, None, Result, Ok, Err}
 use Rattle.std.specs.List.{flat_map}
+use Rattle.alias_base.specs.Answer.{◌>>=◌}
 use Rattle.alias_base.specs.declared.ids.BlockId.{BlockId}
 use Rattle.alias_hir.specs.declared.env.Environment.{Environment}
 use Rattle.alias_hir.specs.declared.error.InferError.{InferError}
@@ -11,11 +12,12 @@ use Rattle.alias_lattice.specs.States.{State}
 use Rattle.alias_flow.specs.declared.flow.Solution.{Solution}
 use Rattle.alias_flow.specs.declared.flow.SolveFault.{SolveFault}
 use Rattle.alias_flow.specs.declared.flow.SolveFault.TheVariants.{Step, NotSettled, Memory}
-use Rattle.alias_flow.specs.Machine.{World, Desk}
+use Rattle.alias_flow.specs.Machine.{World, Desk, End}
+use Rattle.alias_flow.specs.Machine as end
 use Rattle.alias_effects.specs.declared.block.BlockEffects.{BlockEffects}
 use Rattle.alias_effects.specs.declared.faults.BlockFault.{BlockFault}
 use Rattle.alias_effects.specs.declared.solved.BlockEntry.{BlockEntry}
-use Rattle.alias_effects.specs.Inference.{refusal, block_at, instructions_kept, terminal_kept}
+use Rattle.alias_effects.specs.Inference.{refusal, block_at, instructions_kept, terminal_kept, inferred}
 
 -- the entry of a block that was reached
 abbrev pub entry_as : BlockId → Option State → List BlockEntry
@@ -39,3 +41,16 @@ abbrev pub unsolved : Environment → HirFunction → SolveFault BlockFault → 
 unsolved env func (Step n fault) = refusal env (block_at func.body.blocks n) fault
 unsolved env func (NotSettled visits) = unsettled visits
 unsolved env func (Memory e) = error.Memory e
+
+-- what the last visits of the function's blocks record, or the refusal
+abbrev pub last_effects : Environment → HirFunction → Bool → Result BlockEffects InferError
+last_effects env func is_function_expression = do
+  s ← inferred env func is_function_expression
+  Ok (record { instructions = s.effects; terminal = s.terminal_effects })
+
+-- what is kept is what the visits end with, and a fault is theirs. Memory may fail at any time.
+abbrev pub VisitsEnd : End (Desk State) (Unit {0}) BlockEffects BlockFault → Result (Unit {0}) (SolveFault BlockFault) → List (Option BlockEffects) → Type 0
+VisitsEnd ending (Ok u) kept = (w : World (Desk State) (Unit {0}) BlockEffects) × (ending ≡ end.Solved w) × (kept ≡ w.kept)
+VisitsEnd ending (Err (Step n fault)) kept = ending ≡ end.Fault n fault
+VisitsEnd ending (Err (NotSettled visits)) kept = ending ≡ end.NotSettled visits
+VisitsEnd ending (Err (Memory e)) kept = Unit {0}

@@ -1,18 +1,25 @@
 //! The effects pass over a function.
-ghost use Rattle.std.specs.Prelude.{◌≡◌, true, IfOk, OnErr};
+ghost use Rattle.std.specs.List.{IsDistinct};
+ghost use Rattle.std.specs.Map.{keys_of};
+ghost use Rattle.std.specs.Prelude.{◌≡◌, true, None, IfOk, OnErr, length, replicate};
+ghost use Rattle.alias_base.specs.Find.{same_block};
+ghost use Rattle.alias_lattice.specs.States.{state_join, state_below};
+ghost use Rattle.alias_flow.specs.Machine.{solution};
 ghost use Rattle.alias_rules.specs.Fitting.{function_fits};
-ghost use Rattle.alias_effects.specs.Handing.{unsettled, unsolved};
-ghost use Rattle.alias_effects.specs.Inference.{refusal, inferred, Infers, RefusesAs};
+ghost use Rattle.alias_effects.specs.Handing.{unsettled, unsolved, last_effects, VisitsEnd};
+ghost use Rattle.alias_effects.specs.Inference.{refusal, inferred, effects_inferred, Infers, InfersInto, RefusesAs};
+ghost use Rattle.alias_effects.specs.Numbered.{numbered};
 ghost use Rattle.alias_effects.specs.Recording.{recorded};
 ghost use Rattle.alias_effects.specs.Solutions.{IsSolved};
 
+use crate::block::BlockEffects;
 use crate::faults::BlockFault;
-use crate::handing::{block_at, solved_of};
+use crate::handing::{all_kept, block_at, solved_of};
 use crate::pass::EffectsPass;
 use crate::recording::{record_instructions, record_terminals};
 use crate::solved::Solved;
 use alias_base::{BlockId, TryClone};
-use alias_flow::{SolveFault, nothing_yet, solve};
+use alias_flow::{SolveFault, is_forward, nothing_yet, solve, solve_forward};
 use alias_hir::env::Environment;
 use alias_hir::error::InferError;
 use alias_hir::hir::HirFunction;
@@ -78,6 +85,31 @@ fn unsolved(
     }
 }
 
+/// The pass over the function, of which nothing is visited yet.
+fn pass_over<'a>(
+    alloc: Global,
+    func: &'a HirFunction,
+    env: &'a Environment,
+    is_function_expression: bool,
+) -> Result<EffectsPass<'a>, AllocError>
+    requires { function_fits func.now env.now ≡ true }
+    ensures rules { IfOk result (λ pass. numbered pass.env.now pass.func.now pass.is_function_expression ≡ numbered env.now func.now is_function_expression) }
+    ensures kept { IfOk result (λ pass. pass.kept.items ≡ replicate (length func.now.body.blocks) None) }
+    ensures distinct { IfOk result (λ _. IsDistinct same_block (keys_of func.now.body.blocks)) }
+{
+    let count = func.body.blocks.len();
+    if count > u32::MAX as usize {
+        return Err(AllocError);
+    }
+    Ok(EffectsPass {
+        alloc,
+        env,
+        func,
+        is_function_expression,
+        kept: nothing_yet(alloc, count as u32)?,
+    })
+}
+
 /// The solution of the function.
 fn solved(
     alloc: Global,
@@ -89,21 +121,41 @@ fn solved(
     ensures answer { Infers (inferred env.now func.now is_function_expression) result }
     ensures solves { IfOk result (λ s. IsSolved env.now func.now is_function_expression s) }
 {
-    let count = func.body.blocks.len();
-    if count > u32::MAX as usize {
-        return Err(InferError::Memory(AllocError));
-    }
-    let mut pass = EffectsPass {
-        alloc,
-        env,
-        func,
-        is_function_expression,
-        kept: nothing_yet(alloc, count as u32)?,
-    };
+    let mut pass = pass_over(alloc, func, env, is_function_expression)?;
     let answer = solve(alloc, &mut pass);
     let EffectsPass { kept, .. } = pass;
     match answer {
         Ok(solution) => Ok(solved_of(alloc, func, solution, kept)?),
+        Err(fault) => Err(unsolved(alloc, env, func, fault)),
+    }
+}
+
+/// Visits the blocks until nothing is wanted, with no entry state kept where all edges go forward.
+fn visit_all(alloc: Global, pass: &mut EffectsPass<'_>) -> Result<(), SolveFault<BlockFault>>
+    ensures { VisitsEnd (solution state_join state_below (numbered pass.old.env.now pass.old.func.now pass.old.is_function_expression) tt pass.old.kept.items) result pass.new.kept.items }
+{
+    if is_forward(&*pass)? {
+        return solve_forward(alloc, pass);
+    }
+    solve(alloc, pass)?;
+    Ok(())
+}
+
+/// What the last visits of the function's blocks record.
+fn last_effects(
+    alloc: Global,
+    func: &HirFunction,
+    env: &Environment,
+    is_function_expression: bool,
+) -> Result<BlockEffects, InferError>
+    requires { function_fits func.now env.now ≡ true }
+    ensures { Infers (last_effects env.now func.now is_function_expression) result }
+{
+    let mut pass = pass_over(alloc, func, env, is_function_expression)?;
+    let answer = visit_all(alloc, &mut pass);
+    let EffectsPass { kept, .. } = pass;
+    match answer {
+        Ok(()) => Ok(all_kept(alloc, kept)?),
         Err(fault) => Err(unsolved(alloc, env, func, fault)),
     }
 }
@@ -134,4 +186,27 @@ pub fn infer_effects_certified(
     record_instructions(&mut func.instructions, instructions);
     record_terminals(&mut func.body.blocks, terminal);
     Ok(solved)
+}
+
+/// Infers what each instruction of the function creates, aliases, freezes and mutates, and hands nothing
+/// out. Where each block's successors stand after it, no entry state is kept.
+///
+/// At `Ok` the effects stand on the instructions and terminals: those that `infer_effects_certified` hands
+/// out. An `Err` comes exactly where that comes there, and leaves the function unchanged; want of memory can
+/// come at any growth. The environment doesn't change.
+pub fn infer_mutation_aliasing_effects(
+    alloc: Global,
+    func: &mut HirFunction,
+    env: &mut Environment,
+    is_function_expression: bool,
+) -> Result<(), InferError>
+    requires { function_fits func.old env.old ≡ true }
+    ensures answer { InfersInto (effects_inferred env.old func.old is_function_expression) result func.new }
+    ensures err { OnErr result (func.new ≡ func.old) }
+    ensures env { env.new ≡ env.old }
+{
+    let recorded = last_effects(alloc, func, env, is_function_expression)?;
+    record_instructions(&mut func.instructions, recorded.instructions);
+    record_terminals(&mut func.body.blocks, recorded.terminal);
+    Ok(())
 }

@@ -13,7 +13,7 @@ mod signature;
 pub mod solved;
 pub mod spot;
 
-pub use infer::infer_effects_certified;
+pub use infer::{infer_effects_certified, infer_mutation_aliasing_effects};
 pub use solved::{BlockEntry, InstructionEffects, Solved, TerminalEffects};
 
 #[cfg(test)]

@@ -1,5 +1,7 @@
 //! What the clauses are to mean, on examples.
 
+mod loops;
+
 use crate::infer::infer_effects_certified;
 use crate::solved::Solved;
 use alias_base::{
@@ -49,11 +51,20 @@ fn store(into: u32, from: u32) -> InstructionValue {
     }
 }
 
-/// Six identifiers of which nothing is known.
-fn environment(alloc: Global) -> Result<Environment, AllocError> {
+/// `object.a = value`.
+fn write(alloc: Global, object: u32, value: u32) -> Result<InstructionValue, AllocError> {
+    Ok(InstructionValue::PropertyStore {
+        object: place(object),
+        property: PropertyLiteral::String(Text::from_str(alloc, "a")?),
+        value: place(value),
+    })
+}
+
+/// So many identifiers of which nothing is known.
+fn environment(alloc: Global, count: u32) -> Result<Environment, AllocError> {
     let mut env = Environment::new(alloc);
     env.types.push(Ty::Var)?;
-    for number in 0..6u32 {
+    for number in 0..count {
         env.identifiers.push(Identifier {
             declaration_id: DeclarationId(number),
             name: None,
@@ -69,28 +80,35 @@ fn environment(alloc: Global) -> Result<Environment, AllocError> {
     Ok(env)
 }
 
-/// A function of one block, whose instructions stand in order and that returns identifier 2.
-fn function(
+/// A block of the instructions from one number up to another.
+fn block(
     alloc: Global,
-    count: u32,
-    instructions: List<Instruction>,
-) -> Result<HirFunction, AllocError> {
+    start: u32,
+    end: u32,
+    terminal: Terminal,
+) -> Result<BasicBlock, AllocError> {
     let mut numbers = List::new(alloc);
-    for number in 0..count {
+    for number in start..end {
         numbers.push(InstructionId(number))?;
     }
-    let mut blocks = BlockMap::new(alloc);
-    let block = BasicBlock {
+    Ok(BasicBlock {
         phis: List::new(alloc),
         instructions: numbers,
-        terminal: Terminal::Return {
-            id: EvaluationOrder(5),
-            value: place(2),
-            effects: None,
-        },
-    };
-    blocks.insert(BlockId(0), block)?;
-    Ok(HirFunction {
+        terminal,
+    })
+}
+
+fn returns(order: u32, value: u32) -> Terminal {
+    Terminal::Return {
+        id: EvaluationOrder(order),
+        value: place(value),
+        effects: None,
+    }
+}
+
+/// A function that begins with block 0.
+fn function_of(blocks: BlockMap<BasicBlock>, instructions: List<Instruction>) -> HirFunction {
+    HirFunction {
         fn_type: FunctionType::Other,
         returns: place(0),
         body: Hir {
@@ -101,7 +119,18 @@ fn function(
         is_async: false,
         span: None,
         aliasing_effects: None,
-    })
+    }
+}
+
+/// A function of one block, whose instructions stand in order and that returns identifier 2.
+fn function(
+    alloc: Global,
+    count: u32,
+    instructions: List<Instruction>,
+) -> Result<HirFunction, AllocError> {
+    let mut blocks = BlockMap::new(alloc);
+    blocks.insert(BlockId(0), block(alloc, 0, count, returns(5, 2))?)?;
+    Ok(function_of(blocks, instructions))
 }
 
 /// A function with what was recorded of it, and its solution.
@@ -111,20 +140,31 @@ struct Answer {
     solved: Solved,
 }
 
-/// `None` where the inference doesn't take the function.
+/// `None` where the inference doesn't take the function, which has so many identifiers.
+fn solve_function(
+    alloc: Global,
+    func: HirFunction,
+    identifiers: u32,
+    is_function_expression: bool,
+) -> Result<Option<Answer>, InferError> {
+    let mut func = func;
+    let mut env = environment(alloc, identifiers)?;
+    if !check_function(alloc, &func, &env)? {
+        return Ok(None);
+    }
+    let solved = infer_effects_certified(alloc, &mut func, &mut env, is_function_expression)?;
+    Ok(Some(Answer { func, solved }))
+}
+
+/// `None` where the inference doesn't take the function of one block.
 fn solve(
     alloc: Global,
     count: u32,
     instructions: List<Instruction>,
     is_function_expression: bool,
 ) -> Result<Option<Answer>, InferError> {
-    let mut func = function(alloc, count, instructions)?;
-    let mut env = environment(alloc)?;
-    if !check_function(alloc, &func, &env)? {
-        return Ok(None);
-    }
-    let solved = infer_effects_certified(alloc, &mut func, &mut env, is_function_expression)?;
-    Ok(Some(Answer { func, solved }))
+    let func = function(alloc, count, instructions)?;
+    solve_function(alloc, func, 6, is_function_expression)
 }
 
 fn recorded_count(instruction: &Instruction) -> usize {
@@ -149,16 +189,11 @@ fn solve_the_write(
 
 /// `const x2 = {}; x2.a = 1; return x2`.
 fn writes_a_property(alloc: Global) -> Result<List<Instruction>, AllocError> {
-    let write = InstructionValue::PropertyStore {
-        object: place(2),
-        property: PropertyLiteral::String(Text::from_str(alloc, "a")?),
-        value: place(4),
-    };
     let mut list = List::new(alloc);
     list.push(instruction(1, 1, InstructionValue::ObjectExpression))?;
     list.push(instruction(2, 3, store(2, 1)))?;
     list.push(instruction(3, 4, InstructionValue::Primitive))?;
-    list.push(instruction(4, 5, write))?;
+    list.push(instruction(4, 5, write(alloc, 2, 4)?))?;
     Ok(list)
 }
 

@@ -1,8 +1,8 @@
-use Rattle.std.proofs.Common.{◌≡◌, ◌∙◌, ap, sym, subst, None, length}
-use Rattle.std.specs.Prelude.{replicate}
-use Rattle.alias_lattice.specs.Flows.{IsSolution}
+use Rattle.std.proofs.Common.{◌≡◌, ◌∙◌, ap, sym, subst, length}
+use Rattle.alias_lattice.specs.Flows.{IsSolution, AreJoins}
 use Rattle.alias_lattice.specs.States.{state_below}
-use Rattle.alias_flow.specs.Solutions.{entry_at, KeepsSteps, KeepsOthers}
+use Rattle.alias_lattice.specs.Standing.{StateProper}
+use Rattle.alias_flow.specs.Solutions.{entry_at, KeepsSteps, KeepsOthers, IsForward}
 use Rattle.alias_rules.specs.RuleFacts.{fitting_entry, fitting_successors}
 use Rattle.alias_effects.specs.Handing.{world_with}
 use Rattle.alias_effects.specs.Solutions.{IsSolved}
@@ -15,18 +15,20 @@ returns-in_ok-solved_of-in-Ok-clause-solves c =
     let env = c.args.env.now in
     let e = c.args.is_function_expression in
     let said = c.in-Ok.ensures in
+    let begun = c.in_ok-pass.ensures in
     let entries = c.in-Ok.solution.entries in
     let flow = c.solve-answer.new.flow in
     let kept = flow.kept in
+    let now = said.same ∙ begun.rules in
     let fits : Numbers func = record {
-      distinct = c.len-count.ensures.distinct;
+      distinct = begun.distinct;
       entry = fitting_entry func env c.requires;
       successors = λ n b x h. fitting_successors func env n b x c.requires h;
     } in
-    let long : length kept.items ≡ length func.body.blocks = sym kept.ok.0 ∙ flow.kept_long ∙ ap (λ r. r.blocks) said.same in
-    let others = subst (λ k. KeepsOthers (entry_at entries) k kept.items) (c.in_ok-nothing_yet.ensures.items ∙ ap (λ n. replicate n None) c.len-count.ensures.count) said.others in
+    let long : length kept.items ≡ length func.body.blocks = sym kept.ok.0 ∙ flow.kept_long ∙ ap (λ r. r.blocks) now in
     subst (IsSolved env func e) (sym c.in_ok-solved_of-in-Ok.ensures)
-    (solved_over env func e fits (world_with c.in-Ok.solution kept.items) said.count long
-    (subst (λ r. IsSolution state_below r.flow tt (entry_at entries)) said.same said.solves)
-    (subst (λ r. KeepsSteps r.flow tt (entry_at entries) kept.items) said.same said.keeps)
-    others said.joins)
+    (solved_over env func e fits (world_with c.in-Ok.solution kept.items) (said.count ∙ ap (λ r. r.blocks) begun.rules) long
+    (subst (λ r. IsSolution state_below r.flow tt (entry_at entries)) now said.solves)
+    (subst (λ r. KeepsSteps r.flow tt (entry_at entries) kept.items) now said.keeps)
+    (subst (λ k. KeepsOthers (entry_at entries) k kept.items) begun.kept said.others)
+    (subst (λ r. IsForward r → AreJoins state_below r.flow StateProper tt (entry_at entries)) begun.rules said.joins))

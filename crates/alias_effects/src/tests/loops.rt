@@ -1,0 +1,287 @@
+//! Functions of several blocks.
+
+use crate::infer::infer_mutation_aliasing_effects;
+use crate::tests::{
+    Answer, block, environment, function_of, instruction, place, recorded_count, returns,
+    solve_function, write,
+};
+use alias_base::{BlockId, BlockMap, EvaluationOrder, IdentifierId, List};
+use alias_hir::effect::{ValueKind, ValueReason};
+use alias_hir::error::InferError;
+use alias_hir::hir::{HirFunction, Phi};
+use alias_hir::terminal::Terminal;
+use alias_hir::value::InstructionValue;
+use alias_lattice::{AbstractValue, InferenceState, ReasonSet, Site};
+use alias_rules::function::check_function;
+use std::alloc::{AllocError, Global};
+use std::process::Abort;
+use std::test::Fail;
+
+fn goes_to(order: u32, block: u32) -> Terminal {
+    Terminal::Goto {
+        id: EvaluationOrder(order),
+        block: BlockId(block),
+    }
+}
+
+fn branch(order: u32, test: u32, consequent: u32, alternate: u32) -> Terminal {
+    Terminal::Branch {
+        id: EvaluationOrder(order),
+        test: place(test),
+        consequent: BlockId(consequent),
+        alternate: BlockId(alternate),
+    }
+}
+
+/// `const x1 = {}; while (x2) x1.a = x3; return x2`.
+fn while_loop(alloc: Global) -> Result<HirFunction, AllocError> {
+    let mut list = List::new(alloc);
+    list.push(instruction(1, 1, InstructionValue::ObjectExpression))?;
+    list.push(instruction(3, 2, InstructionValue::Primitive))?;
+    list.push(instruction(5, 3, InstructionValue::Primitive))?;
+    list.push(instruction(6, 4, write(alloc, 1, 3)?))?;
+    let test = Terminal::While {
+        id: EvaluationOrder(2),
+        test: BlockId(1),
+    };
+    let mut blocks = BlockMap::new(alloc);
+    blocks.insert(BlockId(0), block(alloc, 0, 1, test)?)?;
+    blocks.insert(BlockId(1), block(alloc, 1, 2, branch(4, 2, 2, 3))?)?;
+    blocks.insert(BlockId(2), block(alloc, 2, 4, goes_to(7, 1))?)?;
+    blocks.insert(BlockId(3), block(alloc, 0, 0, returns(8, 2))?)?;
+    Ok(function_of(blocks, list))
+}
+
+/// An object that one way copies and the other reads, and that is written after both.
+fn two_ways(alloc: Global) -> Result<HirFunction, AllocError> {
+    let mut list = List::new(alloc);
+    list.push(instruction(1, 1, InstructionValue::ObjectExpression))?;
+    list.push(instruction(2, 2, InstructionValue::Primitive))?;
+    list.push(instruction(4, 3, InstructionValue::LoadLocal { place: place(1) }))?;
+    let read = InstructionValue::PropertyLoad { object: place(1) };
+    list.push(instruction(6, 4, read))?;
+    list.push(instruction(8, 5, write(alloc, 1, 2)?))?;
+    let test = Terminal::If {
+        id: EvaluationOrder(3),
+        test: place(2),
+        consequent: BlockId(1),
+        alternate: BlockId(2),
+    };
+    let mut blocks = BlockMap::new(alloc);
+    blocks.insert(BlockId(0), block(alloc, 0, 2, test)?)?;
+    blocks.insert(BlockId(1), block(alloc, 2, 3, goes_to(5, 3))?)?;
+    blocks.insert(BlockId(2), block(alloc, 3, 4, goes_to(7, 3))?)?;
+    blocks.insert(BlockId(3), block(alloc, 4, 5, returns(9, 1))?)?;
+    Ok(function_of(blocks, list))
+}
+
+/// The phi with its operands from blocks 0 and 2.
+fn phi(alloc: Global, number: u32, first: u32, second: u32) -> Result<Phi, AllocError> {
+    let mut operands = BlockMap::new(alloc);
+    operands.insert(BlockId(0), place(first))?;
+    operands.insert(BlockId(2), place(second))?;
+    Ok(Phi {
+        place: place(number),
+        operands,
+    })
+}
+
+/// A loop of so many phis, through which an object goes one phi further in each round.
+fn line_of_phis(alloc: Global, count: u32) -> Result<HirFunction, AllocError> {
+    let mut list = List::new(alloc);
+    list.push(instruction(1, 1, InstructionValue::ObjectExpression))?;
+    list.push(instruction(2, 2, InstructionValue::Primitive))?;
+    list.push(instruction(5, 3, InstructionValue::ObjectExpression))?;
+    let mut middle = block(alloc, 0, 0, branch(4, 2, 2, 3))?;
+    for index in 0..count {
+        let next = if index + 1 < count { index + 5 } else { 3 };
+        middle.phis.push(phi(alloc, index + 4, 1, next)?)?;
+    }
+    let mut blocks = BlockMap::new(alloc);
+    blocks.insert(BlockId(0), block(alloc, 0, 2, goes_to(3, 1))?)?;
+    blocks.insert(BlockId(1), middle)?;
+    blocks.insert(BlockId(2), block(alloc, 2, 3, goes_to(6, 1))?)?;
+    blocks.insert(BlockId(3), block(alloc, 0, 0, returns(7, 2))?)?;
+    Ok(function_of(blocks, list))
+}
+
+/// What is inferred of the function, which isn't refused.
+fn inferred(
+    rt: &impl Abort,
+    alloc: Global,
+    func: HirFunction,
+    identifiers: u32,
+) -> Result<Answer, AllocError> {
+    match solve_function(alloc, func, identifiers, false) {
+        Ok(Some(answer)) => Ok(answer),
+        _ => panic!(rt; "refused"),
+    }
+}
+
+#[test]
+fn goes_round_a_while_loop(rt: HostRuntime) -> Result<(), Fail> {
+    let answer = inferred(&rt, rt.alloc(), while_loop(rt.alloc())?, 5)?;
+    let visits = [0u32, 1, 2, 3, 1, 2, 3];
+    assert_eq!(rt; answer.solved.visits.len(), visits.len());
+    for (index, want) in visits.iter().enumerate() {
+        assert_eq!(rt; answer.solved.visits.get(index).map(|b| b.0), Some(*want));
+    }
+    assert_eq!(rt; answer.solved.entries.len(), 4);
+    assert_eq!(rt; answer.solved.effects.len(), 4);
+    assert_eq!(rt; answer.solved.terminal_effects.len(), 1);
+    assert_eq!(rt;
+        answer.func.instructions.get(3).map(|i| recorded_count(i)),
+        Some(2)
+    );
+    Ok(())
+}
+
+#[test]
+fn visits_again_what_its_own_state_grows(rt: HostRuntime) -> Result<(), Fail> {
+    let alloc = rt.alloc();
+    let mut list = List::new(alloc);
+    list.push(instruction(1, 1, InstructionValue::Primitive))?;
+    let mut blocks = BlockMap::new(alloc);
+    blocks.insert(BlockId(0), block(alloc, 0, 1, branch(2, 1, 0, 1))?)?;
+    blocks.insert(BlockId(1), block(alloc, 0, 0, returns(3, 1))?)?;
+    let answer = inferred(&rt, alloc, function_of(blocks, list), 2)?;
+    let visits = answer.solved.visits.as_slice();
+    assert_eq!(rt; visits, [BlockId(0), BlockId(1), BlockId(0)].as_slice());
+    Ok(())
+}
+
+#[test]
+fn infers_nothing_of_what_ends_at_once(rt: HostRuntime) -> Result<(), Fail> {
+    let alloc = rt.alloc();
+    let end = Terminal::Unreachable {
+        id: EvaluationOrder(1),
+    };
+    let mut blocks = BlockMap::new(alloc);
+    blocks.insert(BlockId(0), block(alloc, 0, 0, end)?)?;
+    let answer = inferred(&rt, alloc, function_of(blocks, List::new(alloc)), 1)?;
+    assert_eq!(rt; answer.solved.visits.as_slice(), [BlockId(0)].as_slice());
+    assert_eq!(rt; answer.solved.entries.len(), 1);
+    assert_eq!(rt; answer.solved.effects.len(), 0);
+    assert_eq!(rt; answer.solved.terminal_effects.len(), 0);
+    Ok(())
+}
+
+#[test]
+fn takes_a_hundred_rounds_and_no_more(rt: HostRuntime) -> Result<(), Fail> {
+    let alloc = rt.alloc();
+    let answer = inferred(&rt, alloc, line_of_phis(alloc, 98)?, 102)?;
+    assert_eq!(rt; answer.solved.visits.len(), 299);
+    let more = solve_function(alloc, line_of_phis(alloc, 99)?, 103, false);
+    assert!(rt;
+        matches!(
+            more,
+            Err(InferError::NotSettled {
+                function: None,
+                visits: 301,
+                ..
+            })
+        )
+    );
+    Ok(())
+}
+
+/// The site of the variable after one, where it has one alone.
+fn next_of(state: &InferenceState, after: Option<IdentifierId>) -> Option<(IdentifierId, Site)> {
+    let Some((variable, sites)) = state.next_variable(after) else {
+        return None;
+    };
+    match sites.next_site(None) {
+        Some(site) => if sites.next_site(Some(site)).is_none() {
+            Some((variable, site))
+        } else {
+            None
+        },
+        None => None,
+    }
+}
+
+fn created(into: u32, kind: ValueKind) -> Site {
+    Site::Created {
+        into: IdentifierId(into),
+        kind,
+        reason: ValueReason::Other,
+    }
+}
+
+fn other(kind: ValueKind) -> AbstractValue {
+    AbstractValue {
+        kind,
+        reason: ReasonSet::single(ValueReason::Other),
+    }
+}
+
+#[test]
+fn joins_what_arrives_two_ways(rt: HostRuntime) -> Result<(), Fail> {
+    let answer = inferred(&rt, rt.alloc(), two_ways(rt.alloc())?, 6)?;
+    let visits = answer.solved.visits.as_slice();
+    assert_eq!(rt;
+        visits,
+        [BlockId(0), BlockId(1), BlockId(2), BlockId(3)].as_slice()
+    );
+    let Some(entry) = answer.solved.entries.get(3) else {
+        panic!(rt; "not reached")
+    };
+    let object = created(1, ValueKind::Mutable);
+    let primitive = created(2, ValueKind::Primitive);
+    let part = Site::CreatedFrom {
+        from: IdentifierId(1),
+        into: IdentifierId(4),
+    };
+    let state = &entry.state;
+    assert!(rt; state.next_value(None) == Some((object, other(ValueKind::Mutable))));
+    assert!(rt; state.next_value(Some(object)) == Some((primitive, other(ValueKind::Primitive))));
+    assert!(rt; state.next_value(Some(primitive)) == Some((part, other(ValueKind::Mutable))));
+    assert!(rt; state.next_value(Some(part)).is_none());
+    assert!(rt; next_of(state, None) == Some((IdentifierId(1), object)));
+    assert!(rt; next_of(state, Some(IdentifierId(1))) == Some((IdentifierId(2), primitive)));
+    assert!(rt; next_of(state, Some(IdentifierId(2))) == Some((IdentifierId(3), object)));
+    assert!(rt; next_of(state, Some(IdentifierId(3))) == Some((IdentifierId(4), part)));
+    assert!(rt; state.next_variable(Some(IdentifierId(4))).is_none());
+    Ok(())
+}
+
+/// The call that hands nothing out records on each instruction and terminal as many effects as this answer.
+fn records_the_same(
+    rt: &impl Abort,
+    alloc: Global,
+    func: HirFunction,
+    answer: &Answer,
+) -> Result<(), Fail> {
+    let mut func = func;
+    let mut env = environment(alloc, 6)?;
+    if !check_function(alloc, &func, &env)? {
+        panic!(rt; "refused");
+    }
+    assert!(rt; infer_mutation_aliasing_effects(alloc, &mut func, &mut env, false).is_ok());
+    assert_eq!(rt; func.instructions.len(), answer.func.instructions.len());
+    for index in 0..func.instructions.len() {
+        let count = func.instructions.get(index).map(|i| recorded_count(i));
+        let wanted = answer
+            .func
+            .instructions
+            .get(index)
+            .map(|i| recorded_count(i));
+        assert_eq!(rt; count, wanted);
+        assert!(rt; count != Some(0));
+    }
+    for (name, at) in func.body.blocks.iter() {
+        let other = answer.func.body.blocks.get(*name);
+        let wanted = other.map(|b| b.terminal.effects().is_some());
+        assert_eq!(rt; Some(at.terminal.effects().is_some()), wanted);
+    }
+    Ok(())
+}
+
+#[test]
+fn records_the_same_with_nothing_handed_out(rt: HostRuntime) -> Result<(), Fail> {
+    let alloc = rt.alloc();
+    let answer = inferred(&rt, alloc, two_ways(alloc)?, 6)?;
+    records_the_same(&rt, alloc, two_ways(alloc)?, &answer)?;
+    let round = inferred(&rt, alloc, while_loop(alloc)?, 6)?;
+    records_the_same(&rt, alloc, while_loop(alloc)?, &round)
+}
