@@ -144,7 +144,7 @@ fn a_switch_goes_to_its_cases(rt: HostRuntime) -> Result<(), Fail> {
         cases,
     };
     let successors = terminal_successors(alloc, &switch)?;
-    assert_eq!(rt; successors.as_slice(), &[BlockId(3), BlockId(2)]);
+    assert_eq!(rt; successors.as_slice(), [BlockId(3), BlockId(2)].as_slice());
     assert_eq!(rt; switch.evaluation_order(), ORDER);
     Ok(())
 }
@@ -159,7 +159,7 @@ fn exceptions_go_to_the_handler(rt: HostRuntime) -> Result<(), Fail> {
         effects: None,
     };
     let successors = terminal_successors(alloc, &terminal)?;
-    assert_eq!(rt; successors.as_slice(), &[BlockId(1), BlockId(4)]);
+    assert_eq!(rt; successors.as_slice(), [BlockId(1), BlockId(4)].as_slice());
     terminal.set_effects(List::new(alloc));
     assert!(rt; terminal.effects().is_some());
     let entered = Terminal::Try {
@@ -169,7 +169,7 @@ fn exceptions_go_to_the_handler(rt: HostRuntime) -> Result<(), Fail> {
         handler_binding: None,
     };
     let successors = terminal_successors(alloc, &entered)?;
-    assert_eq!(rt; successors.as_slice(), &[BlockId(1)]);
+    assert_eq!(rt; successors.as_slice(), [BlockId(1)].as_slice());
     assert!(rt; entered.effects().is_none());
     Ok(())
 }
