@@ -166,7 +166,8 @@ fn last_effects(
 /// entry states that solve the function's flow. An `Err` leaves the function unchanged. The environment
 /// doesn't change. `Uninitialized` comes exactly where the step of a visited block looks at an identifier
 /// without a value, `Reinitialized` exactly where an instruction's effects make an identifier twice, and
-/// `NotSettled` exactly where a block is still wanted after 100 rounds. docs/MODEL.md has the rules.
+/// `NotSettled` exactly where a block is still wanted after 100 rounds. `Memory` can come at any growth, and
+/// comes where the function has 2^32 blocks or more. docs/MODEL.md has the rules.
 pub fn infer_effects_certified(
     alloc: Global,
     func: &mut HirFunction,
