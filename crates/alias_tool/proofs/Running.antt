@@ -1,10 +1,14 @@
 -- From what a layer finds to what the run comes to.
 use Rattle.std.proofs.Common.{◌≡◌, ℕ, ◌≤◌, true, false, List, [], ◌++◌, length, take, Option, Some, None, refl, ap, sym, ◌∙◌, subst, append-nil}
 use Rattle.std.specs.Prelude.{Result, Ok, Err, ⊤}
+use Rattle.std.specs.Result.{IsErrAnd}
 use Rattle.alias_base.specs.Answer.{◌>>=◌}
 use Rattle.alias_rules.specs.declared.fault.UnitFault.{UnitFault}
 use Rattle.alias_rules.specs.Rules.{rules_hold}
+use Rattle.alias_effects.specs.Inference.{Infers}
 use Rattle.alias_hir.specs.declared.env.Unit.{Unit as HirUnit}
+use Rattle.alias_hir.specs.declared.error.InferError.{InferError}
+use Rattle.alias_hir.specs.declared.error.InferError.TheVariants as error
 use Rattle.alias_stream.specs.Streams.{Adds, IsAllOf, IfTold}
 use Rattle.alias_text.specs.Units.{UnitReading, NoUnit}
 use Rattle.alias_tool.specs.declared.status.Status.{Status}
@@ -19,6 +23,17 @@ use Rattle.alias_tool.specs.Words.{is_command}
 pub checked_is : (r : Result ⊤ UnitFault) (u v : HirUnit) → (r >>= (λ _. Ok u)) ≡ Ok v → (r ≡ Ok tt) × (u ≡ v)
 checked_is (Ok tt) u v e = (refl, cc)
 checked_is (Err f) u v e = cc
+
+refused_as : {A B : Type 0} (r : Result A InferError) (f : A → Result B InferError) (e : InferError) → Infers r (Err e) → Infers (r >>= f) (Err e)
+refused_as r f (error.NotSettled g n p) h = ap (λ x. x >>= f) h
+refused_as r f (error.Uninitialized g b x s p) h = ap (λ x. x >>= f) h
+refused_as r f (error.Reinitialized g i x) h = ap (λ x. x >>= f) h
+refused_as r f (error.Memory e) h = tt
+
+-- the refusal of the effects pass is that of what goes on from it
+pub refused_on : {A B : Type 0} (r : Result A InferError) (f : A → Result B InferError) (q : Result B InferError) (e : InferError) → Infers r (Err e) → IsErrAnd q (λ z. z ≡ e) → Infers (r >>= f) q
+refused_on r f (Ok x) e h is = absurd is
+refused_on r f (Err z) e h is = subst (λ (y : InferError). Infers (r >>= f) (Err y)) (sym is) (refused_as r f e h)
 
 -- no unit is read, so nothing is built
 pub judged_none : (bytes : List ℕ) (status : Status) (i : Option Inferred) → status ≡ NotBuilt → i ≡ None → NoUnit bytes → IsJudged bytes status i
