@@ -1,10 +1,11 @@
 //! Effects as text.
 ghost use Rattle.std.specs.Prelude.{◌≡◌, ◌++◌, OnOk, IfOk};
-ghost use Rattle.alias_text.specs.Lines.{kind_word, reason_word, mutation_text, spaced, one_text, pair_text, create_text, freeze_text, mutate_text, effect_text};
+ghost use Rattle.alias_text.specs.Lines.{kind_word, reason_word, mutation_text, spaced, one_text, pair_text, create_text, freeze_text, mutate_text, impure_text, effect_text};
 
 use alias_base::Text;
 use alias_hir::effect::{AliasingEffect, MutationReason, ValueKind, ValueReason};
 use alias_hir::place::Place;
+use alias_hir::report::DiagnosticId;
 use std::alloc::{AllocError, Global};
 
 fn kind_word(kind: ValueKind) -> &'static str
