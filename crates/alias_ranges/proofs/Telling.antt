@@ -1,5 +1,5 @@
 -- What a walk has recorded.
-use Rattle.std.proofs.Common.{◌≡◌, ℕ, ◌+◌, ◌*◌, ◌-◌, ◌≤◌, ◌||◌, Bool, true, false, cond, List, [], ◌∷◌, ◌++◌, Option, Some, None, is_some, slice_get, option_map, refl, ap, sym, ◌∙◌, subst, arith, suc, zero, append_assoc, append-nil}
+use Rattle.std.proofs.Common.{◌≡◌, ℕ, ◌+◌, ◌*◌, ◌-◌, ◌≤◌, ◌||◌, Bool, true, false, cond, List, [], ◌∷◌, ◌++◌, Option, Some, None, is_some, slice_get, option_map, refl, ap, sym, ◌∙◌, subst, arith, suc, zero, append_assoc, append-nil, Result, Ok, Err, OnErr}
 use Rattle.alias_base.specs.declared.ids.EvaluationOrder.{EvaluationOrder}
 use Rattle.alias_base.specs.declared.ids.IdentifierId.{IdentifierId}
 use Rattle.alias_hir.specs.declared.env.Environment.{Environment}
@@ -9,7 +9,6 @@ use Rattle.alias_hir.specs.declared.report.Interned.{Interned}
 use Rattle.alias_hir.specs.declared.report.Report.{Report}
 use Rattle.alias_hir.specs.Diagnostics.{effect_reports, summary}
 use Rattle.alias_ranges.specs.declared.types.Entry.{Entry}
-use Rattle.alias_ranges.specs.declared.types.MutationInfo.{MutationInfo}
 use Rattle.alias_ranges.specs.declared.types.Node.{Node as KeptNode}
 use Rattle.alias_ranges.specs.declared.types.NodeValue.{NodeValue}
 use Rattle.alias_ranges.specs.declared.types.NodeValue.TheVariants.{Object, Phi, Function}
@@ -17,10 +16,10 @@ use Rattle.alias_ranges.specs.declared.types.Origin.{Origin}
 use Rattle.alias_ranges.specs.declared.types.StoredLink.{StoredLink}
 use Rattle.alias_ranges.specs.Flat.{node_of, nodes_of}
 use Rattle.alias_ranges.specs.Links.{covers, next, stands, step_to, walk, all_links}
-use Rattle.alias_ranges.specs.Marks.{marked, range_visited, ranges_after, with_ranges}
+use Rattle.alias_ranges.specs.Marks.{marked, range_visited, ranges_after}
 use Rattle.alias_ranges.specs.Nodes.{Node, Nodes, Entries, node_at}
-use Rattle.alias_ranges.specs.Walks.{Walk, is_new, pop, step_at, step}
-use Rattle.alias_ranges.specs.Reports.{value_reports, told, told_at, kept_told_at, reports_after, recorded_after, with_reports, walked, Front, recorded_by, Stopped}
+use Rattle.alias_ranges.specs.Walks.{is_new, pop, step_at, step}
+use Rattle.alias_ranges.specs.Reports.{value_reports, told_at, kept_told_at, reports_after, recorded_after, with_reports, walked, Front, recorded_by, Stopped}
 use Rattle.alias_ranges.proofs.Flats.{node_at_of}
 
 -- ---- what is told depends on the functions and the interned reports alone
@@ -58,7 +57,7 @@ pub recorded_more : (r : Bool) (old new : List Report) → cond r old [] ++ cond
 recorded_more true old new = refl
 recorded_more false old new = refl
 
-abbrev with_identifiers : List Identifier → Environment → Environment
+abbrev pub with_identifiers : List Identifier → Environment → Environment
 with_identifiers xs env = record env { identifiers = xs }
 
 abbrev with_errors : List Report → Environment → Environment
@@ -85,7 +84,7 @@ module _ (r : Bool) (m : ℕ) (origin : Origin) (end : Option EvaluationOrder) (
         → record env₁ { identifiers = range_visited end e.id env₁.identifiers } ≡ walked r m origin end g₀ (e ∷ done) env₀
     tells_more env₁ is =
         ap (λ (z : Environment). with_identifiers (range_visited end e.id z.identifiers) z)
-            (is ∙ ap (λ rs. with_reports (cond r rs []) env) told_now ∙ ap (with_reports (cond r new [])) tells)
+        (is ∙ ap (λ rs. with_reports (cond r rs []) env) told_now ∙ ap (with_reports (cond r new [])) tells)
         ∙ ap (both_set env₀ (range_visited end e.id (ranges_after end env₀.identifiers done))) (more_told r env₀.errors (reports_after env₀ m origin g₀ done) new)
 
 -- ---- a walk pops no less later
@@ -99,21 +98,30 @@ step_more g m [] done p = omega arith
 step_more g m (e ∷ es) done p = pop_more g m (is_new covers (stands g) (next g m) done e) e es done p
 
 steps_more : (g : Nodes) (m : ℕ) (s : Entry) (n j : ℕ) → (step_to g m s n).popped ≤ (step_to g m s (n + j)).popped
-steps_more g m s n zero = let same : (step_to g m s (n + zero)).popped ≡ (step_to g m s n).popped = ap (λ k. (step_to g m s k).popped) (omega arith) in omega arith
+steps_more g m s n zero =
+    let none : n + zero ≡ n = omega arith in
+    let same : (step_to g m s (n + zero)).popped ≡ (step_to g m s n).popped = ap (λ k. (step_to g m s k).popped) none in
+    omega arith
 steps_more g m s n (suc j) =
     let before = steps_more g m s n j in
     let w = step_to g m s (n + j) in
     let one = step_more g m w.stack w.done w.popped in
-    let same : (step_to g m s (n + suc j)).popped ≡ (step covers (stands g) (next g m) w).popped = ap (λ k. (step_to g m s k).popped) (omega arith) in
+    let more : n + suc j ≡ suc (n + j) = omega arith in
+    let same : (step_to g m s (n + suc j)).popped ≡ (step covers (stands g) (next g m) w).popped = ap (λ k. (step_to g m s k).popped) more in
     omega arith
 
 pub pops_within : (g : Nodes) (m : ℕ) (s : Entry) (n : ℕ) → n ≤ 1 + 8 * all_links g → (step_to g m s n).popped ≡ n → n ≤ (walk g m s).popped
 pops_within g m s n few is =
     let more = steps_more g m s n (1 + 8 * all_links g - n) in
-    let same : (step_to g m s (n + (1 + 8 * all_links g - n))).popped ≡ (walk g m s).popped = ap (λ k. (step_to g m s k).popped) (omega arith) in
+    let all : n + (1 + 8 * all_links g - n) ≡ 1 + 8 * all_links g = omega arith in
+    let same : (step_to g m s (n + (1 + 8 * all_links g - n))).popped ≡ (walk g m s).popped = ap (λ k. (step_to g m s k).popped) all in
     omega arith
 
 -- ---- where a walk is refused
+
+pub refused : {A E : Type 0} {P : Type 0} (r : Result A E) → P → OnErr r P
+refused (Ok x) p = tt
+refused (Err e) p = p
 
 nothing_yet : (r : Bool) (rs : List Report) → cond r [] [] ++ rs ≡ rs
 nothing_yet true rs = refl

@@ -192,7 +192,7 @@ module _ (g₀ : Nodes) (rs₀ : List Identifier) (m : ℕ) (origin : Origin) (e
   }
 
   module _ (empty : stack ≡ []) where
-    walk_is : walk g₀ m s ≡ step_to g₀ m s n
+    pub walk_is : walk g₀ m s ≡ step_to g₀ m s n
     walk_is = walk_ends g₀ m s n (h.stack_is ∙ ap reverse empty) h.popped_is
 
     pub ended_nodes : g ≡ marked m origin g₀ (walk g₀ m s).done

@@ -9,8 +9,8 @@ pub mod events;
 pub mod graph;
 mod marks;
 pub mod node_map;
-mod reports;
 mod pushes;
+mod reports;
 mod seen;
 pub mod steps;
 #[cfg(test)]
