@@ -111,6 +111,7 @@ step_proper (effect.Create x k r) s h = create_proper x k r s h
 step_proper (effect.Freeze v r) s h = freeze_proper v r s h
 step_proper (effect.MutateFrozen p) s h = h
 step_proper (effect.MutateGlobal p) s h = h
+step_proper (effect.Impure p error) s h = h
 step_proper (effect.Mutate v r) s h = mutated_proper (kind_at v s) v r (looked_with_span v s) h
 
 pub steps_proper : (es : List AliasingEffect) (s : Spot) → SpotProper s → StepProper (rows es s)

@@ -141,6 +141,7 @@ row (effect.Create x k r) s = create_row x k r s
 row (effect.Freeze v r) s = Ok (freeze_row v r s)
 row (effect.MutateFrozen p) s = Ok (record_of (effect.MutateFrozen p) s)
 row (effect.MutateGlobal p) s = Ok (record_of (effect.MutateGlobal p) s)
+row (effect.Impure p error) s = Ok (record_of (effect.Impure p error) s)
 row (effect.Mutate v r) s = Ok (mutate_row v r s)
 
 -- the steps of a list of effects, in order

@@ -337,6 +337,16 @@ fn row(spot: &mut Spot, effect: &AliasingEffect) -> Result<(), StepFault>
             record(spot, AliasingEffect::MutateGlobal { place: *place })?;
             Ok(())
         }
+        AliasingEffect::Impure { place, error } => {
+            record(
+                spot,
+                AliasingEffect::Impure {
+                    place: *place,
+                    error: *error,
+                },
+            )?;
+            Ok(())
+        }
         AliasingEffect::Mutate { value, reason } => {
             mutate_row(spot, value, *reason)?;
             Ok(())

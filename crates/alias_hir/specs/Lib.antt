@@ -1,3 +1,4 @@
+pub mod Diagnostics
 pub mod Effects
 pub mod Reports
 pub mod Tables

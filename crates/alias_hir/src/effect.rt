@@ -1,6 +1,10 @@
 //! Kinds and reasons of values, and the effects of instructions.
 
+ghost use Rattle.std.specs.Prelude.{◌≡◌};
+ghost use Rattle.alias_hir.specs.Effects.{error_of};
+
 use crate::place::Place;
+use crate::report::DiagnosticId;
 use alias_base::{List, TryClone};
 use std::alloc::{AllocError, Global};
 
@@ -39,7 +43,7 @@ pub enum MutationReason {
     AssignCurrentProperty,
 }
 
-/// An effect of an instruction or a terminal. The two error effects have no report yet.
+/// An effect of an instruction or a terminal. Writes of frozen and global values have no report yet.
 #[derive(Drop)]
 pub enum AliasingEffect {
     /// `into` is a new value that is made from a part of `from`.
@@ -86,6 +90,11 @@ pub enum AliasingEffect {
     MutateGlobal {
         place: Place,
     },
+    /// An impure function is called, which is an error.
+    Impure {
+        place: Place,
+        error: DiagnosticId,
+    },
     /// The value is written.
     Mutate {
         value: Place,
@@ -95,6 +104,16 @@ pub enum AliasingEffect {
 
 /// Effects in order.
 pub type AliasingEffects = List<AliasingEffect>;
+
+/// The report of an effect that is an error and has one.
+pub fn error_of(effect: &AliasingEffect) -> Option<DiagnosticId>
+    ensures { result ≡ error_of effect.now }
+{
+    match effect {
+        AliasingEffect::Impure { error, .. } => Some(*error),
+        _ => None,
+    }
+}
 
 impl TryClone for AliasingEffect {
     fn try_clone(&self, _alloc: Global) -> Result<AliasingEffect, AllocError> {
@@ -118,6 +137,7 @@ impl TryClone for AliasingEffect {
             AliasingEffect::Freeze { value, reason } => AliasingEffect::Freeze { value, reason },
             AliasingEffect::MutateFrozen { place } => AliasingEffect::MutateFrozen { place },
             AliasingEffect::MutateGlobal { place } => AliasingEffect::MutateGlobal { place },
+            AliasingEffect::Impure { place, error } => AliasingEffect::Impure { place, error },
             AliasingEffect::Mutate { value, reason } => AliasingEffect::Mutate { value, reason },
         })
     }

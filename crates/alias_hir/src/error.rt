@@ -1,4 +1,4 @@
-//! Why an inference refuses a function.
+//! Why an inference refuses a function, and why a table refuses an entry.
 ghost use Rattle.std.specs.Prelude.{◌≡◌, alloc_error};
 ghost use Rattle.alias_hir.specs.declared.error.InferError.TheVariants.{Memory};
 
@@ -48,5 +48,42 @@ impl<T: Drop> From<AllocFailed<T>> for InferError {
 
     fn from(_e: AllocFailed<T>) -> InferError {
         InferError::Memory(AllocError)
+    }
+}
+
+/// What is numbered with 32 bits.
+#[derive(Clone, Copy, Debug, PartialEq, Eq)]
+pub enum Counter {
+    Identifiers,
+    Diagnostics,
+    GraphPositions,
+}
+
+/// Why a table refuses an entry.
+#[derive(Clone, Copy, Debug)]
+pub enum HirError {
+    /// All numbers are taken.
+    TooMany(Counter),
+    /// Want of memory, which can come at any growth.
+    Memory(AllocError),
+}
+
+impl From<AllocError> for HirError {
+    ghost use Rattle.alias_hir.specs.declared.error.HirError.TheVariants.{Memory};
+
+    ghost from_gives = { λ e r. r ≡ Memory e };
+
+    fn from(e: AllocError) -> HirError {
+        HirError::Memory(e)
+    }
+}
+
+impl<T: Drop> From<AllocFailed<T>> for HirError {
+    ghost use Rattle.alias_hir.specs.declared.error.HirError.TheVariants.{Memory};
+
+    ghost from_gives = { λ _ r. r ≡ Memory alloc_error };
+
+    fn from(_e: AllocFailed<T>) -> HirError {
+        HirError::Memory(AllocError)
     }
 }

@@ -6,6 +6,7 @@ pub mod effect;
 pub mod env;
 pub mod error;
 pub mod hir;
+pub mod interning;
 pub mod place;
 pub mod report;
 pub mod successors;

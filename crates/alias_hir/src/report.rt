@@ -6,7 +6,7 @@ ghost use Rattle.alias_hir.specs.Reports.{name_text, printed_type, printed_ident
 use crate::env::{Environment, Identifier, IdentifierName};
 use crate::place::Span;
 use crate::types::{Ty, type_of};
-use alias_base::{IdentifierId, List, Text};
+use alias_base::{IdentifierId, List, Text, TryClone};
 use std::alloc::{AllocError, Global};
 
 /// What a report is about.
@@ -21,19 +21,54 @@ pub enum ErrorCategory {
 }
 
 /// A span that a report points at, with what is said of it.
-#[derive(Drop)]
+#[derive(Drop, PartialEq)]
 pub struct Label {
     pub span: Span,
     pub text: Option<Text>,
 }
 
-/// A report.
+/// An interned report as effects name it. Reports that say the same of one identifier have one identity; each
+/// of them that points at something else is an instance of its own.
+#[derive(Clone, Copy, Debug, PartialEq, Eq)]
+pub struct DiagnosticId {
+    pub identity: u32,
+    pub instance: u32,
+}
+
+/// A report that is kept until it is known whether it is told, with the identifier that it is about.
 #[derive(Drop)]
+pub struct Interned {
+    pub identifier: IdentifierId,
+    pub report: Report,
+}
+
+/// A report.
+#[derive(Drop, PartialEq)]
 pub struct Report {
     pub category: ErrorCategory,
     pub message: Text,
     pub help: Option<Text>,
     pub labels: List<Label>,
+}
+
+impl TryClone for Label {
+    fn try_clone(&self, alloc: Global) -> Result<Label, AllocError> {
+        Ok(Label {
+            span: self.span,
+            text: self.text.try_clone(alloc)?,
+        })
+    }
+}
+
+impl TryClone for Report {
+    fn try_clone(&self, alloc: Global) -> Result<Report, AllocError> {
+        Ok(Report {
+            category: self.category,
+            message: self.message.try_clone(alloc)?,
+            help: self.help.try_clone(alloc)?,
+            labels: self.labels.try_clone(alloc)?,
+        })
+    }
 }
 
 fn name_text(name: &IdentifierName) -> &str

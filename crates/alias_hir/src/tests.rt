@@ -1,7 +1,10 @@
-use crate::effect::{AliasingEffect, ValueKind, ValueReason};
+use crate::effect::{AliasingEffect, ValueKind, ValueReason, error_of};
 use crate::env::{Environment, Identifier, IdentifierName, MutableRange};
+use crate::error::{Counter, HirError};
 use crate::place::{Effect, Place, Span};
-use crate::report::{ErrorCategory, not_settled_report, uninitialized_report};
+use crate::report::{
+    DiagnosticId, ErrorCategory, Label, Report, not_settled_report, uninitialized_report,
+};
 use crate::successors::terminal_successors;
 use crate::terminal::{SwitchCase, Terminal};
 use crate::types::{Ty, is_primitive_at, is_primitive_type, is_untyped_at, type_of};
@@ -184,5 +187,64 @@ fn a_throw_goes_nowhere(rt: HostRuntime) -> Result<(), Fail> {
     throw.set_effects(List::new(alloc));
     assert!(rt; throw.effects().is_none());
     assert_eq!(rt; terminal_successors(alloc, &throw)?.as_slice().len(), 0);
+    Ok(())
+}
+
+fn impure(alloc: Global, start: u32) -> Result<Report, AllocError> {
+    let span = Span { start, end: 9 };
+    let mut labels = List::new(alloc);
+    labels.push(Label { span, text: None })?;
+    Ok(Report {
+        category: ErrorCategory::Purity,
+        message: Text::from_str(alloc, "Cannot call impure function during render")?,
+        help: None,
+        labels,
+    })
+}
+
+fn interned(
+    alloc: Global,
+    env: &mut Environment,
+    identifier: u32,
+    start: u32,
+) -> Result<Option<DiagnosticId>, AllocError> {
+    let report = impure(alloc, start)?;
+    match env.intern_aliasing_diagnostic(IdentifierId(identifier), report) {
+        Ok(id) => Ok(Some(id)),
+        Err(HirError::Memory(e)) => Err(e),
+        Err(HirError::TooMany(Counter::Identifiers)) => Ok(None),
+        Err(HirError::TooMany(_)) => Ok(None),
+    }
+}
+
+#[test]
+fn interns_reports(rt: HostRuntime) -> Result<(), Fail> {
+    let alloc = rt.alloc();
+    let mut env = environment(alloc, 0)?;
+    let id = |identity: u32, instance: u32| Some(DiagnosticId { identity, instance });
+    assert!(rt; interned(alloc, &mut env, 1, 3)? == id(0, 0));
+    assert!(rt; interned(alloc, &mut env, 1, 4)? == id(0, 1));
+    assert!(rt; interned(alloc, &mut env, 0, 3)? == id(2, 2));
+    assert!(rt; interned(alloc, &mut env, 1, 4)? == id(0, 1));
+    assert_eq!(rt; env.interned.len(), 3);
+    assert_eq!(rt; env.errors.len(), 0);
+    Ok(())
+}
+
+#[test]
+fn tells_reports(rt: HostRuntime) -> Result<(), Fail> {
+    let alloc = rt.alloc();
+    let mut env = environment(alloc, 0)?;
+    env.record_diagnostic(impure(alloc, 3)?)?;
+    assert!(rt; !env.has_invariant_errors());
+    env.record_diagnostic(not_settled_report(alloc)?)?;
+    assert!(rt; env.has_invariant_errors());
+    let error = DiagnosticId {
+        identity: 0,
+        instance: 0,
+    };
+    let place = place(1);
+    assert!(rt; error_of(&AliasingEffect::Impure { place, error }) == Some(error));
+    assert!(rt; error_of(&AliasingEffect::MutateGlobal { place }).is_none());
     Ok(())
 }

@@ -19,3 +19,4 @@ pub mod FlatWalk
 pub mod Flowing
 pub mod MarkKinds
 pub mod Rows
+pub mod Telling

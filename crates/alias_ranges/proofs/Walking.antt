@@ -96,6 +96,9 @@ module _ (g₀ : Nodes) (rs₀ : List Identifier) (m : ℕ) (origin : Origin) (e
       stepped_old : step_to g₀ m s (n + 1) ≡ pop covers (stands g₀) (next g₀ m) false e (reverse rest) done n
       stepped_old = one_step ∙ ap (λ b. pop covers (stands g₀) (next g₀ m) b e (reverse rest) done n) old
 
+      pub done_kept : (step_to g₀ m s (n + 1)).done ≡ done
+      done_kept = ap (λ w. w.done) stepped_old
+
       -- an old entry is skipped
       pub walking_skips : Walking g rs seen rest (n + 1)
       walking_skips = record {
@@ -115,6 +118,9 @@ module _ (g₀ : Nodes) (rs₀ : List Identifier) (m : ℕ) (origin : Origin) (e
 
       stepped_new : step_to g₀ m s (n + 1) ≡ pop covers (stands g₀) (next g₀ m) true e (reverse rest) done n
       stepped_new = one_step ∙ ap (λ b. pop covers (stands g₀) (next g₀ m) b e (reverse rest) done n) new.0
+
+      pub done_more : (step_to g₀ m s (n + 1)).done ≡ e ∷ done
+      done_more = ap (λ w. w.done) stepped_new
 
       new_stack : (step_to g₀ m s (n + 1)).stack ≡ reverse (rest ++ next g m e)
       new_stack = ap (λ w. w.stack) stepped_new ∙ put_on rest (next g₀ m e) ∙ ap (λ z. reverse (rest ++ z)) (sym same_next)
@@ -186,7 +192,7 @@ module _ (g₀ : Nodes) (rs₀ : List Identifier) (m : ℕ) (origin : Origin) (e
   }
 
   module _ (empty : stack ≡ []) where
-    walk_is : walk g₀ m s ≡ step_to g₀ m s n
+    pub walk_is : walk g₀ m s ≡ step_to g₀ m s n
     walk_is = walk_ends g₀ m s n (h.stack_is ∙ ap reverse empty) h.popped_is
 
     pub ended_nodes : g ≡ marked m origin g₀ (walk g₀ m s).done

@@ -7,6 +7,7 @@ pub mod Legal
 pub mod Graph
 pub mod Seen
 pub mod Marks
+pub mod Reports
 pub mod Claims
 pub mod Reach
 pub mod Standing

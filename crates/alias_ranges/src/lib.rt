@@ -1,7 +1,7 @@
 //! The graph of aliases, and the walk of a mutation over it.
 //!
 //! A mutation marks each node that a legal path leads to, and raises the range ends of their identifiers.
-//! Reports of what a walk finds come with the summaries of functions.
+//! Where errors are recorded it adds the reports of the functions that it comes to, and so does a render.
 #![tactic(auto)]
 
 mod adjacency;
@@ -10,6 +10,7 @@ pub mod graph;
 mod marks;
 pub mod node_map;
 mod pushes;
+mod reports;
 mod seen;
 pub mod steps;
 #[cfg(test)]

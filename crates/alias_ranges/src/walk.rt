@@ -1,12 +1,13 @@
 //! The walk of a mutation.
-ghost use Rattle.std.specs.Prelude.{◌≡◌, ◌+◌, ◌*◌, ◌≤◌, ◌<◌, ◌++◌, ◌∷◌, [], ℕ, length, vec_len, vec_capacity, Some, None, IfOk, IfSome, IsTrue, OnOk, OnErr, replicate};
+ghost use Rattle.std.specs.Prelude.{◌≡◌, ◌+◌, ◌*◌, ◌≤◌, ◌<◌, ◌++◌, ◌∷◌, [], ℕ, false, length, vec_len, vec_capacity, Some, None, IfOk, IfSome, IsTrue, OnOk, OnErr, replicate};
 ghost use Rattle.alias_ranges.specs.Graph.{changed};
 ghost use Rattle.alias_ranges.specs.Links.{next, all_links, entry, walk};
 ghost use Rattle.alias_ranges.specs.declared.types.Direction.{Direction};
 ghost use Rattle.alias_ranges.specs.declared.types.Origin.{Origin};
-ghost use Rattle.alias_ranges.specs.Marks.{visited, marked, ranges_after, origin, with_ranges};
+ghost use Rattle.alias_ranges.specs.Marks.{visited, marked, origin};
 ghost use Rattle.alias_ranges.specs.Nodes.{place_of, Within, SameIds};
 ghost use Rattle.alias_ranges.specs.Reach.{Visits, Covered, Caused, Marks, Kinds, AllBefore, Flows};
+ghost use Rattle.alias_ranges.specs.Reports.{walked, Stopped};
 ghost use Rattle.alias_ranges.specs.Seen.{nothing_seen};
 ghost use Rattle.alias_ranges.specs.Claims.{claimed, noted_at};
 ghost use Rattle.alias_ranges.specs.Flat.{AllFit, nodes_of, kept_links, all_kept_links};
@@ -15,12 +16,13 @@ use crate::graph::AliasGraph;
 use crate::marks::{visit_node, visit_range};
 use crate::node_map::NodeMap;
 use crate::pushes::{put, put_led};
+use crate::reports::tell_at;
 use crate::seen::Seen;
 use crate::steps::Steps;
 use crate::types::{Direction, Entry, MutationKind, Node, Origin, StoredLink};
-use alias_base::{EvaluationOrder, IdentifierId, List};
+use alias_base::{EvaluationOrder, IdentifierId};
 use alias_hir::effect::MutationReason;
-use alias_hir::env::{Environment, Identifier};
+use alias_hir::env::Environment;
 use alias_hir::place::Span;
 use std::alloc::{AllocError, Global};
 use std::sync::ledger::Ledger;
@@ -127,26 +129,31 @@ fn walk<L: Ledger>(
     start: Entry,
     end: Option<EvaluationOrder>,
     origin: Origin,
-    identifiers: &mut List<Identifier>,
+    env: &mut Environment,
+    should_record_errors: bool,
     steps: &mut Steps<L>,
 ) -> Result<(), AllocError>
     requires fit { AllFit (length links.now) nodes.old }
-    requires ranges { Within (length identifiers.old) (nodes_of links.now nodes.old) }
+    requires ranges { Within (length env.old.identifiers) (nodes_of links.now nodes.old) }
     ensures fit { AllFit (length links.now) nodes.new }
     ensures nodes { OnOk result (nodes_of links.now nodes.new ≡ marked index origin (nodes_of links.now nodes.old) (walk (nodes_of links.now nodes.old) index start).done) }
-    ensures ranges { OnOk result (identifiers.new ≡ ranges_after end identifiers.old (walk (nodes_of links.now nodes.old) index start).done) }
+    ensures env { OnOk result (env.new ≡ walked should_record_errors index origin end (nodes_of links.now nodes.old) (walk (nodes_of links.now nodes.old) index start).done env.old) }
     ensures steps { OnOk result (steps.new ≡ steps.old + (walk (nodes_of links.now nodes.old) index start).popped) }
     ensures bound { steps.new ≤ steps.old + (1 + 8 * all_links (nodes_of links.now nodes.old)) }
-    ensures err { OnErr result ((nodes.new ≡ nodes.old) × (identifiers.new ≡ identifiers.old) × (steps.new ≡ steps.old)) }
+    ensures quiet { OnErr result (should_record_errors ≡ false → (nodes.new ≡ nodes.old) × (env.new ≡ env.old) × (steps.new ≡ steps.old)) }
+    ensures stopped { OnErr result (Stopped should_record_errors index origin end (nodes_of links.now nodes.old) start env.old steps.old (nodes_of links.now nodes.new) env.new steps.new) }
 {
     let mut stack = stack_for(alloc, nodes)?;
     let mut seen = seen_table(alloc, nodes.len())?;
     put(&mut stack, start);
     'walk: while let Some(entry) = stack.pop() {
-        steps.tick();
         if let Some(place) = claim(nodes, &mut seen, entry) {
+            tell_at(alloc, nodes, entry.id, should_record_errors, env)?;
+            steps.tick();
             visit(nodes, links, &mut stack, place, index, origin, entry);
-            visit_range(identifiers, entry.id, end);
+            visit_range(&mut env.identifiers, entry.id, end);
+        } else {
+            steps.tick();
         }
     }
     Ok(())
@@ -156,8 +163,13 @@ impl AliasGraph {
     /// Walks from the node of `start`, backwards, over all legal paths of a mutation at `index`. Each node that
     /// one leads to is marked, and the range ends of their identifiers are raised to `end`.
     ///
+    /// Where errors are recorded, each function without a mark that the walk comes to adds the reports of its
+    /// summary to `errors`.
+    ///
     /// Each popped entry is counted as a step, and there are at most 1 + 8S of them, where S is the length of
-    /// all lists of links. A want of memory comes before the first, and nothing has changed then.
+    /// all lists of links. The one error is want of memory. Where no errors are recorded, it comes before the
+    /// first entry, and nothing has changed then. Else what the counted entries have set stays, and of the
+    /// next one some reports.
     pub fn mutate<L: Ledger>(
         &mut self,
         index: u32,
@@ -168,12 +180,13 @@ impl AliasGraph {
         span: Option<Span>,
         reason: Option<MutationReason>,
         env: &mut Environment,
+        should_record_errors: bool,
         steps: &mut Steps<L>,
     ) -> Result<(), AllocError>
         requires { Within (length env.old.identifiers) self.old }
         ensures nodes { OnOk result (self.new ≡ marked index (origin span reason) self.old (walk self.old index (entry start transitive Direction.Backwards start_kind)).done) }
         ensures kept { OnOk result (SameIds self.old self.new) }
-        ensures ranges { OnOk result (env.new ≡ with_ranges end (walk self.old index (entry start transitive Direction.Backwards start_kind)).done env.old) }
+        ensures env { OnOk result (env.new ≡ walked should_record_errors index (origin span reason) end self.old (walk self.old index (entry start transitive Direction.Backwards start_kind)).done env.old) }
         ensures steps { OnOk result (steps.new ≡ steps.old + (walk self.old index (entry start transitive Direction.Backwards start_kind)).popped) }
         ensures bound { steps.new ≤ steps.old + (1 + 8 * all_links self.old) }
         ensures visits { OnOk result (Visits self.old index (entry start transitive Direction.Backwards start_kind) (walk self.old index (entry start transitive Direction.Backwards start_kind)).done) }
@@ -182,7 +195,8 @@ impl AliasGraph {
         ensures marks { OnOk result (Marks self.old index (entry start transitive Direction.Backwards start_kind) self.new) }
         ensures kinds { OnOk result (Kinds self.old index (entry start transitive Direction.Backwards start_kind) span self.new) }
         ensures flows { OnOk result (AllBefore self.old index → Flows self.old index (entry start transitive Direction.Backwards start_kind) self.new) }
-        ensures err { OnErr result ((self.new ≡ self.old) × (env.new ≡ env.old) × (steps.new ≡ steps.old)) }
+        ensures quiet { OnErr result (should_record_errors ≡ false → (self.new ≡ self.old) × (env.new ≡ env.old) × (steps.new ≡ steps.old)) }
+        ensures stopped { OnErr result (Stopped should_record_errors index (origin span reason) end self.old (entry start transitive Direction.Backwards start_kind) env.old steps.old self.new env.new steps.new) }
     {
         let start = Entry {
             id: start,
@@ -199,7 +213,8 @@ impl AliasGraph {
             start,
             end,
             origin,
-            &mut env.identifiers,
+            env,
+            should_record_errors,
             steps,
         )?;
         Ok(())

@@ -1,21 +1,28 @@
 -- What the inference asks of a function that may be inferred already.
-use Rattle.std.specs.Prelude.{Bool, true, false, not, ◌&&◌, List, Option, Some, None, Result, Ok, is_ok, ⊤}
-use Rattle.std.specs.List.{list_any}
+use Rattle.std.specs.Prelude.{Bool, not, ◌&&◌, List, Option, Some, None, Result, Ok, is_ok, ⊤, length, map}
 use Rattle.alias_base.specs.Answer.{◌>>=◌, all_pass}
-use Rattle.alias_hir.specs.Effects.{effect_places}
-use Rattle.alias_rules.specs.Rules.{place_fits, tables_fit, numbers_fit, entry_stands, successors_stand, none_stands_twice, handlers_distinct, phis_fit, orders_fit}
+use Rattle.alias_hir.specs.Diagnostics.{tells_invariant}
+use Rattle.alias_hir.specs.Effects.{effect_places, error_of}
+use Rattle.alias_rules.specs.Rules.{below, place_fits, tables_fit, numbers_fit, entry_stands, successors_stand, none_stands_twice, handlers_distinct, phis_fit, orders_fit}
 use Rattle.alias_hir.specs.Terminals.{terminal_effects}
 use Rattle.alias_hir.specs.declared.effect.AliasingEffect.{AliasingEffect}
 use Rattle.alias_hir.specs.declared.env.Environment.{Environment}
 use Rattle.alias_hir.specs.declared.hir.HirFunction.{HirFunction}
-use Rattle.alias_hir.specs.declared.report.ErrorCategory.{ErrorCategory}
-use Rattle.alias_hir.specs.declared.report.ErrorCategory.TheVariants.{Invariant, Todo, Immutability, Globals, Purity, IncompatibleLibrary}
-use Rattle.alias_hir.specs.declared.report.Report.{Report}
+use Rattle.alias_hir.specs.declared.report.DiagnosticId.{DiagnosticId}
+use Rattle.alias_hir.specs.declared.report.Interned.{Interned}
+use Rattle.alias_rules.specs.declared.fault.Table.TheVariants.{Diagnostics}
 use Rattle.alias_rules.specs.declared.fault.UnitFault.{UnitFault}
 
--- each place of the effect is within the table of identifiers
+-- the report is one of those that are interned
+abbrev pub error_fits : Environment → Option DiagnosticId → Result ⊤ UnitFault
+error_fits env None = Ok tt
+error_fits env (Some error) = below Diagnostics (length env.interned) error.instance
+
+-- the places of the effect are within the table of identifiers, and its report is interned
 abbrev pub effect_fits : Environment → AliasingEffect → Result ⊤ UnitFault
-effect_fits env e = all_pass (place_fits env) (effect_places e)
+effect_fits env e = do
+  _ ← all_pass (place_fits env) (effect_places e)
+  error_fits env (error_of e)
 
 abbrev pub recorded_fit : Environment → Option (List AliasingEffect) → Result ⊤ UnitFault
 recorded_fit env None = Ok tt
@@ -41,20 +48,8 @@ function_rules env func = do
   _ ← orders_fit None func
   effects_fit env func
 
-abbrev pub is_invariant : ErrorCategory → Bool
-is_invariant Invariant = true
-is_invariant Todo = false
-is_invariant Immutability = false
-is_invariant Globals = false
-is_invariant Purity = false
-is_invariant IncompatibleLibrary = false
-
--- whether one of the reports says that an invariant was broken
-abbrev pub tells_invariant : List Report → Bool
-tells_invariant rs = list_any (λ r. is_invariant r.category) rs
-
--- Numbers are within their tables, those of effects too; the entry and what terminals name are blocks; no instruction
+-- Numbers are within their tables, those of effects and of their reports too; the entry and what terminals name are blocks; no instruction
 -- stands twice; each `Try` has a handler of its own; operands of phis are for predecessors; orders are set; and no report
--- says that an invariant was broken.
+-- that is told or interned says that an invariant was broken.
 abbrev pub function_fits : HirFunction → Environment → Bool
-function_fits func env = is_ok (function_rules env func) && not (tells_invariant env.errors)
+function_fits func env = is_ok (function_rules env func) && not (tells_invariant env.errors) && not (tells_invariant (map (λ (e : Interned). e.report) env.interned))

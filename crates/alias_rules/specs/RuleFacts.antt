@@ -1,5 +1,5 @@
 -- What follows for a caller from the rules.
-use Rattle.std.specs.Prelude.{◌≡◌, ℕ, zero, suc, Bool, true, false, cond, ◌||◌, ◌==◌, List, [], ◌∷◌, length, slice_get, is_some, is_none, is_ok, Option, Some, None, Result, Ok, Err, ⊤, if◌then◌else◌}
+use Rattle.std.specs.Prelude.{◌≡◌, map, not, ℕ, zero, suc, Bool, true, false, cond, ◌||◌, ◌==◌, List, [], ◌∷◌, length, slice_get, is_some, is_none, is_ok, Option, Some, None, Result, Ok, Err, ⊤, if◌then◌else◌}
 use Rattle.std.specs.List.{list_all, list_any}
 use Rattle.std.proofs.Common.{refl, ap, sym, ◌∙◌, arith}
 use Rattle.std.proofs.lemmas.Bool.{eqb-true}
@@ -8,7 +8,9 @@ use Rattle.alias_base.specs.Answer.{all_pass}
 use Rattle.alias_base.specs.Find.{same_block, value_at}
 use Rattle.alias_base.specs.Parts.{both_true, both_pass}
 use Rattle.alias_base.specs.declared.ids.BlockId.{BlockId}
-use Rattle.alias_rules.specs.Fitting.{recorded_fit, effects_fit, function_rules, tells_invariant, function_fits}
+use Rattle.alias_hir.specs.Diagnostics.{tells_invariant}
+use Rattle.alias_hir.specs.declared.report.Interned.{Interned}
+use Rattle.alias_rules.specs.Fitting.{recorded_fit, effects_fit, function_rules, function_fits}
 use Rattle.alias_rules.specs.Rules.{identifier_is_bare, instruction_is_bare, terminal_is_bare, block_is_bare, tables_fit, numbers_fit, is_block, entry_stands, named_stands, leads_to_blocks, successors_stand, instructions_stand, none_stands_twice, handlers_distinct, phis_fit, orders_fit, environment_is_bare, function_is_bare, rules_hold}
 use Rattle.alias_hir.specs.Terminals.{terminal_effects, successors}
 use Rattle.alias_hir.specs.declared.effect.AliasingEffect.{AliasingEffect}
@@ -79,6 +81,10 @@ no_reports : (rs : List Report) → (length rs == 0) ≡ true → tells_invarian
 no_reports [] e = refl
 no_reports (r ∷ rs) e = grind (arith, common_steps)
 
+none_interned : (es : List Interned) → (length es == 0) ≡ true → tells_invariant (map (λ (e : Interned). e.report) es) ≡ false
+none_interned [] e = refl
+none_interned (r ∷ rs) e = grind (arith, common_steps)
+
 none_fits : (env : Environment) (o : Option (List AliasingEffect)) → is_none o ≡ true → recorded_fit env o ≡ Ok tt
 none_fits env None e = refl
 none_fits env (Some es) e = cc
@@ -123,8 +129,10 @@ pub kept_function_fits : (u : HirUnit) → rules_hold u ≡ Ok tt → function_f
 kept_function_fits u h =
     let k : Kept u = kept u h in
     let e : effects_fit u.env u.function ≡ Ok tt = effects_fit_bare u.env u.function k.function in
-    let r : tells_invariant u.env.errors ≡ false = no_reports u.env.errors (both_true _ (list_all identifier_is_bare u.env.identifiers) k.environment).0 in
-    rw (k.tables, k.numbers, k.entry, k.successors, k.once, k.handlers, k.phis, k.orders, e, r) refl
+    let none = both_true (length u.env.errors == 0) (length u.env.interned == 0) (both_true _ (list_all identifier_is_bare u.env.identifiers) k.environment).0 in
+    let r : tells_invariant u.env.errors ≡ false = no_reports u.env.errors none.0 in
+    let i : tells_invariant (map (λ (e : Interned). e.report) u.env.interned) ≡ false = none_interned u.env.interned none.1 in
+    rw (k.tables, k.numbers, k.entry, k.successors, k.once, k.handlers, k.phis, k.orders, e, r, i) refl
 
 -- the entry is a block
 pub kept_entry : (u : HirUnit) → rules_hold u ≡ Ok tt → is_some (value_at u.function.body.blocks u.function.body.entry) ≡ true
@@ -146,7 +154,7 @@ kept_summary u h = nothing_there _ (bare u.function (kept u h).function).summary
 
 -- the function keeps its rules
 pub fitting_rules : (f : HirFunction) (env : Environment) → function_fits f env ≡ true → function_rules env f ≡ Ok tt
-fitting_rules f env h = passed _ (both_true _ _ h).0
+fitting_rules f env h = passed _ (both_true _ (not (tells_invariant env.errors)) (both_true _ _ h).0).0
 
 -- the entry is a block, and so is each block that a terminal names
 fitting_blocks : (f : HirFunction) (env : Environment) → function_fits f env ≡ true → (entry_stands None f ≡ Ok tt) × (successors_stand None f ≡ Ok tt)

@@ -223,9 +223,9 @@ function_is_bare func =
     is_none func.aliasing_effects && place_is_bare func.returns && list_all instruction_is_bare func.instructions
     && list_all (λ (e : BlockId × BasicBlock). block_is_bare e.1) func.body.blocks
 
--- no reports, and no identifier has a range or a scope
+-- no reports, told or interned, and no identifier has a range or a scope
 abbrev pub environment_is_bare : Environment → Bool
-environment_is_bare env = (length env.errors == 0) && list_all identifier_is_bare env.identifiers
+environment_is_bare env = (length env.errors == 0) && (length env.interned == 0) && list_all identifier_is_bare env.identifiers
 
 -- neither the tables nor the function say what the inference is to find
 abbrev pub nothing_inferred : HirUnit → Result ⊤ UnitFault

@@ -161,7 +161,9 @@ fn identifiers_are_bare(identifiers: &[Identifier]) -> bool
 fn environment_is_bare(env: &Environment) -> bool
     ensures { result ≡ environment_is_bare env.now }
 {
-    env.errors.len() == 0 && identifiers_are_bare(env.identifiers.as_slice())
+    env.errors.len() == 0
+        && env.interned.len() == 0
+        && identifiers_are_bare(env.identifiers.as_slice())
 }
 
 /// Whether nothing of the unit is inferred.

@@ -1,15 +1,22 @@
-//! The places of effects are within the table of identifiers.
-ghost use Rattle.std.specs.Prelude.{◌≡◌};
+//! The places of effects are within the table of identifiers, and their reports are interned.
+ghost use Rattle.std.specs.Prelude.{◌≡◌, Some};
 ghost use Rattle.alias_base.specs.Answer.{all_pass};
 ghost use Rattle.alias_hir.specs.Terminals.{terminal_effects};
-ghost use Rattle.alias_rules.specs.Fitting.{effect_fits, recorded_fit, effects_fit};
+ghost use Rattle.alias_rules.specs.Fitting.{error_fits, effect_fits, recorded_fit, effects_fit};
 
-use crate::fault::UnitFault;
-use crate::ids::place_fits;
+use crate::fault::{Table, UnitFault};
+use crate::ids::{below, place_fits};
 use alias_hir::effect::{AliasingEffect, AliasingEffects};
 use alias_hir::env::Environment;
 use alias_hir::hir::{Hir, HirFunction, Instruction};
+use alias_hir::report::DiagnosticId;
 use alias_hir::terminal::Terminal;
+
+fn error_fits(env: &Environment, error: DiagnosticId) -> Result<(), UnitFault>
+    ensures { result ≡ error_fits env.now (Some error) }
+{
+    below(Table::Diagnostics, env.interned.len(), error.instance)
+}
 
 fn effect_fits(env: &Environment, effect: &AliasingEffect) -> Result<(), UnitFault>
     ensures { result ≡ effect_fits env.now effect.now }
@@ -29,6 +36,10 @@ fn effect_fits(env: &Environment, effect: &AliasingEffect) -> Result<(), UnitFau
         }
         AliasingEffect::MutateFrozen { place } | AliasingEffect::MutateGlobal { place } => {
             place_fits(env, place)
+        }
+        AliasingEffect::Impure { place, error } => {
+            place_fits(env, place)?;
+            error_fits(env, *error)
         }
     }
 }
@@ -73,7 +84,7 @@ fn terminals_record_fit(env: &Environment, body: &Hir) -> Result<(), UnitFault>
     Ok(())
 }
 
-/// The first place of an effect that is not in the table.
+/// The first place of an effect that is not in the table, or report of one that is not interned.
 pub fn effects_fit(env: &Environment, func: &HirFunction) -> Result<(), UnitFault>
     ensures { result ≡ effects_fit env.now func.now }
 {

@@ -1,7 +1,8 @@
 //! What the inference asks of a function.
-ghost use Rattle.std.specs.Prelude.{◌≡◌, IfOk, is_ok};
+ghost use Rattle.std.specs.Prelude.{◌≡◌, IfOk, is_ok, map};
+ghost use Rattle.alias_hir.specs.Diagnostics.{tells_invariant};
 ghost use Rattle.alias_rules.specs.Fault.{Gives};
-ghost use Rattle.alias_rules.specs.Fitting.{function_rules, function_fits, tells_invariant};
+ghost use Rattle.alias_rules.specs.Fitting.{function_rules, function_fits};
 
 use crate::blocks::{entry_stands, successors_stand};
 use crate::effects::effects_fit;
@@ -13,13 +14,19 @@ use crate::phis::phis_fit;
 use crate::standing::none_stands_twice;
 use alias_hir::env::Environment;
 use alias_hir::hir::HirFunction;
-use alias_hir::report::{ErrorCategory, Report};
+use alias_hir::report::{ErrorCategory, Interned};
 use std::alloc::{AllocError, Global};
 
-fn tells_invariant(reports: &[Report]) -> bool
-    ensures { result ≡ tells_invariant reports.now }
+/// Whether an interned report says that an invariant was broken.
+fn interns_invariant(interned: &[Interned]) -> bool
+    ensures { result ≡ tells_invariant (map (λ e. e.report) interned.now) }
 {
-    reports.iter().any(|report| matches!(report.category, ErrorCategory::Invariant))
+    for entry in interned {
+        if matches!(entry.report.category, ErrorCategory::Invariant) {
+            return true;
+        }
+    }
+    false
 }
 
 /// The first rule of a function that is broken, whether it is inferred or not.
@@ -37,10 +44,10 @@ fn function_rules(alloc: Global, env: &Environment, func: &HirFunction) -> Resul
     effects_fit(env, func)
 }
 
-/// Whether the inference takes the function: numbers are within their tables, those of effects too; the
+/// Whether the inference takes the function: numbers are within their tables, those of effects and their reports too; the
 /// entry, successors and handlers of `Try`s are blocks; no instruction stands twice; each `Try` has a handler
 /// of its own; operands of phis are for blocks that have an edge to that of the phi; orders are set; and no
-/// report says that an invariant was broken. The one error is want of memory.
+/// report that is told or interned says that an invariant was broken. The one error is want of memory.
 pub fn check_function(
     alloc: Global,
     func: &HirFunction,
@@ -49,7 +56,7 @@ pub fn check_function(
     ensures { IfOk result (λ b. b ≡ function_fits func.now env.now) }
 {
     match function_rules(alloc, env, func) {
-        Ok(()) => Ok(!tells_invariant(env.errors.as_slice())),
+        Ok(()) => Ok(!env.has_invariant_errors() && !interns_invariant(env.interned.as_slice())),
         Err(UnitFault::Memory(e)) => Err(e),
         Err(_) => Ok(false),
     }

@@ -15,7 +15,7 @@ use alias_hir::place::Place;
 use alias_hir::terminal::{SwitchCase, Terminal};
 use alias_hir::value::InstructionValue;
 
-fn below(table: Table, len: usize, number: u32) -> Result<(), UnitFault>
+pub fn below(table: Table, len: usize, number: u32) -> Result<(), UnitFault>
     ensures { result ≡ below table len number }
 {
     if (number as usize) < len {

@@ -7,7 +7,8 @@ use Rattle.alias_base.specs.declared.ids.FunctionId.{FunctionId}
 use Rattle.alias_base.specs.declared.ids.InstructionId.{InstructionId}
 use Rattle.alias_hir.specs.Terminals.{terminal_effects}
 use Rattle.alias_hir.specs.declared.effect.AliasingEffect.{AliasingEffect}
-use Rattle.alias_hir.specs.declared.effect.AliasingEffect.TheVariants.{CreateFrom, ImmutableCapture, Assign, Capture, MaybeAlias, Create, Freeze, MutateFrozen, MutateGlobal, Mutate}
+use Rattle.alias_hir.specs.declared.effect.AliasingEffect.TheVariants.{CreateFrom, ImmutableCapture, Assign, Capture, MaybeAlias, Create, Freeze, MutateFrozen, MutateGlobal, Impure, Mutate}
+use Rattle.alias_hir.specs.declared.report.DiagnosticId.{DiagnosticId}
 use Rattle.alias_hir.specs.declared.effect.MutationReason.{MutationReason}
 use Rattle.alias_hir.specs.declared.effect.MutationReason.TheVariants.{AssignCurrentProperty}
 use Rattle.alias_hir.specs.declared.effect.ValueKind.{ValueKind}
@@ -67,6 +68,10 @@ freeze_text value reason = one_text (codes "Freeze") value ++ codes " " ++ reaso
 abbrev pub mutate_text : Place → Option MutationReason → List ℕ
 mutate_text value reason = one_text (codes "Mutate") value ++ mutation_text reason
 
+-- an error is told by the number of its report
+abbrev pub impure_text : Place → DiagnosticId → List ℕ
+impure_text place error = one_text (codes "Impure") place ++ spaced error.instance
+
 -- the name, the identifiers in the order of the fields, and then kind and reason
 abbrev pub effect_text : AliasingEffect → List ℕ
 effect_text (CreateFrom from into) = pair_text (codes "CreateFrom") from into
@@ -78,6 +83,7 @@ effect_text (Create into value reason) = create_text into value reason
 effect_text (Freeze value reason) = freeze_text value reason
 effect_text (MutateFrozen place) = one_text (codes "MutateFrozen") place
 effect_text (MutateGlobal place) = one_text (codes "MutateGlobal") place
+effect_text (Impure place error) = impure_text place error
 effect_text (Mutate value reason) = mutate_text value reason
 
 -- ---- lines

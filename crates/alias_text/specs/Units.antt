@@ -73,7 +73,7 @@ unit_at p d = do
   _ ← given_or no_items_at tt p (codes "functions") d
   root ← required root_at p (codes "root") d
   _ ← unit_keys p d
-  Ok (record { function = root; env = record { identifiers = identifiers; types = types; errors = []; config = config } })
+  Ok (record { function = root; env = record { identifiers = identifiers; types = types; functions = []; errors = []; interned = []; config = config } })
 
 abbrev pub if_built : HirUnit → Result HirUnit TextFault
 if_built u = if built u then Ok u else refusal [] NotBuilt

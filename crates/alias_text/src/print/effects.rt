@@ -1,10 +1,11 @@
 //! Effects as text.
 ghost use Rattle.std.specs.Prelude.{◌≡◌, ◌++◌, OnOk, IfOk};
-ghost use Rattle.alias_text.specs.Lines.{kind_word, reason_word, mutation_text, spaced, one_text, pair_text, create_text, freeze_text, mutate_text, effect_text};
+ghost use Rattle.alias_text.specs.Lines.{kind_word, reason_word, mutation_text, spaced, one_text, pair_text, create_text, freeze_text, mutate_text, impure_text, effect_text};
 
 use alias_base::Text;
 use alias_hir::effect::{AliasingEffect, MutationReason, ValueKind, ValueReason};
 use alias_hir::place::Place;
+use alias_hir::report::DiagnosticId;
 use std::alloc::{AllocError, Global};
 
 fn kind_word(kind: ValueKind) -> &'static str
@@ -106,6 +107,13 @@ fn push_mutate(
     push_mutation(out, reason)
 }
 
+fn push_impure(out: &mut Text, place: &Place, error: DiagnosticId) -> Result<(), AllocError>
+    ensures { OnOk result (out.new ≡ out.old ++ impure_text place.now error) }
+{
+    push_one(out, "Impure", place)?;
+    push_spaced(out, u64::from(error.instance))
+}
+
 /// Appends the effect: its name, and then its fields in their order. An `Err` is want of memory, and leaves
 /// what was appended before it.
 pub fn push_effect(out: &mut Text, effect: &AliasingEffect) -> Result<(), AllocError>
@@ -127,6 +135,7 @@ pub fn push_effect(out: &mut Text, effect: &AliasingEffect) -> Result<(), AllocE
         AliasingEffect::Freeze { value, reason } => push_freeze(out, value, *reason),
         AliasingEffect::MutateFrozen { place } => push_one(out, "MutateFrozen", place),
         AliasingEffect::MutateGlobal { place } => push_one(out, "MutateGlobal", place),
+        AliasingEffect::Impure { place, error } => push_impure(out, place, *error),
         AliasingEffect::Mutate { value, reason } => push_mutate(out, value, *reason),
     }
 }

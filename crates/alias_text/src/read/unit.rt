@@ -69,7 +69,9 @@ impl FromJson for Unit {
             env: Environment {
                 identifiers,
                 types,
+                functions: List::new(alloc),
                 errors: List::new(alloc),
+                interned: List::new(alloc),
                 config,
             },
         })
