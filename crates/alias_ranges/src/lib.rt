@@ -10,6 +10,7 @@ pub mod graph;
 mod marks;
 pub mod node_map;
 mod pushes;
+mod render;
 mod reports;
 mod seen;
 pub mod steps;
