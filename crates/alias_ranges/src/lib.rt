@@ -10,6 +10,9 @@ pub mod graph;
 mod marks;
 pub mod node_map;
 mod pushes;
+mod render;
+#[cfg(test)]
+mod report_tests;
 mod reports;
 mod seen;
 pub mod steps;

@@ -35,7 +35,7 @@ struct Mutation {
     kind: MutationKind,
 }
 
-fn place(number: u32) -> Place
+pub(crate) fn place(number: u32) -> Place
     ensures { result.identifier.0 ≡ number }
 {
     Place {
@@ -61,7 +61,7 @@ fn identifier() -> Identifier {
 }
 
 /// Four identifiers with no range.
-fn environment(alloc: Global) -> Result<Environment, AllocError>
+pub(crate) fn environment(alloc: Global) -> Result<Environment, AllocError>
     ensures { IfOk result (λ env. length env.identifiers ≡ 4) }
 {
     let mut env = Environment::new(alloc);
@@ -118,6 +118,7 @@ fn mutate<L: Ledger>(
         SPAN,
         Some(MutationReason::AssignCurrentProperty),
         env,
+        false,
         &mut steps,
     )
 }
@@ -342,6 +343,7 @@ fn pops<L: Ledger>(
         None,
         None,
         env,
+        false,
         steps,
     )?;
     Ok(graph)
