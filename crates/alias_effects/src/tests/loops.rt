@@ -8,7 +8,7 @@ use crate::tests::{
 use alias_base::{BlockId, BlockMap, EvaluationOrder, IdentifierId, List};
 use alias_hir::effect::{ValueKind, ValueReason};
 use alias_hir::error::InferError;
-use alias_hir::hir::{HirFunction, Phi};
+use alias_hir::hir::{BasicBlock, HirFunction, Instruction, Phi};
 use alias_hir::terminal::Terminal;
 use alias_hir::value::InstructionValue;
 use alias_lattice::{AbstractValue, InferenceState, ReasonSet, Site};
@@ -17,62 +17,129 @@ use std::alloc::{AllocError, Global};
 use std::process::Abort;
 use std::test::Fail;
 
-fn goes_to(order: u32, block: u32) -> Terminal {
-    Terminal::Goto {
-        id: EvaluationOrder(order),
-        block: BlockId(block),
+/// What an instruction of these functions computes.
+#[derive(Clone, Copy)]
+enum Made {
+    Object,
+    Primitive,
+    /// The value of another identifier.
+    Copy(u32),
+    /// A property of an object.
+    Part(u32),
+    /// The second is written into the first.
+    Write(u32, u32),
+}
+
+/// How a block of these functions ends.
+#[derive(Clone, Copy)]
+enum End {
+    Goto(u32),
+    While(u32),
+    If(u32, u32, u32),
+    Branch(u32, u32, u32),
+    Return(u32),
+    Unreachable,
+}
+
+fn value_of(alloc: Global, made: Made) -> Result<InstructionValue, AllocError> {
+    match made {
+        Made::Object => Ok(InstructionValue::ObjectExpression),
+        Made::Primitive => Ok(InstructionValue::Primitive),
+        Made::Copy(from) => Ok(InstructionValue::LoadLocal { place: place(from) }),
+        Made::Part(object) => Ok(InstructionValue::PropertyLoad {
+            object: place(object),
+        }),
+        Made::Write(object, value) => write(alloc, object, value),
     }
 }
 
-fn branch(order: u32, test: u32, consequent: u32, alternate: u32) -> Terminal {
-    Terminal::Branch {
-        id: EvaluationOrder(order),
-        test: place(test),
-        consequent: BlockId(consequent),
-        alternate: BlockId(alternate),
+fn terminal_of(order: u32, end: End) -> Terminal {
+    let id = EvaluationOrder(order);
+    match end {
+        End::Goto(block) => Terminal::Goto {
+            id,
+            block: BlockId(block),
+        },
+        End::While(test) => Terminal::While {
+            id,
+            test: BlockId(test),
+        },
+        End::If(test, consequent, alternate) => Terminal::If {
+            id,
+            test: place(test),
+            consequent: BlockId(consequent),
+            alternate: BlockId(alternate),
+        },
+        End::Branch(test, consequent, alternate) => Terminal::Branch {
+            id,
+            test: place(test),
+            consequent: BlockId(consequent),
+            alternate: BlockId(alternate),
+        },
+        End::Return(value) => returns(order, value),
+        End::Unreachable => Terminal::Unreachable { id },
     }
+}
+
+/// Instructions by their orders, results and values.
+fn instructions_of(
+    alloc: Global,
+    rows: &[(u32, u32, Made)],
+) -> Result<List<Instruction>, AllocError> {
+    let mut list = List::new(alloc);
+    for (order, result, made) in rows {
+        list.push(instruction(*order, *result, value_of(alloc, *made)?))?;
+    }
+    Ok(list)
+}
+
+/// Blocks by their numbers, the first of their instructions, the one after their last, and the order and kind
+/// of their ends.
+fn blocks_of(
+    alloc: Global,
+    rows: &[(u32, u32, u32, u32, End)],
+) -> Result<BlockMap<BasicBlock>, AllocError> {
+    let mut blocks = BlockMap::new(alloc);
+    for (number, first, after, order, end) in rows {
+        let at = block(alloc, *first, *after, terminal_of(*order, *end))?;
+        blocks.insert(BlockId(*number), at)?;
+    }
+    Ok(blocks)
 }
 
 /// `const x1 = {}; while (x2) x1.a = x3; return x2`.
 fn while_loop(alloc: Global) -> Result<HirFunction, AllocError> {
-    let mut list = List::new(alloc);
-    list.push(instruction(1, 1, InstructionValue::ObjectExpression))?;
-    list.push(instruction(3, 2, InstructionValue::Primitive))?;
-    list.push(instruction(5, 3, InstructionValue::Primitive))?;
-    list.push(instruction(6, 4, write(alloc, 1, 3)?))?;
-    let test = Terminal::While {
-        id: EvaluationOrder(2),
-        test: BlockId(1),
-    };
-    let mut blocks = BlockMap::new(alloc);
-    blocks.insert(BlockId(0), block(alloc, 0, 1, test)?)?;
-    blocks.insert(BlockId(1), block(alloc, 1, 2, branch(4, 2, 2, 3))?)?;
-    blocks.insert(BlockId(2), block(alloc, 2, 4, goes_to(7, 1))?)?;
-    blocks.insert(BlockId(3), block(alloc, 0, 0, returns(8, 2))?)?;
-    Ok(function_of(blocks, list))
+    let list = [
+        (1, 1, Made::Object),
+        (3, 2, Made::Primitive),
+        (5, 3, Made::Primitive),
+        (6, 4, Made::Write(1, 3)),
+    ];
+    let blocks = [
+        (0, 0, 1, 2, End::While(1)),
+        (1, 1, 2, 4, End::Branch(2, 2, 3)),
+        (2, 2, 4, 7, End::Goto(1)),
+        (3, 0, 0, 8, End::Return(2)),
+    ];
+    Ok(function_of(blocks_of(alloc, &blocks)?, instructions_of(alloc, &list)?))
 }
 
 /// An object that one way copies and the other reads, and that is written after both.
 fn two_ways(alloc: Global) -> Result<HirFunction, AllocError> {
-    let mut list = List::new(alloc);
-    list.push(instruction(1, 1, InstructionValue::ObjectExpression))?;
-    list.push(instruction(2, 2, InstructionValue::Primitive))?;
-    list.push(instruction(4, 3, InstructionValue::LoadLocal { place: place(1) }))?;
-    let read = InstructionValue::PropertyLoad { object: place(1) };
-    list.push(instruction(6, 4, read))?;
-    list.push(instruction(8, 5, write(alloc, 1, 2)?))?;
-    let test = Terminal::If {
-        id: EvaluationOrder(3),
-        test: place(2),
-        consequent: BlockId(1),
-        alternate: BlockId(2),
-    };
-    let mut blocks = BlockMap::new(alloc);
-    blocks.insert(BlockId(0), block(alloc, 0, 2, test)?)?;
-    blocks.insert(BlockId(1), block(alloc, 2, 3, goes_to(5, 3))?)?;
-    blocks.insert(BlockId(2), block(alloc, 3, 4, goes_to(7, 3))?)?;
-    blocks.insert(BlockId(3), block(alloc, 4, 5, returns(9, 1))?)?;
-    Ok(function_of(blocks, list))
+    let list = [
+        (1, 1, Made::Object),
+        (2, 2, Made::Primitive),
+        (4, 3, Made::Copy(1)),
+        (6, 4, Made::Part(1)),
+        (8, 5, Made::Write(1, 2)),
+    ];
+    let blocks = [
+        (0, 0, 2, 3, End::If(2, 1, 2)),
+        (1, 2, 3, 5, End::Goto(3)),
+        (2, 3, 4, 7, End::Goto(3)),
+        (3, 4, 5, 9, End::Return(1)),
+    ];
+    Ok(function_of(blocks_of(alloc, &blocks)?, instructions_of(alloc, &list)?))
 }
 
 /// The phi with its operands from blocks 0 and 2.
@@ -86,23 +153,36 @@ fn phi(alloc: Global, number: u32, first: u32, second: u32) -> Result<Phi, Alloc
     })
 }
 
-/// A loop of so many phis, through which an object goes one phi further in each round.
-fn line_of_phis(alloc: Global, count: u32) -> Result<HirFunction, AllocError> {
-    let mut list = List::new(alloc);
-    list.push(instruction(1, 1, InstructionValue::ObjectExpression))?;
-    list.push(instruction(2, 2, InstructionValue::Primitive))?;
-    list.push(instruction(5, 3, InstructionValue::ObjectExpression))?;
-    let mut middle = block(alloc, 0, 0, branch(4, 2, 2, 3))?;
+/// So many phis from identifier 4 on, each of identifier 1 and the next phi, and the last one of 3.
+fn phis_of(alloc: Global, count: u8) -> Result<List<Phi>, AllocError> {
+    let mut phis = List::new(alloc);
     for index in 0..count {
-        let next = if index + 1 < count { index + 5 } else { 3 };
-        middle.phis.push(phi(alloc, index + 4, 1, next)?)?;
+        let number = u32::from(index) + 4;
+        let next = if index + 1 < count { number + 1 } else { 3 };
+        phis.push(phi(alloc, number, 1, next)?)?;
     }
-    let mut blocks = BlockMap::new(alloc);
-    blocks.insert(BlockId(0), block(alloc, 0, 2, goes_to(3, 1))?)?;
-    blocks.insert(BlockId(1), middle)?;
-    blocks.insert(BlockId(2), block(alloc, 2, 3, goes_to(6, 1))?)?;
-    blocks.insert(BlockId(3), block(alloc, 0, 0, returns(7, 2))?)?;
-    Ok(function_of(blocks, list))
+    Ok(phis)
+}
+
+/// A loop of so many phis, through which an object goes one phi further in each round.
+fn line_of_phis(alloc: Global, count: u8) -> Result<HirFunction, AllocError> {
+    let list = [
+        (1, 1, Made::Object),
+        (2, 2, Made::Primitive),
+        (5, 3, Made::Object),
+    ];
+    let rows = [
+        (0, 0, 2, 3, End::Goto(1)),
+        (1, 0, 0, 4, End::Branch(2, 2, 3)),
+        (2, 2, 3, 6, End::Goto(1)),
+        (3, 0, 0, 7, End::Return(2)),
+    ];
+    let mut blocks = blocks_of(alloc, &rows)?;
+    let phis = phis_of(alloc, count)?;
+    if let Some(middle) = blocks.get_index_mut(1) {
+        middle.phis = phis;
+    }
+    Ok(function_of(blocks, instructions_of(alloc, &list)?))
 }
 
 /// What is inferred of the function, which isn't refused.
@@ -139,12 +219,12 @@ fn goes_round_a_while_loop(rt: HostRuntime) -> Result<(), Fail> {
 #[test]
 fn visits_again_what_its_own_state_grows(rt: HostRuntime) -> Result<(), Fail> {
     let alloc = rt.alloc();
-    let mut list = List::new(alloc);
-    list.push(instruction(1, 1, InstructionValue::Primitive))?;
-    let mut blocks = BlockMap::new(alloc);
-    blocks.insert(BlockId(0), block(alloc, 0, 1, branch(2, 1, 0, 1))?)?;
-    blocks.insert(BlockId(1), block(alloc, 0, 0, returns(3, 1))?)?;
-    let answer = inferred(&rt, alloc, function_of(blocks, list), 2)?;
+    let list = instructions_of(alloc, &[(1, 1, Made::Primitive)])?;
+    let rows = [
+        (0, 0, 1, 2, End::Branch(1, 0, 1)),
+        (1, 0, 0, 3, End::Return(1)),
+    ];
+    let answer = inferred(&rt, alloc, function_of(blocks_of(alloc, &rows)?, list), 2)?;
     let visits = answer.solved.visits.as_slice();
     assert_eq!(rt; visits, [BlockId(0), BlockId(1), BlockId(0)].as_slice());
     Ok(())
@@ -153,11 +233,7 @@ fn visits_again_what_its_own_state_grows(rt: HostRuntime) -> Result<(), Fail> {
 #[test]
 fn infers_nothing_of_what_ends_at_once(rt: HostRuntime) -> Result<(), Fail> {
     let alloc = rt.alloc();
-    let end = Terminal::Unreachable {
-        id: EvaluationOrder(1),
-    };
-    let mut blocks = BlockMap::new(alloc);
-    blocks.insert(BlockId(0), block(alloc, 0, 0, end)?)?;
+    let blocks = blocks_of(alloc, &[(0, 0, 0, 1, End::Unreachable)])?;
     let answer = inferred(&rt, alloc, function_of(blocks, List::new(alloc)), 1)?;
     assert_eq!(rt; answer.solved.visits.as_slice(), [BlockId(0)].as_slice());
     assert_eq!(rt; answer.solved.entries.len(), 1);
