@@ -1,4 +1,5 @@
-ghost use Rattle.std.specs.Prelude.{◌≡◌, ◌<◌, length, IfOk};
+//! Reports of walks and renders.
+ghost use Rattle.std.specs.Prelude.{◌≡◌, ◌<◌, length, IfOk, OnOk};
 ghost use Rattle.alias_ranges.specs.Nodes.{Within};
 
 use crate::graph::AliasGraph;
@@ -82,6 +83,7 @@ fn graph(alloc: Global) -> Result<AliasGraph, AllocError>
     Ok(graph)
 }
 
+#[tactic(auto, using(crate::proofs::Within::within_same))]
 fn mutate<L: Ledger>(
     blank: Blank,
     graph: &mut AliasGraph,
@@ -93,7 +95,9 @@ fn mutate<L: Ledger>(
     requires name { blank.name ≡ L.name }
     requires parts { blank.parts ≡ L.parts }
     requires some { 0 < blank.parts }
-    requires within { Within (length env.old.identifiers) graph.old }
+    requires within { Within 4 graph.old }
+    requires identifiers { length env.old.identifiers ≡ 4 }
+    ensures { OnOk result (Within 4 graph.new) }
 {
     let mut steps = Steps::<L>::start(blank);
     graph.mutate(
@@ -107,7 +111,8 @@ fn mutate<L: Ledger>(
         env,
         should_record_errors,
         &mut steps,
-    )
+    )?;
+    Ok(())
 }
 
 /// How many reports two walks from a function leave.

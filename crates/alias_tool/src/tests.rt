@@ -1,5 +1,6 @@
 //! Whole runs over memory.
 mod blocks;
+mod successors;
 
 use crate::run::run_alias;
 use alias_base::{List, Text};
