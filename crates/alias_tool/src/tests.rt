@@ -1,6 +1,5 @@
 //! Whole runs over memory.
 mod blocks;
-mod successors;
 
 use crate::run::run_alias;
 use alias_base::{List, Text};
