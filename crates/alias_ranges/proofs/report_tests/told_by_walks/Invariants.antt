@@ -2,6 +2,3 @@ use Rattle.alias_ranges.proofs.report_tests.told_by_walks.Given as goal
 
 abbrev pub ghosts-mutate : goal.ghosts-mutate
 ghosts-mutate a = record { name = a.blank.name; parts = a.blank.parts }
-
-abbrev pub ghosts-mutate-2 : goal.ghosts-mutate-2
-ghosts-mutate-2 a = record { name = a.blank.name; parts = a.blank.parts }
