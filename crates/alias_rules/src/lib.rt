@@ -14,4 +14,3 @@ mod phis;
 mod standing;
 #[cfg(test)]
 mod tests;
-mod ways;
