@@ -1,7 +1,7 @@
 //! Reports that are told, and those that effects name until it is known whether they are.
 ghost use Rattle.std.specs.Prelude.{◌≡◌, ◌<◌, ◌++◌, ◌∷◌, [], Some, length, slice_get, option_map, OnOk, OnErr};
 ghost use Rattle.std.specs.List.{list_any};
-ghost use Rattle.alias_hir.specs.Diagnostics.{same_category, same_words, same_report, same_identity, same_instance, number_of, numbered, diagnostic_of, with_interned, Answers, tells_invariant};
+ghost use Rattle.alias_hir.specs.Diagnostics.{same_category, same_words, same_report, same_identity, same_instance, number_of, numbered, is_interned, diagnostic_of, with_interned, Answers, tells_invariant};
 
 use crate::env::Environment;
 use crate::error::{Counter, HirError};
@@ -95,6 +95,19 @@ impl Environment {
             self.interned.push(Interned { identifier, report })?;
         }
         Ok(DiagnosticId { identity, instance })
+    }
+
+    /// Whether a report is kept in this instance, and its identity is this one.
+    pub fn is_interned(&self, id: DiagnosticId) -> bool
+        ensures { result ≡ is_interned self.now.interned id }
+    {
+        let entries = self.interned.as_slice();
+        match entries.get(id.instance as usize) {
+            Some(entry) => {
+                identity_of(entries, entry.identifier, &entry.report) == id.identity as usize
+            }
+            None => false,
+        }
     }
 
     /// The report of the instance, which is one of those that are kept.

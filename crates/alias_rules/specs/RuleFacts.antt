@@ -10,7 +10,7 @@ use Rattle.alias_base.specs.Parts.{both_true, both_pass}
 use Rattle.alias_base.specs.declared.ids.BlockId.{BlockId}
 use Rattle.alias_hir.specs.Diagnostics.{tells_invariant}
 use Rattle.alias_hir.specs.declared.report.Interned.{Interned}
-use Rattle.alias_rules.specs.Fitting.{recorded_fit, effects_fit, function_rules, function_fits}
+use Rattle.alias_rules.specs.Fitting.{recorded_stand, effects_stand, function_rules, function_fits}
 use Rattle.alias_rules.specs.Rules.{identifier_is_bare, instruction_is_bare, terminal_is_bare, block_is_bare, tables_fit, numbers_fit, is_block, entry_stands, named_stands, leads_to_blocks, successors_stand, instructions_stand, none_stands_twice, handlers_distinct, phis_fit, orders_fit, environment_is_bare, function_is_bare, rules_hold}
 use Rattle.alias_hir.specs.Terminals.{terminal_effects, successors}
 use Rattle.alias_hir.specs.declared.effect.AliasingEffect.{AliasingEffect}
@@ -85,9 +85,9 @@ none_interned : (es : List Interned) → (length es == 0) ≡ true → tells_inv
 none_interned [] e = refl
 none_interned (r ∷ rs) e = grind (arith, common_steps)
 
-none_fits : (env : Environment) (o : Option (List AliasingEffect)) → is_none o ≡ true → recorded_fit env o ≡ Ok tt
-none_fits env None e = refl
-none_fits env (Some es) e = cc
+none_stands : (env : Environment) (o : Option (List AliasingEffect)) → is_none o ≡ true → recorded_stand env o ≡ true
+none_stands env None e = refl
+none_stands env (Some es) e = cc
 
 instruction_bare : (i : Instruction) → instruction_is_bare i ≡ true → is_none i.effects ≡ true
 instruction_bare i h = (both_true _ _ (both_true _ _ h).0).0
@@ -95,18 +95,18 @@ instruction_bare i h = (both_true _ _ (both_true _ _ h).0).0
 terminal_bare : (b : BasicBlock) → block_is_bare b ≡ true → is_none (terminal_effects b.terminal) ≡ true
 terminal_bare b h = (both_true (is_none (terminal_effects b.terminal)) _ (both_true _ (terminal_is_bare b.terminal) h).1).0
 
-instructions_fit_bare : (env : Environment) (xs : List Instruction) → list_all instruction_is_bare xs ≡ true → all_pass (λ (i : Instruction). recorded_fit env i.effects) xs ≡ Ok tt
-instructions_fit_bare env [] h = refl
-instructions_fit_bare env (x ∷ xs) h =
+instructions_stand_bare : (env : Environment) (xs : List Instruction) → list_all instruction_is_bare xs ≡ true → list_all (λ (i : Instruction). recorded_stand env i.effects) xs ≡ true
+instructions_stand_bare env [] h = refl
+instructions_stand_bare env (x ∷ xs) h =
     let b : (instruction_is_bare x ≡ true) × (list_all instruction_is_bare xs ≡ true) = both_true _ _ h in
-    rw (none_fits env x.effects (instruction_bare x b.0)) (instructions_fit_bare env xs b.1)
+    rw (none_stands env x.effects (instruction_bare x b.0)) (instructions_stand_bare env xs b.1)
 
-terminals_fit_bare : (env : Environment) (es : List (BlockId × BasicBlock)) → list_all (λ (e : BlockId × BasicBlock). block_is_bare e.1) es ≡ true
-    → all_pass (λ (e : BlockId × BasicBlock). recorded_fit env (terminal_effects e.1.terminal)) es ≡ Ok tt
-terminals_fit_bare env [] h = refl
-terminals_fit_bare env (x ∷ xs) h =
+terminals_stand_bare : (env : Environment) (es : List (BlockId × BasicBlock)) → list_all (λ (e : BlockId × BasicBlock). block_is_bare e.1) es ≡ true
+    → list_all (λ (e : BlockId × BasicBlock). recorded_stand env (terminal_effects e.1.terminal)) es ≡ true
+terminals_stand_bare env [] h = refl
+terminals_stand_bare env (x ∷ xs) h =
     let b : (block_is_bare x.1 ≡ true) × (list_all (λ (e : BlockId × BasicBlock). block_is_bare e.1) xs ≡ true) = both_true _ _ h in
-    rw (none_fits env (terminal_effects x.1.terminal) (terminal_bare x.1 b.0)) (terminals_fit_bare env xs b.1)
+    rw (none_stands env (terminal_effects x.1.terminal) (terminal_bare x.1 b.0)) (terminals_stand_bare env xs b.1)
 
 record Bare (func : HirFunction) : Type 0 where
   summary : is_none func.aliasing_effects ≡ true
@@ -119,16 +119,16 @@ bare func h =
     let b = both_true _ _ a.0 in
     record { summary = (both_true _ _ b.0).0; instructions = b.1; blocks = a.1 }
 
-effects_fit_bare : (env : Environment) (func : HirFunction) → function_is_bare func ≡ true → effects_fit env func ≡ Ok tt
-effects_fit_bare env func h =
+effects_stand_bare : (env : Environment) (func : HirFunction) → function_is_bare func ≡ true → effects_stand env func ≡ true
+effects_stand_bare env func h =
     let b : Bare func = bare func h in
-    rw (instructions_fit_bare env func.instructions b.instructions, terminals_fit_bare env func.body.blocks b.blocks) (none_fits env func.aliasing_effects b.summary)
+    rw (instructions_stand_bare env func.instructions b.instructions, terminals_stand_bare env func.body.blocks b.blocks) (none_stands env func.aliasing_effects b.summary)
 
 -- the inference takes the function of a unit that keeps the rules
 pub kept_function_fits : (u : HirUnit) → rules_hold u ≡ Ok tt → function_fits u.function u.env ≡ true
 kept_function_fits u h =
     let k : Kept u = kept u h in
-    let e : effects_fit u.env u.function ≡ Ok tt = effects_fit_bare u.env u.function k.function in
+    let e : effects_stand u.env u.function ≡ true = effects_stand_bare u.env u.function k.function in
     let none = both_true (length u.env.errors == 0) (length u.env.interned == 0) (both_true _ (list_all identifier_is_bare u.env.identifiers) k.environment).0 in
     let r : tells_invariant u.env.errors ≡ false = no_reports u.env.errors none.0 in
     let i : tells_invariant (map (λ (e : Interned). e.report) u.env.interned) ≡ false = none_interned u.env.interned none.1 in
@@ -154,7 +154,7 @@ kept_summary u h = nothing_there _ (bare u.function (kept u h).function).summary
 
 -- the function keeps its rules
 pub fitting_rules : (f : HirFunction) (env : Environment) → function_fits f env ≡ true → function_rules env f ≡ Ok tt
-fitting_rules f env h = passed _ (both_true _ (not (tells_invariant env.errors)) (both_true _ _ h).0).0
+fitting_rules f env h = passed _ (both_true _ (effects_stand env f) (both_true _ _ h).0).0
 
 -- the entry is a block, and so is each block that a terminal names
 fitting_blocks : (f : HirFunction) (env : Environment) → function_fits f env ≡ true → (entry_stands None f ≡ Ok tt) × (successors_stand None f ≡ Ok tt)

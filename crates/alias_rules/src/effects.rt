@@ -1,25 +1,30 @@
 //! The places of effects are within the table of identifiers, and their reports are interned.
 ghost use Rattle.std.specs.Prelude.{◌≡◌, Some};
-ghost use Rattle.alias_base.specs.Answer.{all_pass};
+ghost use Rattle.std.specs.List.{list_all};
 ghost use Rattle.alias_hir.specs.Terminals.{terminal_effects};
-ghost use Rattle.alias_rules.specs.Fitting.{error_fits, effect_fits, recorded_fit, effects_fit};
+ghost use Rattle.alias_rules.specs.Fitting.{place_stands, error_stands, effect_stands, recorded_stand, effects_stand};
 
-use crate::fault::{Table, UnitFault};
-use crate::ids::{below, place_fits};
 use alias_hir::effect::{AliasingEffect, AliasingEffects};
 use alias_hir::env::Environment;
 use alias_hir::hir::{Hir, HirFunction, Instruction};
+use alias_hir::place::Place;
 use alias_hir::report::DiagnosticId;
 use alias_hir::terminal::Terminal;
 
-fn error_fits(env: &Environment, error: DiagnosticId) -> Result<(), UnitFault>
-    ensures { result ≡ error_fits env.now (Some error) }
+fn place_stands(env: &Environment, place: &Place) -> bool
+    ensures { result ≡ place_stands env.now place.now }
 {
-    below(Table::Diagnostics, env.interned.len(), error.instance)
+    (place.identifier.0 as usize) < env.identifiers.len()
 }
 
-fn effect_fits(env: &Environment, effect: &AliasingEffect) -> Result<(), UnitFault>
-    ensures { result ≡ effect_fits env.now effect.now }
+fn error_stands(env: &Environment, error: DiagnosticId) -> bool
+    ensures { result ≡ error_stands env.now (Some error) }
+{
+    env.is_interned(error)
+}
+
+fn effect_stands(env: &Environment, effect: &AliasingEffect) -> bool
+    ensures { result ≡ effect_stands env.now effect.now }
 {
     match effect {
         AliasingEffect::CreateFrom { from, into }
@@ -27,68 +32,69 @@ fn effect_fits(env: &Environment, effect: &AliasingEffect) -> Result<(), UnitFau
         | AliasingEffect::Assign { from, into }
         | AliasingEffect::Capture { from, into }
         | AliasingEffect::MaybeAlias { from, into } => {
-            place_fits(env, from)?;
-            place_fits(env, into)
+            place_stands(env, from) && place_stands(env, into)
         }
-        AliasingEffect::Create { into, .. } => place_fits(env, into),
+        AliasingEffect::Create { into, .. } => place_stands(env, into),
         AliasingEffect::Freeze { value, .. } | AliasingEffect::Mutate { value, .. } => {
-            place_fits(env, value)
+            place_stands(env, value)
         }
         AliasingEffect::MutateFrozen { place } | AliasingEffect::MutateGlobal { place } => {
-            place_fits(env, place)
+            place_stands(env, place)
         }
         AliasingEffect::Impure { place, error } => {
-            place_fits(env, place)?;
-            error_fits(env, *error)
+            place_stands(env, place) && error_stands(env, *error)
         }
     }
 }
 
-fn recorded_fit(env: &Environment, recorded: &Option<AliasingEffects>) -> Result<(), UnitFault>
-    ensures { result ≡ recorded_fit env.now recorded.now }
+fn all_stand(env: &Environment, effects: &[AliasingEffect]) -> bool
+    ensures { result ≡ list_all (effect_stands env.now) effects.now }
 {
-    if let Some(effects) = recorded {
-        for effect in effects.as_slice() {
-            effect_fits(env, effect)?;
-        }
-    }
-    Ok(())
+    effects.iter().all(|effect| effect_stands(env, effect))
 }
 
-fn instructions_record_fit(env: &Environment, instructions: &[Instruction]) -> Result<(), UnitFault>
-    ensures { result ≡ all_pass (λ i. recorded_fit env.now i.effects) instructions.now }
+fn recorded_stand(env: &Environment, recorded: &Option<AliasingEffects>) -> bool
+    ensures { result ≡ recorded_stand env.now recorded.now }
 {
-    for instruction in instructions {
-        recorded_fit(env, &instruction.effects)?;
+    match recorded {
+        Some(effects) => all_stand(env, effects.as_slice()),
+        None => true,
     }
-    Ok(())
 }
 
-fn terminal_records_fit(env: &Environment, terminal: &Terminal) -> Result<(), UnitFault>
-    ensures { result ≡ recorded_fit env.now (terminal_effects terminal.now) }
+fn instructions_record(env: &Environment, instructions: &[Instruction]) -> bool
+    ensures { result ≡ list_all (λ i. recorded_stand env.now i.effects) instructions.now }
+{
+    instructions.iter().all(|instruction| recorded_stand(env, &instruction.effects))
+}
+
+fn terminal_records(env: &Environment, terminal: &Terminal) -> bool
+    ensures { result ≡ recorded_stand env.now (terminal_effects terminal.now) }
 {
     match terminal {
         Terminal::Return { effects, .. } | Terminal::MaybeThrow { effects, .. } => {
-            recorded_fit(env, effects)
+            recorded_stand(env, effects)
         }
-        _ => Ok(()),
+        _ => true,
     }
 }
 
-fn terminals_record_fit(env: &Environment, body: &Hir) -> Result<(), UnitFault>
-    ensures { result ≡ all_pass (λ e. recorded_fit env.now (terminal_effects e.1.terminal)) body.now.blocks }
+fn terminals_record(env: &Environment, body: &Hir) -> bool
+    ensures { result ≡ list_all (λ e. recorded_stand env.now (terminal_effects e.1.terminal)) body.now.blocks }
 {
     for (_, block) in body.blocks.iter() {
-        terminal_records_fit(env, &block.terminal)?;
+        if !terminal_records(env, &block.terminal) {
+            return false;
+        }
     }
-    Ok(())
+    true
 }
 
-/// The first place of an effect that is not in the table, or report of one that is not interned.
-pub fn effects_fit(env: &Environment, func: &HirFunction) -> Result<(), UnitFault>
-    ensures { result ≡ effects_fit env.now func.now }
+/// Whether the places of all effects are in the table, and their reports are interned.
+pub fn effects_stand(env: &Environment, func: &HirFunction) -> bool
+    ensures { result ≡ effects_stand env.now func.now }
 {
-    instructions_record_fit(env, func.instructions.as_slice())?;
-    terminals_record_fit(env, &func.body)?;
-    recorded_fit(env, &func.aliasing_effects)
+    instructions_record(env, func.instructions.as_slice())
+        && terminals_record(env, &func.body)
+        && recorded_stand(env, &func.aliasing_effects)
 }

@@ -12,7 +12,6 @@ pub enum Table {
     Types,
     Instructions,
     Declarations,
-    Diagnostics,
 }
 
 /// The rule that a unit breaks, or want of memory. `function` is `None` for the root.

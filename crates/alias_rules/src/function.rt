@@ -2,10 +2,10 @@
 ghost use Rattle.std.specs.Prelude.{◌≡◌, IfOk, is_ok, map};
 ghost use Rattle.alias_hir.specs.Diagnostics.{tells_invariant};
 ghost use Rattle.alias_rules.specs.Fault.{Gives};
-ghost use Rattle.alias_rules.specs.Fitting.{function_rules, function_fits};
+ghost use Rattle.alias_rules.specs.Fitting.{tells_no_invariant, function_rules, function_fits};
 
 use crate::blocks::{entry_stands, successors_stand};
-use crate::effects::effects_fit;
+use crate::effects::effects_stand;
 use crate::fault::UnitFault;
 use crate::handlers::handlers_distinct;
 use crate::ids::{numbers_fit, tables_fit};
@@ -29,6 +29,12 @@ fn interns_invariant(interned: &[Interned]) -> bool
     false
 }
 
+fn tells_no_invariant(env: &Environment) -> bool
+    ensures { result ≡ tells_no_invariant env.now }
+{
+    !env.has_invariant_errors() && !interns_invariant(env.interned.as_slice())
+}
+
 /// The first rule of a function that is broken, whether it is inferred or not.
 fn function_rules(alloc: Global, env: &Environment, func: &HirFunction) -> Result<(), UnitFault>
     ensures { Gives (λ x. x) result (function_rules env.now func.now) }
@@ -40,8 +46,7 @@ fn function_rules(alloc: Global, env: &Environment, func: &HirFunction) -> Resul
     none_stands_twice(alloc, None, func)?;
     handlers_distinct(alloc, None, func)?;
     phis_fit(None, func)?;
-    orders_fit(None, func)?;
-    effects_fit(env, func)
+    orders_fit(None, func)
 }
 
 /// Whether the inference takes the function: numbers are within their tables, those of effects and their reports too; the
@@ -56,7 +61,7 @@ pub fn check_function(
     ensures { IfOk result (λ b. b ≡ function_fits func.now env.now) }
 {
     match function_rules(alloc, env, func) {
-        Ok(()) => Ok(!env.has_invariant_errors() && !interns_invariant(env.interned.as_slice())),
+        Ok(()) => Ok(effects_stand(env, func) && tells_no_invariant(env)),
         Err(UnitFault::Memory(e)) => Err(e),
         Err(_) => Ok(false),
     }

@@ -5,9 +5,11 @@ use alias_base::{
     BlockId, BlockMap, DeclarationId, EvaluationOrder, IdentifierId, InstructionId, List, Text,
     TypeId,
 };
+use alias_hir::effect::AliasingEffect;
 use alias_hir::env::{Environment, Identifier, IdentifierName, MutableRange, Unit};
 use alias_hir::hir::{BasicBlock, FunctionType, Hir, HirFunction, Instruction, Phi};
 use alias_hir::place::{Effect, Place, Span};
+use alias_hir::report::{DiagnosticId, ErrorCategory, Interned, Label, Report};
 use alias_hir::terminal::Terminal;
 use alias_hir::types::Ty;
 use alias_hir::value::InstructionValue;
@@ -388,5 +390,54 @@ fn looks_at_the_places_of_phis(rt: HostRuntime) -> Result<(), Fail> {
     let phis = phi_of(alloc, place(1), &[0, 2], captured)?;
     let unit = looping(alloc, phis)?;
     assert!(rt; matches!(fault(&rt, alloc, unit), Some(UnitFault::SomethingInferred)));
+    Ok(())
+}
+
+/// A report of reading the clock, that points at so much of the source.
+fn impure(alloc: Global, end: u32) -> Result<Report, AllocError> {
+    let span = Span { start: 3, end };
+    let mut labels = List::new(alloc);
+    labels.push(Label { span, text: None })?;
+    Ok(Report {
+        category: ErrorCategory::Purity,
+        message: Text::from_str(alloc, "Cannot call impure function during render")?,
+        help: None,
+        labels,
+    })
+}
+
+/// Whether a function is taken whose summary has an effect on the place with this error, where two reports
+/// of identifier 0 say the same.
+fn takes_error(
+    alloc: Global,
+    number: u32,
+    identity: u32,
+    instance: u32,
+) -> Result<bool, AllocError> {
+    let mut unit = unit(alloc, 0, &[0, 1, 2, 3], 0, 5)?;
+    for end in [8u32, 9] {
+        let report = impure(alloc, end)?;
+        unit.env.interned.push(Interned {
+            identifier: IdentifierId(0),
+            report,
+        })?;
+    }
+    let mut summary = List::new(alloc);
+    summary.push(AliasingEffect::Impure {
+        place: place(number),
+        error: DiagnosticId { identity, instance },
+    })?;
+    unit.function.aliasing_effects = Some(summary);
+    check_function(alloc, &unit.function, &unit.env)
+}
+
+#[test]
+fn looks_at_the_reports_of_effects(rt: HostRuntime) -> Result<(), Fail> {
+    let alloc = rt.alloc();
+    assert!(rt; takes_error(alloc, 1, 0, 0)?);
+    assert!(rt; takes_error(alloc, 1, 0, 1)?);
+    assert!(rt; !takes_error(alloc, 1, 1, 1)?);
+    assert!(rt; !takes_error(alloc, 1, 0, 2)?);
+    assert!(rt; !takes_error(alloc, 2, 0, 1)?);
     Ok(())
 }
