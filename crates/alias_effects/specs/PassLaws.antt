@@ -16,11 +16,8 @@ use Rattle.alias_flow.specs.declared.flow.StepFault.{StepFault}
 use Rattle.alias_flow.specs.declared.flow.StepFault.TheVariants.{Refused as Refuses, Memory as NoMemory}
 use Rattle.alias_flow.specs.Machine.{FlowLaws}
 use Rattle.alias_lattice.specs.States.{empty_state}
-use Rattle.alias_lattice.specs.Standing.{StateProper, SitesProper}
-use Rattle.alias_lattice.specs.Puts.{proper_nil}
-use Rattle.alias_lattice.specs.AbstractValues.{AbstractProper}
-use Rattle.alias_lattice.specs.Keys.{id_cmp}
-use Rattle.alias_lattice.specs.SiteOrder.{site_cmp}
+use Rattle.alias_lattice.specs.Standing.{StateProper}
+use Rattle.alias_lattice.specs.Proper.{proper-empty_state}
 use Rattle.alias_effects.specs.declared.faults.BlockFault.{BlockFault}
 use Rattle.alias_effects.specs.declared.faults.BlockFault.TheVariants.{Reinitialized, Uninitialized, Memory}
 use Rattle.alias_effects.specs.declared.block.BlockEffects.{BlockEffects}
@@ -54,9 +51,6 @@ edges_below : (blocks : Blocks) (o : Option (BlockId × BasicBlock)) → AllByRe
 edges_below blocks None = tt
 edges_below blocks (Some b) = positions_below blocks (successors b.1.terminal)
 
-pub proper_empty : StateProper empty_state
-proper_empty = record { values = proper_nil site_cmp AbstractProper; variables = proper_nil id_cmp SitesProper; stands = λ x t e. cc }
-
 entry_below : (o : Option ℕ) (m : ℕ) → is_some o ≡ true → ((n : ℕ) → o ≡ Some n → n < m) → option_map_or (λ n. n) o 0 < m
 entry_below None m h f = cc
 entry_below (Some n) m h f = f n refl
@@ -69,7 +63,7 @@ pass_laws env func is_function_expression stands kept long =
     let entry = func.body.entry in
     record {
       kept_length = long;
-      initial_proper = proper_empty;
+      initial_proper = proper-empty_state;
       step_proper = λ t n x y u k p e. step_at_proper env func.instructions is_function_expression (slice_get blocks n) x y u k p e;
       entry_below = entry_below (position_of blocks entry) (length blocks) (found_stands blocks entry stands) (position_below blocks entry);
       edges_below = λ n h. edges_below blocks (slice_get blocks n);

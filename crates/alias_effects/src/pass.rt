@@ -114,7 +114,7 @@ impl<'a> Flow for EffectsPass<'a> {
     fn edges(&self, block: u32) -> Result<SmallVec<u32, 2, Global>, AllocError> {
         let blocks = &self.func.body.blocks;
         let Some((_, from)) = blocks.get_index(block as usize) else {
-            return Ok(SmallVec::new(self.alloc));
+            unreachable!()
         };
         let names = terminal_successors(self.alloc, &from.terminal)?;
         positions_of(self.alloc, blocks, names.as_slice())

@@ -130,6 +130,37 @@ fn writes_that_a_function_is_not_settled(rt: HostRuntime) -> Result<(), Fail> {
 const ORDER: EvaluationOrder = EvaluationOrder(7);
 
 #[test]
+fn control_goes_on_in_the_order_of_the_fields(rt: HostRuntime) -> Result<(), Fail> {
+    let alloc = rt.alloc();
+    let branch = Terminal::If {
+        id: ORDER,
+        test: place(0),
+        consequent: BlockId(1),
+        alternate: BlockId(2),
+    };
+    let round = Terminal::For {
+        id: ORDER,
+        init: BlockId(3),
+    };
+    let end = Terminal::Return {
+        id: ORDER,
+        value: place(0),
+        effects: None,
+    };
+    let call = Terminal::MaybeThrow {
+        id: ORDER,
+        continuation: BlockId(4),
+        handler: Some(BlockId(5)),
+        effects: None,
+    };
+    assert_eq!(rt; terminal_successors(alloc, &branch)?.as_slice(), [BlockId(1), BlockId(2)].as_slice());
+    assert_eq!(rt; terminal_successors(alloc, &round)?.as_slice(), [BlockId(3)].as_slice());
+    assert_eq!(rt; terminal_successors(alloc, &end)?.as_slice().len(), 0);
+    assert_eq!(rt; terminal_successors(alloc, &call)?.as_slice(), [BlockId(4), BlockId(5)].as_slice());
+    Ok(())
+}
+
+#[test]
 fn a_switch_goes_to_its_cases(rt: HostRuntime) -> Result<(), Fail> {
     let alloc = rt.alloc();
     let mut cases = List::new(alloc);
@@ -228,6 +259,10 @@ fn interns_reports(rt: HostRuntime) -> Result<(), Fail> {
     assert!(rt; interned(alloc, &mut env, 1, 4)? == id(0, 1));
     assert_eq!(rt; env.interned.len(), 3);
     assert_eq!(rt; env.errors.len(), 0);
+    let kept = |identity: u32, instance: u32| DiagnosticId { identity, instance };
+    assert!(rt; env.is_interned(kept(0, 1)));
+    assert!(rt; !env.is_interned(kept(1, 1)));
+    assert!(rt; !env.is_interned(kept(3, 3)));
     Ok(())
 }
 
