@@ -153,10 +153,19 @@ fn control_goes_on_in_the_order_of_the_fields(rt: HostRuntime) -> Result<(), Fai
         handler: Some(BlockId(5)),
         effects: None,
     };
-    assert_eq!(rt; terminal_successors(alloc, &branch)?.as_slice(), [BlockId(1), BlockId(2)].as_slice());
-    assert_eq!(rt; terminal_successors(alloc, &round)?.as_slice(), [BlockId(3)].as_slice());
+    assert_eq!(rt;
+        terminal_successors(alloc, &branch)?.as_slice(),
+        [BlockId(1), BlockId(2)].as_slice()
+    );
+    assert_eq!(rt;
+        terminal_successors(alloc, &round)?.as_slice(),
+        [BlockId(3)].as_slice()
+    );
     assert_eq!(rt; terminal_successors(alloc, &end)?.as_slice().len(), 0);
-    assert_eq!(rt; terminal_successors(alloc, &call)?.as_slice(), [BlockId(4), BlockId(5)].as_slice());
+    assert_eq!(rt;
+        terminal_successors(alloc, &call)?.as_slice(),
+        [BlockId(4), BlockId(5)].as_slice()
+    );
     Ok(())
 }
 

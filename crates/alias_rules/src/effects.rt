@@ -65,7 +65,9 @@ fn recorded_stand(env: &Environment, recorded: &Option<AliasingEffects>) -> bool
 fn instructions_record(env: &Environment, instructions: &[Instruction]) -> bool
     ensures { result ≡ list_all (λ i. recorded_stand env.now i.effects) instructions.now }
 {
-    instructions.iter().all(|instruction| recorded_stand(env, &instruction.effects))
+    instructions
+        .iter()
+        .all(|instruction| recorded_stand(env, &instruction.effects))
 }
 
 fn terminal_records(env: &Environment, terminal: &Terminal) -> bool
