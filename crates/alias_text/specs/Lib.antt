@@ -1,13 +1,2 @@
-pub mod Built
-pub mod Entries
-pub mod Facts
-pub mod Fault
-pub mod Functions
-pub mod Kinds
 pub mod Lines
-pub mod Pointer
-pub mod Reading
 pub mod Refusals
-pub mod Terminals
-pub mod Units
-pub mod Values

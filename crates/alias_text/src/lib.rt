@@ -1,5 +1,8 @@
-//! A unit as text: reading it, and printing what is inferred of it.
+//! What is inferred of a unit, as text.
 #![tactic(auto)]
 
-pub mod print;
-pub mod read;
+pub mod effects;
+pub mod functions;
+pub mod refusals;
+#[cfg(test)]
+mod tests;

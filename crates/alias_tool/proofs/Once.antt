@@ -45,9 +45,9 @@ use Rattle.alias_effects.specs.Signatures.{value_effects}
 use Rattle.alias_effects.specs.Blocks.{spot_at, in_block, numbered_step, instruction_steps, phi_steps, stand_of, finished, block_step, outcome_of}
 use Rattle.alias_effects.specs.Inference.{refusal, block_at, answer_of, inferred}
 use Rattle.alias_effects.specs.Numbered.{step_at, numbered, visits_end}
-use Rattle.alias_text.specs.Built.{all_built, instruction_built, value_built}
-use Rattle.alias_text.specs.Facts.{unit_is_built}
-use Rattle.alias_text.specs.Units.{UnitReading}
+use Rattle.alias_read.specs.Built.{all_built, instruction_built, value_built}
+use Rattle.alias_read.specs.Facts.{unit_is_built}
+use Rattle.alias_read.specs.Units.{UnitReading}
 use Rattle.alias_tool.specs.declared.inferred.Inferred.{Inferred}
 use Rattle.alias_tool.specs.declared.status.Status.{Status}
 use Rattle.alias_tool.specs.declared.status.Status.TheVariants.{Done, Words, Unfit, Refused, ReadFault, WriteFault, TooLong, Memory, NotBuilt}

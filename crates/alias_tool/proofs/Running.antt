@@ -10,7 +10,7 @@ use Rattle.alias_hir.specs.declared.env.Unit.{Unit as HirUnit}
 use Rattle.alias_hir.specs.declared.error.InferError.{InferError}
 use Rattle.alias_hir.specs.declared.error.InferError.TheVariants as error
 use Rattle.alias_stream.specs.Streams.{Adds, IsAllOf, IfTold}
-use Rattle.alias_text.specs.Units.{UnitReading, NoUnit}
+use Rattle.alias_read.specs.Units.{UnitReading, NoUnit}
 use Rattle.alias_tool.specs.declared.status.Status.{Status}
 use Rattle.alias_tool.specs.declared.status.Status.TheVariants.{Done, Words, Unfit, Refused, ReadFault, WriteFault, TooLong, Memory, NotBuilt}
 use Rattle.alias_tool.specs.declared.inferred.Inferred.{Inferred}

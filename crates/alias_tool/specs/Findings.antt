@@ -3,7 +3,7 @@ use Rattle.std.specs.Prelude.{◌≡◌, ℕ, ◌<◌, ◌≤◌, true, false, L
 use Rattle.alias_rules.specs.Rules.{rules_hold}
 use Rattle.alias_hir.specs.declared.env.Unit.{Unit as HirUnit}
 use Rattle.alias_hir.specs.declared.error.InferError.TheVariants as error
-use Rattle.alias_text.specs.Units.{UnitReading, NoUnit}
+use Rattle.alias_read.specs.Units.{UnitReading, NoUnit}
 use Rattle.alias_stream.specs.Streams.{IsAllOf, IfTold}
 use Rattle.alias_tool.specs.declared.status.Status.{Status}
 use Rattle.alias_tool.specs.declared.status.Status.TheVariants.{Done, Words, Unfit, Refused, ReadFault, TooLong, Memory, NotBuilt}

@@ -3,7 +3,7 @@ use Rattle.std.specs.Prelude.{◌≡◌, ℕ, List, take, Option, Some, None, Ok
 use Rattle.alias_rules.specs.Rules.{rules_hold}
 use Rattle.alias_hir.specs.declared.env.Unit.{Unit as HirUnit}
 use Rattle.alias_stream.specs.Streams.{Adds, IfTold}
-use Rattle.alias_text.specs.Units.{UnitReading}
+use Rattle.alias_read.specs.Units.{UnitReading}
 use Rattle.alias_tool.specs.declared.status.Status.{Status}
 use Rattle.alias_tool.specs.declared.status.Status.TheVariants.{Done, Words, Unfit, Refused, ReadFault, WriteFault, TooLong, Memory, NotBuilt}
 use Rattle.alias_tool.specs.declared.inferred.Inferred.{Inferred}

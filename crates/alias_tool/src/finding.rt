@@ -8,10 +8,10 @@ use crate::status::Status;
 use crate::words::is_command;
 use alias_base::Text;
 use alias_hir::error::InferError;
+use alias_read::{TextFault, read_unit};
 use alias_rules::check::{Checked, check_unit};
 use alias_rules::fault::UnitFault;
 use alias_stream::{ReadStop, Source, read_whole};
-use alias_text::read::{TextFault, read_unit};
 use std::alloc::Global;
 
 /// A status, and what was inferred where the status is `Done`.

@@ -9,8 +9,8 @@ use crate::status::Status;
 use alias_base::Text;
 use alias_effects::Solved;
 use alias_hir::hir::HirFunction;
-use alias_text::print::functions::{push_block, push_function_head};
-use alias_text::print::refusals::{push_refusal as push_refused, push_unfit};
+use alias_text::functions::{push_block, push_function_head};
+use alias_text::refusals::{push_refusal as push_refused, push_unfit};
 use std::alloc::{AllocError, Global};
 
 fn push_function(out: &mut Text, func: &HirFunction, solved: &Solved) -> Result<(), AllocError>

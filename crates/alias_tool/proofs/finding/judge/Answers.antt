@@ -1,6 +1,6 @@
 use Rattle.std.proofs.Common.{ap, sym, subst}
 use Rattle.alias_rules.specs.Rules.{rules_hold}
-use Rattle.alias_text.specs.Fault.{IsMemory}
+use Rattle.alias_read.specs.Fault.{IsMemory}
 use Rattle.alias_tool.specs.declared.finding.Finding.{Finding}
 use Rattle.alias_tool.specs.Findings.{IsInferred}
 use Rattle.alias_tool.proofs.Once.{read_never}

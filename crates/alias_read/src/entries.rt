@@ -1,0 +1,84 @@
+//! Reads maps from blocks, which are written as arrays of their entries.
+ghost use Rattle.std.specs.Prelude.{◌≡◌, [], ℕ, List, Result};
+ghost use Rattle.alias_base.specs.declared.ids.BlockId.{BlockId};
+ghost use Rattle.serde_json.specs.Data.{Data};
+ghost use Rattle.serde_json.specs.View.{view, items_view};
+ghost use Rattle.alias_read.specs.Pointer.{pointer};
+ghost use Rattle.alias_read.specs.Fault.{Gives};
+ghost use Rattle.alias_read.specs.Entries.{block_id_at, new_block, entry_items_at, entries_at};
+ghost use Rattle.alias_read.specs.declared.fault.TextFault.{TextFault};
+
+use crate::fault::{TextFault, TextRule};
+use crate::json::{FromJson, refused};
+use crate::path::Path;
+use alias_base::{BlockId, BlockMap};
+use serde_json::Value;
+use std::alloc::Global;
+
+impl FromJson for BlockId {
+    ghost reads = { block_id_at };
+
+    fn from_json(alloc: Global, path: &Path, value: &Value) -> Result<BlockId, TextFault> {
+        Ok(BlockId(u32::from_json(alloc, path, value)?))
+    }
+}
+
+/// A type whose values are read with the block that each belongs to.
+pub trait FromEntry {
+    ghost reads_entry: { List (BlockId × Self) → List ℕ → Data → Result (BlockId × Self) TextFault };
+
+    /// Reads an entry that stands at a path, after those that were found so far, or says what is wrong with
+    /// it.
+    fn from_entry(
+        alloc: Global,
+        path: &Path,
+        found: &BlockMap<Self>,
+        value: &Value,
+    ) -> Result<(BlockId, Self), TextFault>
+        ensures { Gives result (reads_entry found.now (pointer path.now) (view value.now)) };
+}
+
+/// Refuses a block that has an entry.
+pub fn new_block<V>(
+    alloc: Global,
+    path: &Path,
+    found: &BlockMap<V>,
+    id: BlockId,
+) -> Result<(), TextFault>
+    ensures { Gives result (new_block found.now (pointer path.now) id) }
+{
+    if found.get(id).is_some() {
+        return refused(alloc, path, TextRule::Twice);
+    }
+    Ok(())
+}
+
+impl<V: FromEntry + Drop> FromJson for BlockMap<V> {
+    ghost reads = { entries_at V.reads_entry };
+
+    fn from_json(alloc: Global, path: &Path, value: &Value) -> Result<BlockMap<V>, TextFault> {
+        match value.as_array() {
+            Some(values) => entries(alloc, path, values.as_slice()),
+            None => refused(alloc, path, TextRule::Kind),
+        }
+    }
+}
+
+fn entries<V: FromEntry + Drop>(
+    alloc: Global,
+    path: &Path,
+    values: &[Value],
+) -> Result<BlockMap<V>, TextFault>
+    ensures { Gives result (entry_items_at V.reads_entry (pointer path.now) 0 [] (items_view values.now)) }
+{
+    let mut found = BlockMap::new(alloc);
+    for (index, value) in values.iter().enumerate() {
+        let here = Path::Index {
+            above: &*path,
+            index,
+        };
+        let (id, entry) = V::from_entry(alloc, &here, &found, value)?;
+        found.insert(id, entry)?;
+    }
+    Ok(found)
+}

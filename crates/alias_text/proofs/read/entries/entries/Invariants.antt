@@ -1,9 +1,0 @@
-use Rattle.std.proofs.Common.{◌≡◌, [], drop}
-use Rattle.serde_json.specs.View.{items_view}
-use Rattle.alias_text.specs.Pointer.{pointer}
-use Rattle.alias_text.specs.Entries.{entry_items_at}
-use Rattle.alias_text.proofs.read.entries.entries.Given as goal
-
-abbrev pub invariant-loop-index : goal.invariant-loop-index
-invariant-loop-index g l =
-    entry_items_at g.V.FromEntry.reads_entry (pointer l.path) 0 [] (items_view l.values) ≡ entry_items_at g.V.FromEntry.reads_entry (pointer l.path) l.index l.found (items_view (drop l.index l.values))

@@ -1,0 +1,150 @@
+//! Effects as text.
+ghost use Rattle.std.specs.Prelude.{◌≡◌, ◌++◌, OnOk, IfOk};
+ghost use Rattle.alias_text.specs.Lines.{kind_word, reason_word, mutation_text, spaced, one_text, pair_text, create_text, freeze_text, mutate_text, impure_text, effect_text};
+
+use alias_base::Text;
+use alias_hir::effect::{AliasingEffect, MutationReason, ValueKind, ValueReason};
+use alias_hir::place::Place;
+use alias_hir::report::DiagnosticId;
+use std::alloc::{AllocError, Global};
+
+fn kind_word(kind: ValueKind) -> &'static str
+    ensures { result.now ≡ kind_word kind }
+{
+    match kind {
+        ValueKind::Primitive => "Primitive",
+        ValueKind::Global => "Global",
+        ValueKind::Frozen => "Frozen",
+        ValueKind::Mutable => "Mutable",
+        ValueKind::Context => "Context",
+        ValueKind::MaybeFrozen => "MaybeFrozen",
+    }
+}
+
+fn reason_word(reason: ValueReason) -> &'static str
+    ensures { result.now ≡ reason_word reason }
+{
+    match reason {
+        ValueReason::KnownReturnSignature => "KnownReturnSignature",
+        ValueReason::State => "State",
+        ValueReason::ReducerState => "ReducerState",
+        ValueReason::Context => "Context",
+        ValueReason::Effect => "Effect",
+        ValueReason::HookCaptured => "HookCaptured",
+        ValueReason::HookReturn => "HookReturn",
+        ValueReason::Global => "Global",
+        ValueReason::JsxCaptured => "JsxCaptured",
+        ValueReason::StoreLocal => "StoreLocal",
+        ValueReason::ReactiveFunctionArgument => "ReactiveFunctionArgument",
+        ValueReason::Other => "Other",
+    }
+}
+
+/// Appends a space and a number.
+pub(crate) fn push_spaced(out: &mut Text, number: u64) -> Result<(), AllocError>
+    ensures { OnOk result (out.new ≡ out.old ++ spaced number) }
+{
+    out.push_str(" ")?;
+    out.push_number(number)
+}
+
+/// Appends a name and one identifier.
+fn push_one(out: &mut Text, name: &str, place: &Place) -> Result<(), AllocError>
+    ensures { OnOk result (out.new ≡ out.old ++ one_text name.now place.now) }
+{
+    out.push_str(name)?;
+    push_spaced(out, u64::from(place.identifier.0))
+}
+
+/// Appends a name and two identifiers.
+fn push_pair(out: &mut Text, name: &str, from: &Place, into: &Place) -> Result<(), AllocError>
+    ensures { OnOk result (out.new ≡ out.old ++ pair_text name.now from.now into.now) }
+{
+    push_one(out, name, from)?;
+    push_spaced(out, u64::from(into.identifier.0))
+}
+
+fn push_create(
+    out: &mut Text,
+    into: &Place,
+    value: ValueKind,
+    reason: ValueReason,
+) -> Result<(), AllocError>
+    ensures { OnOk result (out.new ≡ out.old ++ create_text into.now value reason) }
+{
+    push_one(out, "Create", into)?;
+    out.push_str(" ")?;
+    out.push_str(kind_word(value))?;
+    out.push_str(" ")?;
+    out.push_str(reason_word(reason))
+}
+
+fn push_freeze(out: &mut Text, value: &Place, reason: ValueReason) -> Result<(), AllocError>
+    ensures { OnOk result (out.new ≡ out.old ++ freeze_text value.now reason) }
+{
+    push_one(out, "Freeze", value)?;
+    out.push_str(" ")?;
+    out.push_str(reason_word(reason))
+}
+
+fn push_mutation(out: &mut Text, reason: Option<MutationReason>) -> Result<(), AllocError>
+    ensures { OnOk result (out.new ≡ out.old ++ mutation_text reason) }
+{
+    match reason {
+        Some(MutationReason::AssignCurrentProperty) => out.push_str(" AssignCurrentProperty"),
+        None => Ok(()),
+    }
+}
+
+fn push_mutate(
+    out: &mut Text,
+    value: &Place,
+    reason: Option<MutationReason>,
+) -> Result<(), AllocError>
+    ensures { OnOk result (out.new ≡ out.old ++ mutate_text value.now reason) }
+{
+    push_one(out, "Mutate", value)?;
+    push_mutation(out, reason)
+}
+
+fn push_impure(out: &mut Text, place: &Place, error: DiagnosticId) -> Result<(), AllocError>
+    ensures { OnOk result (out.new ≡ out.old ++ impure_text place.now error) }
+{
+    push_one(out, "Impure", place)?;
+    push_spaced(out, u64::from(error.instance))
+}
+
+/// Appends the effect: its name, and then its fields in their order. An `Err` is want of memory, and leaves
+/// what was appended before it.
+pub fn push_effect(out: &mut Text, effect: &AliasingEffect) -> Result<(), AllocError>
+    ensures { OnOk result (out.new ≡ out.old ++ effect_text effect.now) }
+{
+    match effect {
+        AliasingEffect::CreateFrom { from, into } => push_pair(out, "CreateFrom", from, into),
+        AliasingEffect::ImmutableCapture { from, into } => {
+            push_pair(out, "ImmutableCapture", from, into)
+        }
+        AliasingEffect::Assign { from, into } => push_pair(out, "Assign", from, into),
+        AliasingEffect::Capture { from, into } => push_pair(out, "Capture", from, into),
+        AliasingEffect::MaybeAlias { from, into } => push_pair(out, "MaybeAlias", from, into),
+        AliasingEffect::Create {
+            into,
+            value,
+            reason,
+        } => push_create(out, into, *value, *reason),
+        AliasingEffect::Freeze { value, reason } => push_freeze(out, value, *reason),
+        AliasingEffect::MutateFrozen { place } => push_one(out, "MutateFrozen", place),
+        AliasingEffect::MutateGlobal { place } => push_one(out, "MutateGlobal", place),
+        AliasingEffect::Impure { place, error } => push_impure(out, place, *error),
+        AliasingEffect::Mutate { value, reason } => push_mutate(out, value, *reason),
+    }
+}
+
+/// The effect as text: its name, and then its fields in their order. An `Err` is want of memory.
+pub fn print_effect(alloc: Global, effect: &AliasingEffect) -> Result<Text, AllocError>
+    ensures { IfOk result (λ text. text ≡ effect_text effect.now) }
+{
+    let mut out = Text::new(alloc);
+    push_effect(&mut out, effect)?;
+    Ok(out)
+}
