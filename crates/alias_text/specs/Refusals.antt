@@ -4,7 +4,7 @@ use Rattle.alias_base.specs.declared.ids.FunctionId.{FunctionId}
 use Rattle.alias_hir.specs.declared.error.InferError.{InferError}
 use Rattle.alias_hir.specs.declared.error.InferError.TheVariants as infer
 use Rattle.alias_rules.specs.declared.fault.Table.{Table}
-use Rattle.alias_rules.specs.declared.fault.Table.TheVariants.{Identifiers, Types, Instructions, Declarations, Diagnostics}
+use Rattle.alias_rules.specs.declared.fault.Table.TheVariants.{Identifiers, Types, Instructions, Declarations}
 use Rattle.alias_rules.specs.declared.fault.UnitFault.{UnitFault}
 use Rattle.alias_rules.specs.declared.fault.UnitFault.TheVariants.{IdOutOfRange, EntryMissing, SuccessorMissing, InstructionMissing, InstructionTwice, TwoTrys, PhiNoPredecessor, OrderOutOfRange, SomethingInferred, Memory}
 use Rattle.alias_text.specs.Lines.{spaced, function_name}
@@ -41,7 +41,6 @@ table_word Identifiers = codes "Identifiers"
 table_word Types = codes "Types"
 table_word Instructions = codes "Instructions"
 table_word Declarations = codes "Declarations"
-table_word Diagnostics = codes "Diagnostics"
 
 abbrev pub out_of_table_text : Table → ℕ → List ℕ
 out_of_table_text t n = codes "refused Unfit 1 " ++ table_word t ++ spaced n ++ codes "\n"

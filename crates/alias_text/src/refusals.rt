@@ -99,7 +99,6 @@ fn table_word(table: Table) -> &'static str
         Table::Types => "Types",
         Table::Instructions => "Instructions",
         Table::Declarations => "Declarations",
-        Table::Diagnostics => "Diagnostics",
     }
 }
 
