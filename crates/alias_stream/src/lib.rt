@@ -4,6 +4,7 @@
 pub mod memory;
 pub mod sink;
 pub mod source;
+pub mod standard;
 #[cfg(test)]
 mod tests;
 pub mod whole;
@@ -11,4 +12,5 @@ pub mod whole;
 pub use memory::{MemorySink, MemorySource};
 pub use sink::{Sink, SinkStop};
 pub use source::{Failed, Source};
+pub use standard::{ReaderSource, WriterSink};
 pub use whole::{LIMIT, ReadStop, read_whole, write_whole};

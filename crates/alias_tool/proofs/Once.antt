@@ -51,7 +51,7 @@ use Rattle.alias_read.specs.Units.{UnitReading}
 use Rattle.alias_tool.specs.declared.inferred.Inferred.{Inferred}
 use Rattle.alias_tool.specs.declared.status.Status.{Status}
 use Rattle.alias_tool.specs.declared.status.Status.TheVariants.{Done, Words, Unfit, Refused, ReadFault, WriteFault, TooLong, Memory, NotBuilt}
-use Rattle.alias_tool.specs.Findings.{IsInferred, NeverReinitialized}
+use Rattle.alias_tool.specs.Findings.{IsInferred, RefusesAsBuilt}
 use Rattle.alias_tool.specs.Inferences.{inferred_unit}
 
 -- the step was taken
@@ -182,9 +182,10 @@ step_once : (env : Environment) (xs : List Instruction) (f : Bool) (o : Option (
 step_once env xs f None x c h e = cc
 step_once env xs f (Some b) x c h e = refused_once (block_step env xs f b.0 b.1 x) c (block_once env xs f b.0 b.1 x h) e
 
--- a refusal is not of an identifier that is made twice
+-- a refusal is neither of an identifier that is made twice nor for want of memory
 abbrev Never : {A : Type 0} → Result A InferError → Type 0
 Never (Err (error.Reinitialized f i x)) = ⊥
+Never (Err (error.Memory e)) = ⊥
 Never r = ⊤
 
 never_bind : {A B : Type 0} (r : Result A InferError) (f : A → Result B InferError) → Never r → ((x : A) → Never (f x)) → Never (r >>= f)
@@ -192,12 +193,12 @@ never_bind (Ok x) f o h = h x
 never_bind (Err (error.NotSettled g n r)) f o h = tt
 never_bind (Err (error.Uninitialized g b x s r)) f o h = tt
 never_bind (Err (error.Reinitialized g i x)) f o h = o
-never_bind (Err (error.Memory e)) f o h = tt
+never_bind (Err (error.Memory e)) f o h = o
 
 refusal_never : (env : Environment) (b : BlockId) (c : BlockFault) → Once {A = Unit {0}} (Err c) → Never {A = Solved} (Err (refusal env b c))
 refusal_never env b (fault.Reinitialized i x) o = o
 refusal_never env b (fault.Uninitialized m) o = tt
-refusal_never env b (fault.Memory e) o = tt
+refusal_never env b (fault.Memory e) o = o
 
 answer_never : (env : Environment) (func : HirFunction) (f : Bool) (e : End (Desk State) (Unit {0}) BlockEffects BlockFault) → all_built func.instructions ≡ true → visits_end env func f ≡ e → Never (answer_of env func e)
 answer_never env func f (end.Solved w) h is = tt
@@ -209,14 +210,14 @@ answer_never env func f (end.NotSettled n) h is = tt
 unit_never : (u : HirUnit) → all_built u.function.instructions ≡ true → Never (inferred_unit u)
 unit_never u h = never_bind (inferred u.env u.function false) _ (answer_never u.env u.function false (visits_end u.env u.function false) h refl) (λ s. tt)
 
-never_refused : (e : InferError) → Never {A = Inferred} (Err e) → NeverReinitialized (Refused e)
+never_refused : (e : InferError) → Never {A = Inferred} (Err e) → RefusesAsBuilt (Refused e)
 never_refused (error.NotSettled f n r) h = tt
 never_refused (error.Uninitialized f b x s r) h = tt
 never_refused (error.Reinitialized f i x) h = h
-never_refused (error.Memory e) h = tt
+never_refused (error.Memory e) h = h
 
--- a unit whose instructions are built isn't refused so
-inferred_never : (u : HirUnit) (status : Status) (i : Option Inferred) → IsInferred u status i → all_built u.function.instructions ≡ true → NeverReinitialized status
+-- a unit whose instructions are built is refused for nothing else
+inferred_never : (u : HirUnit) (status : Status) (i : Option Inferred) → IsInferred u status i → all_built u.function.instructions ≡ true → RefusesAsBuilt status
 inferred_never u Done i h b = tt
 inferred_never u Words i h b = tt
 inferred_never u (Unfit fault) i h b = tt
@@ -228,6 +229,6 @@ inferred_never u TooLong i h b = tt
 inferred_never u Memory i h b = tt
 inferred_never u NotBuilt i h b = tt
 
--- a unit that was read isn't refused so
-pub read_never : (bytes : List ℕ) (u : HirUnit) (status : Status) (i : Option Inferred) → UnitReading bytes u → IsInferred u status i → NeverReinitialized status
+-- a unit that was read is refused for nothing else
+pub read_never : (bytes : List ℕ) (u : HirUnit) (status : Status) (i : Option Inferred) → UnitReading bytes u → IsInferred u status i → RefusesAsBuilt status
 read_never bytes u status i r h = inferred_never u status i h (both_true _ _ (unit_is_built r.0 u r.2)).1

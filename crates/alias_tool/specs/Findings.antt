@@ -15,10 +15,14 @@ use Rattle.alias_tool.specs.Words.{is_command}
 abbrev pub greatest_input : ℕ
 greatest_input = 16777216
 
--- no refusal is of an identifier that is made twice: an instruction of a built unit makes its identifiers once
-abbrev pub NeverReinitialized : Status → Type 0
-NeverReinitialized (Refused (error.Reinitialized f i x)) = ⊥
-NeverReinitialized status = ⊤
+-- a refusal is of an identifier without a value or of states that don't settle: an instruction of a built unit makes its
+-- identifiers once, and want of memory is a status of its own
+abbrev pub RefusesAsBuilt : Status → Type 0
+RefusesAsBuilt (Refused (error.NotSettled f n r)) = ⊤
+RefusesAsBuilt (Refused (error.Uninitialized f b x s r)) = ⊤
+RefusesAsBuilt (Refused (error.Reinitialized f i x)) = ⊥
+RefusesAsBuilt (Refused (error.Memory e)) = ⊥
+RefusesAsBuilt status = ⊤
 
 -- what a unit that keeps the rules leads to: its functions are solved, or its root is refused
 abbrev pub IsInferred : HirUnit → Status → Option Inferred → Type 0

@@ -1,7 +1,7 @@
 //! What the words and the input lead to, before anything is written.
 ghost use Rattle.std.specs.Prelude.{◌≡◌, ◌≤◌, length};
 ghost use Rattle.alias_stream.specs.Streams.{HasFailed};
-ghost use Rattle.alias_tool.specs.Findings.{IsFound, IsJudged, IsInferred, NeverReinitialized};
+ghost use Rattle.alias_tool.specs.Findings.{IsFound, IsJudged, IsInferred, RefusesAsBuilt};
 
 use crate::inferred::{Inferred, infer_unit};
 use crate::status::Status;
@@ -47,7 +47,7 @@ fn infer_checked(alloc: Global, unit: Checked) -> Finding
 /// What the bytes of the whole input lead to.
 fn judge(alloc: Global, bytes: &[u8]) -> Finding
     ensures judged { IsJudged bytes.now result.status result.inferred }
-    ensures refused { NeverReinitialized result.status }
+    ensures refused { RefusesAsBuilt result.status }
 {
     let unit = match read_unit(alloc, bytes) {
         Ok(unit) => unit,
@@ -65,7 +65,7 @@ fn judge(alloc: Global, bytes: &[u8]) -> Finding
 /// What the words and the source lead to.
 pub fn find<S: Source>(alloc: Global, words: &[Text], source: &mut S) -> Finding
     ensures found { IsFound words.now (S.left source.old) (HasFailed (S.faults source.old) (S.faults source.new) (S.at_last source.new)) result.status result.inferred }
-    ensures refused { NeverReinitialized result.status }
+    ensures refused { RefusesAsBuilt result.status }
     ensures faults { S.faults source.old ≤ S.faults source.new }
 {
     if !is_command(words) {

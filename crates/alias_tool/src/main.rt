@@ -1,7 +1,6 @@
 //! The program: `alias infer < unit.json`.
 #![tactic(auto)]
 
-mod adapters;
 mod finding;
 mod inferred;
 mod run;
@@ -11,8 +10,8 @@ mod tests;
 mod text;
 mod words;
 
-use adapters::{ReaderSource, WriterSink};
 use alias_base::Text;
+use alias_stream::{ReaderSource, WriterSink};
 use run::run_alias;
 use std::alloc::Global;
 use std::io;

@@ -1,7 +1,7 @@
 //! A whole run: words and a source in, a status and a text out.
 ghost use Rattle.std.specs.Prelude.{◌≡◌, ◌≤◌};
 ghost use Rattle.alias_stream.specs.Streams.{HasFailed};
-ghost use Rattle.alias_tool.specs.Findings.{NeverReinitialized};
+ghost use Rattle.alias_tool.specs.Findings.{RefusesAsBuilt};
 ghost use Rattle.alias_tool.specs.Runs.{IsRun, IsHeadline};
 
 use crate::finding::{Finding, find};
@@ -31,8 +31,8 @@ fn ended(status: Status) -> Outcome
 /// Reads the source to its end, makes a unit of it, checks it, infers effects and writes them to the sink.
 ///
 /// The words are those of the command line without the program's name. The clause `run` has the exact cause of
-/// each status, and what was written at each; the clause `headline` says what status 0 means, and `refused` that no unit
-/// is refused because an identifier is made twice.
+/// each status, and what was written at each; the clause `headline` says what status 0 means, and `refused` that a unit is
+/// refused for an identifier without a value or for states that don't settle, and for nothing else.
 pub fn run_alias<S: Source, K: Sink>(
     alloc: Global,
     words: &[Text],
@@ -43,7 +43,7 @@ pub fn run_alias<S: Source, K: Sink>(
         let write_failed = HasFailed (K.faults sink.old) (K.faults sink.new) (K.at_last sink.new) in
         IsRun words.now (S.left source.old) read_failed write_failed (K.held sink.old) (K.held sink.new) result.status result.inferred }
     ensures headline { IsHeadline (S.left source.old) (K.held sink.old) (K.held sink.new) result.status result.inferred }
-    ensures refused { NeverReinitialized result.status }
+    ensures refused { RefusesAsBuilt result.status }
 {
     let finding = find(alloc, words, source);
     let Ok(text) = text_of(alloc, &finding) else {

@@ -1,7 +1,8 @@
 //! Standard input as a source, and standard output as a sink. Nothing is told of what they hold.
 ghost use Rattle.std.specs.Prelude.{None, ◌==◌};
 
-use alias_stream::{Failed, Sink, SinkStop, Source};
+use crate::sink::{Sink, SinkStop};
+use crate::source::{Failed, Source};
 use std::io::{Read, Write};
 
 /// A reader as a source.
