@@ -1,4 +1,4 @@
-//! `alias_plain < unit.json`: the effects of a unit by the call that hands no entry states out, in the lines and
+//! `alias_bench < unit.json`: the effects of a unit by the call that hands no entry states out, in the lines and
 //! with the statuses of `alias infer`.
 //!
 //! It is there to be timed beside that program, and to be compared with it. No clause says what it writes: it is
