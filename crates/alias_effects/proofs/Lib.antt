@@ -1,4 +1,7 @@
-pub mod Recordings
-pub mod Moving
 pub mod Entering
+pub mod EffectsStand
+pub mod Moving
+pub mod Recordings
+pub mod RulesKept
 pub mod Solving
+pub mod StillFits

@@ -15,7 +15,6 @@ use Rattle.alias_hir.specs.Terminals.{successors}
 use Rattle.alias_flow.specs.declared.flow.StepFault.{StepFault}
 use Rattle.alias_flow.specs.declared.flow.StepFault.TheVariants.{Refused as Refuses, Memory as NoMemory}
 use Rattle.alias_flow.specs.Machine.{FlowLaws}
-use Rattle.alias_lattice.specs.States.{empty_state}
 use Rattle.alias_lattice.specs.Standing.{StateProper}
 use Rattle.alias_lattice.specs.Proper.{proper-empty_state}
 use Rattle.alias_effects.specs.declared.faults.BlockFault.{BlockFault}

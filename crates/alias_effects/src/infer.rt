@@ -164,10 +164,12 @@ fn last_effects(
 ///
 /// At `Ok` the effects stand on the instructions and terminals, and what is handed out has them too, with
 /// entry states that solve the function's flow. An `Err` leaves the function unchanged. The environment
-/// doesn't change. `Uninitialized` comes exactly where the step of a visited block looks at an identifier
-/// without a value, `Reinitialized` exactly where an instruction's effects make an identifier twice, and
-/// `NotSettled` exactly where a block is still wanted after 100 rounds. `Memory` can come at any growth, and
-/// comes where the function has 2^32 blocks or more. docs/MODEL.md has the rules.
+/// doesn't change, and on every answer `check_function` still holds. `Uninitialized` comes exactly where the
+/// step of a visited block looks at an identifier without a value, `Reinitialized` exactly where an
+/// instruction's effects make an identifier twice, and `NotSettled` exactly where a block is still wanted
+/// after 100 rounds. `Memory` can come at any growth, and comes where the function has 2^32 blocks or more.
+/// docs/MODEL.md has the rules.
+#[tactic(auto, using(crate::proofs::StillFits::recorded_fits))]
 pub fn infer_effects_certified(
     alloc: Global,
     func: &mut HirFunction,
@@ -180,6 +182,7 @@ pub fn infer_effects_certified(
     ensures recorded { IfOk result (λ s. func.new ≡ recorded s func.old) }
     ensures err { OnErr result (func.new ≡ func.old) }
     ensures env { env.new ≡ env.old }
+    ensures fits { function_fits func.new env.new ≡ true }
 {
     let solved = solved(alloc, func, env, is_function_expression)?;
     let instructions = solved.effects.try_clone(alloc)?;
@@ -194,7 +197,7 @@ pub fn infer_effects_certified(
 ///
 /// At `Ok` the effects stand on the instructions and terminals: those that `infer_effects_certified` hands
 /// out. An `Err` comes exactly where that comes there, and leaves the function unchanged; want of memory can
-/// come at any growth. The environment doesn't change.
+/// come at any growth. The environment doesn't change, and on every answer `check_function` still holds.
 pub fn infer_mutation_aliasing_effects(
     alloc: Global,
     func: &mut HirFunction,
@@ -205,6 +208,7 @@ pub fn infer_mutation_aliasing_effects(
     ensures answer { InfersInto (effects_inferred env.old func.old is_function_expression) result func.new }
     ensures err { OnErr result (func.new ≡ func.old) }
     ensures env { env.new ≡ env.old }
+    ensures fits { function_fits func.new env.new ≡ true }
 {
     let recorded = last_effects(alloc, func, env, is_function_expression)?;
     record_instructions(&mut func.instructions, recorded.instructions);

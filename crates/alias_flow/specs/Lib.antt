@@ -1,5 +1,6 @@
 pub mod Machine
 pub mod Flags
+pub mod Keeping
 pub mod Lines
 pub mod Solutions
 pub mod Steps
