@@ -1,5 +1,5 @@
 pub mod Entering
-pub mod EffectsStand
+pub mod EffectsWithinTables
 pub mod Moving
 pub mod Recordings
 pub mod RulesKept

@@ -7,7 +7,7 @@ use Rattle.alias_lattice.specs.States.{State}
 use Rattle.alias_effects.specs.declared.block.BlockEffects.{BlockEffects}
 use Rattle.alias_effects.specs.declared.solved.BlockEntry.{BlockEntry}
 use Rattle.alias_effects.specs.Inference.{block_at, entries_of}
-use Rattle.alias_effects.specs.Handing.{entry_as}
+use Rattle.alias_effects.specs.Output.{entry_as}
 use Rattle.alias_effects.specs.Numbered.{Blocks, position_of, with_position, positions_of}
 
 step_entries : (es : Blocks) (xs : List (Option State)) (i : ℕ) (x : Option State) → length xs ≡ length es → slice_get xs i ≡ Some x
@@ -32,20 +32,20 @@ entries_left es xs ys i x old new l h e n =
     ∙ append_assoc old (entry_as (block_at es i) x) rest
     ∙ ap (λ z. old ++ z) (sym (rw (add-one i) (step_entries es xs i x l h)))
 
-step_kept : {A : Type 0} (f : Option BlockEffects → List A) (xs : List (Option BlockEffects)) (i : ℕ) (x : Option BlockEffects) → slice_get xs i ≡ Some x → flat_map f (drop i xs) ≡ f x ++ flat_map f (drop (suc i) xs)
-step_kept f [] i x h = cc
-step_kept f (y ∷ ys) zero x h = let same : y ≡ x = cc in ap (λ z. f z ++ flat_map f ys) same
-step_kept f (y ∷ ys) (suc i) x h = step_kept f ys i x h
+step_recorded : {A : Type 0} (f : Option BlockEffects → List A) (xs : List (Option BlockEffects)) (i : ℕ) (x : Option BlockEffects) → slice_get xs i ≡ Some x → flat_map f (drop i xs) ≡ f x ++ flat_map f (drop (suc i) xs)
+step_recorded f [] i x h = cc
+step_recorded f (y ∷ ys) zero x h = let same : y ≡ x = cc in ap (λ z. f z ++ flat_map f ys) same
+step_recorded f (y ∷ ys) (suc i) x h = step_recorded f ys i x h
 
--- what was kept of one more block is taken from what is left
-pub kept_left : {A : Type 0} (f : Option BlockEffects → List A) (xs ys : List (Option BlockEffects)) (i : ℕ) (x : Option BlockEffects) (old new : List A) → slice_get xs i ≡ Some x → ys ≡ slice_set xs i None
+-- what was recorded of one more block is taken from what is left
+pub recorded_left : {A : Type 0} (f : Option BlockEffects → List A) (xs ys : List (Option BlockEffects)) (i : ℕ) (x : Option BlockEffects) (old new : List A) → slice_get xs i ≡ Some x → ys ≡ slice_set xs i None
     → new ≡ old ++ f x → new ++ flat_map f (drop (i + 1) ys) ≡ old ++ flat_map f (drop i xs)
-kept_left f xs ys i x old new h e n =
+recorded_left f xs ys i x old new h e n =
     ap (λ z. new ++ flat_map f (drop (i + 1) z)) e
     ∙ ap (λ z. new ++ flat_map f z) (drop-set-lt (i + 1) xs i None (omega arith))
     ∙ ap (λ z. z ++ flat_map f (drop (i + 1) xs)) n
     ∙ append_assoc old (f x) (flat_map f (drop (i + 1) xs))
-    ∙ ap (λ z. old ++ z) (sym (rw (add-one i) (step_kept f xs i x h)))
+    ∙ ap (λ z. old ++ z) (sym (rw (add-one i) (step_recorded f xs i x h)))
 
 first_position : (o : Option ℕ) (ns : List ℕ) → with_position o ns ≡ with_position o [] ++ ns
 first_position None ns = refl

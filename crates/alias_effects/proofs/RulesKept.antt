@@ -21,13 +21,13 @@ use Rattle.alias_hir.specs.declared.place.Place.{Place}
 use Rattle.alias_hir.specs.declared.terminal.Terminal.{Terminal}
 use Rattle.alias_hir.specs.declared.terminal.Terminal.TheVariants.{Goto, If, Branch, Switch, For, ForOf, ForIn, DoWhile, While, Logical, Ternary, Optional, Return, Throw, Unreachable, Try, MaybeThrow, Label, Sequence, Scope, PrunedScope}
 use Rattle.alias_rules.specs.Fitting.{function_rules}
-use Rattle.alias_rules.specs.Rules.{below, place_fits, instruction_fits, phi_fits, block_fits, numbers_fit, is_block, entry_stands, handler_of, named_stands, leads_to_blocks, successors_stand, first_again, twice, none_stands_twice, shared, handlers_distinct, goes_to, has_edge, operand_fits, operands_fit, phis_fit, order_fits, orders_fit, tables_fit}
+use Rattle.alias_rules.specs.Rules.{below, place_fits, instruction_fits, phi_fits, block_fits, numbers_fit, is_block, entry_exists, handler_of, named_exists, leads_to_blocks, successors_exist, first_again, twice, none_listed_twice, shared, handlers_distinct, goes_to, has_edge, operand_fits, operands_fit, phis_fit, order_fits, orders_fit, tables_fit}
 use Rattle.alias_rules.specs.declared.fault.Table.TheVariants.{Instructions}
 use Rattle.alias_rules.specs.declared.fault.UnitFault.TheVariants.{EntryMissing, SuccessorMissing, PhiNoPredecessor}
 use Rattle.alias_effects.specs.declared.solved.InstructionEffects.{InstructionEffects}
 use Rattle.alias_effects.specs.declared.solved.TerminalEffects.{TerminalEffects}
 use Rattle.alias_effects.specs.declared.solved.Solved.{Solved}
-use Rattle.alias_effects.specs.Recording.{recorded_instructions, block_with, with_terminal_at, recorded_terminals, recorded}
+use Rattle.alias_effects.specs.Recording.{recorded_instructions, block_with, with_terminal_at, recorded_terminals, with_effects_of}
 
 -- ---- what is left of a function once the effects of its instructions and terminals are taken away
 
@@ -44,10 +44,10 @@ abbrev with_parts : HirFunction → List Instruction → List (BlockId × BasicB
 with_parts func xs es = record func { instructions = xs; body = record func.body { blocks = es } }
 
 -- the function with no effects on its instructions and terminals
-abbrev bare : HirFunction → HirFunction
-bare func = with_parts func (map strip func.instructions) (map strip_block func.body.blocks)
+abbrev uninferred : HirFunction → HirFunction
+uninferred func = with_parts func (map strip func.instructions) (map strip_block func.body.blocks)
 
--- ---- recording leaves the same bare function
+-- ---- recording leaves the same function without effects
 
 -- what doesn't look at the effects of a terminal is the same of a terminal with others
 same_of_terminal : {X : Type 0} (f : Terminal → X) (es : List AliasingEffect)
@@ -125,8 +125,8 @@ stripped_terminals (e ∷ es) bs =
     stripped_terminal cs e.effects (position (same_block e.block) (keys_of cs)) ∙ stripped_terminals es bs
 
 -- what was recorded goes with the effects that are taken away
-bare_recorded : (s : Solved) (func : HirFunction) → bare (recorded s func) ≡ bare func
-bare_recorded s func =
+uninferred_recorded : (s : Solved) (func : HirFunction) → uninferred (with_effects_of s func) ≡ uninferred func
+uninferred_recorded s func =
     ap (λ xs. with_parts func xs (map strip_block (recorded_terminals s.terminal_effects func.body.blocks))) (stripped_instructions s.effects func.instructions)
     ∙ ap (λ es. with_parts func (map strip func.instructions) es) (stripped_terminals s.terminal_effects func.body.blocks)
 
@@ -169,87 +169,87 @@ asked_mapped f g h d e (Some x) = e x
 
 -- ---- no rule looks at effects
 
-bare_is_block : (func : HirFunction) (b : BlockId) → is_block (bare func) b ≡ is_block func b
-bare_is_block func b = ap is_some (value_stripped func.body.blocks b) ∙ some_mapped (λ (y : BasicBlock). block_with y []) (value_at func.body.blocks b)
+uninferred_is_block : (func : HirFunction) (b : BlockId) → is_block (uninferred func) b ≡ is_block func b
+uninferred_is_block func b = ap is_some (value_stripped func.body.blocks b) ∙ some_mapped (λ (y : BasicBlock). block_with y []) (value_at func.body.blocks b)
 
-bare_block : (env : Environment) (func : HirFunction) (b : BasicBlock) → block_fits env (bare func) (block_with b []) ≡ block_fits env func b
-bare_block env func b =
+uninferred_block : (env : Environment) (func : HirFunction) (b : BasicBlock) → block_fits env (uninferred func) (block_with b []) ≡ block_fits env func b
+uninferred_block env func b =
     then_same (all_pass (phi_fits env) b.phis) _ _ _ refl
     (then_same _ _ _ _
     (ap (λ n. all_pass (λ i. below Instructions n i.0) b.instructions) (length-map func.instructions strip))
     (ap (all_pass (place_fits env)) (same_of_terminal terminal_places [] (λ id v o. refl) (λ id c h o. refl) b.terminal)))
 
-bare_numbers : (env : Environment) (func : HirFunction) → numbers_fit env (bare func) ≡ numbers_fit env func
-bare_numbers env func =
+uninferred_numbers : (env : Environment) (func : HirFunction) → numbers_fit env (uninferred func) ≡ numbers_fit env func
+uninferred_numbers env func =
     then_same (place_fits env func.returns) _ _ _ refl
     (then_same _ _ _ _
     (all_pass_mapped (instruction_fits env) strip (instruction_fits env) (λ x. refl) func.instructions)
-    (all_pass_mapped (λ (e : BlockId × BasicBlock). block_fits env (bare func) e.1) strip_block (λ (e : BlockId × BasicBlock). block_fits env func e.1) (λ e. bare_block env func e.1) func.body.blocks))
+    (all_pass_mapped (λ (e : BlockId × BasicBlock). block_fits env (uninferred func) e.1) strip_block (λ (e : BlockId × BasicBlock). block_fits env func e.1) (λ e. uninferred_block env func e.1) func.body.blocks))
 
-bare_entry : (func : HirFunction) → entry_stands None (bare func) ≡ entry_stands None func
-bare_entry func = ap (λ t. if t then Ok tt else Err (EntryMissing None)) (bare_is_block func func.body.entry)
+uninferred_entry : (func : HirFunction) → entry_exists None (uninferred func) ≡ entry_exists None func
+uninferred_entry func = ap (λ t. if t then Ok tt else Err (EntryMissing None)) (uninferred_is_block func func.body.entry)
 
-bare_named : (func : HirFunction) (b : BlockId) (cs : List BlockId) → all_pass (named_stands None (bare func) b) cs ≡ all_pass (named_stands None func b) cs
-bare_named func b cs =
-    all_pass_same (named_stands None (bare func) b) (named_stands None func b) (λ c. ap (λ t. if t then Ok tt else Err (SuccessorMissing None b c)) (bare_is_block func c)) cs
+uninferred_named : (func : HirFunction) (b : BlockId) (cs : List BlockId) → all_pass (named_exists None (uninferred func) b) cs ≡ all_pass (named_exists None func b) cs
+uninferred_named func b cs =
+    all_pass_same (named_exists None (uninferred func) b) (named_exists None func b) (λ c. ap (λ t. if t then Ok tt else Err (SuccessorMissing None b c)) (uninferred_is_block func c)) cs
 
-bare_leads : (func : HirFunction) (b : BlockId) (t : Terminal) → leads_to_blocks None (bare func) b (with_terminal_effects t []) ≡ leads_to_blocks None func b t
-bare_leads func b t =
+uninferred_leads : (func : HirFunction) (b : BlockId) (t : Terminal) → leads_to_blocks None (uninferred func) b (with_terminal_effects t []) ≡ leads_to_blocks None func b t
+uninferred_leads func b t =
     then_same _ _ _ _
-    (ap (all_pass (named_stands None (bare func) b)) (same_of_terminal successors [] (λ id v o. refl) (λ id c h o. refl) t) ∙ bare_named func b (successors t))
-    (ap (λ o. all_pass (named_stands None (bare func) b) (optional_block o)) (same_of_terminal handler_of [] (λ id v o. refl) (λ id c h o. refl) t) ∙ bare_named func b (optional_block (handler_of t)))
+    (ap (all_pass (named_exists None (uninferred func) b)) (same_of_terminal successors [] (λ id v o. refl) (λ id c h o. refl) t) ∙ uninferred_named func b (successors t))
+    (ap (λ o. all_pass (named_exists None (uninferred func) b) (optional_block o)) (same_of_terminal handler_of [] (λ id v o. refl) (λ id c h o. refl) t) ∙ uninferred_named func b (optional_block (handler_of t)))
 
-bare_successors : (func : HirFunction) → successors_stand None (bare func) ≡ successors_stand None func
-bare_successors func =
-    all_pass_mapped (λ (e : BlockId × BasicBlock). leads_to_blocks None (bare func) e.0 e.1.terminal) strip_block (λ (e : BlockId × BasicBlock). leads_to_blocks None func e.0 e.1.terminal)
-    (λ e. bare_leads func e.0 e.1.terminal) func.body.blocks
+uninferred_successors : (func : HirFunction) → successors_exist None (uninferred func) ≡ successors_exist None func
+uninferred_successors func =
+    all_pass_mapped (λ (e : BlockId × BasicBlock). leads_to_blocks None (uninferred func) e.0 e.1.terminal) strip_block (λ (e : BlockId × BasicBlock). leads_to_blocks None func e.0 e.1.terminal)
+    (λ e. uninferred_leads func e.0 e.1.terminal) func.body.blocks
 
-bare_once : (func : HirFunction) → none_stands_twice None (bare func) ≡ none_stands_twice None func
-bare_once func =
+uninferred_once : (func : HirFunction) → none_listed_twice None (uninferred func) ≡ none_listed_twice None func
+uninferred_once func =
     let f : BlockId × BasicBlock → List ℕ = λ e. map (λ i. i.0) e.1.instructions in
     ap (λ xs. twice None (first_again [] xs)) (flat_mapped f strip_block f (λ e. refl) func.body.blocks)
 
-bare_handlers : (func : HirFunction) → handlers_distinct None (bare func) ≡ handlers_distinct None func
-bare_handlers func =
+uninferred_handlers : (func : HirFunction) → handlers_distinct None (uninferred func) ≡ handlers_distinct None func
+uninferred_handlers func =
     let f : BlockId × BasicBlock → List ℕ = λ e. map (λ b. b.0) (optional_block (handler_of e.1.terminal)) in
     ap (λ xs. shared None (first_again [] xs))
     (flat_mapped f strip_block f (λ e. same_of_terminal (λ t. map (λ (b : BlockId). b.0) (optional_block (handler_of t))) [] (λ id v o. refl) (λ id c h o. refl) e.1.terminal) func.body.blocks)
 
 -- an edge is one of the successors of a block
-bare_edge : (func : HirFunction) (a b : BlockId) → has_edge (bare func) a b ≡ has_edge func a b
-bare_edge func a b =
+uninferred_edge : (func : HirFunction) (a b : BlockId) → has_edge (uninferred func) a b ≡ has_edge func a b
+uninferred_edge func a b =
     let f : BasicBlock → Bool = λ x. goes_to b x.terminal in
     ap (λ o. option_map_or f o false) (value_stripped func.body.blocks a)
     ∙ asked_mapped f (λ (y : BasicBlock). block_with y []) f false (λ x. same_of_terminal (goes_to b) [] (λ id v o. refl) (λ id c h o. refl) x.terminal) (value_at func.body.blocks a)
 
-bare_operands : (func : HirFunction) (b : BlockId) (p : Phi) → operands_fit None (bare func) b p ≡ operands_fit None func b p
-bare_operands func b p =
-    all_pass_same (λ (e : BlockId × Place). operand_fits None (bare func) b e.0) (λ (e : BlockId × Place). operand_fits None func b e.0)
-    (λ e. ap (λ t. if t then Ok tt else Err (PhiNoPredecessor None b e.0)) (bare_edge func e.0 b)) p.operands
+uninferred_operands : (func : HirFunction) (b : BlockId) (p : Phi) → operands_fit None (uninferred func) b p ≡ operands_fit None func b p
+uninferred_operands func b p =
+    all_pass_same (λ (e : BlockId × Place). operand_fits None (uninferred func) b e.0) (λ (e : BlockId × Place). operand_fits None func b e.0)
+    (λ e. ap (λ t. if t then Ok tt else Err (PhiNoPredecessor None b e.0)) (uninferred_edge func e.0 b)) p.operands
 
-bare_phis : (func : HirFunction) → phis_fit None (bare func) ≡ phis_fit None func
-bare_phis func =
-    all_pass_mapped (λ (e : BlockId × BasicBlock). all_pass (operands_fit None (bare func) e.0) e.1.phis) strip_block (λ (e : BlockId × BasicBlock). all_pass (operands_fit None func e.0) e.1.phis)
-    (λ e. all_pass_same (operands_fit None (bare func) e.0) (operands_fit None func e.0) (bare_operands func e.0) e.1.phis) func.body.blocks
+uninferred_phis : (func : HirFunction) → phis_fit None (uninferred func) ≡ phis_fit None func
+uninferred_phis func =
+    all_pass_mapped (λ (e : BlockId × BasicBlock). all_pass (operands_fit None (uninferred func) e.0) e.1.phis) strip_block (λ (e : BlockId × BasicBlock). all_pass (operands_fit None func e.0) e.1.phis)
+    (λ e. all_pass_same (operands_fit None (uninferred func) e.0) (operands_fit None func e.0) (uninferred_operands func e.0) e.1.phis) func.body.blocks
 
-bare_orders : (func : HirFunction) → orders_fit None (bare func) ≡ orders_fit None func
-bare_orders func =
+uninferred_orders : (func : HirFunction) → orders_fit None (uninferred func) ≡ orders_fit None func
+uninferred_orders func =
     then_same _ _ _ _
     (all_pass_mapped (λ (i : Instruction). order_fits None i.id) strip (λ (i : Instruction). order_fits None i.id) (λ x. refl) func.instructions)
     (all_pass_mapped (λ (e : BlockId × BasicBlock). order_fits None (evaluation_order e.1.terminal)) strip_block (λ (e : BlockId × BasicBlock). order_fits None (evaluation_order e.1.terminal))
     (λ e. ap (order_fits None) (same_of_terminal evaluation_order [] (λ id v o. refl) (λ id c h o. refl) e.1.terminal)) func.body.blocks)
 
 -- a function keeps just the rules that it keeps with no effects
-bare_rules : (env : Environment) (func : HirFunction) → function_rules env (bare func) ≡ function_rules env func
-bare_rules env func =
+uninferred_rules : (env : Environment) (func : HirFunction) → function_rules env (uninferred func) ≡ function_rules env func
+uninferred_rules env func =
     then_same (tables_fit env) _ _ _ refl
-    (then_same _ _ _ _ (bare_numbers env func)
-    (then_same _ _ _ _ (bare_entry func)
-    (then_same _ _ _ _ (bare_successors func)
-    (then_same _ _ _ _ (bare_once func)
-    (then_same _ _ _ _ (bare_handlers func)
-    (then_same _ _ _ _ (bare_phis func) (bare_orders func)))))))
+    (then_same _ _ _ _ (uninferred_numbers env func)
+    (then_same _ _ _ _ (uninferred_entry func)
+    (then_same _ _ _ _ (uninferred_successors func)
+    (then_same _ _ _ _ (uninferred_once func)
+    (then_same _ _ _ _ (uninferred_handlers func)
+    (then_same _ _ _ _ (uninferred_phis func) (uninferred_orders func)))))))
 
 -- a function with what was recorded of it keeps just the rules that it kept
-pub rules_kept : (env : Environment) (s : Solved) (func : HirFunction) → function_rules env (recorded s func) ≡ function_rules env func
-rules_kept env s func = sym (bare_rules env (recorded s func)) ∙ ap (function_rules env) (bare_recorded s func) ∙ bare_rules env func
+pub rules_kept : (env : Environment) (s : Solved) (func : HirFunction) → function_rules env (with_effects_of s func) ≡ function_rules env func
+rules_kept env s func = sym (uninferred_rules env (with_effects_of s func)) ∙ ap (function_rules env) (uninferred_recorded s func) ∙ uninferred_rules env func

@@ -14,18 +14,18 @@ use Rattle.alias_hir.specs.declared.hir.BasicBlock.{BasicBlock}
 use Rattle.alias_hir.specs.declared.hir.HirFunction.{HirFunction}
 use Rattle.alias_hir.specs.Terminals.{successors}
 use Rattle.alias_lattice.specs.States.{State, state_below}
-use Rattle.alias_lattice.specs.Standing.{StateProper}
+use Rattle.alias_lattice.specs.StateLaws.{StateProper}
 use Rattle.alias_effects.specs.declared.block.BlockEffects.{BlockEffects}
 use Rattle.alias_effects.specs.declared.faults.BlockFault.{BlockFault}
 use Rattle.alias_lattice.specs.Flows.{Flow, IsOneOf, IsReached, at_entry, by_edge, IsAbove, IsSolution, AreJoins}
-use Rattle.alias_flow.specs.Machine.{World, Desk}
-use Rattle.alias_flow.specs.Solutions.{entry_at, KeepsSteps, KeepsOthers, IsForward}
+use Rattle.alias_flow.specs.Machine.{SolverState, VisitLog}
+use Rattle.alias_flow.specs.Solutions.{entry_at, RecordsSteps, KeepsOthers, IsForward}
 use Rattle.alias_effects.specs.Blocks.{flow_of, successors_at, outcome_at}
 use Rattle.alias_effects.specs.Numbered.{Blocks, numbered, position_of, with_position, positions_of, edges_at, entry_position, step_at}
-use Rattle.alias_effects.specs.Inference.{entries_of, solved_of, instructions_kept, terminal_kept}
+use Rattle.alias_effects.specs.Inference.{entries_of, solved_of, instructions_recorded, terminal_recorded}
 use Rattle.alias_effects.specs.Solutions.{entry_state, IsSolved, effects_recorded, recorded_from, IsForwardFrom}
-use Rattle.alias_effects.specs.Positions.{StandsAt, found_stands, some_is, position_stands, stands_position, stands_value}
-use Rattle.alias_effects.proofs.Entering.{entered, has_entered, entries_in_order, KeepsRecorded, kept_over}
+use Rattle.alias_effects.specs.PositionLaws.{IsAt, found_has_position, some_is, position_is_at, at_position, at_value}
+use Rattle.alias_effects.proofs.Entering.{entered, has_entered, entries_in_order, KeepsRecorded, recorded_over}
 
 -- what the pass asks of a function: no two blocks have one name, and the entry and all successors are blocks
 pub record Numbers (func : HirFunction) : Type 0 where
@@ -53,26 +53,26 @@ pub position_among : (es : Blocks) (m : ℕ) (cs : List BlockId) → IsOneOf m (
 position_among es m [] h = absurd h
 position_among es m (c ∷ cs) h = among_case es m c cs (position_of es c) refl h (position_among es m cs)
 
-kept_with : (m : ℕ) (o : Option ℕ) (ns : List ℕ) → IsOneOf m ns → IsOneOf m (with_position o ns)
-kept_with m None ns h = h
-kept_with m (Some n) ns h = inr h
+recorded_with : (m : ℕ) (o : Option ℕ) (ns : List ℕ) → IsOneOf m ns → IsOneOf m (with_position o ns)
+recorded_with m None ns h = h
+recorded_with m (Some n) ns h = inr h
 
 pub among_positions : (es : Blocks) (m : ℕ) (c : BlockId) (cs : List BlockId) → IsOneOf c cs → position_of es c ≡ Some m → IsOneOf m (positions_of es cs)
 among_positions es m c [] h e = absurd h
 among_positions es m c (d ∷ ds) (inl s) e = subst (λ o. IsOneOf m (with_position o (positions_of es ds))) (sym (ap (position_of es) (sym s) ∙ e)) (inl refl)
-among_positions es m c (d ∷ ds) (inr h) e = kept_with m (position_of es d) (positions_of es ds) (among_positions es m c ds h e)
+among_positions es m c (d ∷ ds) (inr h) e = recorded_with m (position_of es d) (positions_of es ds) (among_positions es m c ds h e)
 
 first_of : (A : ℕ → Type 0) (m : ℕ) (o : Option ℕ) (ns : List ℕ) → o ≡ Some m → AllByRecursion A (with_position o ns) → A m × AllByRecursion A ns
 first_of A m None ns e a = cc
 first_of A m (Some n) ns e a = let same : n ≡ m = cc in (subst A same a.0, a.1)
 
--- what holds of the positions holds of the blocks that stand there
+-- what holds of the positions holds of the blocks there
 pub all_at_positions : (A : ℕ → Type 0) (B : BlockId → Type 0) (es : Blocks) (cs : List BlockId) → ((c : BlockId) (m : ℕ) → position_of es c ≡ Some m → A m → B c)
     → list_all (λ c. is_some (value_at es c)) cs ≡ true → AllByRecursion A (positions_of es cs) → AllByRecursion B cs
 all_at_positions A B es [] f h a = tt
 all_at_positions A B es (c ∷ cs) f h a =
     let both : (is_some (value_at es c) ≡ true) × (list_all (λ c. is_some (value_at es c)) cs ≡ true) = both_true _ _ h in
-    let p = some_is (position_of es c) (found_stands es c both.0) in
+    let p = some_is (position_of es c) (found_has_position es c both.0) in
     let r = first_of A p.0 (position_of es c) (positions_of es cs) p.1 a in
     (f c p.0 p.1 r.0, all_at_positions A B es cs f both.1 r.1)
 
@@ -108,11 +108,11 @@ all_along : {X : Type 0} (A B : X → Type 0) (xs : List X) → ((x : X) → A x
 all_along A B [] f a = tt
 all_along A B (x ∷ xs) f a = (f x a.0, all_along A B xs f a.1)
 
--- the block stands past the position
+-- the block is past the position
 abbrev Later : Blocks → ℕ → BlockId → Type 0
-Later es n c = (m : ℕ) × (n < m) × StandsAt es m c
+Later es n c = (m : ℕ) × (n < m) × IsAt es m c
 
-one_stands : (es : Blocks) (c : BlockId) → IsOneOf c (keys_of es) → (m : ℕ) × StandsAt es m c
+one_stands : (es : Blocks) (c : BlockId) → IsOneOf c (keys_of es) → (m : ℕ) × IsAt es m c
 one_stands [] c h = absurd h
 one_stands (e ∷ es) c (inl s) = (0, (e.1, ap (λ k. Some (k, e.1)) (sym s)))
 one_stands (e ∷ es) c (inr h) = let r = one_stands es c h in (suc r.0, (r.1.0, r.1.1))
@@ -155,14 +155,14 @@ module _ (env : Environment) (func : HirFunction) (is_function_expression : Bool
   under = (numbered env func is_function_expression).flow
 
   edges_over : (n : ℕ) (b : BlockId) (x : BasicBlock) → slice_get es n ≡ Some (b, x) → over.edges b ≡ successors x.terminal
-  edges_over n b x h = ap successors_at (stands_value es n b x fits.distinct h)
+  edges_over n b x h = ap successors_at (at_value es n b x fits.distinct h)
 
   edges_under : (n : ℕ) (b : BlockId) (x : BasicBlock) → slice_get es n ≡ Some (b, x) → under.edges n ≡ positions_of es (successors x.terminal)
   edges_under n b x h = ap (edges_at es) h
 
   steps_same : (n : ℕ) (b : BlockId) (x : BasicBlock) (s : State) → slice_get es n ≡ Some (b, x) → over.step tt b s ≡ under.step tt n s
   steps_same n b x s h =
-      ap (λ o. outcome_at env func.instructions is_function_expression b o s) (stands_value es n b x fits.distinct h)
+      ap (λ o. outcome_at env func.instructions is_function_expression b o s) (at_value es n b x fits.distinct h)
       ∙ sym (ap (λ o. step_at env func.instructions is_function_expression o s) h)
 
   entry_is : (o : Option ℕ) → is_some o ≡ true → o ≡ Some (option_map_or (λ n. n) o 0)
@@ -170,50 +170,50 @@ module _ (env : Environment) (func : HirFunction) (is_function_expression : Bool
   entry_is (Some n) h = refl
 
   entry_at_position : position_of es func.body.entry ≡ Some (entry_position func)
-  entry_at_position = entry_is (position_of es func.body.entry) (found_stands es func.body.entry fits.entry)
+  entry_at_position = entry_is (position_of es func.body.entry) (found_has_position es func.body.entry fits.entry)
 
-  entry_block : StandsAt es (entry_position func) func.body.entry
-  entry_block = position_stands es func.body.entry (entry_position func) entry_at_position
+  entry_block : IsAt es (entry_position func) func.body.entry
+  entry_block = position_is_at es func.body.entry (entry_position func) entry_at_position
 
-  -- a block that stands at a position, which is reached
+  -- a block at a position, which is reached
   record ReachedAt (b : BlockId) : Type 0 where
     at : ℕ
     block : BasicBlock
-    stands : slice_get es at ≡ Some (b, block)
+    at_index : slice_get es at ≡ Some (b, block)
     reached : IsReached under at
 
   reached_at : (b : BlockId) → IsReached over b → ReachedAt b
-  reached_at b at_entry = record { at = entry_position func; block = entry_block.0; stands = entry_block.1; reached = at_entry }
+  reached_at b at_entry = record { at = entry_position func; block = entry_block.0; at_index = entry_block.1; reached = at_entry }
   reached_at b (by_edge a c r o) =
       let u = reached_at a r in
-      let one : IsOneOf c (successors u.block.terminal) = subst (IsOneOf c) (edges_over u.at a u.block u.stands) o in
-      let p = some_is (position_of es c) (found_stands es c (one_is_block es c (successors u.block.terminal) (fits.successors u.at a u.block u.stands) one)) in
-      let q = position_stands es c p.0 p.1 in
+      let one : IsOneOf c (successors u.block.terminal) = subst (IsOneOf c) (edges_over u.at a u.block u.at_index) o in
+      let p = some_is (position_of es c) (found_has_position es c (one_is_block es c (successors u.block.terminal) (fits.successors u.at a u.block u.at_index) one)) in
+      let q = position_is_at es c p.0 p.1 in
       record {
         at = p.0;
         block = q.0;
-        stands = q.1;
-        reached = by_edge u.at p.0 u.reached (subst (IsOneOf p.0) (sym (edges_under u.at a u.block u.stands)) (among_positions es p.0 c (successors u.block.terminal) one p.1));
+        at_index = q.1;
+        reached = by_edge u.at p.0 u.reached (subst (IsOneOf p.0) (sym (edges_under u.at a u.block u.at_index)) (among_positions es p.0 c (successors u.block.terminal) one p.1));
       }
 
-  -- what stands at a position, and is reached
+  -- the block at a position, and is reached
   record ReachedOver (n : ℕ) : Type 0 where
     name : BlockId
     block : BasicBlock
-    stands : slice_get es n ≡ Some (name, block)
+    at_index : slice_get es n ≡ Some (name, block)
     reached : IsReached over name
 
   reached_over : (n : ℕ) → IsReached under n → ReachedOver n
-  reached_over n at_entry = record { name = func.body.entry; block = entry_block.0; stands = entry_block.1; reached = at_entry }
+  reached_over n at_entry = record { name = func.body.entry; block = entry_block.0; at_index = entry_block.1; reached = at_entry }
   reached_over n (by_edge m k r o) =
       let u = reached_over m r in
-      let w = position_among es k (successors u.block.terminal) (subst (IsOneOf k) (edges_under m u.name u.block u.stands) o) in
-      let q = position_stands es w.block k w.at in
+      let w = position_among es k (successors u.block.terminal) (subst (IsOneOf k) (edges_under m u.name u.block u.at_index) o) in
+      let q = position_is_at es w.block k w.at in
       record {
         name = w.block;
         block = q.0;
-        stands = q.1;
-        reached = by_edge u.name w.block u.reached (subst (IsOneOf w.block) (sym (edges_over m u.name u.block u.stands)) w.one);
+        at_index = q.1;
+        reached = by_edge u.name w.block u.reached (subst (IsOneOf w.block) (sym (edges_over m u.name u.block u.at_index)) w.one);
       }
 
   same_name : (n : ℕ) (b c : BlockId) (x y : BasicBlock) → slice_get es n ≡ Some (b, x) → slice_get es n ≡ Some (c, y) → b ≡ c
@@ -225,29 +225,29 @@ module _ (env : Environment) (func : HirFunction) (is_function_expression : Bool
 
     above_over : (y : State) (c : BlockId) (m : ℕ) → position_of es c ≡ Some m → IsAbove state_below under (entry_at xs) y m → IsAbove state_below over state_over y c
     above_over y c m p a =
-        let q = position_stands es c m p in
+        let q = position_is_at es c m p in
         (a.0, entered es xs m c q.0 fits.distinct q.1 ∙ a.1, a.2)
 
     pub solution_over : IsSolution state_below under tt (entry_at xs) → IsSolution state_below over tt state_over
     solution_over sol = record {
       reached = λ b r.
           let u = reached_at b r in
-          subst (λ o. IsTrue (is_some o)) (sym (entered es xs u.at b u.block fits.distinct u.stands)) (sol.reached u.at u.reached);
+          subst (λ o. IsTrue (is_some o)) (sym (entered es xs u.at b u.block fits.distinct u.at_index)) (sol.reached u.at u.reached);
       only_reached = λ b s h.
           let a = has_entered es xs b s h in
           let u = reached_over a.at (sol.only_reached a.at s a.state) in
-          subst (IsReached over) (same_name a.at u.name b u.block a.block u.stands a.stands) u.reached;
+          subst (IsReached over) (same_name a.at u.name b u.block a.block u.at_index a.at_index) u.reached;
       initial = above_over under.initial func.body.entry (entry_position func) entry_at_position sol.initial;
       steps = λ b s h.
           let a = has_entered es xs b s h in
           let t = sol.steps a.at s a.state in (
             t.0,
             t.1,
-            steps_same a.at b a.block s a.stands ∙ t.2,
-            subst (AllByRecursion (IsAbove state_below over state_over t.0)) (sym (edges_over a.at b a.block a.stands))
+            steps_same a.at b a.block s a.at_index ∙ t.2,
+            subst (AllByRecursion (IsAbove state_below over state_over t.0)) (sym (edges_over a.at b a.block a.at_index))
                 (all_at_positions (IsAbove state_below under (entry_at xs) t.0) (IsAbove state_below over state_over t.0) es (successors a.block.terminal) (above_over t.0)
-                (fits.successors a.at b a.block a.stands)
-                (subst (AllByRecursion (IsAbove state_below under (entry_at xs) t.0)) (edges_under a.at b a.block a.stands) t.3)),
+                (fits.successors a.at b a.block a.at_index)
+                (subst (AllByRecursion (IsAbove state_below under (entry_at xs) t.0)) (edges_under a.at b a.block a.at_index) t.3)),
           );
     }
 
@@ -260,60 +260,60 @@ module _ (env : Environment) (func : HirFunction) (is_function_expression : Bool
         let later : AllByRecursion (Later es n) (successors x.terminal) = subst (AllByRecursion (Later es n)) (edges_over n b x e.1) (later_at over.edges es n b x f e.1) in
         subst (AllByRecursion (λ m. n < m)) (sym (edges_under n b x e.1))
         (all_of_blocks (λ m. n < m) (Later es n) es (successors x.terminal)
-        (λ c m p l. subst (λ k. n < k) (same_number l.0 m (sym (stands_position es l.0 c l.2.0 fits.distinct l.2.1) ∙ p)) l.1) later)
+        (λ c m p l. subst (λ k. n < k) (same_number l.0 m (sym (at_position es l.0 c l.2.0 fits.distinct l.2.1) ∙ p)) l.1) later)
 
     pub joins_over : length xs ≡ length es → AreJoins state_below under StateProper tt (entry_at xs) → AreJoins state_below over StateProper tt state_over
     joins_over long js b s h =
         let a = has_entered es xs b s h in
-        let at : position_of es b ≡ Some a.at = stands_position es a.at b a.block fits.distinct a.stands in
+        let at : position_of es b ≡ Some a.at = at_position es a.at b a.block fits.distinct a.at_index in
         let j = js a.at s a.state in
         record {
           above = record {
             initial = λ e. j.above.initial (same_number a.at (entry_position func) (sym at ∙ ap (position_of es) e ∙ entry_at_position));
             stepped = λ c x y r i t o.
                 let w = has_entered es xs c x i in
-                j.above.stepped w.at x y r w.state (sym (steps_same w.at c w.block x w.stands) ∙ t)
-                (subst (IsOneOf a.at) (sym (edges_under w.at c w.block w.stands)) (among_positions es a.at b (successors w.block.terminal) (subst (IsOneOf b) (edges_over w.at c w.block w.stands) o) at));
+                j.above.stepped w.at x y r w.state (sym (steps_same w.at c w.block x w.at_index) ∙ t)
+                (subst (IsOneOf a.at) (sym (edges_under w.at c w.block w.at_index)) (among_positions es a.at b (successors w.block.terminal) (subst (IsOneOf b) (edges_over w.at c w.block w.at_index) o) at));
           };
           least = λ u p v. j.least u p (record {
-            initial = λ e. v.initial (same_name a.at b func.body.entry a.block entry_block.0 a.stands (ap (slice_get es) e ∙ entry_block.1));
+            initial = λ e. v.initial (same_name a.at b func.body.entry a.block entry_block.0 a.at_index (ap (slice_get es) e ∙ entry_block.1));
             stepped = λ m x y r i t o.
                 let e = within es m (subst (λ k. m < k) long (entry_within xs m x i)) in
                 let c = e.0.0 in
                 let z = e.0.1 in
                 let w = position_among es a.at (successors z.terminal) (subst (IsOneOf a.at) (edges_under m c z e.1) o) in
-                let q = position_stands es w.block a.at w.at in
+                let q = position_is_at es w.block a.at w.at in
                 v.stepped c x y r (entered es xs m c z fits.distinct e.1 ∙ i) (steps_same m c z x e.1 ∙ t)
-                (subst (IsOneOf b) (sym (edges_over m c z e.1)) (subst (λ k. IsOneOf k (successors z.terminal)) (same_name a.at w.block b q.0 a.block q.1 a.stands) w.one));
+                (subst (IsOneOf b) (sym (edges_over m c z e.1)) (subst (λ k. IsOneOf k (successors z.terminal)) (same_name a.at w.block b q.0 a.block q.1 a.at_index) w.one));
           });
         }
 
-    kept_case : (kept : List (Option BlockEffects)) (n : ℕ) (b : BlockId) (x : BasicBlock) (o : Option State) → slice_get es n ≡ Some (b, x) → entry_at xs n ≡ o
-        → KeepsSteps under tt (entry_at xs) kept → (entry_at xs n ≡ None → slice_index_or kept n None ≡ None)
-        → slice_index_or kept n None ≡ option_map (λ s. recorded_from env func is_function_expression (record { block = b; state = s })) o
-    kept_case kept n b x None h i k z = z i
-    kept_case kept n b x (Some s) h i k z =
+    recorded_case : (recorded : List (Option BlockEffects)) (n : ℕ) (b : BlockId) (x : BasicBlock) (o : Option State) → slice_get es n ≡ Some (b, x) → entry_at xs n ≡ o
+        → RecordsSteps under tt (entry_at xs) recorded → (entry_at xs n ≡ None → slice_index_or recorded n None ≡ None)
+        → slice_index_or recorded n None ≡ option_map (λ s. recorded_from env func is_function_expression (record { block = b; state = s })) o
+    recorded_case recorded n b x None h i k z = z i
+    recorded_case recorded n b x (Some s) h i k z =
         let r = k n s i in
         r.3 ∙ ap (λ o. Some (effects_recorded o)) (sym (steps_same n b x s h ∙ r.2))
 
-    keeps_recorded : (kept : List (Option BlockEffects)) → KeepsSteps under tt (entry_at xs) kept → KeepsOthers (entry_at xs) (replicate (length es) None) kept
-        → KeepsRecorded (recorded_from env func is_function_expression) es xs kept
-    keeps_recorded kept k z n e h =
+    keeps_recorded : (recorded : List (Option BlockEffects)) → RecordsSteps under tt (entry_at xs) recorded → KeepsOthers (entry_at xs) (replicate (length es) None) recorded
+        → KeepsRecorded (recorded_from env func is_function_expression) es xs recorded
+    keeps_recorded recorded k z n e h =
         let h' : slice_get es n ≡ Some (e.0, e.1) = h in
-        kept_case kept n e.0 e.1 (entry_at xs n) h' refl k (λ i. z n i ∙ get_or-replicate (length es) n None None (slice_get_within es n e h))
+        recorded_case recorded n e.0 e.1 (entry_at xs n) h' refl k (λ i. z n i ∙ get_or-replicate (length es) n None None (slice_get_within es n e h))
 
   -- what the solver leaves of the flow over positions solves the function's flow over blocks
-  pub solved_over : (w : World (Desk State) (Unit {0}) BlockEffects) → length w.desk.sent ≡ length es → length w.kept ≡ length es
-      → IsSolution state_below under tt (entry_at w.desk.sent) → KeepsSteps under tt (entry_at w.desk.sent) w.kept → KeepsOthers (entry_at w.desk.sent) (replicate (length es) None) w.kept
-      → (IsForward (numbered env func is_function_expression) → AreJoins state_below under StateProper tt (entry_at w.desk.sent))
+  pub solved_over : (w : SolverState (VisitLog State) (Unit {0}) BlockEffects) → length w.progress.joined_input ≡ length es → length w.recorded ≡ length es
+      → IsSolution state_below under tt (entry_at w.progress.joined_input) → RecordsSteps under tt (entry_at w.progress.joined_input) w.recorded → KeepsOthers (entry_at w.progress.joined_input) (replicate (length es) None) w.recorded
+      → (IsForward (numbered env func is_function_expression) → AreJoins state_below under StateProper tt (entry_at w.progress.joined_input))
       → IsSolved env func is_function_expression (solved_of func w)
-  solved_over w long kept_long sol k z joins =
+  solved_over w long recorded_long sol k z joins =
       let r = recorded_from env func is_function_expression in
-      let keeps = keeps_recorded w.desk.sent w.kept k z in
+      let keeps = keeps_recorded w.progress.joined_input w.recorded k z in
       record {
-        in_order = entries_in_order es w.desk.sent;
-        solution = solution_over w.desk.sent sol;
-        effects = kept_over (λ (e : BlockEffects). e.instructions) instructions_kept refl (λ e. refl) r es w.desk.sent w.kept long kept_long keeps;
-        terminal_effects = kept_over (λ (e : BlockEffects). e.terminal) terminal_kept refl (λ e. refl) r es w.desk.sent w.kept long kept_long keeps;
-        joins = λ f. joins_over w.desk.sent long (joins (forward_under w.desk.sent f));
+        in_order = entries_in_order es w.progress.joined_input;
+        solution = solution_over w.progress.joined_input sol;
+        effects = recorded_over (λ (e : BlockEffects). e.instructions) instructions_recorded refl (λ e. refl) r es w.progress.joined_input w.recorded long recorded_long keeps;
+        terminal_effects = recorded_over (λ (e : BlockEffects). e.terminal) terminal_recorded refl (λ e. refl) r es w.progress.joined_input w.recorded long recorded_long keeps;
+        joins = λ f. joins_over w.progress.joined_input long (joins (forward_under w.progress.joined_input f));
       }

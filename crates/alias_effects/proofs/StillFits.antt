@@ -19,22 +19,22 @@ use Rattle.alias_hir.specs.declared.terminal.Terminal.{Terminal}
 use Rattle.alias_hir.specs.declared.terminal.Terminal.TheVariants as terminal
 use Rattle.alias_lattice.specs.States.{State, state_join, state_below}
 use Rattle.alias_lattice.specs.Flows.{Stepped}
-use Rattle.alias_flow.specs.Machine.{World, Desk, End}
+use Rattle.alias_flow.specs.Machine.{SolverState, VisitLog, End}
 use Rattle.alias_flow.specs.Machine as end
-use Rattle.alias_rules.specs.Fitting.{effect_stands, recorded_stand, effects_stand, tells_no_invariant, function_rules, function_fits}
-use Rattle.alias_rules.specs.RuleFacts.{fitting_rules, passes_at}
+use Rattle.alias_rules.specs.Fitting.{effect_within_tables, recorded_within_tables, effects_within_tables, reports_no_invariant, function_rules, function_fits}
+use Rattle.alias_rules.specs.RuleLaws.{fitting_rules, passes_at}
 use Rattle.alias_rules.specs.Rules.{place_fits, tables_fit, numbers_fit, instruction_fits, block_fits}
 use Rattle.alias_effects.specs.declared.block.BlockEffects.{BlockEffects}
 use Rattle.alias_effects.specs.declared.faults.BlockFault.{BlockFault}
 use Rattle.alias_effects.specs.declared.solved.InstructionEffects.{InstructionEffects}
 use Rattle.alias_effects.specs.declared.solved.Solved.{Solved}
 use Rattle.alias_effects.specs.declared.solved.TerminalEffects.{TerminalEffects}
-use Rattle.alias_effects.specs.Blocks.{block_step, outcome_of, no_effects}
-use Rattle.alias_effects.specs.Handing.{last_effects}
-use Rattle.alias_effects.specs.Inference.{instructions_kept, terminal_kept, solved_of, answer_of, inferred}
+use Rattle.alias_effects.specs.Blocks.{infer_block, outcome_of, no_effects}
+use Rattle.alias_effects.specs.Output.{last_effects}
+use Rattle.alias_effects.specs.Inference.{instructions_recorded, terminal_recorded, solved_of, answer_of, inferred}
 use Rattle.alias_effects.specs.Numbered.{Blocks, position_of, step_at, numbered, visits_end}
-use Rattle.alias_effects.specs.Recording.{recorded_instructions, block_with, with_terminal_at, recorded_terminals, recorded}
-use Rattle.alias_effects.proofs.EffectsStand.{BlockStands, block_stands}
+use Rattle.alias_effects.specs.Recording.{recorded_instructions, block_with, with_terminal_at, recorded_terminals, with_effects_of}
+use Rattle.alias_effects.proofs.EffectsWithinTables.{BlockWithinTables, block_stands}
 use Rattle.alias_flow.specs.Keeping.{AllHold, solution_keeps}
 use Rattle.alias_effects.proofs.RulesKept.{rules_kept}
 
@@ -54,33 +54,33 @@ set_value_all {K} {V} p (y ∷ ys) (suc i) w h a =
     let b : (p y.1 ≡ true) × (list_all (λ (e : K × V). p e.1) ys ≡ true) = both_true (p y.1) (list_all (λ (e : K × V). p e.1) ys) a in
     rw (b.0) (set_value_all p ys i w h b.1)
 
--- ---- what was recorded stands on the function
+-- ---- what was recorded is on the function
 
-abbrev InstructionsStand : Environment → List Instruction → Type 0
-InstructionsStand env xs = list_all (λ (i : Instruction). recorded_stand env i.effects) xs ≡ true
+abbrev InstructionsWithinTables : Environment → List Instruction → Type 0
+InstructionsWithinTables env xs = list_all (λ (i : Instruction). recorded_within_tables env i.effects) xs ≡ true
 
-abbrev TerminalsStand : Environment → Blocks → Type 0
-TerminalsStand env bs = list_all (λ (e : BlockId × BasicBlock). recorded_stand env (terminal_effects e.1.terminal)) bs ≡ true
+abbrev TerminalsWithinTables : Environment → Blocks → Type 0
+TerminalsWithinTables env bs = list_all (λ (e : BlockId × BasicBlock). recorded_within_tables env (terminal_effects e.1.terminal)) bs ≡ true
 
 abbrev OfInstructions : Environment → List InstructionEffects → Type 0
-OfInstructions env es = list_all (λ (i : InstructionEffects). list_all (effect_stands env) i.effects) es ≡ true
+OfInstructions env es = list_all (λ (i : InstructionEffects). list_all (effect_within_tables env) i.effects) es ≡ true
 
 abbrev OfTerminals : Environment → List TerminalEffects → Type 0
-OfTerminals env es = list_all (λ (t : TerminalEffects). list_all (effect_stands env) t.effects) es ≡ true
+OfTerminals env es = list_all (λ (t : TerminalEffects). list_all (effect_within_tables env) t.effects) es ≡ true
 
-instruction_put : (env : Environment) (e : InstructionEffects) (o : Option Instruction) (xs : List Instruction) → list_all (effect_stands env) e.effects ≡ true → InstructionsStand env xs
-    → InstructionsStand env (option_map_or (λ (x : Instruction). slice_set xs e.instruction.0 (record x { effects = Some e.effects })) o xs)
+instruction_put : (env : Environment) (e : InstructionEffects) (o : Option Instruction) (xs : List Instruction) → list_all (effect_within_tables env) e.effects ≡ true → InstructionsWithinTables env xs
+    → InstructionsWithinTables env (option_map_or (λ (x : Instruction). slice_set xs e.instruction.0 (record x { effects = Some e.effects })) o xs)
 instruction_put env e None xs h a = a
-instruction_put env e (Some x) xs h a = set_all (λ (i : Instruction). recorded_stand env i.effects) xs e.instruction.0 (record x { effects = Some e.effects }) h a
+instruction_put env e (Some x) xs h a = set_all (λ (i : Instruction). recorded_within_tables env i.effects) xs e.instruction.0 (record x { effects = Some e.effects }) h a
 
-instructions_put : (env : Environment) (es : List InstructionEffects) (xs : List Instruction) → OfInstructions env es → InstructionsStand env xs → InstructionsStand env (recorded_instructions es xs)
+instructions_put : (env : Environment) (es : List InstructionEffects) (xs : List Instruction) → OfInstructions env es → InstructionsWithinTables env xs → InstructionsWithinTables env (recorded_instructions es xs)
 instructions_put env [] xs h a = a
 instructions_put env (e ∷ es) xs h a =
-    let b : (list_all (effect_stands env) e.effects ≡ true) × OfInstructions env es = both_true _ _ h in
+    let b : (list_all (effect_within_tables env) e.effects ≡ true) × OfInstructions env es = both_true _ _ h in
     let ys = recorded_instructions es xs in
     instruction_put env e (slice_get ys e.instruction.0) ys b.0 (instructions_put env es xs b.1 a)
 
-terminal_put : (env : Environment) (t : Terminal) (es : List AliasingEffect) → list_all (effect_stands env) es ≡ true → recorded_stand env (terminal_effects t) ≡ true → recorded_stand env (terminal_effects (with_terminal_effects t es)) ≡ true
+terminal_put : (env : Environment) (t : Terminal) (es : List AliasingEffect) → list_all (effect_within_tables env) es ≡ true → recorded_within_tables env (terminal_effects t) ≡ true → recorded_within_tables env (terminal_effects (with_terminal_effects t es)) ≡ true
 terminal_put env (terminal.Goto id block) es h a = refl
 terminal_put env (terminal.If id test consequent alternate) es h a = refl
 terminal_put env (terminal.Branch id test consequent alternate) es h a = refl
@@ -103,33 +103,33 @@ terminal_put env (terminal.Sequence id block) es h a = refl
 terminal_put env (terminal.Scope id block) es h a = refl
 terminal_put env (terminal.PrunedScope id block) es h a = refl
 
--- the effects of an item that is there stand
-blocks_at : (env : Environment) (bs : Blocks) (n : ℕ) (x : BlockId × BasicBlock) → TerminalsStand env bs → slice_get bs n ≡ Some x → recorded_stand env (terminal_effects x.1.terminal) ≡ true
+-- the effects of an item are within the tables
+blocks_at : (env : Environment) (bs : Blocks) (n : ℕ) (x : BlockId × BasicBlock) → TerminalsWithinTables env bs → slice_get bs n ≡ Some x → recorded_within_tables env (terminal_effects x.1.terminal) ≡ true
 blocks_at env [] n x h e = cc
 blocks_at env (y ∷ ys) zero x h e =
     let same : y ≡ x = cc in
-    subst (λ (z : BlockId × BasicBlock). recorded_stand env (terminal_effects z.1.terminal) ≡ true) same (both_true (recorded_stand env (terminal_effects y.1.terminal)) _ h).0
-blocks_at env (y ∷ ys) (suc n) x h e = blocks_at env ys n x (both_true (recorded_stand env (terminal_effects y.1.terminal)) _ h).1 e
+    subst (λ (z : BlockId × BasicBlock). recorded_within_tables env (terminal_effects z.1.terminal) ≡ true) same (both_true (recorded_within_tables env (terminal_effects y.1.terminal)) _ h).0
+blocks_at env (y ∷ ys) (suc n) x h e = blocks_at env ys n x (both_true (recorded_within_tables env (terminal_effects y.1.terminal)) _ h).1 e
 
-terminal_set : (env : Environment) (es : List AliasingEffect) (bs : Blocks) (n : ℕ) (o : Option (BlockId × BasicBlock)) → slice_get bs n ≡ o → list_all (effect_stands env) es ≡ true → TerminalsStand env bs
-    → TerminalsStand env (option_map_or (λ (x : BlockId × BasicBlock). set_value_at bs n (block_with x.1 es)) o bs)
+terminal_set : (env : Environment) (es : List AliasingEffect) (bs : Blocks) (n : ℕ) (o : Option (BlockId × BasicBlock)) → slice_get bs n ≡ o → list_all (effect_within_tables env) es ≡ true → TerminalsWithinTables env bs
+    → TerminalsWithinTables env (option_map_or (λ (x : BlockId × BasicBlock). set_value_at bs n (block_with x.1 es)) o bs)
 terminal_set env es bs n None e h a = a
 terminal_set env es bs n (Some x) e h a =
-    set_value_all (λ (b : BasicBlock). recorded_stand env (terminal_effects b.terminal)) bs n (block_with x.1 es) (terminal_put env x.1.terminal es h (blocks_at env bs n x a e)) a
+    set_value_all (λ (b : BasicBlock). recorded_within_tables env (terminal_effects b.terminal)) bs n (block_with x.1 es) (terminal_put env x.1.terminal es h (blocks_at env bs n x a e)) a
 
-terminal_at : (env : Environment) (es : List AliasingEffect) (bs : Blocks) (o : Option ℕ) → list_all (effect_stands env) es ≡ true → TerminalsStand env bs
-    → TerminalsStand env (option_map_or (with_terminal_at es bs) o bs)
+terminal_at : (env : Environment) (es : List AliasingEffect) (bs : Blocks) (o : Option ℕ) → list_all (effect_within_tables env) es ≡ true → TerminalsWithinTables env bs
+    → TerminalsWithinTables env (option_map_or (with_terminal_at es bs) o bs)
 terminal_at env es bs None h a = a
 terminal_at env es bs (Some n) h a = terminal_set env es bs n (slice_get bs n) refl h a
 
-terminals_put : (env : Environment) (es : List TerminalEffects) (bs : Blocks) → OfTerminals env es → TerminalsStand env bs → TerminalsStand env (recorded_terminals es bs)
+terminals_put : (env : Environment) (es : List TerminalEffects) (bs : Blocks) → OfTerminals env es → TerminalsWithinTables env bs → TerminalsWithinTables env (recorded_terminals es bs)
 terminals_put env [] bs h a = a
 terminals_put env (e ∷ es) bs h a =
-    let b : (list_all (effect_stands env) e.effects ≡ true) × OfTerminals env es = both_true _ _ h in
+    let b : (list_all (effect_within_tables env) e.effects ≡ true) × OfTerminals env es = both_true _ _ h in
     let cs = recorded_terminals es bs in
     terminal_at env e.effects cs (position_of cs e.block) b.0 (terminals_put env es bs b.1 a)
 
--- ---- what is recorded stands
+-- ---- what is recorded is within the tables
 
 -- the instructions of a function that the inference takes, and the places of a terminal, are within the tables
 numbers : (func : HirFunction) (env : Environment) → function_fits func env ≡ true → numbers_fit env func ≡ Ok tt
@@ -150,64 +150,64 @@ terminal_fits func env n b h e =
     let f = both_pass _ _ d in
     (both_pass _ _ f.1).1
 
-outcome_stands : (env : Environment) (r : Result (State × BlockEffects) BlockFault) (y : State) (u : Unit {0}) (k : BlockEffects) → ((z : State × BlockEffects) → r ≡ Ok z → BlockStands env z.1) → outcome_of r ≡ Stepped y u k → BlockStands env k
-outcome_stands env (Ok z) y u k g e = let same : z.1 ≡ k = cc in subst (BlockStands env) same (g z refl)
+outcome_stands : (env : Environment) (r : Result (State × BlockEffects) BlockFault) (y : State) (u : Unit {0}) (k : BlockEffects) → ((z : State × BlockEffects) → r ≡ Ok z → BlockWithinTables env z.1) → outcome_of r ≡ Stepped y u k → BlockWithinTables env k
+outcome_stands env (Ok z) y u k g e = let same : z.1 ≡ k = cc in subst (BlockWithinTables env) same (g z refl)
 outcome_stands env (Err f) y u k g e = cc
 
 step_stands : (func : HirFunction) (env : Environment) (f : Bool) (n : ℕ) (o : Option (BlockId × BasicBlock)) (x y : State) (u : Unit {0}) (k : BlockEffects) → function_fits func env ≡ true → slice_get func.body.blocks n ≡ o
-    → step_at env func.instructions f o x ≡ Stepped y u k → BlockStands env k
-step_stands func env f n None x y u k h o e = let same : no_effects ≡ k = cc in subst (BlockStands env) same (refl, refl)
+    → step_at env func.instructions f o x ≡ Stepped y u k → BlockWithinTables env k
+step_stands func env f n None x y u k h o e = let same : no_effects ≡ k = cc in subst (BlockWithinTables env) same (refl, refl)
 step_stands func env f n (Some b) x y u k h o e =
-    outcome_stands env (block_step env func.instructions f b.0 b.1 x) y u k
+    outcome_stands env (infer_block env func.instructions f b.0 b.1 x) y u k
     (λ z s. block_stands env func.instructions f b.0 b.1 x z.0 z.1 (instructions_fit func env h) (terminal_fits func env n b h o) s) e
 
 none_hold : {K : Type 0} (q : K → Type 0) (n : ℕ) → AllHold q (replicate n None)
 none_hold q zero = tt
 none_hold q (suc n) = (tt, none_hold q n)
 
-kept_stand : (func : HirFunction) (env : Environment) (f : Bool) (w : World (Desk State) (Unit {0}) BlockEffects) → function_fits func env ≡ true → visits_end env func f ≡ end.Solved w → AllHold (BlockStands env) w.kept
-kept_stand func env f w h e =
-    solution_keeps state_join state_below (numbered env func f) (BlockStands env)
+recorded_exists : (func : HirFunction) (env : Environment) (f : Bool) (w : SolverState (VisitLog State) (Unit {0}) BlockEffects) → function_fits func env ≡ true → visits_end env func f ≡ end.Solved w → AllHold (BlockWithinTables env) w.recorded
+recorded_exists func env f w h e =
+    solution_keeps state_join state_below (numbered env func f) (BlockWithinTables env)
     (λ t n x y u k s. step_stands func env f n (slice_get func.body.blocks n) x y u k h refl s)
-    tt (replicate (length func.body.blocks) None) w (none_hold (BlockStands env) (length func.body.blocks)) e
+    tt (replicate (length func.body.blocks) None) w (none_hold (BlockWithinTables env) (length func.body.blocks)) e
 
-all_instructions : (env : Environment) (kept : List (Option BlockEffects)) → AllHold (BlockStands env) kept → OfInstructions env (flat_map instructions_kept kept)
+all_instructions : (env : Environment) (recorded : List (Option BlockEffects)) → AllHold (BlockWithinTables env) recorded → OfInstructions env (flat_map instructions_recorded recorded)
 all_instructions env [] a = refl
 all_instructions env (None ∷ ks) a = all_instructions env ks a.1
-all_instructions env (Some r ∷ ks) a = list_all-append _ r.instructions (flat_map instructions_kept ks) ∙ rw (a.0.0) (all_instructions env ks a.1)
+all_instructions env (Some r ∷ ks) a = list_all-append _ r.instructions (flat_map instructions_recorded ks) ∙ rw (a.0.0) (all_instructions env ks a.1)
 
-all_terminals : (env : Environment) (kept : List (Option BlockEffects)) → AllHold (BlockStands env) kept → OfTerminals env (flat_map terminal_kept kept)
+all_terminals : (env : Environment) (recorded : List (Option BlockEffects)) → AllHold (BlockWithinTables env) recorded → OfTerminals env (flat_map terminal_recorded recorded)
 all_terminals env [] a = refl
 all_terminals env (None ∷ ks) a = all_terminals env ks a.1
-all_terminals env (Some r ∷ ks) a = list_all-append _ r.terminal (flat_map terminal_kept ks) ∙ rw (a.0.1) (all_terminals env ks a.1)
+all_terminals env (Some r ∷ ks) a = list_all-append _ r.terminal (flat_map terminal_recorded ks) ∙ rw (a.0.1) (all_terminals env ks a.1)
 
-abbrev SolvedStands : Environment → Solved → Type 0
-SolvedStands env s = OfInstructions env s.effects × OfTerminals env s.terminal_effects
+abbrev SolvedWithinTables : Environment → Solved → Type 0
+SolvedWithinTables env s = OfInstructions env s.effects × OfTerminals env s.terminal_effects
 
-answer_stands : (func : HirFunction) (env : Environment) (f : Bool) (s : Solved) (r : End (Desk State) (Unit {0}) BlockEffects BlockFault) → function_fits func env ≡ true → visits_end env func f ≡ r → answer_of env func r ≡ Ok s → SolvedStands env s
+answer_stands : (func : HirFunction) (env : Environment) (f : Bool) (s : Solved) (r : End (VisitLog State) (Unit {0}) BlockEffects BlockFault) → function_fits func env ≡ true → visits_end env func f ≡ r → answer_of env func r ≡ Ok s → SolvedWithinTables env s
 answer_stands func env f s (end.Solved w) h v e =
-    let kept = kept_stand func env f w h v in
+    let recorded = recorded_exists func env f w h v in
     let same : solved_of func w ≡ s = cc in
-    subst (SolvedStands env) same (all_instructions env w.kept kept, all_terminals env w.kept kept)
+    subst (SolvedWithinTables env) same (all_instructions env w.recorded recorded, all_terminals env w.recorded recorded)
 answer_stands func env f s (end.Fault n c) h v e = cc
 answer_stands func env f s (end.NotSettled n) h v e = cc
 
--- the effects stand on the function with what was recorded
-effects_put : (func : HirFunction) (env : Environment) (s : Solved) → effects_stand env func ≡ true → SolvedStands env s → effects_stand env (recorded s func) ≡ true
+-- the effects are on the function with what was recorded
+effects_put : (func : HirFunction) (env : Environment) (s : Solved) → effects_within_tables env func ≡ true → SolvedWithinTables env s → effects_within_tables env (with_effects_of s func) ≡ true
 effects_put func env s h a =
-    let b = both_true _ (recorded_stand env func.aliasing_effects) h in
-    let c : InstructionsStand env func.instructions × TerminalsStand env func.body.blocks = both_true _ _ b.0 in
-    let i : InstructionsStand env (recorded_instructions s.effects func.instructions) = instructions_put env s.effects func.instructions a.0 c.0 in
-    let t : TerminalsStand env (recorded_terminals s.terminal_effects func.body.blocks) = terminals_put env s.terminal_effects func.body.blocks a.1 c.1 in
+    let b = both_true _ (recorded_within_tables env func.aliasing_effects) h in
+    let c : InstructionsWithinTables env func.instructions × TerminalsWithinTables env func.body.blocks = both_true _ _ b.0 in
+    let i : InstructionsWithinTables env (recorded_instructions s.effects func.instructions) = instructions_put env s.effects func.instructions a.0 c.0 in
+    let t : TerminalsWithinTables env (recorded_terminals s.terminal_effects func.body.blocks) = terminals_put env s.terminal_effects func.body.blocks a.1 c.1 in
     rw (i, t) (b.1)
 
 -- the inference takes the function with what it recorded
-pub recorded_fits : (func : HirFunction) (env : Environment) (f : Bool) (s : Solved) → function_fits func env ≡ true → inferred env func f ≡ Ok s → function_fits (recorded s func) env ≡ true
+pub recorded_fits : (func : HirFunction) (env : Environment) (f : Bool) (s : Solved) → function_fits func env ≡ true → inferred env func f ≡ Ok s → function_fits (with_effects_of s func) env ≡ true
 recorded_fits func env f s h e =
-    let a = both_true _ (tells_no_invariant env) h in
-    let b : (is_ok (function_rules env func) ≡ true) × (effects_stand env func ≡ true) = both_true _ _ a.0 in
-    let r : is_ok (function_rules env (recorded s func)) ≡ true = ap is_ok (rules_kept env s func) ∙ b.0 in
-    let t : effects_stand env (recorded s func) ≡ true = effects_put func env s b.1 (answer_stands func env f s (visits_end env func f) h refl e) in
+    let a = both_true _ (reports_no_invariant env) h in
+    let b : (is_ok (function_rules env func) ≡ true) × (effects_within_tables env func ≡ true) = both_true _ _ a.0 in
+    let r : is_ok (function_rules env (with_effects_of s func)) ≡ true = ap is_ok (rules_kept env s func) ∙ b.0 in
+    let t : effects_within_tables env (with_effects_of s func) ≡ true = effects_put func env s b.1 (answer_stands func env f s (visits_end env func f) h refl e) in
     rw (r, t) (a.1)
 
 -- the function with these effects on its instructions and terminals

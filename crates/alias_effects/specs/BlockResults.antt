@@ -3,7 +3,7 @@ use Rattle.std.specs.Prelude.{◌≡◌, Result, Ok, Err, ⊤}
 use Rattle.alias_lattice.specs.States.{State}
 use Rattle.alias_effects.specs.declared.faults.BlockFault.{BlockFault}
 use Rattle.alias_effects.specs.declared.faults.BlockFault.TheVariants.{Reinitialized, Uninitialized, Memory}
-use Rattle.alias_effects.specs.declared.block.Stand.{Stand}
+use Rattle.alias_effects.specs.declared.block.BlockProgress.{BlockProgress}
 use Rattle.alias_effects.specs.declared.block.BlockEffects.{BlockEffects}
 
 -- Ok is what the step gives, and a refusal is the step's. Memory may fail at any time.
@@ -13,8 +13,8 @@ Answers step (Err (Reinitialized i x)) = step ≡ Err (Reinitialized i x)
 Answers step (Err (Uninitialized m)) = step ≡ Err (Uninitialized m)
 Answers step (Err (Memory e)) = ⊤
 
-abbrev pub StandFollows : Result Stand BlockFault → Result Stand BlockFault → Type 0
-StandFollows = Answers
+abbrev pub SignatureGives : Result BlockProgress BlockFault → Result BlockProgress BlockFault → Type 0
+SignatureGives = Answers
 
 abbrev pub BlockGives : Result (State × BlockEffects) BlockFault → Result (State × BlockEffects) BlockFault → Type 0
 BlockGives = Answers

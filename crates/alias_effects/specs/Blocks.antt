@@ -22,21 +22,21 @@ use Rattle.alias_lattice.specs.declared.site.Site.TheVariants.{Default}
 use Rattle.alias_lattice.specs.declared.look.MissingLook.{MissingLook}
 use Rattle.alias_lattice.specs.States.{State, empty_state, sites_of, defined, defaulted, phied}
 use Rattle.alias_lattice.specs.Flows.{Flow, Outcome, Stepped, Refused}
-use Rattle.alias_effects.specs.declared.faults.StepFault.{StepFault}
-use Rattle.alias_effects.specs.declared.faults.StepFault.TheVariants as step
+use Rattle.alias_effects.specs.declared.faults.EffectFault.{EffectFault}
+use Rattle.alias_effects.specs.declared.faults.EffectFault.TheVariants as step
 use Rattle.alias_effects.specs.declared.faults.BlockFault.{BlockFault}
 use Rattle.alias_effects.specs.declared.faults.BlockFault.TheVariants.{Reinitialized, Uninitialized, Memory}
 use Rattle.alias_effects.specs.declared.solved.InstructionEffects.{InstructionEffects}
 use Rattle.alias_effects.specs.declared.solved.TerminalEffects.{TerminalEffects}
-use Rattle.alias_effects.specs.declared.spot.Spot.{Spot}
-use Rattle.alias_effects.specs.declared.block.Stand.{Stand}
+use Rattle.alias_effects.specs.declared.progress.StepProgress.{StepProgress}
+use Rattle.alias_effects.specs.declared.block.BlockProgress.{BlockProgress}
 use Rattle.alias_effects.specs.declared.block.BlockEffects.{BlockEffects}
-use Rattle.alias_effects.specs.Signatures.{raised_effects}
-use Rattle.alias_effects.specs.Rows.{rows}
+use Rattle.alias_effects.specs.Signatures.{compute_signature_for_instruction}
+use Rattle.alias_effects.specs.Apply.{apply_effects}
 
 -- an instruction begins with nothing made and nothing recorded
-abbrev pub spot_at : Stand → Spot
-spot_at s = record { state = s.state; made = []; recorded = []; missing = s.missing }
+abbrev pub step_start : BlockProgress → StepProgress
+step_start s = record { state = s.state; made = []; recorded = []; missing = s.missing }
 
 -- an identifier without sites gets one of its own, which reads Mutable {Other}
 abbrev pub with_default : Bool → IdentifierId → State → State
@@ -49,46 +49,46 @@ recorded_as i [] = []
 recorded_as i (e ∷ es) = record { instruction = i; effects = e ∷ es } ∷ []
 
 -- after the list of an instruction: its result has a value
-abbrev pub after_list : InstructionId → IdentifierId → List InstructionEffects → Spot → Stand
-after_list i result effects s = record {
+abbrev pub after_signature : InstructionId → IdentifierId → List InstructionEffects → StepProgress → BlockProgress
+after_signature i result effects s = record {
   state = with_default (is_some (sites_of s.state result)) result s.state;
   effects = effects ++ recorded_as i s.recorded;
   missing = s.missing;
 }
 
 -- a fault of an instruction's step, as one of its block's
-abbrev pub fault_at : InstructionId → StepFault → BlockFault
+abbrev pub fault_at : InstructionId → EffectFault → BlockFault
 fault_at i (step.Reinitialized x) = Reinitialized i x
 fault_at i (step.Memory e) = Memory e
 
-abbrev pub in_block : {A : Type 0} → InstructionId → Result A StepFault → Result A BlockFault
+abbrev pub in_block : {A : Type 0} → InstructionId → Result A EffectFault → Result A BlockFault
 in_block i (Ok x) = Ok x
 in_block i (Err e) = Err (fault_at i e)
 
 -- the step of an instruction: its list, and then a value for its result
-abbrev pub instruction_step : Environment → InstructionId → Instruction → Stand → Result Stand BlockFault
-instruction_step env i x s = do
-  u ← in_block i (rows (raised_effects env x) (spot_at s))
-  Ok (after_list i x.lvalue.identifier s.effects u)
+abbrev pub apply_signature : Environment → InstructionId → Instruction → BlockProgress → Result BlockProgress BlockFault
+apply_signature env i x s = do
+  u ← in_block i (apply_effects (compute_signature_for_instruction env x) (step_start s))
+  Ok (after_signature i x.lvalue.identifier s.effects u)
 
 -- by the instruction's number in its function; nothing is done where there is none
-abbrev pub numbered_step : Environment → InstructionId → Option Instruction → Stand → Result Stand BlockFault
-numbered_step env i None s = Ok s
-numbered_step env i (Some x) s = instruction_step env i x s
+abbrev pub apply_signature_at : Environment → InstructionId → Option Instruction → BlockProgress → Result BlockProgress BlockFault
+apply_signature_at env i None s = Ok s
+apply_signature_at env i (Some x) s = apply_signature env i x s
 
-abbrev pub instruction_steps : Environment → List Instruction → List InstructionId → Stand → Result Stand BlockFault
-instruction_steps env instructions [] s = Ok s
-instruction_steps env instructions (i ∷ is) s =
-    numbered_step env i (slice_get instructions i.0) s >>= instruction_steps env instructions is
+abbrev pub apply_signatures : Environment → List Instruction → List InstructionId → BlockProgress → Result BlockProgress BlockFault
+apply_signatures env instructions [] s = Ok s
+apply_signatures env instructions (i ∷ is) s =
+    apply_signature_at env i (slice_get instructions i.0) s >>= apply_signatures env instructions is
 
 -- each phi in order takes the values of its operands
-abbrev pub phi_steps : List Phi → State → State
-phi_steps [] x = x
-phi_steps (p ∷ ps) x = phi_steps ps (phied p.place.identifier p.operands x)
+abbrev pub infer_phis : List Phi → State → State
+infer_phis [] x = x
+infer_phis (p ∷ ps) x = infer_phis ps (phied p.place.identifier p.operands x)
 
 -- a block begins with nothing recorded and no look missed
-abbrev pub stand_of : State → Stand
-stand_of x = record { state = x; effects = []; missing = None }
+abbrev pub block_start : State → BlockProgress
+block_start x = record { state = x; effects = []; missing = None }
 
 -- what is returned from a component or hook is frozen
 abbrev pub return_effects : Bool → Place → List AliasingEffect
@@ -108,14 +108,14 @@ abbrev pub terminal_effects : Bool → BlockId → Terminal → List TerminalEff
 terminal_effects is_function_expression b t = terminal_recorded_as b (action_effects is_function_expression t)
 
 -- the end of a block's step: a missing look refuses it
-abbrev pub finished : Option MissingLook → List TerminalEffects → Stand → Result (State × BlockEffects) BlockFault
+abbrev pub finished : Option MissingLook → List TerminalEffects → BlockProgress → Result (State × BlockEffects) BlockFault
 finished (Some m) terminal s = Err (Uninitialized m)
 finished None terminal s = Ok (s.state, record { instructions = s.effects; terminal = terminal })
 
 -- the step of a block from a state: its phis, its instructions, and what its terminal records
-abbrev pub block_step : Environment → List Instruction → Bool → BlockId → BasicBlock → State → Result (State × BlockEffects) BlockFault
-block_step env instructions is_function_expression b block x = do
-  s ← instruction_steps env instructions block.instructions (stand_of (phi_steps block.phis x))
+abbrev pub infer_block : Environment → List Instruction → Bool → BlockId → BasicBlock → State → Result (State × BlockEffects) BlockFault
+infer_block env instructions is_function_expression b block x = do
+  s ← apply_signatures env instructions block.instructions (block_start (infer_phis block.phis x))
   finished s.missing (terminal_effects is_function_expression b block.terminal) s
 
 abbrev pub outcome_of : Result (State × BlockEffects) BlockFault → Outcome State (Unit {0}) BlockEffects BlockFault
@@ -128,7 +128,7 @@ no_effects = record { instructions = []; terminal = [] }
 -- a block that isn't there does nothing
 abbrev pub outcome_at : Environment → List Instruction → Bool → BlockId → Option BasicBlock → State → Outcome State (Unit {0}) BlockEffects BlockFault
 outcome_at env instructions is_function_expression b None x = Stepped x tt no_effects
-outcome_at env instructions is_function_expression b (Some block) x = outcome_of (block_step env instructions is_function_expression b block x)
+outcome_at env instructions is_function_expression b (Some block) x = outcome_of (infer_block env instructions is_function_expression b block x)
 
 -- the blocks that control may go on to from a block
 abbrev pub successors_at : Option BasicBlock → List BlockId

@@ -11,7 +11,7 @@ use Rattle.alias_hir.specs.declared.error.InferError.{InferError}
 use Rattle.alias_hir.specs.declared.error.InferError.TheVariants as error
 use Rattle.alias_hir.specs.Reports.{uninitialized_report, not_settled_report}
 use Rattle.alias_lattice.specs.States.{State}
-use Rattle.alias_flow.specs.Machine.{World, Desk, End}
+use Rattle.alias_flow.specs.Machine.{SolverState, VisitLog, End}
 use Rattle.alias_flow.specs.Machine as end
 use Rattle.alias_effects.specs.declared.faults.BlockFault.{BlockFault}
 use Rattle.alias_effects.specs.declared.faults.BlockFault.TheVariants.{Reinitialized, Uninitialized, Memory}
@@ -21,7 +21,7 @@ use Rattle.alias_effects.specs.declared.solved.InstructionEffects.{InstructionEf
 use Rattle.alias_effects.specs.declared.solved.Solved.{Solved}
 use Rattle.alias_effects.specs.declared.solved.TerminalEffects.{TerminalEffects}
 use Rattle.alias_effects.specs.Numbered.{Blocks, visits_end}
-use Rattle.alias_effects.specs.Recording.{recorded}
+use Rattle.alias_effects.specs.Recording.{with_effects_of}
 
 -- the fault of a block's step, as a refusal of the root function
 abbrev pub refusal : Environment → BlockId → BlockFault → InferError
@@ -41,26 +41,26 @@ entries_of (b ∷ bs) (None ∷ xs) = entries_of bs xs
 entries_of (b ∷ bs) (Some x ∷ xs) = record { block = b.0; state = x } ∷ entries_of bs xs
 
 -- what was recorded of the instructions of a block that was visited
-abbrev pub instructions_kept : Option BlockEffects → List InstructionEffects
-instructions_kept None = []
-instructions_kept (Some r) = r.instructions
+abbrev pub instructions_recorded : Option BlockEffects → List InstructionEffects
+instructions_recorded None = []
+instructions_recorded (Some r) = r.instructions
 
 -- what was recorded of the terminal of a block that was visited
-abbrev pub terminal_kept : Option BlockEffects → List TerminalEffects
-terminal_kept None = []
-terminal_kept (Some r) = r.terminal
+abbrev pub terminal_recorded : Option BlockEffects → List TerminalEffects
+terminal_recorded None = []
+terminal_recorded (Some r) = r.terminal
 
--- what is handed out where nothing is wanted any more: entry states are the joins of what was sent, and effects those of last visits
-abbrev pub solved_of : HirFunction → World (Desk State) (Unit {0}) BlockEffects → Solved
+-- what is handed out where nothing is dirty any more: entry states are the joins of what was sent, and effects those of last visits
+abbrev pub solved_of : HirFunction → SolverState (VisitLog State) (Unit {0}) BlockEffects → Solved
 solved_of func w = record {
   function = None;
-  visits = map (block_at func.body.blocks) w.desk.visits;
-  entries = entries_of func.body.blocks w.desk.sent;
-  effects = flat_map instructions_kept w.kept;
-  terminal_effects = flat_map terminal_kept w.kept;
+  visits = map (block_at func.body.blocks) w.progress.visits;
+  entries = entries_of func.body.blocks w.progress.joined_input;
+  effects = flat_map instructions_recorded w.recorded;
+  terminal_effects = flat_map terminal_recorded w.recorded;
 }
 
-abbrev pub answer_of : Environment → HirFunction → End (Desk State) (Unit {0}) BlockEffects BlockFault → Result Solved InferError
+abbrev pub answer_of : Environment → HirFunction → End (VisitLog State) (Unit {0}) BlockEffects BlockFault → Result Solved InferError
 answer_of env func (end.Solved w) = Ok (solved_of func w)
 answer_of env func (end.Fault n fault) = Err (refusal env (block_at func.body.blocks n) fault)
 answer_of env func (end.NotSettled visits) = Err (error.NotSettled None visits not_settled_report)
@@ -73,7 +73,7 @@ inferred env func is_function_expression = answer_of env func (visits_end env fu
 abbrev pub effects_inferred : Environment → HirFunction → Bool → Result HirFunction InferError
 effects_inferred env func is_function_expression = do
   s ← inferred env func is_function_expression
-  Ok (recorded s func)
+  Ok (with_effects_of s func)
 
 -- Ok is the answer stated, and so is a refusal. Memory may fail at any time.
 abbrev pub Infers : {A : Type 0} → Result A InferError → Result A InferError → Type 0

@@ -11,8 +11,8 @@ use Rattle.alias_hir.specs.declared.hir.HirFunction.{HirFunction}
 use Rattle.alias_hir.specs.declared.hir.Instruction.{Instruction}
 use Rattle.alias_lattice.specs.Flows.{Outcome, Stepped}
 use Rattle.alias_lattice.specs.States.{State, state_below, state_join}
-use Rattle.alias_flow.specs.Machine.{Rules, Desk, End, solution}
-use Rattle.alias_effects.specs.Blocks.{block_step, outcome_of, no_effects, initial_state}
+use Rattle.alias_flow.specs.Machine.{Rules, VisitLog, End, solution}
+use Rattle.alias_effects.specs.Blocks.{infer_block, outcome_of, no_effects, initial_state}
 use Rattle.alias_effects.specs.declared.block.BlockEffects.{BlockEffects}
 use Rattle.alias_effects.specs.declared.faults.BlockFault.{BlockFault}
 
@@ -20,7 +20,7 @@ use Rattle.alias_effects.specs.declared.faults.BlockFault.{BlockFault}
 abbrev pub Blocks : Type 0
 Blocks = List (BlockId × BasicBlock)
 
--- where the block stands in stored order, if it is one
+-- the position of the block in stored order, if it is one
 abbrev pub position_of : Blocks → BlockId → Option ℕ
 position_of blocks b = position (same_block b) (keys_of blocks)
 
@@ -28,12 +28,12 @@ abbrev pub with_position : Option ℕ → List ℕ → List ℕ
 with_position None ns = ns
 with_position (Some n) ns = n ∷ ns
 
--- where those of the list that are blocks stand
+-- the positions of those of the list that are blocks
 abbrev pub positions_of : Blocks → List BlockId → List ℕ
 positions_of blocks [] = []
 positions_of blocks (b ∷ bs) = with_position (position_of blocks b) (positions_of blocks bs)
 
--- where the successors of a block stand
+-- the positions of the successors of a block
 abbrev pub edges_at : Blocks → Option (BlockId × BasicBlock) → List ℕ
 edges_at blocks None = []
 edges_at blocks (Some b) = positions_of blocks (successors b.1.terminal)
@@ -41,9 +41,9 @@ edges_at blocks (Some b) = positions_of blocks (successors b.1.terminal)
 -- a position past the end does nothing
 abbrev pub step_at : Environment → List Instruction → Bool → Option (BlockId × BasicBlock) → State → Outcome State (Unit {0}) BlockEffects BlockFault
 step_at env instructions is_function_expression None x = Stepped x tt no_effects
-step_at env instructions is_function_expression (Some b) x = outcome_of (block_step env instructions is_function_expression b.0 b.1 x)
+step_at env instructions is_function_expression (Some b) x = outcome_of (infer_block env instructions is_function_expression b.0 b.1 x)
 
--- where the entry stands; a function that keeps the rules has one
+-- the position of the entry; a function that keeps the rules has one
 abbrev pub entry_position : HirFunction → ℕ
 entry_position func = option_map_or (λ n. n) (position_of func.body.blocks func.body.entry) 0
 
@@ -60,6 +60,6 @@ numbered env func is_function_expression = record {
 }
 
 -- how the sequence of visits of the function ends
-abbrev pub visits_end : Environment → HirFunction → Bool → End (Desk State) (Unit {0}) BlockEffects BlockFault
+abbrev pub visits_end : Environment → HirFunction → Bool → End (VisitLog State) (Unit {0}) BlockEffects BlockFault
 visits_end env func is_function_expression =
     solution state_join state_below (numbered env func is_function_expression) tt (replicate (length func.body.blocks) None)

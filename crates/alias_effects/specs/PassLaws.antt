@@ -15,13 +15,13 @@ use Rattle.alias_hir.specs.Terminals.{successors}
 use Rattle.alias_flow.specs.declared.flow.StepFault.{StepFault}
 use Rattle.alias_flow.specs.declared.flow.StepFault.TheVariants.{Refused as Refuses, Memory as NoMemory}
 use Rattle.alias_flow.specs.Machine.{FlowLaws}
-use Rattle.alias_lattice.specs.Standing.{StateProper}
+use Rattle.alias_lattice.specs.StateLaws.{StateProper}
 use Rattle.alias_lattice.specs.Proper.{proper-empty_state}
 use Rattle.alias_effects.specs.declared.faults.BlockFault.{BlockFault}
 use Rattle.alias_effects.specs.declared.faults.BlockFault.TheVariants.{Reinitialized, Uninitialized, Memory}
 use Rattle.alias_effects.specs.declared.block.BlockEffects.{BlockEffects}
-use Rattle.alias_effects.specs.BlockProper.{step_at_proper}
-use Rattle.alias_effects.specs.Positions.{found_stands}
+use Rattle.alias_effects.specs.BlockProperLaws.{step_at_proper}
+use Rattle.alias_effects.specs.PositionLaws.{found_has_position}
 use Rattle.alias_effects.specs.Numbered.{Blocks, position_of, with_position, positions_of, edges_at, numbered}
 
 -- any tables extend any, since there are none yet
@@ -34,7 +34,7 @@ step_fault (Reinitialized i x) = Refuses (Reinitialized i x)
 step_fault (Uninitialized m) = Refuses (Uninitialized m)
 step_fault (Memory e) = NoMemory e
 
--- what stands somewhere stands below the number of blocks
+-- a position is below the number of blocks
 pub position_below : (blocks : Blocks) (b : BlockId) (n : ℕ) → position_of blocks b ≡ Some n → n < length blocks
 position_below blocks b n e = subst (λ k. n < k) (length-keys_of blocks) (position-Some (same_block b) (keys_of blocks) n b e).0
 
@@ -56,15 +56,15 @@ entry_below (Some n) m h f = f n refl
 
 -- where the entry is a block, the pass is a flow over the positions of blocks
 pub pass_laws : (env : Environment) (func : HirFunction) (is_function_expression : Bool) → is_some (value_at func.body.blocks func.body.entry) ≡ true
-    → (kept : List (Option BlockEffects)) → length kept ≡ length func.body.blocks → FlowLaws StateProper Extends (numbered env func is_function_expression) kept
-pass_laws env func is_function_expression stands kept long =
+    → (recorded : List (Option BlockEffects)) → length recorded ≡ length func.body.blocks → FlowLaws StateProper Extends (numbered env func is_function_expression) recorded
+pass_laws env func is_function_expression at_index recorded long =
     let blocks = func.body.blocks in
     let entry = func.body.entry in
     record {
-      kept_length = long;
+      recorded_length = long;
       initial_proper = proper-empty_state;
       step_proper = λ t n x y u k p e. step_at_proper env func.instructions is_function_expression (slice_get blocks n) x y u k p e;
-      entry_below = entry_below (position_of blocks entry) (length blocks) (found_stands blocks entry stands) (position_below blocks entry);
+      entry_below = entry_below (position_of blocks entry) (length blocks) (found_has_position blocks entry at_index) (position_below blocks entry);
       edges_below = λ n h. edges_below blocks (slice_get blocks n);
       reflexive = λ t. tt;
       transitive = λ t u v g h. tt;

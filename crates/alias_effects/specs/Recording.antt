@@ -37,8 +37,8 @@ recorded_terminals [] blocks = blocks
 recorded_terminals (e ∷ es) blocks = with_terminal e (recorded_terminals es blocks)
 
 -- the function with what was recorded; nothing else of it changes
-abbrev pub recorded : Solved → HirFunction → HirFunction
-recorded s func = record func {
+abbrev pub with_effects_of : Solved → HirFunction → HirFunction
+with_effects_of s func = record func {
   instructions = recorded_instructions s.effects func.instructions;
   body = record func.body { blocks = recorded_terminals s.terminal_effects func.body.blocks };
 }

@@ -1,4 +1,4 @@
--- The effects that each kind of instruction raises, in order.
+-- The signature of each kind of instruction: the effects that it has before the state is looked at, in order.
 use Rattle.std.specs.Prelude.{Bool, false, ◌&&◌, nat_eq, List, [], ◌∷◌, Option, Some, None, codes, if◌then◌else◌}
 use Rattle.std.specs.Cmp.Lexicographic.{pointwise}
 use Rattle.alias_hir.specs.declared.place.Place.{Place}
@@ -53,14 +53,14 @@ load_local_effects l place = Assign place l ∷ []
 abbrev pub store_local_effects : Place → LValue → Place → List AliasingEffect
 store_local_effects l variable v = Assign v variable.place ∷ Assign v l ∷ []
 
-abbrev pub value_effects : Environment → Place → InstructionValue → List AliasingEffect
-value_effects env l value.ObjectExpression = object_expression_effects l
-value_effects env l (value.PropertyLoad object) = property_load_effects env l object
-value_effects env l (value.PropertyStore object p v) = property_store_effects env l object p v
-value_effects env l (value.LoadLocal place) = load_local_effects l place
-value_effects env l (value.StoreLocal variable v) = store_local_effects l variable v
-value_effects env l value.Primitive = primitive_effects l
+abbrev pub signature_of_value : Environment → Place → InstructionValue → List AliasingEffect
+signature_of_value env l value.ObjectExpression = object_expression_effects l
+signature_of_value env l (value.PropertyLoad object) = property_load_effects env l object
+signature_of_value env l (value.PropertyStore object p v) = property_store_effects env l object p v
+signature_of_value env l (value.LoadLocal place) = load_local_effects l place
+signature_of_value env l (value.StoreLocal variable v) = store_local_effects l variable v
+signature_of_value env l value.Primitive = primitive_effects l
 
--- the effects that an instruction raises
-abbrev pub raised_effects : Environment → Instruction → List AliasingEffect
-raised_effects env i = value_effects env i.lvalue i.value
+-- The signature of an instruction
+abbrev pub compute_signature_for_instruction : Environment → Instruction → List AliasingEffect
+compute_signature_for_instruction env i = signature_of_value env i.lvalue i.value

@@ -2,14 +2,14 @@
 ghost use Rattle.std.specs.Prelude.{◌≡◌, ◌++◌, OnOk, IfOk, option_map};
 ghost use Rattle.std.specs.Option.{is_some};
 ghost use Rattle.alias_lattice.specs.States.{sites_of};
-ghost use Rattle.alias_effects.specs.Blocks.{with_default, recorded_as, instruction_step, numbered_step, instruction_steps, phi_steps, stand_of, return_effects, action_effects, terminal_recorded_as, terminal_effects, finished, block_step, fault_at};
-ghost use Rattle.alias_effects.specs.BlockResults.{StandFollows, BlockGives};
+ghost use Rattle.alias_effects.specs.Blocks.{with_default, recorded_as, apply_signature, apply_signature_at, apply_signatures, infer_phis, block_start, return_effects, action_effects, terminal_recorded_as, terminal_effects, finished, infer_block, fault_at};
+ghost use Rattle.alias_effects.specs.BlockResults.{SignatureGives, BlockGives};
 
-use crate::faults::{BlockFault, StepFault};
-use crate::rows::rows;
-use crate::signature::raised_effects;
+use crate::apply::apply_effects;
+use crate::faults::{BlockFault, EffectFault};
+use crate::progress::StepProgress;
+use crate::signature::compute_signature_for_instruction;
 use crate::solved::{InstructionEffects, TerminalEffects};
-use crate::spot::Spot;
 use alias_base::{BlockId, IdentifierId, InstructionId, List};
 use alias_hir::effect::{AliasingEffect, AliasingEffects, ValueReason};
 use alias_hir::env::Environment;
@@ -19,9 +19,9 @@ use alias_hir::terminal::Terminal;
 use alias_lattice::{InferenceState, MissingLook};
 use std::alloc::{AllocError, Global};
 
-/// Where the instructions of a block stand.
+/// How far the step of a block has come.
 #[derive(Drop)]
-pub struct Stand {
+pub struct BlockProgress {
     pub state: InferenceState,
     pub effects: List<InstructionEffects>,
     /// The first look at an identifier without a value.
@@ -44,15 +44,15 @@ fn define_result(state: &mut InferenceState, result_id: IdentifierId) -> Result<
     state.define_default(result_id)
 }
 
-fn fault_at(instruction: InstructionId, fault: StepFault) -> BlockFault
+fn fault_at(instruction: InstructionId, fault: EffectFault) -> BlockFault
     ensures { result ≡ fault_at instruction fault }
 {
     match fault {
-        StepFault::Reinitialized { identifier } => BlockFault::Reinitialized {
+        EffectFault::Reinitialized { identifier } => BlockFault::Reinitialized {
             instruction,
             identifier,
         },
-        StepFault::Memory(e) => BlockFault::Memory(e),
+        EffectFault::Memory(e) => BlockFault::Memory(e),
     }
 }
 
@@ -74,81 +74,81 @@ fn push_recorded(
 }
 
 /// The step of an instruction.
-fn instruction_step(
+fn apply_signature(
     alloc: Global,
     env: &Environment,
     id: InstructionId,
     instruction: &Instruction,
-    stand: Stand,
-) -> Result<Stand, BlockFault>
-    ensures { StandFollows (instruction_step env.now id instruction.now stand) result }
+    progress: BlockProgress,
+) -> Result<BlockProgress, BlockFault>
+    ensures { SignatureGives (apply_signature env.now id instruction.now progress) result }
 {
-    let raised = raised_effects(alloc, env, instruction)?;
-    let Stand {
+    let signature = compute_signature_for_instruction(alloc, env, instruction)?;
+    let BlockProgress {
         state,
         mut effects,
         missing,
-    } = stand;
-    let mut spot = Spot {
+    } = progress;
+    let mut step = StepProgress {
         state,
         made: List::new(alloc),
         recorded: List::new(alloc),
         missing,
     };
-    match rows(&mut spot, raised.as_slice()) {
+    match apply_effects(&mut step, signature.as_slice()) {
         Ok(()) => {}
         Err(fault) => return Err(fault_at(id, fault)),
     }
-    let Spot {
+    let StepProgress {
         mut state,
         made: _made,
         recorded,
         missing,
-    } = spot;
+    } = step;
     define_result(&mut state, instruction.lvalue.identifier)?;
     push_recorded(&mut effects, id, recorded)?;
-    Ok(Stand {
+    Ok(BlockProgress {
         state,
         effects,
         missing,
     })
 }
 
-fn numbered_step(
+fn apply_signature_at(
     alloc: Global,
     env: &Environment,
     id: InstructionId,
     instruction: Option<&Instruction>,
-    stand: Stand,
-) -> Result<Stand, BlockFault>
-    ensures { StandFollows (numbered_step env.now id (option_map (λ i. i.now) instruction.entry) stand) result }
+    progress: BlockProgress,
+) -> Result<BlockProgress, BlockFault>
+    ensures { SignatureGives (apply_signature_at env.now id (option_map (λ i. i.now) instruction.entry) progress) result }
 {
     match instruction {
-        Some(instruction) => instruction_step(alloc, env, id, instruction, stand),
-        None => Ok(stand),
+        Some(instruction) => apply_signature(alloc, env, id, instruction, progress),
+        None => Ok(progress),
     }
 }
 
 /// The steps of a block's instructions, in order.
-fn instruction_steps(
+fn apply_signatures(
     alloc: Global,
     env: &Environment,
     instructions: &List<Instruction>,
     block: &BasicBlock,
-    stand: Stand,
-) -> Result<Stand, BlockFault>
-    ensures { StandFollows (instruction_steps env.now instructions.now block.now.instructions stand) result }
+    progress: BlockProgress,
+) -> Result<BlockProgress, BlockFault>
+    ensures { SignatureGives (apply_signatures env.now instructions.now block.now.instructions progress) result }
 {
-    let mut stand = stand;
+    let mut progress = progress;
     for id in block.instructions.as_slice() {
-        stand = numbered_step(alloc, env, *id, instructions.get(id.0 as usize), stand)?;
+        progress = apply_signature_at(alloc, env, *id, instructions.get(id.0 as usize), progress)?;
     }
-    Ok(stand)
+    Ok(progress)
 }
 
 /// Each phi takes the values of its operands, in order.
-fn phi_steps(phis: &List<Phi>, state: &mut InferenceState) -> Result<(), AllocError>
-    ensures { OnOk result (state.new ≡ phi_steps phis.now state.old) }
+fn infer_phis(phis: &List<Phi>, state: &mut InferenceState) -> Result<(), AllocError>
+    ensures { OnOk result (state.new ≡ infer_phis phis.now state.old) }
 {
     for phi in phis.as_slice() {
         state.infer_phi(phi.place.identifier, &phi.operands)?;
@@ -213,16 +213,16 @@ fn terminal_effects(
 }
 
 fn finished(
-    stand: Stand,
+    progress: BlockProgress,
     terminal: List<TerminalEffects>,
 ) -> Result<(InferenceState, BlockEffects), BlockFault>
-    ensures { result ≡ finished stand.missing terminal stand }
+    ensures { result ≡ finished progress.missing terminal progress }
 {
-    let Stand {
+    let BlockProgress {
         state,
         effects,
         missing,
-    } = stand;
+    } = progress;
     match missing {
         Some(look) => Err(BlockFault::Uninitialized(look)),
         None => Ok((
@@ -236,7 +236,7 @@ fn finished(
 }
 
 /// The step of a block from a state: the state after it, and what was recorded.
-pub fn block_step(
+pub fn infer_block(
     alloc: Global,
     env: &Environment,
     instructions: &List<Instruction>,
@@ -245,16 +245,16 @@ pub fn block_step(
     block: &BasicBlock,
     state: InferenceState,
 ) -> Result<(InferenceState, BlockEffects), BlockFault>
-    ensures { BlockGives (block_step env.now instructions.now is_function_expression id block.now state) result }
+    ensures { BlockGives (infer_block env.now instructions.now is_function_expression id block.now state) result }
 {
     let mut state = state;
-    phi_steps(&block.phis, &mut state)?;
-    let stand = Stand {
+    infer_phis(&block.phis, &mut state)?;
+    let progress = BlockProgress {
         state,
         effects: List::new(alloc),
         missing: None,
     };
-    let stand = instruction_steps(alloc, env, instructions, block, stand)?;
+    let progress = apply_signatures(alloc, env, instructions, block, progress)?;
     let terminal = terminal_effects(alloc, is_function_expression, id, &block.terminal)?;
-    finished(stand, terminal)
+    finished(progress, terminal)
 }

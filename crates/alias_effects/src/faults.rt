@@ -1,6 +1,6 @@
 //! Why a step is refused.
 ghost use Rattle.std.specs.Prelude.{◌≡◌, alloc_error};
-ghost use Rattle.alias_effects.specs.declared.faults.StepFault.TheVariants.{Memory as StepMemory};
+ghost use Rattle.alias_effects.specs.declared.faults.EffectFault.TheVariants.{Memory as StepMemory};
 ghost use Rattle.alias_effects.specs.declared.faults.BlockFault.TheVariants.{Memory as BlockMemory};
 
 use alias_base::{IdentifierId, InstructionId};
@@ -9,25 +9,25 @@ use std::alloc::{AllocError, AllocFailed};
 
 /// Why the step of an effect is refused.
 #[derive(Drop)]
-pub enum StepFault {
+pub enum EffectFault {
     /// The instruction made the identifier before.
     Reinitialized { identifier: IdentifierId },
     Memory(AllocError),
 }
 
-impl From<AllocError> for StepFault {
+impl From<AllocError> for EffectFault {
     ghost from_gives = { λ e r. r ≡ StepMemory e };
 
-    fn from(e: AllocError) -> StepFault {
-        StepFault::Memory(e)
+    fn from(e: AllocError) -> EffectFault {
+        EffectFault::Memory(e)
     }
 }
 
-impl<T: Drop> From<AllocFailed<T>> for StepFault {
+impl<T: Drop> From<AllocFailed<T>> for EffectFault {
     ghost from_gives = { λ _ r. r ≡ StepMemory alloc_error };
 
-    fn from(_e: AllocFailed<T>) -> StepFault {
-        StepFault::Memory(AllocError)
+    fn from(_e: AllocFailed<T>) -> EffectFault {
+        EffectFault::Memory(AllocError)
     }
 }
 

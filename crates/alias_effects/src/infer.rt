@@ -6,15 +6,15 @@ ghost use Rattle.alias_base.specs.Find.{same_block};
 ghost use Rattle.alias_lattice.specs.States.{state_join, state_below};
 ghost use Rattle.alias_flow.specs.Machine.{solution};
 ghost use Rattle.alias_rules.specs.Fitting.{function_fits};
-ghost use Rattle.alias_effects.specs.Handing.{unsettled, unsolved, last_effects, VisitsEnd};
+ghost use Rattle.alias_effects.specs.Output.{unsettled, unsolved, last_effects, VisitsEnd};
 ghost use Rattle.alias_effects.specs.Inference.{refusal, inferred, effects_inferred, Infers, InfersInto, RefusesAs};
 ghost use Rattle.alias_effects.specs.Numbered.{numbered};
-ghost use Rattle.alias_effects.specs.Recording.{recorded};
+ghost use Rattle.alias_effects.specs.Recording.{with_effects_of};
 ghost use Rattle.alias_effects.specs.Solutions.{IsSolved};
 
 use crate::block::BlockEffects;
 use crate::faults::BlockFault;
-use crate::handing::{all_kept, block_at, solved_of};
+use crate::output::{all_recorded, block_at, solved_of};
 use crate::pass::EffectsPass;
 use crate::recording::{record_instructions, record_terminals};
 use crate::solved::Solved;
@@ -94,7 +94,7 @@ fn pass_over<'a>(
 ) -> Result<EffectsPass<'a>, AllocError>
     requires { function_fits func.now env.now ≡ true }
     ensures rules { IfOk result (λ pass. numbered pass.env.now pass.func.now pass.is_function_expression ≡ numbered env.now func.now is_function_expression) }
-    ensures kept { IfOk result (λ pass. pass.kept.items ≡ replicate (length func.now.body.blocks) None) }
+    ensures recorded { IfOk result (λ pass. pass.recorded.items ≡ replicate (length func.now.body.blocks) None) }
     ensures distinct { IfOk result (λ _. IsDistinct same_block (keys_of func.now.body.blocks)) }
 {
     let count = func.body.blocks.len();
@@ -106,7 +106,7 @@ fn pass_over<'a>(
         env,
         func,
         is_function_expression,
-        kept: nothing_yet(alloc, count as u32)?,
+        recorded: nothing_yet(alloc, count as u32)?,
     })
 }
 
@@ -123,16 +123,16 @@ fn solved(
 {
     let mut pass = pass_over(alloc, func, env, is_function_expression)?;
     let answer = solve(alloc, &mut pass);
-    let EffectsPass { kept, .. } = pass;
+    let EffectsPass { recorded, .. } = pass;
     match answer {
-        Ok(solution) => Ok(solved_of(alloc, func, solution, kept)?),
+        Ok(solution) => Ok(solved_of(alloc, func, solution, recorded)?),
         Err(fault) => Err(unsolved(alloc, env, func, fault)),
     }
 }
 
-/// Visits the blocks until nothing is wanted, with no entry state kept where all edges go forward.
+/// Visits the blocks until nothing is dirty, with no entry state kept where all edges go forward.
 fn visit_all(alloc: Global, pass: &mut EffectsPass<'_>) -> Result<(), SolveFault<BlockFault>>
-    ensures { VisitsEnd (solution state_join state_below (numbered pass.old.env.now pass.old.func.now pass.old.is_function_expression) tt pass.old.kept.items) result pass.new.kept.items }
+    ensures { VisitsEnd (solution state_join state_below (numbered pass.old.env.now pass.old.func.now pass.old.is_function_expression) tt pass.old.recorded.items) result pass.new.recorded.items }
 {
     if is_forward(&*pass)? {
         return solve_forward(alloc, pass);
@@ -153,20 +153,20 @@ fn last_effects(
 {
     let mut pass = pass_over(alloc, func, env, is_function_expression)?;
     let answer = visit_all(alloc, &mut pass);
-    let EffectsPass { kept, .. } = pass;
+    let EffectsPass { recorded, .. } = pass;
     match answer {
-        Ok(()) => Ok(all_kept(alloc, kept)?),
+        Ok(()) => Ok(all_recorded(alloc, recorded)?),
         Err(fault) => Err(unsolved(alloc, env, func, fault)),
     }
 }
 
 /// Infers what each instruction of the function creates, aliases, freezes and mutates.
 ///
-/// At `Ok` the effects stand on the instructions and terminals, and what is handed out has them too, with
+/// At `Ok` the effects are on the instructions and terminals, and what is handed out has them too, with
 /// entry states that solve the function's flow. An `Err` leaves the function unchanged. The environment
 /// doesn't change, and on every answer `check_function` still holds. `Uninitialized` comes exactly where the
 /// step of a visited block looks at an identifier without a value, `Reinitialized` exactly where an
-/// instruction's effects make an identifier twice, and `NotSettled` exactly where a block is still wanted
+/// instruction's effects make an identifier twice, and `NotSettled` exactly where a block is still dirty
 /// after 100 rounds. `Memory` can come at any growth, and comes where the function has 2^32 blocks or more.
 /// docs/MODEL.md has the rules.
 #[tactic(auto, using(crate::proofs::StillFits::recorded_fits))]
@@ -179,7 +179,7 @@ pub fn infer_effects_certified(
     requires { function_fits func.old env.old ≡ true }
     ensures answer { Infers (inferred env.old func.old is_function_expression) result }
     ensures solves { IfOk result (λ s. IsSolved env.old func.old is_function_expression s) }
-    ensures recorded { IfOk result (λ s. func.new ≡ recorded s func.old) }
+    ensures recorded { IfOk result (λ s. func.new ≡ with_effects_of s func.old) }
     ensures err { OnErr result (func.new ≡ func.old) }
     ensures env { env.new ≡ env.old }
     ensures fits { function_fits func.new env.new ≡ true }
@@ -195,7 +195,7 @@ pub fn infer_effects_certified(
 /// Infers what each instruction of the function creates, aliases, freezes and mutates, and hands nothing
 /// out. Where each block's successors stand after it, no entry state is kept.
 ///
-/// At `Ok` the effects stand on the instructions and terminals: those that `infer_effects_certified` hands
+/// At `Ok` the effects are on the instructions and terminals: those that `infer_effects_certified` hands
 /// out. An `Err` comes exactly where that comes there, and leaves the function unchanged; want of memory can
 /// come at any growth. The environment doesn't change, and on every answer `check_function` still holds.
 pub fn infer_mutation_aliasing_effects(

@@ -2,16 +2,16 @@
 //! states that anybody can check.
 #![tactic(auto)]
 
+mod apply;
 mod block;
 pub mod faults;
-mod handing;
 mod infer;
+mod output;
 mod pass;
+pub mod progress;
 mod recording;
-mod rows;
 mod signature;
 pub mod solved;
-pub mod spot;
 
 pub use infer::{infer_effects_certified, infer_mutation_aliasing_effects};
 pub use solved::{BlockEntry, InstructionEffects, Solved, TerminalEffects};

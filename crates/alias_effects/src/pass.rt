@@ -10,7 +10,7 @@ ghost use Rattle.alias_effects.specs.declared.faults.BlockFault.{BlockFault};
 ghost use Rattle.alias_effects.specs.Numbered.{positions_of, entry_position, numbered};
 ghost use Rattle.alias_effects.specs.PassLaws.{Extends, step_fault, pass_laws};
 
-use crate::block::{BlockEffects, block_step};
+use crate::block::{BlockEffects, infer_block};
 use crate::faults::BlockFault;
 use alias_base::{BlockId, BlockMap, List};
 use alias_flow::{Flow, StepFault};
@@ -29,13 +29,13 @@ pub(crate) struct EffectsPass<'a> {
     pub(crate) env: &'a Environment,
     pub(crate) func: &'a HirFunction,
     pub(crate) is_function_expression: bool,
-    pub(crate) kept: Vec<Option<BlockEffects>>,
-    ghost entry_stands: { is_some (value_at func.now.body.blocks func.now.body.entry) ≡ true },
+    pub(crate) recorded: Vec<Option<BlockEffects>>,
+    ghost entry_exists: { is_some (value_at func.now.body.blocks func.now.body.entry) ≡ true },
     ghost few: { length func.now.body.blocks < 2 ^ 32 },
-    ghost kept_long: { vec_len kept ≡ length func.now.body.blocks },
+    ghost recorded_long: { vec_len recorded ≡ length func.now.body.blocks },
 }
 
-/// Where the function's entry stands.
+/// The position of the entry.
 fn entry_position(func: &HirFunction) -> usize
     ensures { result ≡ entry_position func.now }
 {
@@ -45,7 +45,7 @@ fn entry_position(func: &HirFunction) -> usize
     }
 }
 
-/// Where those of the list that are blocks stand.
+/// The positions of those of the list that are blocks.
 fn positions_of(
     alloc: Global,
     blocks: &BlockMap<BasicBlock>,
@@ -79,7 +79,7 @@ impl<'a> Flow for EffectsPass<'a> {
 
     ghost Tables = { Unit {0} };
 
-    ghost Kept = { BlockEffects };
+    ghost Recorded = { BlockEffects };
 
     ghost Cause = { BlockFault };
 
@@ -89,15 +89,15 @@ impl<'a> Flow for EffectsPass<'a> {
 
     ghost tables = { λ p. tt };
 
-    ghost kept = { λ p. p.kept.items };
+    ghost recorded = { λ p. p.recorded.items };
 
-    ghost Loan = { Bor Environment × Bor HirFunction };
+    ghost Borrows = { Bor Environment × Bor HirFunction };
 
-    ghost loan = { λ p. (p.env, p.func) };
+    ghost borrows = { λ p. (p.env, p.func) };
 
     ghost extends = { Extends };
 
-    ghost laws = { λ p. pass_laws p.env.now p.func.now p.is_function_expression p.entry_stands p.kept.items (sym p.kept.ok.0 ∙ p.kept_long) };
+    ghost laws = { λ p. pass_laws p.env.now p.func.now p.is_function_expression p.entry_exists p.recorded.items (sym p.recorded.ok.0 ∙ p.recorded_long) };
 
     fn blocks(&self) -> u32 {
         self.func.body.blocks.len() as u32
@@ -129,7 +129,7 @@ impl<'a> Flow for EffectsPass<'a> {
             unreachable!()
         };
         let entered = mem::replace(state, InferenceState::empty(self.alloc));
-        match block_step(
+        match infer_block(
             self.alloc,
             self.env,
             &self.func.instructions,
@@ -140,7 +140,7 @@ impl<'a> Flow for EffectsPass<'a> {
         ) {
             Ok((after, effects)) => {
                 *state = after;
-                self.kept[block as usize] = Some(effects);
+                self.recorded[block as usize] = Some(effects);
                 Ok(())
             }
             Err(fault) => Err(step_fault(fault)),

@@ -1,8 +1,8 @@
-//! The effects that each kind of instruction raises.
+//! The signature of each kind of instruction: the effects that it has before the state is looked at.
 ghost use Rattle.std.specs.Prelude.{◌≡◌, ◌++◌, OnOk, IfOk};
 ghost use Rattle.alias_hir.specs.declared.effect.AliasingEffect.TheVariants.{Create};
 ghost use Rattle.alias_hir.specs.declared.effect.ValueReason.TheVariants.{Other};
-ghost use Rattle.alias_effects.specs.Signatures.{primitive_effects, object_expression_effects, property_load_effects, is_current, mutation_reason, property_store_effects, load_local_effects, store_local_effects, value_effects, raised_effects};
+ghost use Rattle.alias_effects.specs.Signatures.{primitive_effects, object_expression_effects, property_load_effects, is_current, mutation_reason, property_store_effects, load_local_effects, store_local_effects, signature_of_value, compute_signature_for_instruction};
 
 use alias_base::List;
 use alias_hir::effect::{AliasingEffect, AliasingEffects, MutationReason, ValueKind, ValueReason};
@@ -139,7 +139,7 @@ fn push_value_effects(
     lvalue: &Place,
     value: &InstructionValue,
 ) -> Result<(), AllocError>
-    ensures { OnOk result (effects.new ≡ effects.old ++ value_effects env.now lvalue.now value.now) }
+    ensures { OnOk result (effects.new ≡ effects.old ++ signature_of_value env.now lvalue.now value.now) }
 {
     match value {
         InstructionValue::ObjectExpression => push_object_expression(effects, lvalue),
@@ -160,13 +160,13 @@ fn push_value_effects(
     }
 }
 
-/// The effects that an instruction raises, in order.
-pub fn raised_effects(
+/// The signature of an instruction, in order.
+pub fn compute_signature_for_instruction(
     alloc: Global,
     env: &Environment,
     instruction: &Instruction,
 ) -> Result<AliasingEffects, AllocError>
-    ensures { IfOk result (λ effects. effects ≡ raised_effects env.now instruction.now) }
+    ensures { IfOk result (λ effects. effects ≡ compute_signature_for_instruction env.now instruction.now) }
 {
     let mut effects = List::new(alloc);
     push_value_effects(&mut effects, env, &instruction.lvalue, &instruction.value)?;

@@ -3,8 +3,8 @@ pub mod Rounds
 pub mod Sends
 pub mod Solving
 pub mod OneRound
-pub mod Flagging
+pub mod DirtyFlags
 pub mod EachEdge
 pub mod Ending
 pub mod Along
-pub mod InLine
+pub mod ForwardRuns

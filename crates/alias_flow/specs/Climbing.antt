@@ -5,7 +5,7 @@ use Rattle.std.specs.List.{AllByRecursion}
 use Rattle.alias_lattice.specs.Laws.{LatticeLaws}
 use Rattle.alias_flow.specs.Machine.{FlowLaws}
 use Rattle.alias_flow.specs.Solutions.{IsForward}
-use Rattle.alias_flow.specs.Climbs.{higher, IsHeight, Extends, line_edges, line_rules, loop_edges, loop_rules}
+use Rattle.alias_flow.specs.Climbs.{higher, IsHeight, Extends, forward_edges, forward_rules, loop_edges, loop_rules}
 
 higher_commutes : (x y : ℕ) → higher x y ≡ higher y x
 higher_commutes x y = grind (arith, nat_tests)
@@ -35,19 +35,19 @@ edges_if : (A : ℕ → Type 0) (b : Bool) (e : ℕ) → (b ≡ true → A e) �
 edges_if A true e h = (h refl, tt)
 edges_if A false e h = tt
 
-line_below : (b : ℕ) → b < 4 → AllByRecursion (λ e. e < 4) (line_edges b)
-line_below b h = edges_if (λ e. e < 4) (nat_lt b 3) (b + 1) (λ t. grind (arith, nat_tests))
+forward_below : (b : ℕ) → b < 4 → AllByRecursion (λ e. e < 4) (forward_edges b)
+forward_below b h = edges_if (λ e. e < 4) (nat_lt b 3) (b + 1) (λ t. grind (arith, nat_tests))
 
-pub line_forward : IsForward line_rules
-line_forward b h = edges_if (λ e. b < e) (nat_lt b 3) (b + 1) (λ t. omega arith)
+pub forward_of_line : IsForward forward_rules
+forward_of_line b h = edges_if (λ e. b < e) (nat_lt b 3) (b + 1) (λ t. omega arith)
 
-pub line_laws : (kept : List (Option ℕ)) → length kept ≡ 4 → FlowLaws IsHeight Extends line_rules kept
-line_laws kept h = record {
-  kept_length = h;
+pub forward_laws : (recorded : List (Option ℕ)) → length recorded ≡ 4 → FlowLaws IsHeight Extends forward_rules recorded
+forward_laws recorded h = record {
+  recorded_length = h;
   initial_proper = tt;
   step_proper = λ t b x y u k p e. tt;
   entry_below = omega arith;
-  edges_below = line_below;
+  edges_below = forward_below;
   reflexive = λ t. tt;
   transitive = λ t u v p q. tt;
   grow = λ t b x y u k e. tt;
@@ -60,9 +60,9 @@ loop_below b h = elim (b == 0) as (λ r. AllByRecursion (λ e. e < 4) (if r then
   | false ↦ elim (b == 1) as (λ r. AllByRecursion (λ e. e < 4) (if r then 1 ∷ 2 ∷ [] else [])) [ true ↦ (omega arith, (omega arith, tt)) | false ↦ tt ]
 ]
 
-pub loop_laws : (kept : List (Option ℕ)) → length kept ≡ 4 → FlowLaws IsHeight Extends loop_rules kept
-loop_laws kept h = record {
-  kept_length = h;
+pub loop_laws : (recorded : List (Option ℕ)) → length recorded ≡ 4 → FlowLaws IsHeight Extends loop_rules recorded
+loop_laws recorded h = record {
+  recorded_length = h;
   initial_proper = tt;
   step_proper = λ t b x y u k p e. tt;
   entry_below = omega arith;

@@ -1,4 +1,4 @@
--- Two flows of heights for the tests: a line of four blocks, and a loop.
+-- Two flows of heights for the tests: a chain of four blocks, and a loop.
 use Rattle.std.specs.Prelude.{ℕ, ◌+◌, if◌then◌else◌, nat_lt, ◌==◌, List, [], ◌∷◌}
 use Rattle.alias_lattice.specs.Flows.{Outcome, Stepped, Refused}
 use Rattle.alias_flow.specs.Machine.{Rules}
@@ -16,15 +16,15 @@ abbrev pub Extends : Unit {0} → Unit {0} → Type 0
 Extends t u = Unit {0}
 
 -- blocks 0 to 2 have an edge to the next
-abbrev pub line_edges : ℕ → List ℕ
-line_edges b = if nat_lt b 3 then (b + 1) ∷ [] else []
+abbrev pub forward_edges : ℕ → List ℕ
+forward_edges b = if nat_lt b 3 then (b + 1) ∷ [] else []
 
 -- one higher, and the height that it began with is noted. The greatest is refused
-abbrev pub line_step : Unit {0} → ℕ → ℕ → Outcome ℕ (Unit {0}) ℕ (Unit {0})
-line_step t b x = if x == 4294967295 then Refused tt else Stepped (x + 1) t x
+abbrev pub forward_step : Unit {0} → ℕ → ℕ → Outcome ℕ (Unit {0}) ℕ (Unit {0})
+forward_step t b x = if x == 4294967295 then Refused tt else Stepped (x + 1) t x
 
-abbrev pub line_rules : Rules ℕ (Unit {0}) ℕ (Unit {0})
-line_rules = record { blocks = 4; flow = record { entry = 0; initial = 0; edges = line_edges; step = line_step } }
+abbrev pub forward_rules : Rules ℕ (Unit {0}) ℕ (Unit {0})
+forward_rules = record { blocks = 4; flow = record { entry = 0; initial = 0; edges = forward_edges; step = forward_step } }
 
 -- 0 goes to 1, and 1 to itself and to 2
 abbrev pub loop_edges : ℕ → List ℕ

@@ -1,11 +1,11 @@
 pub mod Machine
-pub mod Flags
-pub mod Keeping
-pub mod Lines
+pub mod WorkLists
+pub mod RecordingLaws
+pub mod ForwardPasses
 pub mod Solutions
 pub mod Steps
 pub mod Runs
-pub mod Desks
+pub mod WorkListViews
 pub mod Climbs
 pub mod Climbing
-pub mod Faults
+pub mod FaultLaws

@@ -3,33 +3,33 @@ use Rattle.std.specs.Prelude.{◌≡◌, List, Option, Result, Ok, Err}
 use Rattle.alias_flow.specs.declared.flow.SolveFault.{SolveFault}
 use Rattle.alias_flow.specs.declared.flow.SolveFault.TheVariants.{Step, NotSettled as Unsettled, Memory}
 use Rattle.alias_flow.specs.declared.flow.Solution.{Solution}
-use Rattle.alias_flow.specs.Machine.{Desk, World, Run, Going, Stopped, End, Solved, Fault, NotSettled}
+use Rattle.alias_flow.specs.Machine.{VisitLog, SolverState, Run, Going, Stopped, End, Solved, Fault, NotSettled}
 
-abbrev pub world : {D T K : Type 0} → D → T → List (Option K) → World D T K
-world d t k = record { desk = d; tables = t; kept = k }
+abbrev pub solver_state : {D T K : Type 0} → D → T → List (Option K) → SolverState D T K
+solver_state d t k = record { progress = d; tables = t; recorded = k }
 
 -- after Ok the run goes on from the new world, and a refusal is the one that stopped it. Memory may fail at any time
-abbrev pub RunGives : {D T K C E : Type 0} → (E → C) → Run D T K C → Result (Unit {0}) (SolveFault E) → World D T K → Type 0
+abbrev pub RunGives : {D T K C E : Type 0} → (E → C) → Run D T K C → Result (Unit {0}) (SolveFault E) → SolverState D T K → Type 0
 RunGives cause run (Ok u) w = run ≡ Going w
 RunGives cause run (Err (Step b e)) w = run ≡ Stopped b (cause e)
 RunGives cause run (Err (Unsettled n)) w = ⊥
 RunGives cause run (Err (Memory e)) w = Unit {0}
 
--- the solution, the tables and what is kept are those that the sequence ends with. A refusal and NotSettled are those of the sequence. Memory may fail at any time
-abbrev pub EndGives : {P T K C E : Type 0} → (E → C) → End (Desk P) T K C → Result (Solution P) (SolveFault E) → T → List (Option K) → Type 0
-EndGives {P} {T} {K} cause end (Ok solution) tables kept =
-    (w : World (Desk P) T K) × (end ≡ Solved w) × (solution.visits ≡ w.desk.visits) × (solution.entries ≡ w.desk.sent) × (tables ≡ w.tables) × (kept ≡ w.kept)
-EndGives cause end (Err (Step b e)) tables kept = end ≡ Fault b (cause e)
-EndGives cause end (Err (Unsettled n)) tables kept = end ≡ NotSettled n
-EndGives cause end (Err (Memory e)) tables kept = Unit {0}
+-- the solution, the tables and what is recorded are those that the sequence ends with. A refusal and NotSettled are those of the sequence. Memory may fail at any time
+abbrev pub EndGives : {P T K C E : Type 0} → (E → C) → End (VisitLog P) T K C → Result (Solution P) (SolveFault E) → T → List (Option K) → Type 0
+EndGives {P} {T} {K} cause end (Ok solution) tables recorded =
+    (w : SolverState (VisitLog P) T K) × (end ≡ Solved w) × (solution.visits ≡ w.progress.visits) × (solution.entries ≡ w.progress.joined_input) × (tables ≡ w.tables) × (recorded ≡ w.recorded)
+EndGives cause end (Err (Step b e)) tables recorded = end ≡ Fault b (cause e)
+EndGives cause end (Err (Unsettled n)) tables recorded = end ≡ NotSettled n
+EndGives cause end (Err (Memory e)) tables recorded = Unit {0}
 
--- the same where no solution is handed out: what is claimed holds of the desk that the sequence ends with, which is never NotSettled
-abbrev pub EndsWith : {P T K C E : Type 0} → (E → C) → End (Desk P) T K C → Result (Unit {0}) (SolveFault E) → T → List (Option K) → (Desk P → Type 0) → Type 0
-EndsWith {P} {T} {K} cause end (Ok u) tables kept holds =
-    (w : World (Desk P) T K) × (end ≡ Solved w) × (tables ≡ w.tables) × (kept ≡ w.kept) × holds w.desk
-EndsWith cause end (Err (Step b e)) tables kept holds = end ≡ Fault b (cause e)
-EndsWith cause end (Err (Unsettled n)) tables kept holds = ⊥
-EndsWith cause end (Err (Memory e)) tables kept holds = Unit {0}
+-- the same where no solution is handed out: what is claimed holds of the visit log that the sequence ends with, which is never NotSettled
+abbrev pub EndsWith : {P T K C E : Type 0} → (E → C) → End (VisitLog P) T K C → Result (Unit {0}) (SolveFault E) → T → List (Option K) → (VisitLog P → Type 0) → Type 0
+EndsWith {P} {T} {K} cause end (Ok u) tables recorded holds =
+    (w : SolverState (VisitLog P) T K) × (end ≡ Solved w) × (tables ≡ w.tables) × (recorded ≡ w.recorded) × holds w.progress
+EndsWith cause end (Err (Step b e)) tables recorded holds = end ≡ Fault b (cause e)
+EndsWith cause end (Err (Unsettled n)) tables recorded holds = ⊥
+EndsWith cause end (Err (Memory e)) tables recorded holds = Unit {0}
 
 -- the answer isn't NotSettled
 abbrev pub IsSettled : {A E : Type 0} → Result A (SolveFault E) → Type 0

@@ -22,7 +22,7 @@ pub enum StepFault<E> {
 pub enum SolveFault<E> {
     /// The flow refused a visit of the block.
     Step { block: u32, fault: E },
-    /// Something was still wanted after 100 rounds, of so many visits.
+    /// Something was still dirty after 100 rounds, of so many visits.
     NotSettled { visits: u64 },
     /// Want of memory, which can come at any growth.
     Memory(AllocError),
@@ -64,7 +64,7 @@ pub struct Solution<S> {
 }
 
 /// A flow of states over blocks, which are known by their positions in stored order. It has tables, which
-/// its steps append to, and keeps something of the last visit of each block.
+/// its steps append to, and records something of the last visit of each block.
 pub trait Flow {
     /// What flows.
     type State: Lattice + Drop;
@@ -75,8 +75,8 @@ pub trait Flow {
     /// What its tables stand for.
     ghost Tables: { Type 0 };
 
-    /// What it keeps of a visit.
-    ghost Kept: { Type 0 };
+    /// What it records of a visit.
+    ghost Recorded: { Type 0 };
 
     /// What its faults stand for.
     ghost Cause: { Type 0 };
@@ -84,20 +84,20 @@ pub trait Flow {
     /// What a fault stands for.
     ghost cause: { Self.Fault → Cause };
 
-    /// What the flow does, apart from its tables and what it keeps.
-    ghost rules: { Self → Rules Self.State Tables Kept Cause };
+    /// What the flow does, apart from its tables and what it records.
+    ghost rules: { Self → Rules Self.State Tables Recorded Cause };
 
     /// The tables so far.
     ghost tables: { Self → Tables };
 
-    /// What is kept of the last visit of each block.
-    ghost kept: { Self → List (Option Kept) };
+    /// What is recorded of the last visit of each block.
+    ghost recorded: { Self → List (Option Recorded) };
 
     /// Which references the flow holds.
-    ghost Loan: { Type 0 };
+    ghost Borrows: { Type 0 };
 
     /// The references that it holds.
-    ghost loan: { Self → Loan };
+    ghost borrows: { Self → Borrows };
 
     /// The second tables have the first ones at their beginning.
     ghost extends: { Tables → Tables → Type 0 };
@@ -119,15 +119,15 @@ pub trait Flow {
         requires { block < (rules self.now).blocks }
         ensures { IfOk result (λ edges. edges.items ≡ (rules self.now).flow.edges block) };
 
-    /// Steps the block: makes its out state of its entry state, appends to the tables, and keeps what is
-    /// kept of the block. An `Err` leaves what the flow does as it was.
+    /// Steps the block: makes its out state of its entry state, appends to the tables, and records what is
+    /// recorded of the block. An `Err` leaves what the flow does as it was.
     fn step(&mut self, block: u32, state: &mut Self::State) -> Result<(), StepFault<Self::Fault>>
         requires { block < (rules self.old).blocks }
         ensures same { rules self.new ≡ rules self.old }
-        ensures loan { loan self.new ≡ loan self.old }
-        ensures outcome { StepGives cause ((rules self.old).flow.step (tables self.old) block state.old) result state.new (tables self.new) block (kept self.old) (kept self.new) };
+        ensures borrows { borrows self.new ≡ borrows self.old }
+        ensures outcome { StepGives cause ((rules self.old).flow.step (tables self.old) block state.old) result state.new (tables self.new) block (recorded self.old) (recorded self.new) };
 
     /// Edges lead to blocks, steps keep states proper and tables grow, and a step under tables that it left,
     /// or longer ones, gives the same and leaves them.
-    ghost laws: { (flow : Self) → FlowLaws Self.State.proper extends (rules flow) (kept flow) };
+    ghost laws: { (flow : Self) → FlowLaws Self.State.proper extends (rules flow) (recorded flow) };
 }

@@ -2,8 +2,8 @@
 ghost use Rattle.std.specs.Prelude.{◌≡◌, ◌<◌, ℕ, nat_lt, true, IfOk, OnOk, List, Option, length};
 ghost use Rattle.std.specs.List.{list_all, AllByRecursion};
 ghost use Rattle.alias_flow.specs.Machine.{up, send_all, solution};
-ghost use Rattle.alias_flow.specs.Lines.{line_turn, line_round};
-ghost use Rattle.alias_flow.specs.Runs.{world, RunGives, EndsWith};
+ghost use Rattle.alias_flow.specs.ForwardPasses.{forward_turn, forward_round};
+ghost use Rattle.alias_flow.specs.Runs.{solver_state, RunGives, EndsWith};
 ghost use Rattle.alias_flow.specs.Solutions.{goes_forward, IsForward, SolvesInOrder};
 
 use crate::flow::{Flow, SolveFault};
@@ -38,9 +38,9 @@ fn turn<F: Flow>(
 ) -> Result<(), SolveFault<F::Fault>>
     requires block { block < (F.rules flow.old).blocks }
     requires length { length waiting.old ≡ (F.rules flow.old).blocks }
-    ensures run { RunGives F.cause (line_turn F.State.join (F.rules flow.old) (world waiting.old (F.tables flow.old) (F.kept flow.old)) block) result (world waiting.new (F.tables flow.new) (F.kept flow.new)) }
+    ensures run { RunGives F.cause (forward_turn F.State.join (F.rules flow.old) (solver_state waiting.old (F.tables flow.old) (F.recorded flow.old)) block) result (solver_state waiting.new (F.tables flow.new) (F.recorded flow.new)) }
     ensures same { F.rules flow.new ≡ F.rules flow.old }
-    ensures loan { F.loan flow.new ≡ F.loan flow.old }
+    ensures borrows { F.borrows flow.new ≡ F.borrows flow.old }
 {
     let Some(mut state) = waiting[block as usize].take() else {
         return Ok(());
@@ -55,16 +55,16 @@ fn turn<F: Flow>(
 
 /// The turns of all blocks, in stored order.
 #[tactic(auto, using(crate::proofs::Rounds::up_more))]
-fn line<F: Flow>(
+fn forward_round<F: Flow>(
     waiting: &mut [Option<F::State>],
     flow: &mut F,
     count: u32,
 ) -> Result<(), SolveFault<F::Fault>>
     requires count { count ≡ (F.rules flow.old).blocks }
     requires length { length waiting.old ≡ (F.rules flow.old).blocks }
-    ensures run { RunGives F.cause (line_round F.State.join (F.rules flow.old) (world waiting.old (F.tables flow.old) (F.kept flow.old)) (up 0 count)) result (world waiting.new (F.tables flow.new) (F.kept flow.new)) }
+    ensures run { RunGives F.cause (forward_round F.State.join (F.rules flow.old) (solver_state waiting.old (F.tables flow.old) (F.recorded flow.old)) (up 0 count)) result (solver_state waiting.new (F.tables flow.new) (F.recorded flow.new)) }
     ensures same { F.rules flow.new ≡ F.rules flow.old }
-    ensures loan { F.loan flow.new ≡ F.loan flow.old }
+    ensures borrows { F.borrows flow.new ≡ F.borrows flow.old }
 {
     for block in 0..count {
         turn(waiting, flow, block)?;
@@ -99,14 +99,14 @@ pub fn is_forward<F: Flow>(flow: &F) -> Result<bool, AllocError>
 
 /// Solves a flow each of whose edges goes to a later block. Its blocks are visited in stored order, each at
 /// most once, and no entry state outlives its visit: a state moves along the last edge of its block. The
-/// tables and what the flow keeps end as `solve` would leave them. An `Err` says which visit was refused,
+/// tables and what the flow records end as `solve` would leave them. An `Err` says which visit was refused,
 /// where `solve` would say so too, or that memory ran out; it leaves what the flow does as it was, and its
-/// tables and what it keeps as some visits left them.
+/// tables and what it records as some visits left them.
 pub fn solve_forward<F: Flow>(alloc: Global, flow: &mut F) -> Result<(), SolveFault<F::Fault>>
     requires forward { IsForward (F.rules flow.old) }
-    ensures end { EndsWith F.cause (solution F.State.join F.State.below (F.rules flow.old) (F.tables flow.old) (F.kept flow.old)) result (F.tables flow.new) (F.kept flow.new) (SolvesInOrder F.State.proper F.State.below (F.rules flow.old).flow (F.tables flow.new) (F.kept flow.new)) }
+    ensures end { EndsWith F.cause (solution F.State.join F.State.below (F.rules flow.old) (F.tables flow.old) (F.recorded flow.old)) result (F.tables flow.new) (F.recorded flow.new) (SolvesInOrder F.State.proper F.State.below (F.rules flow.old).flow (F.tables flow.new) (F.recorded flow.new)) }
     ensures same { F.rules flow.new ≡ F.rules flow.old }
-    ensures loan { F.loan flow.new ≡ F.loan flow.old }
+    ensures borrows { F.borrows flow.new ≡ F.borrows flow.old }
 {
     let count = flow.blocks();
     let entry = flow.entry();
@@ -114,5 +114,5 @@ pub fn solve_forward<F: Flow>(alloc: Global, flow: &mut F) -> Result<(), SolveFa
     let initial = flow.initial()?;
     let waiting = states.as_mut_slice();
     send_state(waiting, initial, entry)?;
-    line(waiting, flow, count)
+    forward_round(waiting, flow, count)
 }

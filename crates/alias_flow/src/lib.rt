@@ -6,7 +6,7 @@ pub mod forward;
 pub mod nothing;
 mod sending;
 pub mod solver;
-mod work;
+mod work_list;
 
 pub use flow::{Flow, Solution, SolveFault, StepFault};
 pub use forward::{is_forward, solve_forward};

@@ -2,22 +2,22 @@
 ghost use Rattle.std.specs.Prelude.{◌≡◌, ◌<◌, ℕ, IfOk, OnOk, List, Option, None, slice_index_or, length};
 ghost use Rattle.std.specs.List.{AllByRecursion};
 ghost use Rattle.alias_flow.specs.Machine.{send, send_all};
-ghost use Rattle.alias_flow.specs.Flags.{grows};
+ghost use Rattle.alias_flow.specs.WorkLists.{grows};
 
 use alias_lattice::Lattice;
 use std::alloc::AllocError;
 
 /// Sends a copy of the state to the block, and answers whether what was sent to it grew.
 pub(crate) fn send_copy<S: Lattice + Drop>(
-    sent: &mut [Option<S>],
+    joined_input: &mut [Option<S>],
     state: &S,
     to: u32,
 ) -> Result<bool, AllocError>
-    requires { to < length sent.old }
-    ensures sent { OnOk result (sent.new ≡ send S.join state.now sent.old to) }
-    ensures grew { IfOk result (λ grew. grew ≡ grows S.join S.below (slice_index_or sent.old to None) state.now) }
+    requires { to < length joined_input.old }
+    ensures joined_input { OnOk result (joined_input.new ≡ send S.join state.now joined_input.old to) }
+    ensures grew { IfOk result (λ grew. grew ≡ grows S.join S.below (slice_index_or joined_input.old to None) state.now) }
 {
-    match &mut sent[to as usize] {
+    match &mut joined_input[to as usize] {
         Some(old) => old.join_from(state),
         none => {
             *none = Some(state.try_clone()?);
@@ -28,14 +28,14 @@ pub(crate) fn send_copy<S: Lattice + Drop>(
 
 /// Sends the state itself to the block.
 pub(crate) fn send_state<S: Lattice + Drop>(
-    sent: &mut [Option<S>],
+    joined_input: &mut [Option<S>],
     state: S,
     to: u32,
 ) -> Result<(), AllocError>
-    requires { to < length sent.old }
-    ensures { OnOk result (sent.new ≡ send S.join state sent.old to) }
+    requires { to < length joined_input.old }
+    ensures { OnOk result (joined_input.new ≡ send S.join state joined_input.old to) }
 {
-    match &mut sent[to as usize] {
+    match &mut joined_input[to as usize] {
         Some(old) => {
             old.join_from(&state)?;
         }

@@ -1,7 +1,7 @@
-//! A line and a loop, whose visits are computed by hand.
+//! A chain and a loop, whose visits are computed by hand.
 ghost use Rattle.std.specs.Prelude.{◌≡◌, ◌<◌, ℕ, List, [], ◌∷◌, Option, Some, slice_set, nat_le, refl};
-ghost use Rattle.alias_flow.specs.Climbs.{higher, IsHeight, Extends, line_rules, loop_rules};
-ghost use Rattle.alias_flow.specs.Climbing.{height_laws, line_laws, loop_laws};
+ghost use Rattle.alias_flow.specs.Climbs.{higher, IsHeight, Extends, forward_rules, loop_rules};
+ghost use Rattle.alias_flow.specs.Climbing.{height_laws, forward_laws, loop_laws};
 
 use crate::flow::{Flow, StepFault};
 use crate::forward::{is_forward, solve_forward};
@@ -122,37 +122,37 @@ impl Notes {
 
 /// Blocks 0 to 3, each with an edge to the next; each step climbs by one.
 #[derive(Drop)]
-struct Line {
+struct ForwardPass {
     alloc: Global,
     notes: Notes,
 }
 
-impl Flow for Line {
+impl Flow for ForwardPass {
     type State = Uncopied;
 
     type Fault = ();
 
     ghost Tables = { Unit {0} };
 
-    ghost Kept = { ℕ };
+    ghost Recorded = { ℕ };
 
     ghost Cause = { Unit {0} };
 
     ghost cause = { λ u. u };
 
-    ghost rules = { λ l. line_rules };
+    ghost rules = { λ l. forward_rules };
 
     ghost tables = { λ l. tt };
 
-    ghost kept = { λ l. l.notes.first ∷ l.notes.second ∷ l.notes.third ∷ l.notes.fourth ∷ [] };
+    ghost recorded = { λ l. l.notes.first ∷ l.notes.second ∷ l.notes.third ∷ l.notes.fourth ∷ [] };
 
-    ghost Loan = { Unit {0} };
+    ghost Borrows = { Unit {0} };
 
-    ghost loan = { λ l. tt };
+    ghost borrows = { λ l. tt };
 
     ghost extends = { Extends };
 
-    ghost laws = { λ l. line_laws (l.notes.first ∷ l.notes.second ∷ l.notes.third ∷ l.notes.fourth ∷ []) refl };
+    ghost laws = { λ l. forward_laws (l.notes.first ∷ l.notes.second ∷ l.notes.third ∷ l.notes.fourth ∷ []) refl };
 
     fn blocks(&self) -> u32 {
         4
@@ -199,7 +199,7 @@ impl Flow for Loop {
 
     ghost Tables = { Unit {0} };
 
-    ghost Kept = { ℕ };
+    ghost Recorded = { ℕ };
 
     ghost Cause = { Unit {0} };
 
@@ -209,11 +209,11 @@ impl Flow for Loop {
 
     ghost tables = { λ l. tt };
 
-    ghost kept = { λ l. l.notes.first ∷ l.notes.second ∷ l.notes.third ∷ l.notes.fourth ∷ [] };
+    ghost recorded = { λ l. l.notes.first ∷ l.notes.second ∷ l.notes.third ∷ l.notes.fourth ∷ [] };
 
-    ghost Loan = { Unit {0} };
+    ghost Borrows = { Unit {0} };
 
-    ghost loan = { λ l. tt };
+    ghost borrows = { λ l. tt };
 
     ghost extends = { Extends };
 
@@ -264,7 +264,7 @@ fn heights_of(alloc: Global, entries: &[Option<Height>]) -> Result<Vec<Option<u3
 
 #[test]
 fn moves_states_along_a_line(rt: HostRuntime) {
-    let mut flow = Line {
+    let mut flow = ForwardPass {
         alloc: rt.alloc(),
         notes: Notes::none(),
     };
@@ -300,11 +300,11 @@ fn visits_a_loop_until_it_settles(rt: HostRuntime) -> Result<(), Fail> {
 
 #[test]
 fn tells_a_line_from_a_loop(rt: HostRuntime) -> Result<(), Fail> {
-    let line = Line {
+    let forward_round = ForwardPass {
         alloc: rt.alloc(),
         notes: Notes::none(),
     };
-    assert!(rt; is_forward(&line)?);
+    assert!(rt; is_forward(&forward_round)?);
     let around = Loop {
         alloc: rt.alloc(),
         notes: Notes::none(),

@@ -47,7 +47,7 @@ abbrev pub uninitialized_labels : Option Span → List Label
 uninitialized_labels None = []
 uninitialized_labels (Some s) = record { span = s; text = Some (codes "this is uninitialized") } ∷ []
 
--- what is told where an identifier is read that has no value
+-- the report where an identifier is read that has no value
 abbrev pub uninitialized_report : Environment → IdentifierId → Option Span → Report
 uninitialized_report env id span = record {
   category = Invariant;
@@ -56,7 +56,7 @@ uninitialized_report env id span = record {
   labels = uninitialized_labels (either_span span (identifier_span (slice_get env.identifiers id.0)));
 }
 
--- what is told where the states of a function's blocks were not settled after 100 rounds
+-- the report where the states of a function's blocks were not settled after 100 rounds
 abbrev pub not_settled_report : Report
 not_settled_report = record {
   category = Invariant;

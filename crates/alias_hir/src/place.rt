@@ -1,4 +1,4 @@
-//! Places: identifiers as they stand in a function.
+//! Places: identifiers as a function uses them.
 
 use alias_base::IdentifierId;
 
@@ -23,7 +23,7 @@ pub enum Effect {
     Store,
 }
 
-/// An identifier where it stands. Of a place the rules read the identifier and the span.
+/// A use of an identifier. Of a place the rules read the identifier and the span.
 #[derive(Clone, Copy, Debug, Default, PartialEq, Eq)]
 pub struct Place {
     pub identifier: IdentifierId,

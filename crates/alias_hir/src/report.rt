@@ -1,4 +1,4 @@
-//! Reports: what is told to the author of the code.
+//! Reports: what the author of the code is told.
 
 ghost use Rattle.std.specs.Prelude.{◌≡◌, ◌++◌, option_map, slice_get, IfOk, OnOk};
 ghost use Rattle.alias_hir.specs.Reports.{name_text, printed_type, printed_identifier, identifier_name, identifier_span, either_span, uninitialized_labels, uninitialized_report, not_settled_report};
@@ -35,7 +35,7 @@ pub struct DiagnosticId {
     pub instance: u32,
 }
 
-/// A report that is kept until it is known whether it is told, with the identifier that it is about.
+/// An interned report, of which it is not known yet whether it is recorded, with the identifier that it is about.
 #[derive(Drop)]
 pub struct Interned {
     pub identifier: IdentifierId,
@@ -141,7 +141,7 @@ fn uninitialized_labels(alloc: Global, span: Option<Span>) -> Result<List<Label>
     Ok(labels)
 }
 
-/// What is told where an identifier is read that has no value. It points at the given span, or else at the
+/// The report where an identifier is read that has no value. It points at the given span, or else at the
 /// identifier's own, or at nothing where neither is there. The one error is want of memory.
 pub fn uninitialized_report(
     alloc: Global,
@@ -164,7 +164,7 @@ pub fn uninitialized_report(
     })
 }
 
-/// What is told where the states of a function's blocks were not settled after 100 rounds. It points at
+/// The report where the states of a function's blocks were not settled after 100 rounds. It points at
 /// nothing. The one error is want of memory.
 pub fn not_settled_report(alloc: Global) -> Result<Report, AllocError>
     ensures { IfOk result (λ r. r ≡ not_settled_report) }

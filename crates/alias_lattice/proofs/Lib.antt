@@ -1,5 +1,6 @@
-pub mod Walks
-pub mod MergeJoins
-pub mod Places
+pub mod Slots
+pub mod ChunkSlots
+pub mod Belows
+pub mod Each
 pub mod FirstReasons
 pub mod TwoSites

@@ -1,12 +1,12 @@
 //! The state of a block: the values of sites, and the sites of identifiers.
 
-ghost use Rattle.std.specs.Prelude.{◌≡◌, IsTrue, IfOk, OnOk, OnErr, Option, Some, None, MatchOption, if◌then◌else◌, not};
+ghost use Rattle.std.specs.Prelude.{◌≡◌, IsTrue, IfSome, IfOk, OnOk, OnErr, Option, Some, None, MatchOption, if◌then◌else◌, not};
 ghost use Rattle.std.specs.Option.{is_some};
 ghost use Rattle.std.specs.FinMap.{find};
 ghost use Rattle.alias_lattice.specs.Maps.{join_option};
 ghost use Rattle.alias_lattice.specs.Keys.{id_cmp};
 ghost use Rattle.alias_lattice.specs.States.{State, empty_state, initialized, defined, defined_as, defaulted, assigned, given, look_with_span, value_at, sites_of, next_value, next_variable, frozen, does_freeze, does_freeze_at, frozen_at, freezes, freezes_value, value_over, all_set, mutable_other, one_site, look_at, union_over, operand_ids, sites_join, both_sites, phied, appended, state_join, state_below};
-ghost use Rattle.alias_lattice.specs.Standing.{StateProper, Stands, AreValued};
+ghost use Rattle.alias_lattice.specs.StateLaws.{StateProper, AllValued, AreValued};
 ghost use Rattle.alias_lattice.specs.Joins.{state_laws};
 ghost use Rattle.alias_lattice.specs.declared.site.Site.TheVariants.{Default};
 
@@ -35,13 +35,13 @@ pub struct InferenceState {
 
 impl Model for InferenceState {
     ghost use Rattle.alias_lattice.specs.States.{State};
-    ghost use Rattle.alias_lattice.specs.Standing.{Stands};
+    ghost use Rattle.alias_lattice.specs.StateLaws.{AllValued};
 
     ghost Value = { State };
 
     ghost view = { λ s. record { values = s.values; variables = s.variables } };
 
-    ghost invariant = { λ s. Stands (record { values = s.values; variables = s.variables }) };
+    ghost invariant = { λ s. AllValued (record { values = s.values; variables = s.variables }) };
 }
 
 impl InferenceState {
@@ -139,7 +139,7 @@ impl InferenceState {
     /// A copy of the place's set.
     fn sites_copy(&self, place: IdentifierId) -> Result<Option<SiteSet>, AllocError>
         ensures sites { IfOk result (λ sites. sites ≡ sites_of self.now place) }
-        ensures stands { Stands self.now }
+        ensures all_valued { AllValued self.now }
     {
         match self.variables.get(place) {
             Some(sites) => Ok(Some(sites.try_clone()?)),
@@ -197,7 +197,7 @@ impl InferenceState {
     {
         match self.variables.get(place) {
             Some(sites) => Look {
-                value: value_of_sites(&self.values, sites.entries()),
+                value: value_of_sites(&self.values, sites),
                 missing: None,
             },
             None => Look {
@@ -222,7 +222,7 @@ impl InferenceState {
             reason: ReasonSet::single(reason),
         };
         match self.variables.get(place) {
-            Some(sites) => Ok(freeze_sites(&mut self.values, sites, &value)),
+            Some(sites) => freeze_sites(&mut self.values, sites, &value),
             None => Ok(false),
         }
     }
@@ -304,12 +304,11 @@ impl InferenceState {
     {
         self.known();
         other.known();
-        let grew = !other.is_below(self);
-        let values = self.values.joined(&other.values)?;
-        let variables = self.variables.joined(&other.variables)?;
+        let (values, more_values) = self.values.merged(&other.values)?;
+        let (variables, more_variables) = self.variables.merged(&other.variables)?;
         self.values = values;
         self.variables = variables;
-        Ok(grew)
+        Ok(more_values || more_variables)
     }
 }
 
@@ -363,14 +362,15 @@ fn one_site(alloc: Global, site: Site) -> Result<SiteSet, AllocError>
     Ok(set)
 }
 
-/// The join of the values of the sites.
-fn value_over(
+/// What is so far, joined with the values of the sites.
+fn value_over_sites(
     values: &LatticeMap<Site, AbstractValue>,
     sites: &[(Site, ())],
+    so_far: Option<AbstractValue>,
 ) -> Option<AbstractValue>
-    ensures { result ≡ value_over values.now sites.now None }
+    ensures { result ≡ value_over values.now sites.now so_far }
 {
-    let mut value: Option<AbstractValue> = None;
+    let mut value = so_far;
     for (site, _) in sites {
         if let Some(there) = values.get(*site) {
             value = match value {
@@ -382,8 +382,20 @@ fn value_over(
     value
 }
 
+/// The join of the values of the sites.
+fn value_over(values: &LatticeMap<Site, AbstractValue>, sites: &SiteSet) -> Option<AbstractValue>
+    ensures { result ≡ value_over values.now sites.now None }
+{
+    let mut value = None;
+    let chunks = sites.chunks();
+    for chunk in chunks {
+        value = value_over_sites(values, chunk.entries(), value);
+    }
+    value
+}
+
 /// The join of the values of the sites, or Mutable {Other} where none has one.
-fn value_of_sites(values: &LatticeMap<Site, AbstractValue>, sites: &[(Site, ())]) -> AbstractValue
+fn value_of_sites(values: &LatticeMap<Site, AbstractValue>, sites: &SiteSet) -> AbstractValue
     ensures { result ≡ look_at values.now (Some sites.now) }
 {
     match value_over(values, sites) {
@@ -412,35 +424,70 @@ fn freezes_value(value: Option<AbstractValue>) -> bool
     }
 }
 
-/// Sets the value of each of the sites, which have values.
-fn set_all(
+/// Sets the value of each of the sites.
+fn set_each(
     values: &mut LatticeMap<Site, AbstractValue>,
     sites: &[(Site, ())],
     value: &AbstractValue,
-)
-    requires { AreValued values.old sites.now }
-    ensures set { values.new ≡ all_set value.now sites.now values.old }
+) -> Result<(), AllocError>
+    ensures { OnOk result (values.new ≡ all_set value.now sites.now values.old) }
 {
     for (site, _) in sites {
-        values.replace(*site, *value);
+        values.set(*site, *value)?;
+    }
+    Ok(())
+}
+
+/// The one site of the set, where it has one alone.
+fn only_site(sites: &SiteSet) -> Option<Site>
+    ensures { IfSome result (λ site. sites.now ≡ one_site site) }
+{
+    match sites.chunks() {
+        [chunk] => match chunk.entries() {
+            [(site, _)] => Some(*site),
+            _ => None,
+        },
+        _ => None,
     }
 }
 
-/// Sets the sites, which have values, to the value, where their kind is Context, Mutable or MaybeFrozen.
+/// Sets the value of each of the sites. An `Err` leaves the values unchanged.
+fn set_all(
+    values: &mut LatticeMap<Site, AbstractValue>,
+    sites: &SiteSet,
+    value: &AbstractValue,
+) -> Result<(), AllocError>
+    ensures set { OnOk result (values.new ≡ all_set value.now sites.now values.old) }
+    ensures err { OnErr result (values.new ≡ values.old) }
+{
+    if let Some(site) = only_site(sites) {
+        return values.set(site, *value);
+    }
+    let mut changed = values.try_clone()?;
+    let chunks = sites.chunks();
+    for chunk in chunks {
+        set_each(&mut changed, chunk.entries(), value)?;
+    }
+    *values = changed;
+    Ok(())
+}
+
+/// Sets the sites to the value, where their kind is Context, Mutable or MaybeFrozen. An `Err` leaves the values
+/// unchanged.
 fn freeze_sites(
     values: &mut LatticeMap<Site, AbstractValue>,
     sites: &SiteSet,
     value: &AbstractValue,
-) -> bool
-    requires { AreValued values.old sites.now }
-    ensures acts { result ≡ does_freeze_at values.old (Some sites.now) }
-    ensures ok { values.new ≡ frozen_at value.now (does_freeze_at values.old (Some sites.now)) (Some sites.now) values.old }
+) -> Result<bool, AllocError>
+    ensures acts { IfOk result (λ acts. acts ≡ does_freeze_at values.old (Some sites.now)) }
+    ensures ok { OnOk result (values.new ≡ frozen_at value.now (does_freeze_at values.old (Some sites.now)) (Some sites.now) values.old) }
+    ensures err { OnErr result (values.new ≡ values.old) }
 {
-    let acts = freezes_value(value_over(values, sites.entries()));
+    let acts = freezes_value(value_over(values, sites));
     if acts {
-        set_all(values, sites.entries(), value);
+        set_all(values, sites, value)?;
     }
-    acts
+    Ok(acts)
 }
 
 /// The union of what is there.

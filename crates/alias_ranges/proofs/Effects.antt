@@ -14,14 +14,14 @@ use Rattle.alias_hir.specs.declared.env.Identifier.{Identifier}
 use Rattle.alias_ranges.specs.Nodes.{Nodes, node_at, has_node, same_id}
 use Rattle.alias_ranges.specs.Graph.{changed}
 use Rattle.alias_ranges.specs.Walks.{IsOneOf}
-use Rattle.alias_ranges.specs.Links.{covers, stands, next, walk, all_links, is_definite, at_least}
+use Rattle.alias_ranges.specs.Links.{covers, node_exists, next, walk, all_links, is_definite, at_least}
 use Rattle.alias_ranges.specs.Legal.{Legal}
 use Rattle.alias_ranges.specs.Marks.{later, higher, remarked, info, marked_by, visited, marked, raised, raised_at, range_visited, ranges_after}
 use Rattle.alias_ranges.specs.Reach.{end_of, end_at, but_end, Visits, AtLeast, Covered, Caused, IsDefiniteMark, SeenDefinite, MutatedAt, Reached, Marks}
 use Rattle.alias_ranges.proofs.Covering.{eqb_is, opened}
 use Rattle.alias_ranges.proofs.Visits.{Met, run_new}
 use Rattle.alias_ranges.proofs.Size.{eight_times}
-use Rattle.alias_ranges.proofs.Reaching.{walk_reaches, walk_stays, legal_stands, id_is}
+use Rattle.alias_ranges.proofs.Reaching.{walk_reaches, walk_stays, legal_exists, id_is}
 use Rattle.alias_ranges.proofs.Shapes.{shape, marked_shape}
 use Rattle.alias_ranges.proofs.Ending.{walk_empties}
 
@@ -182,8 +182,8 @@ module _ (m : ℕ) (origin : Origin) (g : Nodes) where
     keep : (d : Entry) (o : Option Node) → Holds o → Holds (option_map (visited m origin d) o)
     keep d o h = (visited m origin d h.0, ap (option_map (visited m origin d)) h.1, keeps d h.0 h.2)
 
-    kept_one : (done : List Entry) (d : Entry) (q : IdentifierId) → Holds (node_at (marked m origin g done) q) → Holds (node_at (marked m origin g (d ∷ done)) q)
-    kept_one done d q h = ⊎_elim
+    stored_one : (done : List Entry) (d : Entry) (q : IdentifierId) → Holds (node_at (marked m origin g done) q) → Holds (node_at (marked m origin g (d ∷ done)) q)
+    stored_one done d q h = ⊎_elim
         (λ same. subst Holds (sym (ap (λ z. node_at (changed (marked m origin g done) z (visited m origin d)) q) (id_is d.id q same) ∙ changed_here (marked m origin g done) q (visited m origin d)))
         (keep d (node_at (marked m origin g done) q) h))
         (λ other. subst Holds (sym (changed_apart (marked m origin g done) d.id q (visited m origin d) other)) h)
@@ -195,7 +195,7 @@ module _ (m : ℕ) (origin : Origin) (g : Nodes) where
         let n = some_node (node_at (marked m origin g done) e.id) (still_there done e.id t) in
         subst (λ (z : Entry). Holds (node_at (changed (marked m origin g done) z.id (visited m origin z)) e.id)) same
         (subst Holds (sym (changed_here (marked m origin g done) e.id (visited m origin e) ∙ ap (option_map (visited m origin e)) n.1)) (visited m origin e n.0, refl, brings n.0))
-    brought (d ∷ done) e brings (inr other) t = kept_one done d e.id (brought done e brings other t)
+    brought (d ∷ done) e brings (inr other) t = stored_one done d e.id (brought done e brings other t)
 
 definite_stays : (i : MutationInfo) (o : Option MutationInfo) → IsDefiniteMark o → IsDefiniteMark (remarked i o)
 definite_stays i None h = absurd (cc)
@@ -254,7 +254,7 @@ module _ (g : Nodes) (m : ℕ) (s : Entry) (origin : Origin) where
   walk_visits = record {
     legal = λ e i. visit_legal e i;
     reached = λ e p. met e p;
-    new = run_new covers (stands g) (next g m) s (1 + 8 * all_links g);
+    new = run_new covers (node_exists g) (next g m) s (1 + 8 * all_links g);
     eight = λ id. eight_times g m s (1 + 8 * all_links g) id;
   }
 
@@ -263,7 +263,7 @@ module _ (g : Nodes) (m : ℕ) (s : Entry) (origin : Origin) where
       let by = met e p in
       let same = (opened by.0 e by.2).id in
       subst (λ i. AtLeast end (end_at (ranges_after end rs visits) i)) same
-      (ranges_there end rs visits by.0 by.1 (fits by.0.id (legal_stands g m s by.0 (visit_legal by.0 by.1))))
+      (ranges_there end rs visits by.0 by.1 (fits by.0.id (legal_exists g m s by.0 (visit_legal by.0 by.1))))
 
   pub walk_caused : (end : Option EvaluationOrder) (rs : List Identifier) → Caused g m s end rs (ranges_after end rs visits)
   walk_caused end rs = record {
@@ -278,12 +278,12 @@ module _ (g : Nodes) (m : ℕ) (s : Entry) (origin : Origin) where
         let by = met e p in
         let same = id_is by.0.id e.id (opened by.0 e by.2).id in
         subst (λ q. Reached (marked m origin g visits) m q) same
-        (brought m origin g (MutatedAt m) (λ d n h. later_is m n.last_mutated) visits by.0 (λ n. later_is m n.last_mutated) by.1 (legal_stands g m s by.0 (visit_legal by.0 by.1)));
+        (brought m origin g (MutatedAt m) (λ d n h. later_is m n.last_mutated) visits by.0 (λ n. later_is m n.last_mutated) by.1 (legal_exists g m s by.0 (visit_legal by.0 by.1)));
     definite = λ e p is.
         let by = met e p in
         let o = opened by.0 e by.2 in
         subst (λ q. SeenDefinite (marked m origin g visits) q) (id_is by.0.id e.id o.id)
         (brought m origin g EitherDefinite (λ d n h. marks_stay d.transitive (info d.kind origin.span) n h) visits by.0 (λ n. marks_come by.0.transitive (info by.0.kind origin.span) n (high by.0.kind e.kind o.kind is)) by.1
-        (legal_stands g m s by.0 (visit_legal by.0 by.1)));
+        (legal_exists g m s by.0 (visit_legal by.0 by.1)));
     untouched = λ id none. marked_apart m origin g visits id (λ e i same. none e (visit_legal e i) same);
   }

@@ -2,7 +2,7 @@
 ghost use Rattle.std.specs.Prelude.{◌≡◌, ◌++◌, [], true, cond, slice_get, OnOk, OnErr};
 ghost use Rattle.alias_hir.specs.Diagnostics.{report_at, effect_reports, summary};
 ghost use Rattle.alias_ranges.specs.Nodes.{node_at};
-ghost use Rattle.alias_ranges.specs.Reports.{value_reports, told, kept_told_at, with_reports, Front};
+ghost use Rattle.alias_ranges.specs.Reports.{value_reports, reported, stored_reported_at, with_reports, Front};
 
 use crate::node_map::NodeMap;
 use crate::types::{Node, NodeValue};
@@ -68,10 +68,14 @@ fn push_summary(
 }
 
 /// Appends the reports that a walk adds at a node: those of a function without a mark.
-pub(crate) fn tell(alloc: Global, node: &Node, env: &mut Environment) -> Result<(), AllocError>
-    ensures ok { OnOk result (env.new ≡ with_reports (told env.old node.now.value node.now.local node.now.transitive) env.old) }
+pub(crate) fn report_node(
+    alloc: Global,
+    node: &Node,
+    env: &mut Environment,
+) -> Result<(), AllocError>
+    ensures ok { OnOk result (env.new ≡ with_reports (reported env.old node.now.value node.now.local node.now.transitive) env.old) }
     ensures err { OnErr result (env.new ≡ record env.old { errors = env.new.errors }) }
-    ensures front { OnErr result (Front env.old.errors env.new.errors (told env.old node.now.value node.now.local node.now.transitive)) }
+    ensures front { OnErr result (Front env.old.errors env.new.errors (reported env.old node.now.value node.now.local node.now.transitive)) }
 {
     if node.local.is_some() || node.transitive.is_some() {
         return Ok(());
@@ -89,23 +93,23 @@ pub(crate) fn tell(alloc: Global, node: &Node, env: &mut Environment) -> Result<
 }
 
 /// Where errors are recorded, appends the reports that a walk adds at the node of an identifier.
-pub(crate) fn tell_at(
+pub(crate) fn report_node_at(
     alloc: Global,
     nodes: &NodeMap,
     id: IdentifierId,
     should_record_errors: bool,
     env: &mut Environment,
 ) -> Result<(), AllocError>
-    ensures ok { OnOk result (env.new ≡ with_reports (cond should_record_errors (kept_told_at env.old (node_at nodes.now id)) []) env.old) }
+    ensures ok { OnOk result (env.new ≡ with_reports (cond should_record_errors (stored_reported_at env.old (node_at nodes.now id)) []) env.old) }
     ensures recording { OnErr result (should_record_errors ≡ true) }
     ensures err { OnErr result (env.new ≡ record env.old { errors = env.new.errors }) }
-    ensures front { OnErr result (Front env.old.errors env.new.errors (kept_told_at env.old (node_at nodes.now id))) }
+    ensures front { OnErr result (Front env.old.errors env.new.errors (stored_reported_at env.old (node_at nodes.now id))) }
 {
     if !should_record_errors {
         return Ok(());
     }
     match nodes.get(id) {
         None => Ok(()),
-        Some(node) => tell(alloc, node, env),
+        Some(node) => report_node(alloc, node, env),
     }
 }

@@ -1,4 +1,4 @@
-//! Where in a JSON text a value stands.
+//! Where in a JSON text a value is.
 ghost use Rattle.std.specs.Prelude.{◌≡◌, ◌++◌, IfOk, OnOk, encode_utf8};
 ghost use Rattle.alias_read.specs.Pointer.{pointer, escaped};
 

@@ -2,9 +2,9 @@
 use Rattle.std.specs.Prelude.{Bool, true, not, ◌&&◌, List, Option, Some, None, Result, is_ok, ⊤, length, map, nat_lt}
 use Rattle.std.specs.List.{list_all}
 use Rattle.alias_base.specs.Answer.{◌>>=◌}
-use Rattle.alias_hir.specs.Diagnostics.{is_interned, tells_invariant}
+use Rattle.alias_hir.specs.Diagnostics.{is_interned, reports_invariant}
 use Rattle.alias_hir.specs.Effects.{effect_places, error_of}
-use Rattle.alias_rules.specs.Rules.{tables_fit, numbers_fit, entry_stands, successors_stand, none_stands_twice, handlers_distinct, phis_fit, orders_fit}
+use Rattle.alias_rules.specs.Rules.{tables_fit, numbers_fit, entry_exists, successors_exist, none_listed_twice, handlers_distinct, phis_fit, orders_fit}
 use Rattle.alias_hir.specs.Terminals.{terminal_effects}
 use Rattle.alias_hir.specs.declared.effect.AliasingEffect.{AliasingEffect}
 use Rattle.alias_hir.specs.declared.env.Environment.{Environment}
@@ -15,47 +15,47 @@ use Rattle.alias_hir.specs.declared.report.Interned.{Interned}
 use Rattle.alias_rules.specs.declared.fault.UnitFault.{UnitFault}
 
 -- the identifier of the place is in the table
-abbrev pub place_stands : Environment → Place → Bool
-place_stands env p = nat_lt p.identifier.0 (length env.identifiers)
+abbrev pub place_within_tables : Environment → Place → Bool
+place_within_tables env p = nat_lt p.identifier.0 (length env.identifiers)
 
 -- the report of an effect that has one is interned
-abbrev pub error_stands : Environment → Option DiagnosticId → Bool
-error_stands env None = true
-error_stands env (Some error) = is_interned env.interned error
+abbrev pub error_within_tables : Environment → Option DiagnosticId → Bool
+error_within_tables env None = true
+error_within_tables env (Some error) = is_interned env.interned error
 
 -- the places of the effect are within the table of identifiers, and its report is interned
-abbrev pub effect_stands : Environment → AliasingEffect → Bool
-effect_stands env e = list_all (place_stands env) (effect_places e) && error_stands env (error_of e)
+abbrev pub effect_within_tables : Environment → AliasingEffect → Bool
+effect_within_tables env e = list_all (place_within_tables env) (effect_places e) && error_within_tables env (error_of e)
 
-abbrev pub recorded_stand : Environment → Option (List AliasingEffect) → Bool
-recorded_stand env None = true
-recorded_stand env (Some es) = list_all (effect_stands env) es
+abbrev pub recorded_within_tables : Environment → Option (List AliasingEffect) → Bool
+recorded_within_tables env None = true
+recorded_within_tables env (Some es) = list_all (effect_within_tables env) es
 
 -- the effects of the instructions, of the terminals and of the summary
-abbrev pub effects_stand : Environment → HirFunction → Bool
-effects_stand env func =
-    list_all (λ i. recorded_stand env i.effects) func.instructions
-    && list_all (λ e. recorded_stand env (terminal_effects e.1.terminal)) func.body.blocks
-    && recorded_stand env func.aliasing_effects
+abbrev pub effects_within_tables : Environment → HirFunction → Bool
+effects_within_tables env func =
+    list_all (λ i. recorded_within_tables env i.effects) func.instructions
+    && list_all (λ e. recorded_within_tables env (terminal_effects e.1.terminal)) func.body.blocks
+    && recorded_within_tables env func.aliasing_effects
 
--- no report that is told or interned says that an invariant was broken
-abbrev pub tells_no_invariant : Environment → Bool
-tells_no_invariant env = not (tells_invariant env.errors) && not (tells_invariant (map (λ (e : Interned). e.report) env.interned))
+-- no report that is recorded or interned says that an invariant was broken
+abbrev pub reports_no_invariant : Environment → Bool
+reports_no_invariant env = not (reports_invariant env.errors) && not (reports_invariant (map (λ (e : Interned). e.report) env.interned))
 
 -- the rules that a function keeps, whether it is inferred or not
 abbrev pub function_rules : Environment → HirFunction → Result ⊤ UnitFault
 function_rules env func = do
   _ ← tables_fit env
   _ ← numbers_fit env func
-  _ ← entry_stands None func
-  _ ← successors_stand None func
-  _ ← none_stands_twice None func
+  _ ← entry_exists None func
+  _ ← successors_exist None func
+  _ ← none_listed_twice None func
   _ ← handlers_distinct None func
   _ ← phis_fit None func
   orders_fit None func
 
 -- Numbers are within their tables, those of effects and of their reports too; the entry and what terminals name are blocks; no instruction
--- stands twice; each `Try` has a handler of its own; operands of phis are for predecessors; orders are set; and no report
--- that is told or interned says that an invariant was broken.
+-- is listed twice; each `Try` has a handler of its own; operands of phis are for predecessors; orders are set; and no report
+-- that is recorded or interned says that an invariant was broken.
 abbrev pub function_fits : HirFunction → Environment → Bool
-function_fits func env = is_ok (function_rules env func) && effects_stand env func && tells_no_invariant env
+function_fits func env = is_ok (function_rules env func) && effects_within_tables env func && reports_no_invariant env

@@ -1,4 +1,4 @@
 pub mod Fault
 pub mod Fitting
-pub mod RuleFacts
+pub mod RuleLaws
 pub mod Rules

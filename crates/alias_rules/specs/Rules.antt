@@ -78,8 +78,8 @@ abbrev pub is_block : HirFunction → BlockId → Bool
 is_block func b = is_some (value_at func.body.blocks b)
 
 -- the function begins with one of its blocks
-abbrev pub entry_stands : Option FunctionId → HirFunction → Result ⊤ UnitFault
-entry_stands f func = if is_block func func.body.entry then Ok tt else Err (EntryMissing f)
+abbrev pub entry_exists : Option FunctionId → HirFunction → Result ⊤ UnitFault
+entry_exists f func = if is_block func func.body.entry then Ok tt else Err (EntryMissing f)
 
 -- ---- successors are blocks
 
@@ -89,54 +89,54 @@ handler_of (Try id block handler handler_binding) = Some handler
 handler_of t = None
 
 -- what the block names is a block
-abbrev pub named_stands : Option FunctionId → HirFunction → BlockId → BlockId → Result ⊤ UnitFault
-named_stands f func b named = if is_block func named then Ok tt else Err (SuccessorMissing f b named)
+abbrev pub named_exists : Option FunctionId → HirFunction → BlockId → BlockId → Result ⊤ UnitFault
+named_exists f func b named = if is_block func named then Ok tt else Err (SuccessorMissing f b named)
 
 -- the successors, then the handler of a `Try`
 abbrev pub leads_to_blocks : Option FunctionId → HirFunction → BlockId → Terminal → Result ⊤ UnitFault
 leads_to_blocks f func b t = do
-  _ ← all_pass (named_stands f func b) (successors t)
-  all_pass (named_stands f func b) (optional_block (handler_of t))
+  _ ← all_pass (named_exists f func b) (successors t)
+  all_pass (named_exists f func b) (optional_block (handler_of t))
 
 -- each block that a terminal names is there, over the blocks in stored order
-abbrev pub successors_stand : Option FunctionId → HirFunction → Result ⊤ UnitFault
-successors_stand f func = all_pass (λ e. leads_to_blocks f func e.0 e.1.terminal) func.body.blocks
+abbrev pub successors_exist : Option FunctionId → HirFunction → Result ⊤ UnitFault
+successors_exist f func = all_pass (λ e. leads_to_blocks f func e.0 e.1.terminal) func.body.blocks
 
--- ---- each instruction stands in some block
+-- ---- some block lists each instruction
 
--- the instructions that stand in the blocks, in stored order
-abbrev pub standing : HirFunction → List ℕ
-standing func = flat_map (λ e. map (λ i. i.0) e.1.instructions) func.body.blocks
+-- the instructions that the blocks list, in stored order
+abbrev pub listed_instructions : HirFunction → List ℕ
+listed_instructions func = flat_map (λ e. map (λ i. i.0) e.1.instructions) func.body.blocks
 
-abbrev pub stands_in : List ℕ → ℕ → Bool
-stands_in xs k = list_any (nat_eq k) xs
+abbrev pub is_among : List ℕ → ℕ → Bool
+is_among xs k = list_any (nat_eq k) xs
 
--- the smallest number below n that does not stand in xs
+-- the smallest number below n that is not in xs
 abbrev pub first_missing : ℕ → List ℕ → Option ℕ
-first_missing n xs = find (λ k. not (stands_in xs k)) (range_with_len 0 n)
+first_missing n xs = find (λ k. not (is_among xs k)) (range_with_len 0 n)
 
 abbrev pub missing : Option FunctionId → Option ℕ → Result ⊤ UnitFault
 missing f None = Ok tt
 missing f (Some k) = Err (InstructionMissing f (record { 0 = k }))
 
--- each instruction of the list stands in some block; the fault names the smallest that does not
-abbrev pub instructions_stand : Option FunctionId → HirFunction → Result ⊤ UnitFault
-instructions_stand f func = missing f (first_missing (length func.instructions) (standing func))
+-- some block lists each instruction; the fault names the smallest that none lists
+abbrev pub instructions_listed : Option FunctionId → HirFunction → Result ⊤ UnitFault
+instructions_listed f func = missing f (first_missing (length func.instructions) (listed_instructions func))
 
--- ---- no instruction stands twice
+-- ---- no instruction is listed twice
 
--- the first of xs that stood before: in seen, or earlier in xs
+-- the first of xs that was there before: in seen, or earlier in xs
 abbrev pub first_again : List ℕ → List ℕ → Option ℕ
 first_again seen [] = None
-first_again seen (x ∷ xs) = if stands_in seen x then Some x else first_again (x ∷ seen) xs
+first_again seen (x ∷ xs) = if is_among seen x then Some x else first_again (x ∷ seen) xs
 
 abbrev pub twice : Option FunctionId → Option ℕ → Result ⊤ UnitFault
 twice f None = Ok tt
 twice f (Some k) = Err (InstructionTwice f (record { 0 = k }))
 
--- no instruction stands in two places of the blocks; the fault names the earliest second standing
-abbrev pub none_stands_twice : Option FunctionId → HirFunction → Result ⊤ UnitFault
-none_stands_twice f func = twice f (first_again [] (standing func))
+-- no instruction is listed in two places of the blocks; the fault names the earliest second listing
+abbrev pub none_listed_twice : Option FunctionId → HirFunction → Result ⊤ UnitFault
+none_listed_twice f func = twice f (first_again [] (listed_instructions func))
 
 -- ---- no two `Try`s name one handler
 
@@ -197,39 +197,39 @@ is_unknown ConditionallyMutate = false
 is_unknown Mutate = false
 is_unknown Store = false
 
-abbrev pub place_is_bare : Place → Bool
-place_is_bare p = is_unknown p.effect
+abbrev pub place_is_uninferred : Place → Bool
+place_is_uninferred p = is_unknown p.effect
 
 -- no range and no scope
-abbrev pub identifier_is_bare : Identifier → Bool
-identifier_is_bare i = (i.mutable_range.start.0 == 0) && (i.mutable_range.end.0 == 0) && is_none i.scope
+abbrev pub identifier_is_uninferred : Identifier → Bool
+identifier_is_uninferred i = (i.mutable_range.start.0 == 0) && (i.mutable_range.end.0 == 0) && is_none i.scope
 
 -- no effects, and no place has one
-abbrev pub instruction_is_bare : Instruction → Bool
-instruction_is_bare i = is_none i.effects && place_is_bare i.lvalue && list_all place_is_bare (places_of i.value)
+abbrev pub instruction_is_uninferred : Instruction → Bool
+instruction_is_uninferred i = is_none i.effects && place_is_uninferred i.lvalue && list_all place_is_uninferred (places_of i.value)
 
-abbrev pub terminal_is_bare : Terminal → Bool
-terminal_is_bare t = is_none (terminal_effects t) && list_all place_is_bare (terminal_places t)
+abbrev pub terminal_is_uninferred : Terminal → Bool
+terminal_is_uninferred t = is_none (terminal_effects t) && list_all place_is_uninferred (terminal_places t)
 
-abbrev pub phi_is_bare : Phi → Bool
-phi_is_bare p = place_is_bare p.place && list_all (λ (e : BlockId × Place). place_is_bare e.1) p.operands
+abbrev pub phi_is_uninferred : Phi → Bool
+phi_is_uninferred p = place_is_uninferred p.place && list_all (λ (e : BlockId × Place). place_is_uninferred e.1) p.operands
 
-abbrev pub block_is_bare : BasicBlock → Bool
-block_is_bare b = list_all phi_is_bare b.phis && terminal_is_bare b.terminal
+abbrev pub block_is_uninferred : BasicBlock → Bool
+block_is_uninferred b = list_all phi_is_uninferred b.phis && terminal_is_uninferred b.terminal
 
 -- no summary, no effects, and no place has one
-abbrev pub function_is_bare : HirFunction → Bool
-function_is_bare func =
-    is_none func.aliasing_effects && place_is_bare func.returns && list_all instruction_is_bare func.instructions
-    && list_all (λ (e : BlockId × BasicBlock). block_is_bare e.1) func.body.blocks
+abbrev pub function_is_uninferred : HirFunction → Bool
+function_is_uninferred func =
+    is_none func.aliasing_effects && place_is_uninferred func.returns && list_all instruction_is_uninferred func.instructions
+    && list_all (λ (e : BlockId × BasicBlock). block_is_uninferred e.1) func.body.blocks
 
--- no reports, told or interned, and no identifier has a range or a scope
-abbrev pub environment_is_bare : Environment → Bool
-environment_is_bare env = (length env.errors == 0) && (length env.interned == 0) && list_all identifier_is_bare env.identifiers
+-- no reports, recorded or interned, and no identifier has a range or a scope
+abbrev pub environment_is_uninferred : Environment → Bool
+environment_is_uninferred env = (length env.errors == 0) && (length env.interned == 0) && list_all identifier_is_uninferred env.identifiers
 
 -- neither the tables nor the function say what the inference is to find
 abbrev pub nothing_inferred : HirUnit → Result ⊤ UnitFault
-nothing_inferred u = if environment_is_bare u.env && function_is_bare u.function then Ok tt else Err SomethingInferred
+nothing_inferred u = if environment_is_uninferred u.env && function_is_uninferred u.function then Ok tt else Err SomethingInferred
 
 -- ---- all rules, in order
 
@@ -238,10 +238,10 @@ abbrev pub rules_hold : HirUnit → Result ⊤ UnitFault
 rules_hold u = do
   _ ← tables_fit u.env
   _ ← numbers_fit u.env u.function
-  _ ← entry_stands None u.function
-  _ ← successors_stand None u.function
-  _ ← instructions_stand None u.function
-  _ ← none_stands_twice None u.function
+  _ ← entry_exists None u.function
+  _ ← successors_exist None u.function
+  _ ← instructions_listed None u.function
+  _ ← none_listed_twice None u.function
   _ ← handlers_distinct None u.function
   _ ← phis_fit None u.function
   _ ← orders_fit None u.function

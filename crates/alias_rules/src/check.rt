@@ -3,14 +3,14 @@ ghost use Rattle.std.specs.Prelude.{◌≡◌, ◌<◌, ◌^◌, length, ⊤};
 ghost use Rattle.alias_rules.specs.Fault.{Gives};
 ghost use Rattle.alias_rules.specs.Rules.{rules_hold, checks};
 
-use crate::bare::nothing_inferred;
-use crate::blocks::{entry_stands, successors_stand};
+use crate::blocks::{entry_exists, successors_exist};
 use crate::fault::UnitFault;
 use crate::handlers::handlers_distinct;
 use crate::ids::{numbers_fit, tables_fit};
+use crate::listing::{instructions_listed, none_listed_twice};
 use crate::orders::orders_fit;
 use crate::phis::phis_fit;
-use crate::standing::{instructions_stand, none_stands_twice};
+use crate::uninferred::nothing_inferred;
 use alias_hir::env::Unit;
 use std::alloc::Global;
 use std::marker::Model;
@@ -59,10 +59,10 @@ fn rules_hold(alloc: Global, unit: &Unit) -> Result<(), UnitFault>
 {
     tables_fit(&unit.env)?;
     numbers_fit(&unit.env, &unit.function)?;
-    entry_stands(None, &unit.function)?;
-    successors_stand(None, &unit.function)?;
-    instructions_stand(alloc, None, &unit.function)?;
-    none_stands_twice(alloc, None, &unit.function)?;
+    entry_exists(None, &unit.function)?;
+    successors_exist(None, &unit.function)?;
+    instructions_listed(alloc, None, &unit.function)?;
+    none_listed_twice(alloc, None, &unit.function)?;
     handlers_distinct(alloc, None, &unit.function)?;
     phis_fit(None, &unit.function)?;
     orders_fit(None, &unit.function)?;
@@ -70,8 +70,8 @@ fn rules_hold(alloc: Global, unit: &Unit) -> Result<(), UnitFault>
 }
 
 /// The unit itself where it keeps all rules, else the first rule that it breaks: numbers are within their
-/// tables; the entry is a block; successors, and handlers of `Try`s, are blocks; each instruction stands in
-/// some block; none stands twice; each `Try` has a handler of its own; operands of phis are for blocks that
+/// tables; the entry is a block; successors, and handlers of `Try`s, are blocks; some block lists each
+/// instruction, and none is listed twice; each `Try` has a handler of its own; operands of phis are for blocks that
 /// have an edge to that of the phi; orders are neither unset nor the last number; nothing is inferred.
 /// `Memory` is for want of memory. After an `Err` the unit is gone.
 pub fn check_unit(alloc: Global, unit: Unit) -> Result<Checked, UnitFault>

@@ -32,12 +32,12 @@ pub enum UnitFault {
         block: BlockId,
         named: BlockId,
     },
-    /// An instruction of the function's list stands in no block: the one with the smallest number.
+    /// An instruction of the function's list is listed by no block: the one with the smallest number.
     InstructionMissing {
         function: Option<FunctionId>,
         instruction: InstructionId,
     },
-    /// An instruction stands a second time: the earliest such, over the blocks in stored order.
+    /// An instruction is listed a second time: the earliest such, over the blocks in stored order.
     InstructionTwice {
         function: Option<FunctionId>,
         instruction: InstructionId,

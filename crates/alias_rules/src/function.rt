@@ -1,17 +1,17 @@
 //! What the inference asks of a function.
 ghost use Rattle.std.specs.Prelude.{◌≡◌, IfOk, is_ok, map};
-ghost use Rattle.alias_hir.specs.Diagnostics.{tells_invariant};
+ghost use Rattle.alias_hir.specs.Diagnostics.{reports_invariant};
 ghost use Rattle.alias_rules.specs.Fault.{Gives};
-ghost use Rattle.alias_rules.specs.Fitting.{tells_no_invariant, function_rules, function_fits};
+ghost use Rattle.alias_rules.specs.Fitting.{reports_no_invariant, function_rules, function_fits};
 
-use crate::blocks::{entry_stands, successors_stand};
-use crate::effects::effects_stand;
+use crate::blocks::{entry_exists, successors_exist};
+use crate::effects::effects_within_tables;
 use crate::fault::UnitFault;
 use crate::handlers::handlers_distinct;
 use crate::ids::{numbers_fit, tables_fit};
+use crate::listing::none_listed_twice;
 use crate::orders::orders_fit;
 use crate::phis::phis_fit;
-use crate::standing::none_stands_twice;
 use alias_hir::env::Environment;
 use alias_hir::hir::HirFunction;
 use alias_hir::report::{ErrorCategory, Interned};
@@ -19,7 +19,7 @@ use std::alloc::{AllocError, Global};
 
 /// Whether an interned report says that an invariant was broken.
 fn interns_invariant(interned: &[Interned]) -> bool
-    ensures { result ≡ tells_invariant (map (λ e. e.report) interned.now) }
+    ensures { result ≡ reports_invariant (map (λ e. e.report) interned.now) }
 {
     for entry in interned {
         if matches!(entry.report.category, ErrorCategory::Invariant) {
@@ -29,8 +29,8 @@ fn interns_invariant(interned: &[Interned]) -> bool
     false
 }
 
-fn tells_no_invariant(env: &Environment) -> bool
-    ensures { result ≡ tells_no_invariant env.now }
+fn reports_no_invariant(env: &Environment) -> bool
+    ensures { result ≡ reports_no_invariant env.now }
 {
     !env.has_invariant_errors() && !interns_invariant(env.interned.as_slice())
 }
@@ -41,18 +41,18 @@ fn function_rules(alloc: Global, env: &Environment, func: &HirFunction) -> Resul
 {
     tables_fit(env)?;
     numbers_fit(env, func)?;
-    entry_stands(None, func)?;
-    successors_stand(None, func)?;
-    none_stands_twice(alloc, None, func)?;
+    entry_exists(None, func)?;
+    successors_exist(None, func)?;
+    none_listed_twice(alloc, None, func)?;
     handlers_distinct(alloc, None, func)?;
     phis_fit(None, func)?;
     orders_fit(None, func)
 }
 
 /// Whether the inference takes the function: numbers are within their tables, those of effects and their reports too; the
-/// entry, successors and handlers of `Try`s are blocks; no instruction stands twice; each `Try` has a handler
+/// entry, successors and handlers of `Try`s are blocks; no instruction is listed twice; each `Try` has a handler
 /// of its own; operands of phis are for blocks that have an edge to that of the phi; orders are set; and no
-/// report that is told or interned says that an invariant was broken. The one error is want of memory.
+/// report that is recorded or interned says that an invariant was broken. The one error is want of memory.
 pub fn check_function(
     alloc: Global,
     func: &HirFunction,
@@ -61,7 +61,7 @@ pub fn check_function(
     ensures { IfOk result (λ b. b ≡ function_fits func.now env.now) }
 {
     match function_rules(alloc, env, func) {
-        Ok(()) => Ok(effects_stand(env, func) && tells_no_invariant(env)),
+        Ok(()) => Ok(effects_within_tables(env, func) && reports_no_invariant(env)),
         Err(UnitFault::Memory(e)) => Err(e),
         Err(_) => Ok(false),
     }

@@ -1,7 +1,6 @@
 //! The rules of a well-formed unit.
 #![tactic(auto)]
 
-mod bare;
 mod blocks;
 pub mod check;
 mod effects;
@@ -9,8 +8,9 @@ pub mod fault;
 pub mod function;
 mod handlers;
 mod ids;
+mod listing;
 mod orders;
 mod phis;
-mod standing;
 #[cfg(test)]
 mod tests;
+mod uninferred;

@@ -70,12 +70,12 @@ fn instructions(alloc: Global) -> Result<List<Instruction>, AllocError> {
 fn unit_ending(
     alloc: Global,
     type_: u32,
-    standing: &[u32],
+    listed_instructions: &[u32],
     entry: u32,
     terminal: Terminal,
 ) -> Result<Unit, AllocError> {
     let mut numbers = List::new(alloc);
-    for number in standing {
+    for number in listed_instructions {
         numbers.push(InstructionId(*number))?;
     }
     let mut blocks = BlockMap::new(alloc);
@@ -113,29 +113,29 @@ fn returning(order: u32) -> Terminal {
 fn unit(
     alloc: Global,
     type_: u32,
-    standing: &[u32],
+    listed_instructions: &[u32],
     entry: u32,
     order: u32,
 ) -> Result<Unit, AllocError> {
-    unit_ending(alloc, type_, standing, entry, returning(order))
+    unit_ending(alloc, type_, listed_instructions, entry, returning(order))
 }
 
 fn refusal(
     rt: &impl Abort,
     alloc: Global,
     type_: u32,
-    standing: &[u32],
+    listed_instructions: &[u32],
     entry: u32,
     order: u32,
 ) -> Result<Option<UnitFault>, AllocError> {
-    let unit = unit(alloc, type_, standing, entry, order)?;
+    let unit = unit(alloc, type_, listed_instructions, entry, order)?;
     assert!(rt; unit.function.instructions.len() == 4);
     Ok(check_unit(alloc, unit).err())
 }
 
 /// Whether the inference takes the function.
-fn is_taken(alloc: Global, standing: &[u32]) -> Result<bool, AllocError> {
-    let unit = unit(alloc, 0, standing, 0, 5)?;
+fn is_taken(alloc: Global, listed_instructions: &[u32]) -> Result<bool, AllocError> {
+    let unit = unit(alloc, 0, listed_instructions, 0, 5)?;
     check_function(alloc, &unit.function, &unit.env)
 }
 

@@ -3,7 +3,7 @@ use Rattle.std.proofs.Common.{ℕ, ◌≡◌, ◌+◌, ◌-◌, ◌<◌, ◌≤�
 use Rattle.std.proofs.Math.Seq.{take-add, take-append_seam}
 use Rattle.std.proofs.lemmas.List.{append-nil, take_rest}
 use Rattle.std.proofs.lemmas.List.Folds.{drop_split}
-use Rattle.alias_stream.specs.Streams.{Takes, IsAtEnd, Adds, HasFailed, IsAllOf, IfTold}
+use Rattle.alias_stream.specs.Streams.{Takes, IsAtEnd, Adds, HasFailed, IsAllOf, IfKnown}
 
 pub takes-none : (a : Option (List ℕ)) → Takes a [] a
 takes-none None = refl
@@ -23,7 +23,7 @@ takes-all (Some old) xs b p q =
     let e : p.0 ≡ [] = subst IsAtEnd p.2 q in
     p.1 ∙ ap (λ zs. xs ++ zs) e ∙ append-nil xs
 
-pub takes-long : (a : Option (List ℕ)) (xs : List ℕ) (b : Option (List ℕ)) (n : ℕ) → Takes a xs b → n < length xs → IfTold a (λ all. n < length all)
+pub takes-long : (a : Option (List ℕ)) (xs : List ℕ) (b : Option (List ℕ)) (n : ℕ) → Takes a xs b → n < length xs → IfKnown a (λ all. n < length all)
 takes-long None xs b n p h = tt
 takes-long (Some old) xs b n p h = omega (arith, ap length p.1, length-append xs p.0)
 

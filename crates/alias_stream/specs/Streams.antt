@@ -1,7 +1,7 @@
 -- Bytes that come from a source and go into a sink.
 use Rattle.std.specs.Prelude.{ℕ, ◌≡◌, ◌<◌, ◌⊎◌, Bool, IsTrue, List, [], ◌++◌, Option, None, Some}
 
--- piece stands first in what was left before, and the rest is left after
+-- piece is first in what was left before, and the rest is left after
 abbrev pub Takes : Option (List ℕ) → List ℕ → Option (List ℕ) → Type 0
 Takes None piece new = new ≡ None
 Takes (Some old) piece new = (rest : List ℕ) × (old ≡ piece ++ rest) × (new ≡ Some rest)
@@ -25,7 +25,7 @@ abbrev pub IsAllOf : Option (List ℕ) → List ℕ → Type 0
 IsAllOf None bytes = Unit {0}
 IsAllOf (Some all) bytes = all ≡ bytes
 
--- a fact of the bytes, where they are told
-abbrev pub IfTold : Option (List ℕ) → (List ℕ → Type 0) → Type 0
-IfTold None P = Unit {0}
-IfTold (Some all) P = P all
+-- a fact of the bytes, where they are known
+abbrev pub IfKnown : Option (List ℕ) → (List ℕ → Type 0) → Type 0
+IfKnown None P = Unit {0}
+IfKnown (Some all) P = P all

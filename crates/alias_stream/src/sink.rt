@@ -24,7 +24,7 @@ impl From<AllocError> for SinkStop {
 
 /// What bytes are written to, a piece at a time.
 pub trait Sink {
-    /// What it holds, where this is told.
+    /// What it holds, where this is known.
     ghost held: { Self → Option (List ℕ) };
 
     /// How often it has failed; never falls.

@@ -8,7 +8,7 @@ pub struct Failed;
 
 /// What bytes are read from, a piece at a time.
 pub trait Source {
-    /// The bytes that it has left, where this is told.
+    /// The bytes that it has left, where this is known.
     ghost left: { Self → Option (List ℕ) };
 
     /// How often it has failed; never falls.

@@ -1,4 +1,4 @@
-//! Standard input as a source, and standard output as a sink. Nothing is told of what they hold.
+//! Standard input as a source, and standard output as a sink. Nothing is known of what they hold.
 ghost use Rattle.std.specs.Prelude.{None, ◌==◌};
 
 use crate::sink::{Sink, SinkStop};

@@ -68,7 +68,7 @@ freeze_text value reason = one_text (codes "Freeze") value ++ codes " " ++ reaso
 abbrev pub mutate_text : Place → Option MutationReason → List ℕ
 mutate_text value reason = one_text (codes "Mutate") value ++ mutation_text reason
 
--- an error is told by the number of its report
+-- an error is printed as the number of its report
 abbrev pub impure_text : Place → DiagnosticId → List ℕ
 impure_text place error = one_text (codes "Impure") place ++ spaced error.instance
 

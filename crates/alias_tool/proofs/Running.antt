@@ -9,7 +9,7 @@ use Rattle.alias_effects.specs.Inference.{Infers}
 use Rattle.alias_hir.specs.declared.env.Unit.{Unit as HirUnit}
 use Rattle.alias_hir.specs.declared.error.InferError.{InferError}
 use Rattle.alias_hir.specs.declared.error.InferError.TheVariants as error
-use Rattle.alias_stream.specs.Streams.{Adds, IsAllOf, IfTold}
+use Rattle.alias_stream.specs.Streams.{Adds, IsAllOf, IfKnown}
 use Rattle.alias_read.specs.Units.{UnitReading, NoUnit}
 use Rattle.alias_tool.specs.declared.status.Status.{Status}
 use Rattle.alias_tool.specs.declared.status.Status.TheVariants.{Done, Words, Unfit, Refused, ReadFault, WriteFault, TooLong, Memory, NotBuilt}
@@ -53,38 +53,38 @@ judged bytes u Memory (Some x) r k h = absurd h
 judged bytes u NotBuilt i r k h = absurd h
 
 -- what the bytes of the whole input lead to, the words and the source do
-pub found_from : (words : List (List ℕ)) (told : Option (List ℕ)) (failed : Type 0) (bytes : List ℕ) (status : Status) (i : Option Inferred)
-    → is_command words ≡ true → IsAllOf told bytes → length bytes ≤ greatest_input → IsJudged bytes status i → IsFound words told failed status i
-found_from words told failed bytes Done i w a l h = (w, bytes, a, l, h)
-found_from words told failed bytes Words i w a l h = absurd h.2.1
-found_from words told failed bytes (Unfit fault) i w a l h = (w, bytes, a, l, h)
-found_from words told failed bytes (Refused e) i w a l h = (w, bytes, a, l, h)
-found_from words told failed bytes ReadFault i w a l h = absurd h.2.1
-found_from words told failed bytes WriteFault i w a l h = absurd h.2.1
-found_from words told failed bytes TooLong i w a l h = absurd h.2.1
-found_from words told failed bytes Memory i w a l h = h
-found_from words told failed bytes NotBuilt i w a l h = (w, bytes, a, l, h)
+pub found_from : (words : List (List ℕ)) (known : Option (List ℕ)) (failed : Type 0) (bytes : List ℕ) (status : Status) (i : Option Inferred)
+    → is_command words ≡ true → IsAllOf known bytes → length bytes ≤ greatest_input → IsJudged bytes status i → IsFound words known failed status i
+found_from words known failed bytes Done i w a l h = (w, bytes, a, l, h)
+found_from words known failed bytes Words i w a l h = absurd h.2.1
+found_from words known failed bytes (Unfit fault) i w a l h = (w, bytes, a, l, h)
+found_from words known failed bytes (Refused e) i w a l h = (w, bytes, a, l, h)
+found_from words known failed bytes ReadFault i w a l h = absurd h.2.1
+found_from words known failed bytes WriteFault i w a l h = absurd h.2.1
+found_from words known failed bytes TooLong i w a l h = absurd h.2.1
+found_from words known failed bytes Memory i w a l h = h
+found_from words known failed bytes NotBuilt i w a l h = (w, bytes, a, l, h)
 
 pub adds_nothing : (held : Option (List ℕ)) → Adds held [] held
 adds_nothing None = refl
 adds_nothing (Some old) = ap Some (sym (append-nil old))
 
-module _ (words : List (List ℕ)) (told : Option (List ℕ)) (read_failed write_failed : Type 0) (held held' : Option (List ℕ)) where
+module _ (words : List (List ℕ)) (known : Option (List ℕ)) (read_failed write_failed : Type 0) (held held' : Option (List ℕ)) where
   -- memory ran out before anything was written
-  pub ran_out : (status : Status) (i : Option Inferred) → status ≡ Memory → i ≡ None → IsRun words told read_failed write_failed held held status i
-  ran_out status i s e = subst (λ z. IsRun words told read_failed write_failed held held z i) (sym s) ((Memory, None, refl, 0, adds_nothing held), e)
+  pub ran_out : (status : Status) (i : Option Inferred) → status ≡ Memory → i ≡ None → IsRun words known read_failed write_failed held held status i
+  ran_out status i s e = subst (λ z. IsRun words known read_failed write_failed held held z i) (sym s) ((Memory, None, refl, 0, adds_nothing held), e)
 
   -- the sink failed, and a front of the text was written
-  pub broke_off : (found : Status) (inferred : Option Inferred) (n : ℕ) (status : Status) (i : Option Inferred) → IsFound words told read_failed found inferred → Adds held (take n (text_with found inferred)) held' → write_failed
-      → status ≡ WriteFault → i ≡ None → IsRun words told read_failed write_failed held held' status i
-  broke_off found inferred n status i f a w s e = subst (λ z. IsRun words told read_failed write_failed held held' z i) (sym s) (w, (found, inferred, f, n, a), e)
+  pub broke_off : (found : Status) (inferred : Option Inferred) (n : ℕ) (status : Status) (i : Option Inferred) → IsFound words known read_failed found inferred → Adds held (take n (text_with found inferred)) held' → write_failed
+      → status ≡ WriteFault → i ≡ None → IsRun words known read_failed write_failed held held' status i
+  broke_off found inferred n status i f a w s e = subst (λ z. IsRun words known read_failed write_failed held held' z i) (sym s) (w, (found, inferred, f, n, a), e)
 
-  front_of_nothing : (i : Option Inferred) → i ≡ None → Adds held (text_with Memory i) held' → WroteFront words told read_failed write_failed held held'
+  front_of_nothing : (i : Option Inferred) → i ≡ None → Adds held (text_with Memory i) held' → WroteFront words known read_failed write_failed held held'
   front_of_nothing None e a = (Memory, None, refl, 0, a)
   front_of_nothing (Some x) e a = cc
 
   -- the whole text was written
-  pub ran : (status : Status) (i : Option Inferred) → IsFound words told read_failed status i → Adds held (text_with status i) held' → IsRun words told read_failed write_failed held held' status i
+  pub ran : (status : Status) (i : Option Inferred) → IsFound words known read_failed status i → Adds held (text_with status i) held' → IsRun words known read_failed write_failed held held' status i
   ran Done i f a = (f, a)
   ran Words i f a = (f, a)
   ran (Unfit fault) i f a = (f, a)
@@ -95,13 +95,13 @@ module _ (words : List (List ℕ)) (told : Option (List ℕ)) (read_failed write
   ran Memory i f a = (front_of_nothing i f a, f)
   ran NotBuilt i f a = (f, a)
 
-  told_unit : (o : Option (List ℕ)) (bytes : List ℕ) (u : HirUnit) → IsAllOf o bytes → UnitReading bytes u → IfTold o (λ all. UnitReading all u)
-  told_unit None bytes u a r = tt
-  told_unit (Some all) bytes u a r = subst (λ z. UnitReading z u) (sym a) r
+  known_unit : (o : Option (List ℕ)) (bytes : List ℕ) (u : HirUnit) → IsAllOf o bytes → UnitReading bytes u → IfKnown o (λ all. UnitReading all u)
+  known_unit None bytes u a r = tt
+  known_unit (Some all) bytes u a r = subst (λ z. UnitReading z u) (sym a) r
 
-  pub headlined : (status : Status) (i : Option Inferred) → IsFound words told read_failed status i → Adds held (text_with status i) held' → IsHeadline told held held' status i
+  pub headlined : (status : Status) (i : Option Inferred) → IsFound words known read_failed status i → Adds held (text_with status i) held' → IsHeadline known held held' status i
   headlined Done None f a = absurd f.4.2.1
-  headlined Done (Some x) f a = let j = f.4 in (j.0, told_unit told f.1 j.0 f.2 j.1, j.2.0, j.2.1.1, a)
+  headlined Done (Some x) f a = let j = f.4 in (j.0, known_unit known f.1 j.0 f.2 j.1, j.2.0, j.2.1.1, a)
   headlined Words i f a = tt
   headlined (Unfit fault) i f a = tt
   headlined (Refused e) i f a = tt

@@ -4,7 +4,7 @@ use Rattle.alias_rules.specs.Rules.{rules_hold}
 use Rattle.alias_hir.specs.declared.env.Unit.{Unit as HirUnit}
 use Rattle.alias_hir.specs.declared.error.InferError.TheVariants as error
 use Rattle.alias_read.specs.Units.{UnitReading, NoUnit}
-use Rattle.alias_stream.specs.Streams.{IsAllOf, IfTold}
+use Rattle.alias_stream.specs.Streams.{IsAllOf, IfKnown}
 use Rattle.alias_tool.specs.declared.status.Status.{Status}
 use Rattle.alias_tool.specs.declared.status.Status.TheVariants.{Done, Words, Unfit, Refused, ReadFault, TooLong, Memory, NotBuilt}
 use Rattle.alias_tool.specs.declared.inferred.Inferred.{Inferred}
@@ -42,12 +42,12 @@ IsJudged bytes NotBuilt i = NoUnit bytes × (i ≡ None)
 IsJudged bytes Memory i = i ≡ None
 IsJudged bytes status i = (u : HirUnit) × UnitReading bytes u × IsChecked u status i
 
--- What the words and a source lead to, before anything is written. `told` is what the source had at the call, where it
--- tells, and `failed` says that its count of faults rose.
+-- What the words and a source lead to, before anything is written. `known` is what the source had at the call, where that
+-- is known, and `failed` says that its count of faults rose.
 abbrev pub IsFound : List (List ℕ) → Option (List ℕ) → Type 0 → Status → Option Inferred → Type 0
-IsFound words told failed Words i = (is_command words ≡ false) × (i ≡ None)
-IsFound words told failed ReadFault i = (is_command words ≡ true) × failed × (i ≡ None)
-IsFound words told failed TooLong i = (is_command words ≡ true) × IfTold told (λ all. greatest_input < length all) × (i ≡ None)
-IsFound words told failed Memory i = i ≡ None
-IsFound words told failed status i =
-    (is_command words ≡ true) × (bytes : List ℕ) × IsAllOf told bytes × (length bytes ≤ greatest_input) × IsJudged bytes status i
+IsFound words known failed Words i = (is_command words ≡ false) × (i ≡ None)
+IsFound words known failed ReadFault i = (is_command words ≡ true) × failed × (i ≡ None)
+IsFound words known failed TooLong i = (is_command words ≡ true) × IfKnown known (λ all. greatest_input < length all) × (i ≡ None)
+IsFound words known failed Memory i = i ≡ None
+IsFound words known failed status i =
+    (is_command words ≡ true) × (bytes : List ℕ) × IsAllOf known bytes × (length bytes ≤ greatest_input) × IsJudged bytes status i

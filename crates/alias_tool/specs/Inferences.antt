@@ -7,7 +7,7 @@ use Rattle.alias_hir.specs.declared.error.InferError.{InferError}
 use Rattle.alias_hir.specs.declared.hir.HirFunction.{HirFunction}
 use Rattle.alias_effects.specs.declared.solved.Solved.{Solved}
 use Rattle.alias_effects.specs.Inference.{inferred}
-use Rattle.alias_effects.specs.Recording.{recorded}
+use Rattle.alias_effects.specs.Recording.{with_effects_of}
 use Rattle.alias_effects.specs.Solutions.{IsSolved}
 use Rattle.alias_tool.specs.declared.inferred.Inferred.{Inferred}
 
@@ -15,7 +15,7 @@ use Rattle.alias_tool.specs.declared.inferred.Inferred.{Inferred}
 abbrev pub inferred_unit : HirUnit → Result Inferred InferError
 inferred_unit u = do
   s ← inferred u.env u.function false
-  Ok (record { unit = record { function = recorded s u.function; env = u.env }; solved = s ∷ []; summary = []; reports = [] })
+  Ok (record { unit = record { function = with_effects_of s u.function; env = u.env }; solved = s ∷ []; summary = []; reports = [] })
 
 -- the functions of a unit in the order of their analysis, each with whether it is a function expression: the root alone, so far
 abbrev pub functions_of : HirUnit → List (HirFunction × Bool)

@@ -84,10 +84,10 @@ fn terminal_of(order: u32, end: End) -> Terminal {
 /// Instructions by their orders, results and values.
 fn instructions_of(
     alloc: Global,
-    rows: &[(u32, u32, Made)],
+    apply_effects: &[(u32, u32, Made)],
 ) -> Result<List<Instruction>, AllocError> {
     let mut list = List::new(alloc);
-    for (order, result, made) in rows {
+    for (order, result, made) in apply_effects {
         list.push(instruction(*order, *result, value_of(alloc, *made)?))?;
     }
     Ok(list)
@@ -97,10 +97,10 @@ fn instructions_of(
 /// of their ends.
 fn blocks_of(
     alloc: Global,
-    rows: &[(u32, u32, u32, u32, End)],
+    apply_effects: &[(u32, u32, u32, u32, End)],
 ) -> Result<BlockMap<BasicBlock>, AllocError> {
     let mut blocks = BlockMap::new(alloc);
-    for (number, first, after, order, end) in rows {
+    for (number, first, after, order, end) in apply_effects {
         let at = block(alloc, *first, *after, terminal_of(*order, *end))?;
         blocks.insert(BlockId(*number), at)?;
     }
@@ -165,19 +165,19 @@ fn phis_of(alloc: Global, count: u8) -> Result<List<Phi>, AllocError> {
 }
 
 /// A loop of so many phis, through which an object goes one phi further in each round.
-fn line_of_phis(alloc: Global, count: u8) -> Result<HirFunction, AllocError> {
+fn chain_of_phis(alloc: Global, count: u8) -> Result<HirFunction, AllocError> {
     let list = [
         (1, 1, Made::Object),
         (2, 2, Made::Primitive),
         (5, 3, Made::Object),
     ];
-    let rows = [
+    let apply_effects = [
         (0, 0, 2, 3, End::Goto(1)),
         (1, 0, 0, 4, End::Branch(2, 2, 3)),
         (2, 2, 3, 6, End::Goto(1)),
         (3, 0, 0, 7, End::Return(2)),
     ];
-    let mut blocks = blocks_of(alloc, &rows)?;
+    let mut blocks = blocks_of(alloc, &apply_effects)?;
     let phis = phis_of(alloc, count)?;
     if let Some(middle) = blocks.get_index_mut(1) {
         middle.phis = phis;
@@ -220,11 +220,16 @@ fn goes_round_a_while_loop(rt: HostRuntime) -> Result<(), Fail> {
 fn visits_again_what_its_own_state_grows(rt: HostRuntime) -> Result<(), Fail> {
     let alloc = rt.alloc();
     let list = instructions_of(alloc, &[(1, 1, Made::Primitive)])?;
-    let rows = [
+    let apply_effects = [
         (0, 0, 1, 2, End::Branch(1, 0, 1)),
         (1, 0, 0, 3, End::Return(1)),
     ];
-    let answer = inferred(&rt, alloc, function_of(blocks_of(alloc, &rows)?, list), 2)?;
+    let answer = inferred(
+        &rt,
+        alloc,
+        function_of(blocks_of(alloc, &apply_effects)?, list),
+        2,
+    )?;
     let visits = answer.solved.visits.as_slice();
     assert_eq!(rt; visits, [BlockId(0), BlockId(1), BlockId(0)].as_slice());
     Ok(())
@@ -245,9 +250,9 @@ fn infers_nothing_of_what_ends_at_once(rt: HostRuntime) -> Result<(), Fail> {
 #[test]
 fn takes_a_hundred_rounds_and_no_more(rt: HostRuntime) -> Result<(), Fail> {
     let alloc = rt.alloc();
-    let answer = inferred(&rt, alloc, line_of_phis(alloc, 98)?, 102)?;
+    let answer = inferred(&rt, alloc, chain_of_phis(alloc, 98)?, 102)?;
     assert_eq!(rt; answer.solved.visits.len(), 299);
-    let more = solve_function(alloc, line_of_phis(alloc, 99)?, 103, false);
+    let more = solve_function(alloc, chain_of_phis(alloc, 99)?, 103, false);
     assert!(rt;
         matches!(
             more,
@@ -337,18 +342,18 @@ fn records_the_same(
     assert_eq!(rt; func.instructions.len(), answer.func.instructions.len());
     for index in 0..func.instructions.len() {
         let count = func.instructions.get(index).map(|i| recorded_count(i));
-        let wanted = answer
+        let dirty = answer
             .func
             .instructions
             .get(index)
             .map(|i| recorded_count(i));
-        assert_eq!(rt; count, wanted);
+        assert_eq!(rt; count, dirty);
         assert!(rt; count != Some(0));
     }
     for (name, at) in func.body.blocks.iter() {
         let other = answer.func.body.blocks.get(*name);
-        let wanted = other.map(|b| b.terminal.effects().is_some());
-        assert_eq!(rt; Some(at.terminal.effects().is_some()), wanted);
+        let dirty = other.map(|b| b.terminal.effects().is_some());
+        assert_eq!(rt; Some(at.terminal.effects().is_some()), dirty);
     }
     Ok(())
 }

@@ -1,13 +1,13 @@
 use Rattle.std.proofs.Common.{false, subst}
 use Rattle.alias_hir.specs.declared.env.Unit.{Unit as HirUnit}
-use Rattle.alias_rules.specs.RuleFacts.{kept_function_fits}
+use Rattle.alias_rules.specs.RuleLaws.{rules_make_function_fit}
 use Rattle.alias_effects.specs.Inference.{inferred, Infers}
 use Rattle.alias_tool.specs.Inferences.{inferred_unit}
 use Rattle.alias_tool.proofs.Running.{refused_on}
 use Rattle.alias_tool.proofs.inferred.infer_unit.Goals as goal
 
 pub infer_effects_certified-requires : goal.infer_effects_certified-requires
-infer_effects_certified-requires c = kept_function_fits c.into_unit-function.result c.into_unit-function.ensures.checked
+infer_effects_certified-requires c = rules_make_function_fit c.into_unit-function.result c.into_unit-function.ensures.checked
 
 pub returns-in_err-solution-clause-answer : goal.returns-in_err-solution-clause-answer
 returns-in_err-solution-clause-answer c =

@@ -3,8 +3,8 @@ use Rattle.alias_lattice.specs.ListMaps.{list_join}
 use Rattle.alias_lattice.specs.AbstractValues.{abstract_join}
 use Rattle.alias_lattice.specs.SiteOrder.{site_cmp}
 use Rattle.alias_lattice.specs.States.{state_of}
-use Rattle.alias_lattice.specs.Standing.{StateProper, Stands}
-use Rattle.alias_lattice.specs.Joins.{stands-join}
+use Rattle.alias_lattice.specs.StateLaws.{StateProper, AllValued}
+use Rattle.alias_lattice.specs.Joins.{all_valued-join}
 use Rattle.alias_lattice.proofs.state.InferenceState.merge_from.Goals as goal
 
 pub invariant_of-self : goal.invariant_of-self
@@ -13,6 +13,6 @@ invariant_of-self c =
     let b = c.other.inside in
     let s = state_of a.values a.variables in
     let t = state_of b.values b.variables in
-    let joined = stands-join s t (subst StateProper (sym c.self.view_is) c.known.ensures) (subst StateProper (sym c.other.view_is) c.known-2.ensures) in
-    subst (λ m. Stands (state_of m c.in_ok-variables.variables)) (sym c.in_ok-values.ensures)
-    (subst (λ v. Stands (state_of (list_join site_cmp abstract_join a.values b.values) v)) (sym c.in_ok-variables.ensures) joined)
+    let joined = all_valued-join s t (subst StateProper (sym c.self.view_is) c.known.ensures) (subst StateProper (sym c.other.view_is) c.known-2.ensures) in
+    subst (λ m. AllValued (state_of m c.in_ok-variables.variables)) (sym c.in_ok-values.ensures.joined)
+    (subst (λ v. AllValued (state_of (list_join site_cmp abstract_join a.values b.values) v)) (sym c.in_ok-variables.ensures.joined) joined)

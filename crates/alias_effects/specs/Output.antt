@@ -1,0 +1,56 @@
+-- The parts of what is handed out.
+use Rattle.std.specs.Prelude.{◌≡◌, ℕ, Bool, List, [], ◌∷◌, Option, Some, None, Result, Ok, Err}
+use Rattle.std.specs.List.{flat_map}
+use Rattle.alias_base.specs.Answer.{◌>>=◌}
+use Rattle.alias_base.specs.declared.ids.BlockId.{BlockId}
+use Rattle.alias_hir.specs.declared.env.Environment.{Environment}
+use Rattle.alias_hir.specs.declared.error.InferError.{InferError}
+use Rattle.alias_hir.specs.declared.error.InferError.TheVariants as error
+use Rattle.alias_hir.specs.declared.hir.HirFunction.{HirFunction}
+use Rattle.alias_hir.specs.Reports.{not_settled_report}
+use Rattle.alias_lattice.specs.States.{State}
+use Rattle.alias_flow.specs.declared.flow.Solution.{Solution}
+use Rattle.alias_flow.specs.declared.flow.SolveFault.{SolveFault}
+use Rattle.alias_flow.specs.declared.flow.SolveFault.TheVariants.{Step, NotSettled, Memory}
+use Rattle.alias_flow.specs.Machine.{SolverState, VisitLog, End}
+use Rattle.alias_flow.specs.Machine as end
+use Rattle.alias_effects.specs.declared.block.BlockEffects.{BlockEffects}
+use Rattle.alias_effects.specs.declared.faults.BlockFault.{BlockFault}
+use Rattle.alias_effects.specs.declared.solved.BlockEntry.{BlockEntry}
+use Rattle.alias_effects.specs.Inference.{refusal, block_at, instructions_recorded, terminal_recorded, inferred}
+
+-- the entry of a block that was reached
+abbrev pub entry_as : BlockId → Option State → List BlockEntry
+entry_as b None = []
+entry_as b (Some x) = record { block = b; state = x } ∷ []
+
+-- what was recorded of all blocks that were visited
+abbrev pub all_recorded : List (Option BlockEffects) → BlockEffects
+all_recorded recorded = record { instructions = flat_map instructions_recorded recorded; terminal = flat_map terminal_recorded recorded }
+
+-- where the visits ended, as far as it is handed out
+abbrev pub solver_state_with : Solution State → List (Option BlockEffects) → SolverState (VisitLog State) (Unit {0}) BlockEffects
+solver_state_with s recorded = record { progress = record { visits = s.visits; joined_input = s.entries; last_input = [] }; tables = tt; recorded = recorded }
+
+-- a block was still dirty after 100 rounds
+abbrev pub unsettled : ℕ → InferError
+unsettled visits = error.NotSettled None visits not_settled_report
+
+-- why the flow has no solution, as a refusal of the root function
+abbrev pub unsolved : Environment → HirFunction → SolveFault BlockFault → InferError
+unsolved env func (Step n fault) = refusal env (block_at func.body.blocks n) fault
+unsolved env func (NotSettled visits) = unsettled visits
+unsolved env func (Memory e) = error.Memory e
+
+-- what the last visits of the function's blocks record, or the refusal
+abbrev pub last_effects : Environment → HirFunction → Bool → Result BlockEffects InferError
+last_effects env func is_function_expression = do
+  s ← inferred env func is_function_expression
+  Ok (record { instructions = s.effects; terminal = s.terminal_effects })
+
+-- what is recorded is what the visits end with, and a fault is theirs. Memory may fail at any time.
+abbrev pub VisitsEnd : End (VisitLog State) (Unit {0}) BlockEffects BlockFault → Result (Unit {0}) (SolveFault BlockFault) → List (Option BlockEffects) → Type 0
+VisitsEnd ending (Ok u) recorded = (w : SolverState (VisitLog State) (Unit {0}) BlockEffects) × (ending ≡ end.Solved w) × (recorded ≡ w.recorded)
+VisitsEnd ending (Err (Step n fault)) recorded = ending ≡ end.Fault n fault
+VisitsEnd ending (Err (NotSettled visits)) recorded = ending ≡ end.NotSettled visits
+VisitsEnd ending (Err (Memory e)) recorded = Unit {0}
