@@ -1,13 +1,39 @@
 -- What `solve` answers is how the sequence of visits ends.
-use Rattle.std.proofs.Common.{◌≡◌, Bool, List, Option, Result, Ok, Err, IsErrAnd, ap, sym, subst, ◌∙◌}
+use Rattle.std.proofs.Common.{◌≡◌, Bool, true, false, List, length, Option, Result, Ok, Err, IsErrAnd, refl, ap, sym, subst, ◌∙◌, if◌then◌else◌}
+use Rattle.std.specs.List.{list_any}
 use Rattle.alias_lattice.specs.Laws.{LatticeLaws}
 use Rattle.alias_flow.specs.declared.flow.SolveFault.{SolveFault}
 use Rattle.alias_flow.specs.declared.flow.SolveFault.TheVariants.{Step, NotSettled as Unsettled, Memory}
 use Rattle.alias_flow.specs.declared.flow.Solution.{Solution}
 use Rattle.alias_flow.specs.Machine.{Rules, SolverState, Run, End, Solved, ending, solution, FlowLaws}
-use Rattle.alias_flow.specs.WorkLists.{WorkList, work_list_solution}
-use Rattle.alias_flow.specs.Runs.{RunGives, EndGives}
-use Rattle.alias_flow.proofs.DirtyFlags.{solved_by_work_list, fault_by_work_list}
+use Rattle.alias_flow.specs.WorkLists.{WorkList, work_list_rounds, work_list_solution}
+use Rattle.alias_flow.specs.Runs.{settled, RunGives, RoundsGive, EndGives}
+use Rattle.alias_flow.proofs.DirtyFlags.{solved_by_work_list, fault_by_work_list, unsettled_by_work_list}
+use Rattle.alias_flow.proofs.Rounds.{rounds_settled, rounds_over}
+
+-- a refusal of a round is one of the rounds
+rounds_refused : {D T K C E : Type 0} (cause : E → C) (run : Run D T K C) (g : SolverState D T K → End D T K C) (whole : End D T K C) → whole ≡ ending run g
+    → (e : SolveFault E) (u : SolverState D T K) → RunGives cause run (Err e) u → (left : End D T K C) → RoundsGive cause whole (Err e) left
+rounds_refused cause run g whole is (Step b x) u gives left = is ∙ ap (λ r. ending r g) gives
+rounds_refused cause run g whole is (Unsettled n) u gives left = absurd gives
+rounds_refused cause run g whole is (Memory e) u gives left = tt
+
+-- the same of an error that was passed on
+pub rounds_stopped : {D T K C E : Type 0} (cause : E → C) (run : Run D T K C) (g : SolverState D T K → End D T K C) (whole : End D T K C) → whole ≡ ending run g
+    → (e : SolveFault E) (u : SolverState D T K) → RunGives cause run (Err e) u → (r : Result (Unit {0}) (SolveFault E)) → IsErrAnd r (λ x. x ≡ e) → (left : End D T K C) → RoundsGive cause whole r left
+rounds_stopped cause run g whole is e u gives (Ok s) h left = absurd h
+rounds_stopped cause run g whole is e u gives (Err x) h left = rounds_refused cause run g whole is x u (subst (λ i. RunGives cause run (Err i) u) (sym h) gives) left
+
+-- the last round leaves a solution or a dirty block
+either_settled : {P E : Type 0} (w : WorkList P) (b : Bool) → list_any (λ x. x) w.dirty ≡ b → (r : Result (Solution P) (SolveFault E))
+    → r ≡ (if b then Err (Unsettled (length w.visits)) else Ok (record { visits = w.visits; entries = w.joined_input })) → (Q : Result (Solution P) (SolveFault E) → Type 0)
+    → (list_any (λ x. x) w.dirty ≡ false → Q (Ok (record { visits = w.visits; entries = w.joined_input }))) → (list_any (λ x. x) w.dirty ≡ true → Q (Err (Unsettled (length w.visits)))) → Q r
+either_settled w true h r is Q clean dirty = subst Q (sym is) (dirty h)
+either_settled w false h r is Q clean dirty = subst Q (sym is) (clean h)
+
+pub settled_case : {P E : Type 0} (w : WorkList P) (r : Result (Solution P) (SolveFault E)) → r ≡ settled w → (Q : Result (Solution P) (SolveFault E) → Type 0)
+    → (list_any (λ x. x) w.dirty ≡ false → Q (Ok (record { visits = w.visits; entries = w.joined_input }))) → (list_any (λ x. x) w.dirty ≡ true → Q (Err (Unsettled (length w.visits)))) → Q r
+settled_case w r is Q clean dirty = either_settled w (list_any (λ x. x) w.dirty) refl r is Q clean dirty
 
 module _ {P T K C E : Type 0} {proper : P → Type 0} {join : P → P → P} {below : P → P → Bool} {extends : T → T → Type 0} {rules : Rules P T K C} {recorded₀ : List (Option K)}
     (l : LatticeLaws proper join below) (f : FlowLaws proper extends rules recorded₀) (tables : T) (cause : E → C) where
@@ -23,15 +49,23 @@ module _ {P T K C E : Type 0} {proper : P → Type 0} {join : P → P → P} {be
         ap (λ (w : SolverState (WorkList P) T K). w.recorded) (sym it.2),
       )
 
-  pub fault_ends : (run : Run (WorkList P) T K C) (g : SolverState (WorkList P) T K → End (WorkList P) T K C) → work_list_solution join below rules tables recorded₀ ≡ ending run g
-      → (e : SolveFault E) (u : SolverState (WorkList P) T K) → RunGives cause run (Err e) u → (t : T) (k : List (Option K)) → EndGives cause (solution join below rules tables recorded₀) (Err e) t k
-  fault_ends run g is (Step b x) u gives t k = fault_by_work_list l f tables b (cause x) (is ∙ ap (λ r. ending r g) gives)
-  fault_ends run g is (Unsettled n) u gives t k = absurd gives
-  fault_ends run g is (Memory e) u gives t k = tt
+  fault_ends : (whole left : End (WorkList P) T K C) → work_list_solution join below rules tables recorded₀ ≡ whole → (e : SolveFault E)
+      → RoundsGive cause whole (Err e) left → (t : T) (k : List (Option K)) → EndGives cause (solution join below rules tables recorded₀) (Err e) t k
+  fault_ends whole left is (Step b x) gives t k = fault_by_work_list l f tables b (cause x) (is ∙ gives)
+  fault_ends whole left is (Unsettled n) gives t k = absurd gives
+  fault_ends whole left is (Memory e) gives t k = tt
 
-  -- the same of an error that was passed on
-  pub passed_on : (run : Run (WorkList P) T K C) (g : SolverState (WorkList P) T K → End (WorkList P) T K C) → work_list_solution join below rules tables recorded₀ ≡ ending run g
-      → (e : SolveFault E) (u : SolverState (WorkList P) T K) → RunGives cause run (Err e) u → (r : Result (Solution P) (SolveFault E)) → IsErrAnd r (λ x. x ≡ e) → (t : T) (k : List (Option K))
+  -- an error of the rounds that was passed on is how the sequence ends
+  pub passed_on : (whole left : End (WorkList P) T K C) → work_list_solution join below rules tables recorded₀ ≡ whole → (e : SolveFault E)
+      → RoundsGive cause whole (Err e) left → (r : Result (Solution P) (SolveFault E)) → IsErrAnd r (λ x. x ≡ e) → (t : T) (k : List (Option K))
       → EndGives cause (solution join below rules tables recorded₀) r t k
-  passed_on run g is e u gives (Ok s) h t k = absurd h
-  passed_on run g is e u gives (Err x) h t k = fault_ends run g is x u (subst (λ i. RunGives cause run (Err i) u) (sym h) gives) t k
+  passed_on whole left is e gives (Ok s) h t k = absurd h
+  passed_on whole left is e gives (Err x) h t k = fault_ends whole left is x (subst (λ i. RoundsGive cause whole (Err i) left) (sym h) gives) t k
+
+  -- what the last round leaves is how the sequence ends
+  pub settled_ends : (v : SolverState (WorkList P) T K) → work_list_solution join below rules tables recorded₀ ≡ work_list_rounds join below rules 0 v
+      → (r : Result (Solution P) (SolveFault E)) → r ≡ settled v.progress → EndGives cause (solution join below rules tables recorded₀) r v.tables v.recorded
+  settled_ends v whole r is =
+      settled_case v.progress r is (λ x. EndGives cause (solution join below rules tables recorded₀) x v.tables v.recorded)
+      (λ clean. solved_ends v (whole ∙ rounds_settled join below rules 0 v clean) _ refl refl)
+      (λ dirty. unsettled_by_work_list l f tables (length v.progress.visits) (whole ∙ rounds_over join below rules v dirty))

@@ -8,3 +8,4 @@ pub mod EachEdge
 pub mod Ending
 pub mod Along
 pub mod ForwardRuns
+pub mod Settling

@@ -1,8 +1,10 @@
 -- What a result says of a run of visits.
-use Rattle.std.specs.Prelude.{◌≡◌, List, Option, Result, Ok, Err}
+use Rattle.std.specs.Prelude.{◌≡◌, List, Option, Result, Ok, Err, length, if◌then◌else◌}
+use Rattle.std.specs.List.{list_any}
 use Rattle.alias_flow.specs.declared.flow.SolveFault.{SolveFault}
 use Rattle.alias_flow.specs.declared.flow.SolveFault.TheVariants.{Step, NotSettled as Unsettled, Memory}
 use Rattle.alias_flow.specs.declared.flow.Solution.{Solution}
+use Rattle.alias_flow.specs.WorkLists.{WorkList}
 use Rattle.alias_flow.specs.Machine.{VisitLog, SolverState, Run, Going, Stopped, End, Solved, Fault, NotSettled}
 
 abbrev pub solver_state : {D T K : Type 0} → D → T → List (Option K) → SolverState D T K
@@ -14,6 +16,17 @@ RunGives cause run (Ok u) w = run ≡ Going w
 RunGives cause run (Err (Step b e)) w = run ≡ Stopped b (cause e)
 RunGives cause run (Err (Unsettled n)) w = ⊥
 RunGives cause run (Err (Memory e)) w = Unit {0}
+
+-- after Ok the rounds come to what is left of them, and a refusal is the one that stopped them. Memory may fail at any time
+abbrev pub RoundsGive : {D T K C E : Type 0} → (E → C) → End D T K C → Result (Unit {0}) (SolveFault E) → End D T K C → Type 0
+RoundsGive cause rounds (Ok u) left = rounds ≡ left
+RoundsGive cause rounds (Err (Step b e)) left = rounds ≡ Fault b (cause e)
+RoundsGive cause rounds (Err (Unsettled n)) left = ⊥
+RoundsGive cause rounds (Err (Memory e)) left = Unit {0}
+
+-- what the last round leaves: the solution, unless a block is still dirty
+abbrev pub settled : {P E : Type 0} → WorkList P → Result (Solution P) (SolveFault E)
+settled w = if list_any (λ x. x) w.dirty then Err (Unsettled (length w.visits)) else Ok (record { visits = w.visits; entries = w.joined_input })
 
 -- the solution, the tables and what is recorded are those that the sequence ends with. A refusal and NotSettled are those of the sequence. Memory may fail at any time
 abbrev pub EndGives : {P T K C E : Type 0} → (E → C) → End (VisitLog P) T K C → Result (Solution P) (SolveFault E) → T → List (Option K) → Type 0

@@ -2,9 +2,9 @@
 ghost use Rattle.std.specs.Prelude.{◌≡◌, ◌<◌, ℕ, IfOk, OnOk, List, Option, length, vec_len};
 ghost use Rattle.alias_lattice.specs.Flows.{IsSolution, AreJoins};
 ghost use Rattle.alias_flow.specs.Machine.{up, solution};
-ghost use Rattle.alias_flow.specs.WorkLists.{work_list_visit, work_list_round};
+ghost use Rattle.alias_flow.specs.WorkLists.{work_list_visit, work_list_round, work_list_rounds};
 ghost use Rattle.alias_flow.specs.WorkListViews.{work_list_of};
-ghost use Rattle.alias_flow.specs.Runs.{solver_state, RunGives, EndGives, IsSettled};
+ghost use Rattle.alias_flow.specs.Runs.{solver_state, settled, RunGives, RoundsGive, EndGives, IsSettled};
 ghost use Rattle.alias_flow.specs.Solutions.{entry_at, RecordsSteps, KeepsOthers, IsForward};
 
 use crate::flow::{Flow, Solution, SolveFault};
@@ -63,6 +63,40 @@ fn round<F: Flow>(
     Ok(())
 }
 
+/// Rounds over all blocks while one is dirty, 100 at most.
+#[tactic(auto, using(crate::proofs::Rounds::rounds_more))]
+fn rounds<F: Flow>(
+    work_list: &mut WorkList<F::State>,
+    flow: &mut F,
+    count: u32,
+) -> Result<(), SolveFault<F::Fault>>
+    requires count { count ≡ (F.rules flow.old).blocks }
+    requires joined_input { vec_len work_list.old.joined_input ≡ (F.rules flow.old).blocks }
+    requires dirty { vec_len work_list.old.dirty ≡ (F.rules flow.old).blocks }
+    ensures run { RoundsGive F.cause (work_list_rounds F.State.join F.State.below (F.rules flow.old) 100 (solver_state (work_list_of work_list.old) (F.tables flow.old) (F.recorded flow.old))) result (work_list_rounds F.State.join F.State.below (F.rules flow.old) 0 (solver_state (work_list_of work_list.new) (F.tables flow.new) (F.recorded flow.new))) }
+    ensures same { F.rules flow.new ≡ F.rules flow.old }
+    ensures borrows { F.borrows flow.new ≡ F.borrows flow.old }
+{
+    'rounds: for _ in 0..100u32 {
+        if !work_list.any_dirty() {
+            return Ok(());
+        }
+        round(work_list, flow, count)?;
+    }
+    Ok(())
+}
+
+/// What the last round leaves: the solution, unless a block is still dirty.
+fn settled<S: Lattice + Drop, E>(work_list: WorkList<S>) -> Result<Solution<S>, SolveFault<E>>
+    ensures { result ≡ settled (work_list_of work_list) }
+{
+    if work_list.any_dirty() {
+        let visits = work_list.visits();
+        return Err(SolveFault::NotSettled { visits });
+    }
+    Ok(work_list.into_solution())
+}
+
 /// Solves the flow. The initial state is sent to the entry. A visit of a block steps from the join of all
 /// that was sent to it, and sends the out state along each of its edges. A block is dirty where that join
 /// isn't the state of its last visit. Each round goes once over the blocks in stored order and visits those
@@ -73,7 +107,6 @@ fn round<F: Flow>(
 /// records of a block that isn't reached stays. An `Err` says which visit was refused, that blocks were still
 /// dirty after 100 rounds, which never comes where all edges go forward, or that memory ran out. It leaves
 /// what the flow does as it was, and its tables and what it records as some visits left them.
-#[tactic(auto, using(crate::proofs::Rounds::rounds_more))]
 pub fn solve<F: Flow>(
     alloc: Global,
     flow: &mut F,
@@ -93,16 +126,6 @@ pub fn solve<F: Flow>(
     let mut work_list = WorkList::start(alloc, count)?;
     let initial = flow.initial()?;
     work_list.send(&initial, entry)?;
-    'rounds: for _ in 0..100u32 {
-        if !work_list.any_dirty() {
-            return Ok(work_list.into_solution());
-        }
-        round(&mut work_list, flow, count)?;
-    }
-    if work_list.any_dirty() {
-        let visits = work_list.visits();
-        Err(SolveFault::NotSettled { visits })
-    } else {
-        Ok(work_list.into_solution())
-    }
+    rounds(&mut work_list, flow, count)?;
+    settled(work_list)
 }

@@ -1,144 +1,45 @@
-use Rattle.std.proofs.Common.{◌≡◌, ◌+◌, ◌-◌, ap, sym, ◌∙◌, refl, arith}
-use Rattle.alias_flow.specs.WorkLists.{work_list_round, work_list_rounds}
-use Rattle.alias_flow.specs.Machine.{up, ending, NotSettled}
+use Rattle.std.proofs.Common.{ap, sym, ◌∙◌}
+use Rattle.alias_flow.specs.WorkLists.{work_list_rounds}
 use Rattle.alias_flow.specs.WorkListViews.{work_list_of}
 use Rattle.alias_flow.specs.Runs.{solver_state}
-use Rattle.alias_flow.proofs.Solving.{solution_found, recorded_found, others_found, length_found}
-use Rattle.alias_flow.proofs.OneRound.{forward_joins, forward_settles}
-use Rattle.alias_flow.proofs.DirtyFlags.{unsettled_by_work_list}
-use Rattle.alias_flow.proofs.Ending.{solved_ends, passed_on}
-use Rattle.alias_flow.proofs.Rounds.{rounds_more, rounds_settled, rounds_over, solution_is}
+use Rattle.alias_flow.proofs.Ending.{passed_on}
+use Rattle.alias_flow.proofs.Rounds.{solution_is}
+use Rattle.alias_flow.proofs.Settling.{all_claims}
 use Rattle.alias_flow.proofs.solver.solve.Goals as goal
 
-pub rounds-init : goal.rounds-init
-rounds-init g c =
+pub returns : goal.returns
+returns g c =
     let l = g.F.State.Lattice in
-    let f = c.args.flow.now in
+    let start = c.args.flow.now in
+    let f = c.rounds.new.flow in
+    let tables = g.F.Flow.tables start in
     let begun = rw (c.in_ok-work_list.ensures.visits, c.in_ok-work_list.ensures.joined_input, c.in_ok-work_list.ensures.dirty, c.in_ok-initial.ensures, c.entry-entry.ensures, c.blocks-count.ensures) at c.in_ok-send.ensures.joined_input in
-    (refl, c.blocks-count.ensures, c.in_ok-send.ensures.lengths.0 ∙ c.in_ok-work_list.ensures.lengths.0 ∙ c.blocks-count.ensures, c.in_ok-send.ensures.lengths.1 ∙ c.in_ok-work_list.ensures.lengths.1 ∙ c.blocks-count.ensures, ap (λ d. work_list_rounds l.join l.below (g.F.Flow.rules f) 100 (solver_state d (g.F.Flow.tables f) (g.F.Flow.recorded f))) begun ∙ sym (solution_is l.join l.below (g.F.Flow.rules f) (g.F.Flow.tables f) (g.F.Flow.recorded f)), refl)
+    let whole =
+        solution_is l.join l.below (g.F.Flow.rules start) tables (g.F.Flow.recorded start)
+        ∙ sym (ap (λ d. work_list_rounds l.join l.below (g.F.Flow.rules start) 100 (solver_state d tables (g.F.Flow.recorded start))) begun)
+        ∙ c.in_ok-rounds.ensures.run in
+    let v = solver_state (work_list_of c.rounds.new.work_list) (g.F.Flow.tables f) (g.F.Flow.recorded f) in
+    let all = all_claims g.met.F.State.Lattice.laws (g.met.F.Flow.laws start) tables g.F.Flow.cause (g.F.Flow.rules f) c.in_ok-rounds.ensures.same v whole c.settled.result c.settled.ensures in
+    record {
+      end = all.ends;
+      solves = all.solves;
+      keeps = all.keeps;
+      others = all.others;
+      count = all.count;
+      same = c.in_ok-rounds.ensures.same;
+      joins = all.joins;
+      settles = all.settles;
+      borrows = c.in_ok-rounds.ensures.borrows;
+    }
 
--- with nothing dirty the work list ends as it is
-pub returns-then-not-any_dirty-clause-end : goal.returns-then-not-any_dirty-clause-end
-returns-then-not-any_dirty-clause-end g c =
+pub returns-in_err-rounds-clause-end : goal.returns-in_err-rounds-clause-end
+returns-in_err-rounds-clause-end g c =
     let l = g.F.State.Lattice in
-    let f = c.rounds.flow in
-    let w = solver_state (work_list_of c.rounds.work_list) (g.F.Flow.tables f) (g.F.Flow.recorded f) in
-    solved_ends g.met.F.State.Lattice.laws (g.met.F.Flow.laws c.args.flow.now) (g.F.Flow.tables c.args.flow.now) g.F.Flow.cause w
-    (sym c.rounds.invariant.4 ∙ rounds_settled l.join l.below (g.F.Flow.rules f) _ w (sym c.if-not-any_dirty.ensures)) _ c.into_solution.ensures.visits c.into_solution.ensures.entries
-
-pub returns-else-any_dirty-clause-end : goal.returns-else-any_dirty-clause-end
-returns-else-any_dirty-clause-end g c =
-    let l = g.F.State.Lattice in
-    let f = c.rounds.flow in
-    let w = solver_state (work_list_of c.rounds.work_list) (g.F.Flow.tables f) (g.F.Flow.recorded f) in
-    solved_ends g.met.F.State.Lattice.laws (g.met.F.Flow.laws c.args.flow.now) (g.F.Flow.tables c.args.flow.now) g.F.Flow.cause w
-    (sym c.rounds.invariant.4 ∙ rounds_settled l.join l.below (g.F.Flow.rules f) _ w (sym c.if-any_dirty.ensures)) _ c.into_solution-else-any_dirty.ensures.visits c.into_solution-else-any_dirty.ensures.entries
-
-pub returns-then-any_dirty-clause-end : goal.returns-then-any_dirty-clause-end
-returns-then-any_dirty-clause-end g c =
-    let l = g.F.State.Lattice in
-    let f = c.rounds.flow in
-    let w = solver_state (work_list_of c.rounds.work_list) (g.F.Flow.tables f) (g.F.Flow.recorded f) in
-    let over : 100 - c.rounds.counter ≡ 0 = omega arith in
-    unsettled_by_work_list g.met.F.State.Lattice.laws (g.met.F.Flow.laws c.args.flow.now) (g.F.Flow.tables c.args.flow.now) _
-    (sym c.rounds.invariant.4 ∙ ap (λ n. work_list_rounds l.join l.below (g.F.Flow.rules f) n w) over ∙ rounds_over l.join l.below (g.F.Flow.rules f) w (sym c.if-any_dirty.ensures) ∙ ap NotSettled (sym c.visits-visits.ensures))
-
-pub returns-in_err-round-clause-end : goal.returns-in_err-round-clause-end
-returns-in_err-round-clause-end g c =
-    let l = g.F.State.Lattice in
-    let f = c.rounds.flow in
-    let w = solver_state (work_list_of c.rounds.work_list) (g.F.Flow.tables f) (g.F.Flow.recorded f) in
-    let rest = work_list_rounds l.join l.below (g.F.Flow.rules f) (100 - (c.rounds.counter + 1)) in
-    passed_on g.met.F.State.Lattice.laws (g.met.F.Flow.laws c.args.flow.now) (g.F.Flow.tables c.args.flow.now) g.F.Flow.cause _ rest
-    (sym c.rounds.invariant.4 ∙ rounds_more l.join l.below (g.F.Flow.rules f) c.rounds.counter w (omega arith) (sym c.if-not-any_dirty.ensures)
-    ∙ ap (λ n. ending (work_list_round l.join l.below (g.F.Flow.rules f) w (up 0 n)) rest) (sym c.rounds.invariant.1))
-    c.in_err-round.field-0.0 _ c.in_err-round.ensures.run _ c.from_residual-in_err-round.ensures.1 _ _
-
-pub returns-then-not-any_dirty-clause-solves : goal.returns-then-not-any_dirty-clause-solves
-returns-then-not-any_dirty-clause-solves g c =
-    let l = g.F.State.Lattice in
-    let f = c.rounds.flow in
-    let w = solver_state (work_list_of c.rounds.work_list) (g.F.Flow.tables f) (g.F.Flow.recorded f) in
-    solution_found g.met.F.State.Lattice.laws (g.met.F.Flow.laws c.args.flow.now) (g.F.Flow.tables c.args.flow.now) _ c.rounds.invariant.0 w
-    (sym c.rounds.invariant.4 ∙ rounds_settled l.join l.below (g.F.Flow.rules f) _ w (sym c.if-not-any_dirty.ensures)) _ c.into_solution.ensures.entries
-
-pub returns-else-any_dirty-clause-solves : goal.returns-else-any_dirty-clause-solves
-returns-else-any_dirty-clause-solves g c =
-    let l = g.F.State.Lattice in
-    let f = c.rounds.flow in
-    let w = solver_state (work_list_of c.rounds.work_list) (g.F.Flow.tables f) (g.F.Flow.recorded f) in
-    solution_found g.met.F.State.Lattice.laws (g.met.F.Flow.laws c.args.flow.now) (g.F.Flow.tables c.args.flow.now) _ c.rounds.invariant.0 w
-    (sym c.rounds.invariant.4 ∙ rounds_settled l.join l.below (g.F.Flow.rules f) _ w (sym c.if-any_dirty.ensures)) _ c.into_solution-else-any_dirty.ensures.entries
-
-pub returns-then-not-any_dirty-clause-keeps : goal.returns-then-not-any_dirty-clause-keeps
-returns-then-not-any_dirty-clause-keeps g c =
-    let l = g.F.State.Lattice in
-    let f = c.rounds.flow in
-    let w = solver_state (work_list_of c.rounds.work_list) (g.F.Flow.tables f) (g.F.Flow.recorded f) in
-    recorded_found g.met.F.State.Lattice.laws (g.met.F.Flow.laws c.args.flow.now) (g.F.Flow.tables c.args.flow.now) _ c.rounds.invariant.0 w
-    (sym c.rounds.invariant.4 ∙ rounds_settled l.join l.below (g.F.Flow.rules f) _ w (sym c.if-not-any_dirty.ensures)) _ c.into_solution.ensures.entries
-
-pub returns-else-any_dirty-clause-keeps : goal.returns-else-any_dirty-clause-keeps
-returns-else-any_dirty-clause-keeps g c =
-    let l = g.F.State.Lattice in
-    let f = c.rounds.flow in
-    let w = solver_state (work_list_of c.rounds.work_list) (g.F.Flow.tables f) (g.F.Flow.recorded f) in
-    recorded_found g.met.F.State.Lattice.laws (g.met.F.Flow.laws c.args.flow.now) (g.F.Flow.tables c.args.flow.now) _ c.rounds.invariant.0 w
-    (sym c.rounds.invariant.4 ∙ rounds_settled l.join l.below (g.F.Flow.rules f) _ w (sym c.if-any_dirty.ensures)) _ c.into_solution-else-any_dirty.ensures.entries
-
-pub returns-then-not-any_dirty-clause-joins : goal.returns-then-not-any_dirty-clause-joins
-returns-then-not-any_dirty-clause-joins g c forward =
-    let l = g.F.State.Lattice in
-    let f = c.rounds.flow in
-    let w = solver_state (work_list_of c.rounds.work_list) (g.F.Flow.tables f) (g.F.Flow.recorded f) in
-    forward_joins g.met.F.State.Lattice.laws (g.met.F.Flow.laws c.args.flow.now) forward (g.F.Flow.tables c.args.flow.now) w
-    (sym c.rounds.invariant.4 ∙ rounds_settled l.join l.below (g.F.Flow.rules f) _ w (sym c.if-not-any_dirty.ensures)) _ c.into_solution.ensures.entries
-
-pub returns-else-any_dirty-clause-joins : goal.returns-else-any_dirty-clause-joins
-returns-else-any_dirty-clause-joins g c forward =
-    let l = g.F.State.Lattice in
-    let f = c.rounds.flow in
-    let w = solver_state (work_list_of c.rounds.work_list) (g.F.Flow.tables f) (g.F.Flow.recorded f) in
-    forward_joins g.met.F.State.Lattice.laws (g.met.F.Flow.laws c.args.flow.now) forward (g.F.Flow.tables c.args.flow.now) w
-    (sym c.rounds.invariant.4 ∙ rounds_settled l.join l.below (g.F.Flow.rules f) _ w (sym c.if-any_dirty.ensures)) _ c.into_solution-else-any_dirty.ensures.entries
-
-pub returns-then-any_dirty-clause-settles : goal.returns-then-any_dirty-clause-settles
-returns-then-any_dirty-clause-settles g c forward =
-    let l = g.F.State.Lattice in
-    let f = c.rounds.flow in
-    let w = solver_state (work_list_of c.rounds.work_list) (g.F.Flow.tables f) (g.F.Flow.recorded f) in
-    let over : 100 - c.rounds.counter ≡ 0 = omega arith in
-    forward_settles g.met.F.State.Lattice.laws (g.met.F.Flow.laws c.args.flow.now) forward (g.F.Flow.tables c.args.flow.now) _
-    (sym c.rounds.invariant.4 ∙ ap (λ n. work_list_rounds l.join l.below (g.F.Flow.rules f) n w) over ∙ rounds_over l.join l.below (g.F.Flow.rules f) w (sym c.if-any_dirty.ensures))
-
-pub returns-then-not-any_dirty-clause-others : goal.returns-then-not-any_dirty-clause-others
-returns-then-not-any_dirty-clause-others g c =
-    let l = g.F.State.Lattice in
-    let f = c.rounds.flow in
-    let w = solver_state (work_list_of c.rounds.work_list) (g.F.Flow.tables f) (g.F.Flow.recorded f) in
-    others_found g.met.F.State.Lattice.laws (g.met.F.Flow.laws c.args.flow.now) (g.F.Flow.tables c.args.flow.now) w
-    (sym c.rounds.invariant.4 ∙ rounds_settled l.join l.below (g.F.Flow.rules f) _ w (sym c.if-not-any_dirty.ensures)) _ c.into_solution.ensures.entries
-
-pub returns-else-any_dirty-clause-others : goal.returns-else-any_dirty-clause-others
-returns-else-any_dirty-clause-others g c =
-    let l = g.F.State.Lattice in
-    let f = c.rounds.flow in
-    let w = solver_state (work_list_of c.rounds.work_list) (g.F.Flow.tables f) (g.F.Flow.recorded f) in
-    others_found g.met.F.State.Lattice.laws (g.met.F.Flow.laws c.args.flow.now) (g.F.Flow.tables c.args.flow.now) w
-    (sym c.rounds.invariant.4 ∙ rounds_settled l.join l.below (g.F.Flow.rules f) _ w (sym c.if-any_dirty.ensures)) _ c.into_solution-else-any_dirty.ensures.entries
-
-pub returns-then-not-any_dirty-clause-count : goal.returns-then-not-any_dirty-clause-count
-returns-then-not-any_dirty-clause-count g c =
-    let l = g.F.State.Lattice in
-    let f = c.rounds.flow in
-    let w = solver_state (work_list_of c.rounds.work_list) (g.F.Flow.tables f) (g.F.Flow.recorded f) in
-    length_found g.met.F.State.Lattice.laws (g.met.F.Flow.laws c.args.flow.now) (g.F.Flow.tables c.args.flow.now) w
-    (sym c.rounds.invariant.4 ∙ rounds_settled l.join l.below (g.F.Flow.rules f) _ w (sym c.if-not-any_dirty.ensures)) _ c.into_solution.ensures.entries
-
-pub returns-else-any_dirty-clause-count : goal.returns-else-any_dirty-clause-count
-returns-else-any_dirty-clause-count g c =
-    let l = g.F.State.Lattice in
-    let f = c.rounds.flow in
-    let w = solver_state (work_list_of c.rounds.work_list) (g.F.Flow.tables f) (g.F.Flow.recorded f) in
-    length_found g.met.F.State.Lattice.laws (g.met.F.Flow.laws c.args.flow.now) (g.F.Flow.tables c.args.flow.now) w
-    (sym c.rounds.invariant.4 ∙ rounds_settled l.join l.below (g.F.Flow.rules f) _ w (sym c.if-any_dirty.ensures)) _ c.into_solution-else-any_dirty.ensures.entries
+    let start = c.args.flow.now in
+    let tables = g.F.Flow.tables start in
+    let begun = rw (c.in_ok-work_list.ensures.visits, c.in_ok-work_list.ensures.joined_input, c.in_ok-work_list.ensures.dirty, c.in_ok-initial.ensures, c.entry-entry.ensures, c.blocks-count.ensures) at c.in_ok-send.ensures.joined_input in
+    let whole =
+        solution_is l.join l.below (g.F.Flow.rules start) tables (g.F.Flow.recorded start)
+        ∙ sym (ap (λ d. work_list_rounds l.join l.below (g.F.Flow.rules start) 100 (solver_state d tables (g.F.Flow.recorded start))) begun) in
+    passed_on g.met.F.State.Lattice.laws (g.met.F.Flow.laws start) tables g.F.Flow.cause _ _ whole
+    c.in_err-rounds.field-0.0 c.in_err-rounds.ensures.run _ c.from_residual-in_err-rounds.ensures.1 _ _

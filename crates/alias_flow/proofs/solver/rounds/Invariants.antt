@@ -1,17 +1,17 @@
 use Rattle.std.proofs.Common.{◌≡◌, ◌-◌, vec_len}
-use Rattle.alias_flow.specs.WorkLists.{work_list_rounds, work_list_solution}
+use Rattle.alias_flow.specs.WorkLists.{work_list_rounds}
 use Rattle.alias_flow.specs.WorkListViews.{work_list_of}
 use Rattle.alias_flow.specs.Runs.{solver_state}
-use Rattle.alias_flow.proofs.solver.solve.Given as goal
+use Rattle.alias_flow.proofs.solver.rounds.Given as goal
 
 abbrev pub invariant-rounds : goal.invariant-rounds
 invariant-rounds g l =
     let rules = g.F.Flow.rules l.flow in
     let lattice = g.F.State.Lattice in
-    (rules ≡ g.F.Flow.rules l.fn.flow)
+    (rules ≡ g.F.Flow.rules l.initial.flow)
     × (l.count ≡ rules.blocks)
     × (vec_len l.work_list.joined_input ≡ rules.blocks)
     × (vec_len l.work_list.dirty ≡ rules.blocks)
     × (work_list_rounds lattice.join lattice.below rules (100 - l.counter) (solver_state (work_list_of l.work_list) (g.F.Flow.tables l.flow) (g.F.Flow.recorded l.flow))
-    ≡ work_list_solution lattice.join lattice.below (g.F.Flow.rules l.fn.flow) (g.F.Flow.tables l.fn.flow) (g.F.Flow.recorded l.fn.flow))
-    × (g.F.Flow.borrows l.flow ≡ g.F.Flow.borrows l.fn.flow)
+    ≡ work_list_rounds lattice.join lattice.below (g.F.Flow.rules l.initial.flow) 100 (solver_state (work_list_of l.initial.work_list) (g.F.Flow.tables l.initial.flow) (g.F.Flow.recorded l.initial.flow)))
+    × (g.F.Flow.borrows l.flow ≡ g.F.Flow.borrows l.initial.flow)
