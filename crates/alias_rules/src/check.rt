@@ -1,6 +1,7 @@
 //! Whether a unit is well formed.
 ghost use Rattle.std.specs.Prelude.{◌≡◌, ◌<◌, ◌^◌, length, ⊤};
-ghost use Rattle.alias_rules.specs.Fault.{Gives};
+ghost use Rattle.alias_base.specs.Answer.{Gives};
+ghost use Rattle.alias_rules.specs.Fault.{is_memory};
 ghost use Rattle.alias_rules.specs.Rules.{rules_hold, checks};
 
 use crate::blocks::{entry_exists, successors_exist};
@@ -55,7 +56,7 @@ impl Checked {
 /// The first broken rule, or want of memory.
 fn rules_hold(alloc: Global, unit: &Unit) -> Result<(), UnitFault>
     requires { length unit.now.function.instructions < 2 ^ 32 }
-    ensures { Gives (λ x. x) result (rules_hold unit.now) }
+    ensures { Gives is_memory (rules_hold unit.now) result }
 {
     tables_fit(&unit.env)?;
     numbers_fit(&unit.env, &unit.function)?;
@@ -76,7 +77,7 @@ fn rules_hold(alloc: Global, unit: &Unit) -> Result<(), UnitFault>
 /// `Memory` is for want of memory. After an `Err` the unit is gone.
 pub fn check_unit(alloc: Global, unit: Unit) -> Result<Checked, UnitFault>
     requires { length unit.function.instructions < 2 ^ 32 }
-    ensures { Gives (λ x. x) result (checks unit) }
+    ensures { Gives is_memory (checks unit) result }
 {
     rules_hold(alloc, &unit)?;
     Ok(Checked { unit })

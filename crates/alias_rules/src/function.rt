@@ -1,7 +1,8 @@
 //! What the inference asks of a function.
 ghost use Rattle.std.specs.Prelude.{◌≡◌, IfOk, is_ok, map};
 ghost use Rattle.alias_hir.specs.Diagnostics.{reports_invariant};
-ghost use Rattle.alias_rules.specs.Fault.{Gives};
+ghost use Rattle.alias_base.specs.Answer.{Gives};
+ghost use Rattle.alias_rules.specs.Fault.{is_memory};
 ghost use Rattle.alias_rules.specs.Fitting.{reports_no_invariant, function_rules, function_fits};
 
 use crate::blocks::{entry_exists, successors_exist};
@@ -37,7 +38,7 @@ fn reports_no_invariant(env: &Environment) -> bool
 
 /// The first rule of a function that is broken, whether it is inferred or not.
 fn function_rules(alloc: Global, env: &Environment, func: &HirFunction) -> Result<(), UnitFault>
-    ensures { Gives (λ x. x) result (function_rules env.now func.now) }
+    ensures { Gives is_memory (function_rules env.now func.now) result }
 {
     tables_fit(env)?;
     numbers_fit(env, func)?;

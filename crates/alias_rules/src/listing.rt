@@ -3,7 +3,8 @@ ghost use Rattle.std.specs.Prelude.{◌≡◌, ◌<◌, ◌^◌, ◌++◌, [], �
 ghost use Rattle.std.specs.Ordering.{nat_cmp};
 ghost use Rattle.std.specs.BTreeSet.{contains};
 ghost use Rattle.alias_base.specs.declared.ids.InstructionId.{InstructionId};
-ghost use Rattle.alias_rules.specs.Fault.{Gives};
+ghost use Rattle.alias_base.specs.Answer.{Gives};
+ghost use Rattle.alias_rules.specs.Fault.{is_memory};
 ghost use Rattle.alias_rules.specs.Rules.{listed_instructions, is_among, first_missing, first_again, instructions_listed, none_listed_twice};
 
 use crate::fault::UnitFault;
@@ -75,7 +76,7 @@ pub fn instructions_listed(
     func: &HirFunction,
 ) -> Result<(), UnitFault>
     requires { length func.now.instructions < 2 ^ 32 }
-    ensures { Gives (λ x. x) result (instructions_listed function func.now) }
+    ensures { Gives is_memory (instructions_listed function func.now) result }
 {
     let numbers = listed_instructions(alloc, func)?;
     match first_missing(alloc, func.instructions.len() as u32, &numbers)? {
@@ -93,7 +94,7 @@ pub fn none_listed_twice(
     function: Option<FunctionId>,
     func: &HirFunction,
 ) -> Result<(), UnitFault>
-    ensures { Gives (λ x. x) result (none_listed_twice function func.now) }
+    ensures { Gives is_memory (none_listed_twice function func.now) result }
 {
     let numbers = listed_instructions(alloc, func)?;
     match first_again(alloc, &numbers)? {
