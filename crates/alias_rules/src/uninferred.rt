@@ -8,7 +8,7 @@ ghost use Rattle.alias_hir.specs.Values.{places_of};
 ghost use Rattle.alias_rules.specs.Rules.{place_is_uninferred, identifier_is_uninferred, instruction_is_uninferred, terminal_is_uninferred, phi_is_uninferred, block_is_uninferred, function_is_uninferred, environment_is_uninferred, nothing_inferred};
 
 use crate::fault::UnitFault;
-use alias_hir::env::{Environment, Identifier, Unit};
+use alias_hir::env::{Environment, Identifier};
 use alias_hir::hir::{BasicBlock, Hir, HirFunction, Instruction, Phi};
 use alias_hir::place::{Effect, Place};
 use alias_hir::terminal::{SwitchCase, Terminal};
@@ -166,11 +166,11 @@ fn environment_is_uninferred(env: &Environment) -> bool
         && identifiers_are_uninferred(env.identifiers.as_slice())
 }
 
-/// Whether nothing of the unit is inferred.
-pub fn nothing_inferred(unit: &Unit) -> Result<(), UnitFault>
-    ensures { result ≡ nothing_inferred unit.now }
+/// Whether nothing of the unit is inferred, given as its tables and its root.
+pub fn nothing_inferred(env: &Environment, func: &HirFunction) -> Result<(), UnitFault>
+    ensures { result ≡ nothing_inferred env.now func.now }
 {
-    if environment_is_uninferred(&unit.env) && function_is_uninferred(&unit.function) {
+    if environment_is_uninferred(env) && function_is_uninferred(func) {
         Ok(())
     } else {
         Err(UnitFault::SomethingInferred)
