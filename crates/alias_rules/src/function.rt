@@ -41,7 +41,7 @@ pub fn check_function(
     ensures { IfOk result (λ b. b ≡ function_fits func.now env.now) }
 {
     match keeps_rules(alloc, Subject::OneFunction, env, func) {
-        Ok(()) => Ok(effects_within_tables(env, func) && reports_no_invariant(env)),
+        Ok(()) => Ok(effects_within_tables(alloc, env, func)? && reports_no_invariant(env)),
         Err(UnitFault::Memory(e)) => Err(e),
         Err(_) => Ok(false),
     }

@@ -36,7 +36,7 @@ pub fn keeps_rules(
     ensures { Gives is_memory (keeps_rules subject env.now func.now) result }
 {
     tables_fit(env)?;
-    numbers_fit(env, func)?;
+    numbers_fit(alloc, env, func)?;
     entry_exists(None, func)?;
     successors_exist(None, func)?;
     if matches!(subject, Subject::WholeUnit) {
@@ -48,7 +48,7 @@ pub fn keeps_rules(
     phis_fit(None, func)?;
     orders_fit(None, func)?;
     if matches!(subject, Subject::WholeUnit) {
-        nothing_inferred(env, func)?;
+        nothing_inferred(alloc, env, func)?;
     }
     Ok(())
 }
