@@ -1,4 +1,5 @@
 pub mod Answer
+pub mod AnswerLaws
 pub mod Find
 pub mod Lending
 pub mod Parts

@@ -8,6 +8,7 @@ pub mod error;
 pub mod hir;
 pub mod interning;
 pub mod place;
+pub mod places;
 pub mod report;
 pub mod successors;
 pub mod terminal;

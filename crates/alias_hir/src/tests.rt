@@ -2,12 +2,14 @@ use crate::effect::{AliasingEffect, ValueKind, ValueReason, error_of};
 use crate::env::{Environment, Identifier, IdentifierName, MutableRange};
 use crate::error::{Counter, HirError};
 use crate::place::{Effect, Place, Span};
+use crate::places::{effect_places, places_of, terminal_places};
 use crate::report::{
     DiagnosticId, ErrorCategory, Label, Report, not_settled_report, uninitialized_report,
 };
 use crate::successors::terminal_successors;
 use crate::terminal::{SwitchCase, Terminal};
 use crate::types::{Ty, is_primitive_at, is_primitive_type, is_untyped_at, type_of};
+use crate::value::{InstructionKind, InstructionValue, LValue};
 use alias_base::{
     BlockId, DeclarationId, EvaluationOrder, IdentifierId, List, Text, TryClone, TypeId,
 };
@@ -268,15 +270,15 @@ fn interns_reports(rt: HostRuntime) -> Result<(), Fail> {
     assert!(rt; interned(alloc, &mut env, 1, 4)? == id(0, 1));
     assert_eq!(rt; env.interned.len(), 3);
     assert_eq!(rt; env.errors.len(), 0);
-    let kept = |identity: u32, instance: u32| DiagnosticId { identity, instance };
-    assert!(rt; env.is_interned(kept(0, 1)));
-    assert!(rt; !env.is_interned(kept(1, 1)));
-    assert!(rt; !env.is_interned(kept(3, 3)));
+    let number = |identity: u32, instance: u32| DiagnosticId { identity, instance };
+    assert!(rt; env.is_interned(number(0, 1)));
+    assert!(rt; !env.is_interned(number(1, 1)));
+    assert!(rt; !env.is_interned(number(3, 3)));
     Ok(())
 }
 
 #[test]
-fn tells_reports(rt: HostRuntime) -> Result<(), Fail> {
+fn records_reports(rt: HostRuntime) -> Result<(), Fail> {
     let alloc = rt.alloc();
     let mut env = environment(alloc, 0)?;
     env.record_diagnostic(impure(alloc, 3)?)?;
@@ -290,5 +292,38 @@ fn tells_reports(rt: HostRuntime) -> Result<(), Fail> {
     let place = place(1);
     assert!(rt; error_of(&AliasingEffect::Impure { place, error }) == Some(error));
     assert!(rt; error_of(&AliasingEffect::MutateGlobal { place }).is_none());
+    Ok(())
+}
+
+#[test]
+fn gives_places_in_the_order_of_the_fields(rt: HostRuntime) -> Result<(), Fail> {
+    let alloc = rt.alloc();
+    let store = InstructionValue::StoreLocal {
+        lvalue: LValue {
+            place: place(3),
+            kind: InstructionKind::Let,
+        },
+        value: place(1),
+    };
+    let read = Terminal::Throw {
+        id: ORDER,
+        value: place(4),
+    };
+    let capture = AliasingEffect::Capture {
+        from: place(2),
+        into: place(5),
+    };
+    assert_eq!(rt;
+        places_of(alloc, &store)?.as_slice(),
+        [place(3), place(1)].as_slice()
+    );
+    assert_eq!(rt;
+        terminal_places(alloc, &read)?.as_slice(),
+        [place(4)].as_slice()
+    );
+    assert_eq!(rt;
+        effect_places(alloc, &capture)?.as_slice(),
+        [place(2), place(5)].as_slice()
+    );
     Ok(())
 }

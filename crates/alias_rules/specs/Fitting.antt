@@ -1,10 +1,10 @@
 -- What the inference asks of a function that may be inferred already.
 use Rattle.std.specs.Prelude.{Bool, true, not, ◌&&◌, List, Option, Some, None, Result, is_ok, ⊤, length, map, nat_lt}
 use Rattle.std.specs.List.{list_all}
-use Rattle.alias_base.specs.Answer.{◌>>=◌}
 use Rattle.alias_hir.specs.Diagnostics.{is_interned, reports_invariant}
 use Rattle.alias_hir.specs.Effects.{effect_places, error_of}
-use Rattle.alias_rules.specs.Rules.{tables_fit, numbers_fit, entry_exists, successors_exist, none_listed_twice, handlers_distinct, phis_fit, orders_fit}
+use Rattle.alias_rules.specs.Rules.{keeps_rules}
+use Rattle.alias_rules.specs.declared.rules.Subject.TheVariants.{OneFunction}
 use Rattle.alias_hir.specs.Terminals.{terminal_effects}
 use Rattle.alias_hir.specs.declared.effect.AliasingEffect.{AliasingEffect}
 use Rattle.alias_hir.specs.declared.env.Environment.{Environment}
@@ -44,15 +44,7 @@ reports_no_invariant env = not (reports_invariant env.errors) && not (reports_in
 
 -- the rules that a function keeps, whether it is inferred or not
 abbrev pub function_rules : Environment → HirFunction → Result ⊤ UnitFault
-function_rules env func = do
-  _ ← tables_fit env
-  _ ← numbers_fit env func
-  _ ← entry_exists None func
-  _ ← successors_exist None func
-  _ ← none_listed_twice None func
-  _ ← handlers_distinct None func
-  _ ← phis_fit None func
-  orders_fit None func
+function_rules env func = keeps_rules OneFunction env func
 
 -- Numbers are within their tables, those of effects and of their reports too; the entry and what terminals name are blocks; no instruction
 -- is listed twice; each `Try` has a handler of its own; operands of phis are for predecessors; orders are set; and no report

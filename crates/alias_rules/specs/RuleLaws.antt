@@ -1,17 +1,17 @@
 -- What follows for a caller from the rules.
-use Rattle.std.specs.Prelude.{◌≡◌, map, ℕ, zero, suc, Bool, true, false, cond, ◌||◌, ◌==◌, List, [], ◌∷◌, length, slice_get, is_some, is_none, is_ok, Option, Some, None, Result, Ok, Err, ⊤, if◌then◌else◌}
+use Rattle.std.specs.Prelude.{◌≡◌, map, ℕ, zero, suc, Bool, true, false, cond, ◌||◌, ◌&&◌, ◌==◌, List, [], ◌∷◌, length, slice_get, is_some, is_none, is_ok, Option, Some, None, Result, Ok, Err, ⊤, if◌then◌else◌}
 use Rattle.std.specs.List.{list_all, list_any}
 use Rattle.std.proofs.Common.{refl, ap, sym, ◌∙◌, arith}
 use Rattle.std.proofs.lemmas.Bool.{eqb-true}
 use Rattle.std.proofs.lemmas.Grind.{common_steps}
-use Rattle.alias_base.specs.Answer.{all_pass}
+use Rattle.alias_base.specs.Answer.{◌>>=◌, all_pass}
 use Rattle.alias_base.specs.Find.{same_block, value_at}
 use Rattle.alias_base.specs.Parts.{both_true, both_pass}
 use Rattle.alias_base.specs.declared.ids.BlockId.{BlockId}
 use Rattle.alias_hir.specs.Diagnostics.{reports_invariant}
 use Rattle.alias_hir.specs.declared.report.Interned.{Interned}
-use Rattle.alias_rules.specs.Fitting.{recorded_within_tables, effects_within_tables, function_rules, function_fits}
-use Rattle.alias_rules.specs.Rules.{identifier_is_uninferred, instruction_is_uninferred, terminal_is_uninferred, block_is_uninferred, tables_fit, numbers_fit, is_block, entry_exists, named_exists, leads_to_blocks, successors_exist, instructions_listed, none_listed_twice, handlers_distinct, phis_fit, orders_fit, environment_is_uninferred, function_is_uninferred, rules_hold}
+use Rattle.alias_rules.specs.Fitting.{recorded_within_tables, effects_within_tables, reports_no_invariant, function_rules, function_fits}
+use Rattle.alias_rules.specs.Rules.{identifier_is_uninferred, instruction_is_uninferred, terminal_is_uninferred, block_is_uninferred, tables_fit, numbers_fit, is_block, entry_exists, named_exists, leads_to_blocks, successors_exist, nesting_is_tree, instructions_listed, none_listed_twice, handlers_distinct, phis_fit, orders_fit, environment_is_uninferred, function_is_uninferred, rules_hold}
 use Rattle.alias_hir.specs.Terminals.{terminal_effects, successors}
 use Rattle.alias_hir.specs.declared.effect.AliasingEffect.{AliasingEffect}
 use Rattle.alias_hir.specs.declared.env.Environment.{Environment}
@@ -28,6 +28,10 @@ use Rattle.alias_rules.specs.declared.fault.UnitFault.TheVariants.{SuccessorMiss
 asked : {E : Type 0} (b : Bool) (f : E) (ok : Result ⊤ E) → ok ≡ Ok tt → (if b then ok else Err f) ≡ Ok tt → b ≡ true
 asked true f ok o e = refl
 asked false f ok o e = cc
+
+both : (a b : Bool) → a ≡ true → b ≡ true → (a && b) ≡ true
+both true b p q = q
+both false b p q = cc
 
 passed : {E : Type 0} (r : Result ⊤ E) → is_ok r ≡ true → r ≡ Ok tt
 passed (Ok tt) e = refl
@@ -50,31 +54,42 @@ passes_at f (y ∷ ys) (suc i) x h e = passes_at f ys i x (both_pass (f y) (all_
 
 -- ---- what a unit that keeps the rules has
 
-record KeepsRules (u : HirUnit) : Type 0 where
-  tables : tables_fit u.env ≡ Ok tt
-  numbers : numbers_fit u.env u.function ≡ Ok tt
-  entry : entry_exists None u.function ≡ Ok tt
-  successors : successors_exist None u.function ≡ Ok tt
-  once : none_listed_twice None u.function ≡ Ok tt
-  handlers : handlers_distinct None u.function ≡ Ok tt
-  phis : phis_fit None u.function ≡ Ok tt
-  orders : orders_fit None u.function ≡ Ok tt
-  environment : environment_is_uninferred u.env ≡ true
-  function : function_is_uninferred u.function ≡ true
+-- what follows a rule may say less
+then_less : {E : Type 0} (r s t : Result ⊤ E) → (s ≡ Ok tt → t ≡ Ok tt) → (r >>= (λ _. s)) ≡ Ok tt → (r >>= (λ _. t)) ≡ Ok tt
+then_less (Ok tt) s t f h = f h
+then_less (Err e) s t f h = cc
 
-keeps_rules : (u : HirUnit) → rules_hold u ≡ Ok tt → KeepsRules u
-keeps_rules u rules =
-    let a : (tables_fit u.env ≡ Ok tt) × _ = both_pass (tables_fit u.env) _ rules in
-    let b : (numbers_fit u.env u.function ≡ Ok tt) × _ = both_pass (numbers_fit u.env u.function) _ a.1 in
-    let c : (entry_exists None u.function ≡ Ok tt) × _ = both_pass (entry_exists None u.function) _ b.1 in
-    let d : (successors_exist None u.function ≡ Ok tt) × _ = both_pass (successors_exist None u.function) _ c.1 in
-    let e : (instructions_listed None u.function ≡ Ok tt) × _ = both_pass (instructions_listed None u.function) _ d.1 in
-    let f : (none_listed_twice None u.function ≡ Ok tt) × _ = both_pass (none_listed_twice None u.function) _ e.1 in
-    let g : (handlers_distinct None u.function ≡ Ok tt) × _ = both_pass (handlers_distinct None u.function) _ f.1 in
-    let h : (phis_fit None u.function ≡ Ok tt) × _ = both_pass (phis_fit None u.function) _ g.1 in
-    let i : (orders_fit None u.function ≡ Ok tt) × _ = both_pass (orders_fit None u.function) _ h.1 in
-    let j : (environment_is_uninferred u.env ≡ true) × (function_is_uninferred u.function ≡ true) = both_true _ _ (asked _ _ (Ok tt) refl i.1) in
-    record { tables = a.0; numbers = b.0; entry = c.0; successors = d.0; once = f.0; handlers = g.0; phis = h.0; orders = i.0; environment = j.0; function = j.1 }
+-- what follows a rule
+after : {E : Type 0} (r s : Result ⊤ E) → (r >>= (λ _. s)) ≡ Ok tt → s ≡ Ok tt
+after r s h = (both_pass r s h).1
+
+-- the root of a unit that keeps the rules keeps those of functions
+pub function_rules_of_rules : (u : HirUnit) → rules_hold u ≡ Ok tt → function_rules u.env u.function ≡ Ok tt
+function_rules_of_rules u =
+    then_less (tables_fit u.env) _ _ (
+    then_less (numbers_fit u.env u.function) _ _ (
+    then_less (entry_exists None u.function) _ _ (
+    then_less (successors_exist None u.function) _ _ (λ h.
+    then_less (none_listed_twice None u.function) _ _ (
+    then_less (handlers_distinct None u.function) _ _ (
+    then_less (phis_fit None u.function) _ _ (
+    then_less (orders_fit None u.function) _ _ (λ g. refl))))
+    (after (instructions_listed None u.function) _ (after (nesting_is_tree u.env) _ h))))))
+
+-- nothing of it is inferred
+uninferred_of_rules : (u : HirUnit) → rules_hold u ≡ Ok tt → (environment_is_uninferred u.env ≡ true) × (function_is_uninferred u.function ≡ true)
+uninferred_of_rules u h =
+    let a = after (tables_fit u.env) _ h in
+    let b = after (numbers_fit u.env u.function) _ a in
+    let c = after (entry_exists None u.function) _ b in
+    let d = after (successors_exist None u.function) _ c in
+    let e = after (nesting_is_tree u.env) _ d in
+    let g = after (instructions_listed None u.function) _ e in
+    let i = after (none_listed_twice None u.function) _ g in
+    let j = after (handlers_distinct None u.function) _ i in
+    let k = after (phis_fit None u.function) _ j in
+    let l = after (orders_fit None u.function) _ k in
+    both_true _ _ (asked _ _ (Ok tt) refl l)
 
 -- a list that holds of nothing is empty
 no_reports : (rs : List Report) → (length rs == 0) ≡ true → reports_invariant rs ≡ false
@@ -127,28 +142,31 @@ uninferred_effects_within_tables env func h =
 -- the inference takes the function of a unit that keeps the rules
 pub rules_make_function_fit : (u : HirUnit) → rules_hold u ≡ Ok tt → function_fits u.function u.env ≡ true
 rules_make_function_fit u h =
-    let k : KeepsRules u = keeps_rules u h in
-    let e : effects_within_tables u.env u.function ≡ true = uninferred_effects_within_tables u.env u.function k.function in
-    let none = both_true (length u.env.errors == 0) (length u.env.interned == 0) (both_true _ (list_all identifier_is_uninferred u.env.identifiers) k.environment).0 in
+    let k = uninferred_of_rules u h in
+    let f : function_rules u.env u.function ≡ Ok tt = function_rules_of_rules u h in
+    let e : effects_within_tables u.env u.function ≡ true = uninferred_effects_within_tables u.env u.function k.1 in
+    let none = both_true (length u.env.errors == 0) (length u.env.interned == 0) (both_true _ (list_all identifier_is_uninferred u.env.identifiers) k.0).0 in
     let r : reports_invariant u.env.errors ≡ false = no_reports u.env.errors none.0 in
     let i : reports_invariant (map (λ (e : Interned). e.report) u.env.interned) ≡ false = none_interned u.env.interned none.1 in
-    rw (k.tables, k.numbers, k.entry, k.successors, k.once, k.handlers, k.phis, k.orders, e, r, i) refl
+    both (is_ok (function_rules u.env u.function) && effects_within_tables u.env u.function) (reports_no_invariant u.env)
+    (both (is_ok (function_rules u.env u.function)) (effects_within_tables u.env u.function) (ap is_ok f) e)
+    (rw (r, i) refl)
 
 -- the entry is a block
 pub entry_of_rules : (u : HirUnit) → rules_hold u ≡ Ok tt → is_some (value_at u.function.body.blocks u.function.body.entry) ≡ true
-entry_of_rules u h = asked _ _ (Ok tt) refl (keeps_rules u h).entry
+entry_of_rules u h = asked _ _ (Ok tt) refl (both_pass (entry_exists None u.function) _ (after (numbers_fit u.env u.function) _ (after (tables_fit u.env) _ h))).0
 
 -- no instruction has effects
 pub instruction_of_rules : (u : HirUnit) (i : ℕ) (x : Instruction) → rules_hold u ≡ Ok tt → slice_get u.function.instructions i ≡ Some x → x.effects ≡ None
-instruction_of_rules u i x h e = nothing_there _ (instruction_uninferred x (all_at instruction_is_uninferred _ i x (uninferred u.function (keeps_rules u h).function).instructions e))
+instruction_of_rules u i x h e = nothing_there _ (instruction_uninferred x (all_at instruction_is_uninferred _ i x (uninferred u.function (uninferred_of_rules u h).1).instructions e))
 
 -- no terminal has effects
 pub terminal_of_rules : (u : HirUnit) (i : ℕ) (b : BlockId × BasicBlock) → rules_hold u ≡ Ok tt → slice_get u.function.body.blocks i ≡ Some b → terminal_effects b.1.terminal ≡ None
-terminal_of_rules u i b h e = nothing_there _ (terminal_uninferred b.1 (all_at (λ (e : BlockId × BasicBlock). block_is_uninferred e.1) _ i b (uninferred u.function (keeps_rules u h).function).blocks e))
+terminal_of_rules u i b h e = nothing_there _ (terminal_uninferred b.1 (all_at (λ (e : BlockId × BasicBlock). block_is_uninferred e.1) _ i b (uninferred u.function (uninferred_of_rules u h).1).blocks e))
 
 -- there is no summary
 pub summary_of_rules : (u : HirUnit) → rules_hold u ≡ Ok tt → u.function.aliasing_effects ≡ None
-summary_of_rules u h = nothing_there _ (uninferred u.function (keeps_rules u h).function).summary
+summary_of_rules u h = nothing_there _ (uninferred u.function (uninferred_of_rules u h).1).summary
 
 -- ---- what a function that the inference takes has
 

@@ -24,7 +24,9 @@ use Rattle.alias_hir.specs.declared.terminal.Terminal.TheVariants.{Try}
 use Rattle.alias_rules.specs.declared.fault.Table.{Table}
 use Rattle.alias_rules.specs.declared.fault.Table.TheVariants.{Identifiers, Types, Instructions, Declarations}
 use Rattle.alias_rules.specs.declared.fault.UnitFault.{UnitFault}
-use Rattle.alias_rules.specs.declared.fault.UnitFault.TheVariants.{IdOutOfRange, EntryMissing, SuccessorMissing, InstructionMissing, InstructionTwice, TwoTrys, PhiNoPredecessor, OrderOutOfRange, SomethingInferred}
+use Rattle.alias_rules.specs.declared.fault.UnitFault.TheVariants.{IdOutOfRange, EntryMissing, SuccessorMissing, NestingNoTree, InstructionMissing, InstructionTwice, TwoTrys, PhiNoPredecessor, OrderOutOfRange, SomethingInferred}
+use Rattle.alias_rules.specs.declared.rules.Subject.{Subject}
+use Rattle.alias_rules.specs.declared.rules.Subject.TheVariants.{WholeUnit, OneFunction}
 
 -- ---- numbers are within their tables
 
@@ -101,6 +103,13 @@ leads_to_blocks f func b t = do
 -- each block that a terminal names is there, over the blocks in stored order
 abbrev pub successors_exist : Option FunctionId → HirFunction → Result ⊤ UnitFault
 successors_exist f func = all_pass (λ e. leads_to_blocks f func e.0 e.1.terminal) func.body.blocks
+
+-- ---- nested functions are a tree
+
+-- Each nested function is named by exactly one instruction, and reached from the root. No kind of instruction names one yet, so
+-- there may be none; the fault names the first of the table.
+abbrev pub nesting_is_tree : Environment → Result ⊤ UnitFault
+nesting_is_tree env = if length env.functions == 0 then Ok tt else Err (NestingNoTree (record { 0 = 0 }))
 
 -- ---- some block lists each instruction
 
@@ -228,24 +237,34 @@ abbrev pub environment_is_uninferred : Environment → Bool
 environment_is_uninferred env = (length env.errors == 0) && (length env.interned == 0) && list_all identifier_is_uninferred env.identifiers
 
 -- neither the tables nor the function say what the inference is to find
-abbrev pub nothing_inferred : HirUnit → Result ⊤ UnitFault
-nothing_inferred u = if environment_is_uninferred u.env && function_is_uninferred u.function then Ok tt else Err SomethingInferred
+abbrev pub nothing_inferred : Environment → HirFunction → Result ⊤ UnitFault
+nothing_inferred env func = if environment_is_uninferred env && function_is_uninferred func then Ok tt else Err SomethingInferred
 
 -- ---- all rules, in order
 
--- the first of the rules that is broken
+-- a rule that is asked of whole units alone
+abbrev pub of_units : Subject → Result ⊤ UnitFault → Result ⊤ UnitFault
+of_units WholeUnit rule = rule
+of_units OneFunction rule = Ok tt
+
+-- the first rule that the subject breaks: a unit, given as its tables and its root, or a function by itself
+abbrev pub keeps_rules : Subject → Environment → HirFunction → Result ⊤ UnitFault
+keeps_rules subject env func = do
+  _ ← tables_fit env
+  _ ← numbers_fit env func
+  _ ← entry_exists None func
+  _ ← successors_exist None func
+  _ ← of_units subject (nesting_is_tree env)
+  _ ← of_units subject (instructions_listed None func)
+  _ ← none_listed_twice None func
+  _ ← handlers_distinct None func
+  _ ← phis_fit None func
+  _ ← orders_fit None func
+  of_units subject (nothing_inferred env func)
+
+-- the first of the rules that a unit breaks
 abbrev pub rules_hold : HirUnit → Result ⊤ UnitFault
-rules_hold u = do
-  _ ← tables_fit u.env
-  _ ← numbers_fit u.env u.function
-  _ ← entry_exists None u.function
-  _ ← successors_exist None u.function
-  _ ← instructions_listed None u.function
-  _ ← none_listed_twice None u.function
-  _ ← handlers_distinct None u.function
-  _ ← phis_fit None u.function
-  _ ← orders_fit None u.function
-  nothing_inferred u
+rules_hold u = keeps_rules WholeUnit u.env u.function
 
 -- the unit itself, where all rules hold
 abbrev pub checks : HirUnit → Result HirUnit UnitFault

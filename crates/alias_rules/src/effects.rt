@@ -1,15 +1,16 @@
 //! The places of effects are within the table of identifiers, and their reports are interned.
-ghost use Rattle.std.specs.Prelude.{◌≡◌, Some};
+ghost use Rattle.std.specs.Prelude.{◌≡◌, IfOk, option_map};
 ghost use Rattle.std.specs.List.{list_all};
 ghost use Rattle.alias_hir.specs.Terminals.{terminal_effects};
 ghost use Rattle.alias_rules.specs.Fitting.{place_within_tables, error_within_tables, effect_within_tables, recorded_within_tables, effects_within_tables};
 
-use alias_hir::effect::{AliasingEffect, AliasingEffects};
+use alias_hir::effect::{AliasingEffect, AliasingEffects, error_of};
 use alias_hir::env::Environment;
 use alias_hir::hir::{Hir, HirFunction, Instruction};
 use alias_hir::place::Place;
+use alias_hir::places::effect_places;
 use alias_hir::report::DiagnosticId;
-use alias_hir::terminal::Terminal;
+use std::alloc::{AllocError, Global};
 
 fn place_within_tables(env: &Environment, place: &Place) -> bool
     ensures { result ≡ place_within_tables env.now place.now }
@@ -17,86 +18,100 @@ fn place_within_tables(env: &Environment, place: &Place) -> bool
     (place.identifier.0 as usize) < env.identifiers.len()
 }
 
-fn error_within_tables(env: &Environment, error: DiagnosticId) -> bool
-    ensures { result ≡ error_within_tables env.now (Some error) }
+fn places_within_tables(env: &Environment, places: &[Place]) -> bool
+    ensures { result ≡ list_all (place_within_tables env.now) places.now }
 {
-    env.is_interned(error)
+    places.iter().all(|place| place_within_tables(env, place))
 }
 
-fn effect_within_tables(env: &Environment, effect: &AliasingEffect) -> bool
-    ensures { result ≡ effect_within_tables env.now effect.now }
+fn error_within_tables(env: &Environment, error: Option<DiagnosticId>) -> bool
+    ensures { result ≡ error_within_tables env.now error }
 {
-    match effect {
-        AliasingEffect::CreateFrom { from, into }
-        | AliasingEffect::ImmutableCapture { from, into }
-        | AliasingEffect::Assign { from, into }
-        | AliasingEffect::Capture { from, into }
-        | AliasingEffect::MaybeAlias { from, into } => {
-            place_within_tables(env, from) && place_within_tables(env, into)
-        }
-        AliasingEffect::Create { into, .. } => place_within_tables(env, into),
-        AliasingEffect::Freeze { value, .. } | AliasingEffect::Mutate { value, .. } => {
-            place_within_tables(env, value)
-        }
-        AliasingEffect::MutateFrozen { place } | AliasingEffect::MutateGlobal { place } => {
-            place_within_tables(env, place)
-        }
-        AliasingEffect::Impure { place, error } => {
-            place_within_tables(env, place) && error_within_tables(env, *error)
-        }
-    }
-}
-
-fn all_within_tables(env: &Environment, effects: &[AliasingEffect]) -> bool
-    ensures { result ≡ list_all (effect_within_tables env.now) effects.now }
-{
-    effects
-        .iter()
-        .all(|effect| effect_within_tables(env, effect))
-}
-
-fn recorded_within_tables(env: &Environment, recorded: &Option<AliasingEffects>) -> bool
-    ensures { result ≡ recorded_within_tables env.now recorded.now }
-{
-    match recorded {
-        Some(effects) => all_within_tables(env, effects.as_slice()),
+    match error {
+        Some(error) => env.is_interned(error),
         None => true,
     }
 }
 
-fn instructions_record(env: &Environment, instructions: &[Instruction]) -> bool
-    ensures { result ≡ list_all (λ i. recorded_within_tables env.now i.effects) instructions.now }
+fn effect_within_tables(
+    alloc: Global,
+    env: &Environment,
+    effect: &AliasingEffect,
+) -> Result<bool, AllocError>
+    ensures { IfOk result (λ b. b ≡ effect_within_tables env.now effect.now) }
 {
-    instructions.iter().all(|instruction| recorded_within_tables(env, &instruction.effects))
+    let places = effect_places(alloc, effect)?;
+    Ok(places_within_tables(env, places.as_slice()) && error_within_tables(env, error_of(effect)))
 }
 
-fn terminal_records(env: &Environment, terminal: &Terminal) -> bool
-    ensures { result ≡ recorded_within_tables env.now (terminal_effects terminal.now) }
+fn all_within_tables(
+    alloc: Global,
+    env: &Environment,
+    effects: &[AliasingEffect],
+) -> Result<bool, AllocError>
+    ensures { IfOk result (λ b. b ≡ list_all (effect_within_tables env.now) effects.now) }
 {
-    match terminal {
-        Terminal::Return { effects, .. } | Terminal::MaybeThrow { effects, .. } => {
-            recorded_within_tables(env, effects)
+    for effect in effects {
+        if !effect_within_tables(alloc, env, effect)? {
+            return Ok(false);
         }
-        _ => true,
+    }
+    Ok(true)
+}
+
+fn recorded_within_tables(
+    alloc: Global,
+    env: &Environment,
+    recorded: Option<&AliasingEffects>,
+) -> Result<bool, AllocError>
+    ensures { IfOk result (λ b. b ≡ recorded_within_tables env.now (option_map (λ e. e.now) recorded.entry)) }
+{
+    match recorded {
+        Some(effects) => all_within_tables(alloc, env, effects.as_slice()),
+        None => Ok(true),
     }
 }
 
-fn terminals_record(env: &Environment, body: &Hir) -> bool
-    ensures { result ≡ list_all (λ e. recorded_within_tables env.now (terminal_effects e.1.terminal)) body.now.blocks }
+fn instructions_within_tables(
+    alloc: Global,
+    env: &Environment,
+    instructions: &[Instruction],
+) -> Result<bool, AllocError>
+    ensures { IfOk result (λ b. b ≡ list_all (λ i. recorded_within_tables env.now i.effects) instructions.now) }
+{
+    for instruction in instructions {
+        if !recorded_within_tables(alloc, env, instruction.effects.as_ref())? {
+            return Ok(false);
+        }
+    }
+    Ok(true)
+}
+
+fn terminals_within_tables(alloc: Global, env: &Environment, body: &Hir) -> Result<bool, AllocError>
+    ensures { IfOk result (λ b. b ≡ list_all (λ e. recorded_within_tables env.now (terminal_effects e.1.terminal)) body.now.blocks) }
 {
     for (_, block) in body.blocks.iter() {
-        if !terminal_records(env, &block.terminal) {
-            return false;
+        if !recorded_within_tables(alloc, env, block.terminal.effects())? {
+            return Ok(false);
         }
     }
-    true
+    Ok(true)
 }
 
-/// Whether the places of all effects are in the table, and their reports are interned.
-pub fn effects_within_tables(env: &Environment, func: &HirFunction) -> bool
-    ensures { result ≡ effects_within_tables env.now func.now }
+/// Whether the places of all effects are in the table, and their reports are interned. The one error is want
+/// of memory.
+pub fn effects_within_tables(
+    alloc: Global,
+    env: &Environment,
+    func: &HirFunction,
+) -> Result<bool, AllocError>
+    ensures { IfOk result (λ b. b ≡ effects_within_tables env.now func.now) }
 {
-    instructions_record(env, func.instructions.as_slice())
-        && terminals_record(env, &func.body)
-        && recorded_within_tables(env, &func.aliasing_effects)
+    if !instructions_within_tables(alloc, env, func.instructions.as_slice())? {
+        return Ok(false);
+    }
+    if !terminals_within_tables(alloc, env, &func.body)? {
+        return Ok(false);
+    }
+    recorded_within_tables(alloc, env, func.aliasing_effects.as_ref())
 }

@@ -32,6 +32,11 @@ pub enum UnitFault {
         block: BlockId,
         named: BlockId,
     },
+    /// A nested function isn't named by exactly one instruction, or can't be reached from the root: the first
+    /// of the table, since no kind of instruction names one yet.
+    NestingNoTree {
+        function: FunctionId,
+    },
     /// An instruction of the function's list is listed by no block: the one with the smallest number.
     InstructionMissing {
         function: Option<FunctionId>,
@@ -62,6 +67,29 @@ pub enum UnitFault {
     SomethingInferred,
     /// Want of memory, which can come at any growth.
     Memory(AllocError),
+}
+
+impl UnitFault {
+    ghost use Rattle.alias_rules.specs.Fault.{rule_number};
+
+    /// The number of the broken rule, as docs/FORMAT.md lists them, or `None` for want of memory.
+    pub fn rule_number(&self) -> Option<u32>
+        ensures { result ≡ rule_number self.now }
+    {
+        match self {
+            UnitFault::IdOutOfRange { .. } => Some(1),
+            UnitFault::EntryMissing { .. } => Some(2),
+            UnitFault::SuccessorMissing { .. } => Some(3),
+            UnitFault::NestingNoTree { .. } => Some(4),
+            UnitFault::InstructionMissing { .. } => Some(7),
+            UnitFault::InstructionTwice { .. } => Some(8),
+            UnitFault::TwoTrys { .. } => Some(9),
+            UnitFault::PhiNoPredecessor { .. } => Some(10),
+            UnitFault::OrderOutOfRange { .. } => Some(11),
+            UnitFault::SomethingInferred => Some(12),
+            UnitFault::Memory(_) => None,
+        }
+    }
 }
 
 impl From<AllocError> for UnitFault {

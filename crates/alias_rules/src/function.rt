@@ -1,17 +1,11 @@
 //! What the inference asks of a function.
 ghost use Rattle.std.specs.Prelude.{◌≡◌, IfOk, is_ok, map};
 ghost use Rattle.alias_hir.specs.Diagnostics.{reports_invariant};
-ghost use Rattle.alias_rules.specs.Fault.{Gives};
-ghost use Rattle.alias_rules.specs.Fitting.{reports_no_invariant, function_rules, function_fits};
+ghost use Rattle.alias_rules.specs.Fitting.{reports_no_invariant, function_fits};
 
-use crate::blocks::{entry_exists, successors_exist};
 use crate::effects::effects_within_tables;
 use crate::fault::UnitFault;
-use crate::handlers::handlers_distinct;
-use crate::ids::{numbers_fit, tables_fit};
-use crate::listing::none_listed_twice;
-use crate::orders::orders_fit;
-use crate::phis::phis_fit;
+use crate::rules::{Subject, keeps_rules};
 use alias_hir::env::Environment;
 use alias_hir::hir::HirFunction;
 use alias_hir::report::{ErrorCategory, Interned};
@@ -35,20 +29,6 @@ fn reports_no_invariant(env: &Environment) -> bool
     !env.has_invariant_errors() && !interns_invariant(env.interned.as_slice())
 }
 
-/// The first rule of a function that is broken, whether it is inferred or not.
-fn function_rules(alloc: Global, env: &Environment, func: &HirFunction) -> Result<(), UnitFault>
-    ensures { Gives (λ x. x) result (function_rules env.now func.now) }
-{
-    tables_fit(env)?;
-    numbers_fit(env, func)?;
-    entry_exists(None, func)?;
-    successors_exist(None, func)?;
-    none_listed_twice(alloc, None, func)?;
-    handlers_distinct(alloc, None, func)?;
-    phis_fit(None, func)?;
-    orders_fit(None, func)
-}
-
 /// Whether the inference takes the function: numbers are within their tables, those of effects and their reports too; the
 /// entry, successors and handlers of `Try`s are blocks; no instruction is listed twice; each `Try` has a handler
 /// of its own; operands of phis are for blocks that have an edge to that of the phi; orders are set; and no
@@ -60,8 +40,8 @@ pub fn check_function(
 ) -> Result<bool, AllocError>
     ensures { IfOk result (λ b. b ≡ function_fits func.now env.now) }
 {
-    match function_rules(alloc, env, func) {
-        Ok(()) => Ok(effects_within_tables(env, func) && reports_no_invariant(env)),
+    match keeps_rules(alloc, Subject::OneFunction, env, func) {
+        Ok(()) => Ok(effects_within_tables(alloc, env, func)? && reports_no_invariant(env)),
         Err(UnitFault::Memory(e)) => Err(e),
         Err(_) => Ok(false),
     }

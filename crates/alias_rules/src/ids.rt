@@ -1,9 +1,8 @@
 //! Numbers are within their tables.
 ghost use Rattle.std.specs.Prelude.{◌≡◌, length};
-ghost use Rattle.std.specs.List.{flat_map};
-ghost use Rattle.alias_base.specs.Answer.{all_pass};
-ghost use Rattle.alias_hir.specs.Terminals.{optional_place, case_places, terminal_places};
-ghost use Rattle.alias_hir.specs.Values.{places_of};
+ghost use Rattle.alias_base.specs.Answer.{all_pass, Gives};
+ghost use Rattle.alias_hir.specs.Terminals.{terminal_places};
+ghost use Rattle.alias_rules.specs.Fault.{is_memory};
 ghost use Rattle.alias_rules.specs.Rules.{below, place_fits, identifier_fits, tables_fit, instruction_fits, phi_fits, block_fits, numbers_fit};
 ghost use Rattle.alias_rules.specs.declared.fault.Table.TheVariants.{Instructions};
 
@@ -12,9 +11,11 @@ use alias_base::InstructionId;
 use alias_hir::env::{Environment, Identifier};
 use alias_hir::hir::{BasicBlock, HirFunction, Instruction, Phi};
 use alias_hir::place::Place;
-use alias_hir::terminal::{SwitchCase, Terminal};
-use alias_hir::value::InstructionValue;
+use alias_hir::places::{places_of, terminal_places};
+use alias_hir::terminal::Terminal;
+use std::alloc::{AllocError, Global};
 
+/// Whether the number is below the length of the table.
 pub fn below(table: Table, len: usize, number: u32) -> Result<(), UnitFault>
     ensures { result ≡ below table len number }
 {
@@ -57,76 +58,45 @@ pub fn tables_fit(env: &Environment) -> Result<(), UnitFault>
     Ok(())
 }
 
-fn value_fits(env: &Environment, value: &InstructionValue) -> Result<(), UnitFault>
-    ensures { result ≡ all_pass (place_fits env.now) (places_of value.now) }
+fn places_fit(env: &Environment, places: &[Place]) -> Result<(), UnitFault>
+    ensures { result ≡ all_pass (place_fits env.now) places.now }
 {
-    match value {
-        InstructionValue::ObjectExpression | InstructionValue::Primitive => Ok(()),
-        InstructionValue::PropertyLoad { object } => place_fits(env, object),
-        InstructionValue::PropertyStore { object, value, .. } => {
-            place_fits(env, object)?;
-            place_fits(env, value)
-        }
-        InstructionValue::LoadLocal { place } => place_fits(env, place),
-        InstructionValue::StoreLocal { lvalue, value } => {
-            place_fits(env, &lvalue.place)?;
-            place_fits(env, value)
-        }
+    for place in places {
+        place_fits(env, place)?;
     }
+    Ok(())
 }
 
-fn instruction_fits(env: &Environment, instruction: &Instruction) -> Result<(), UnitFault>
-    ensures { result ≡ instruction_fits env.now instruction.now }
+fn instruction_fits(
+    alloc: Global,
+    env: &Environment,
+    instruction: &Instruction,
+) -> Result<(), UnitFault>
+    ensures { Gives is_memory (instruction_fits env.now instruction.now) result }
 {
     place_fits(env, &instruction.lvalue)?;
-    value_fits(env, &instruction.value)
+    let places = places_of(alloc, &instruction.value)?;
+    places_fit(env, places.as_slice())
 }
 
-fn instructions_fit(env: &Environment, instructions: &[Instruction]) -> Result<(), UnitFault>
-    ensures { result ≡ all_pass (instruction_fits env.now) instructions.now }
+fn instructions_fit(
+    alloc: Global,
+    env: &Environment,
+    instructions: &[Instruction],
+) -> Result<(), UnitFault>
+    ensures { Gives is_memory (all_pass (instruction_fits env.now) instructions.now) result }
 {
     for instruction in instructions {
-        instruction_fits(env, instruction)?;
+        instruction_fits(alloc, env, instruction)?;
     }
     Ok(())
 }
 
-fn optional_fits(env: &Environment, place: &Option<Place>) -> Result<(), UnitFault>
-    ensures { result ≡ all_pass (place_fits env.now) (optional_place place.now) }
+fn terminal_fits(alloc: Global, env: &Environment, terminal: &Terminal) -> Result<(), UnitFault>
+    ensures { Gives is_memory (all_pass (place_fits env.now) (terminal_places terminal.now)) result }
 {
-    match place {
-        None => Ok(()),
-        Some(place) => place_fits(env, place),
-    }
-}
-
-fn cases_fit(env: &Environment, cases: &[SwitchCase]) -> Result<(), UnitFault>
-    ensures { result ≡ all_pass (place_fits env.now) (flat_map case_places cases.now) }
-{
-    for case in cases {
-        optional_fits(env, &case.test)?;
-    }
-    Ok(())
-}
-
-fn terminal_fits(env: &Environment, terminal: &Terminal) -> Result<(), UnitFault>
-    ensures { result ≡ all_pass (place_fits env.now) (terminal_places terminal.now) }
-{
-    match terminal {
-        Terminal::If { test: place, .. }
-        | Terminal::Branch { test: place, .. }
-        | Terminal::Return { value: place, .. }
-        | Terminal::Throw { value: place, .. } => place_fits(env, place),
-        Terminal::Switch { test, cases, .. } => {
-            place_fits(env, test)?;
-            cases_fit(env, cases.as_slice())
-        }
-        Terminal::Try {
-            handler_binding,
-            ..
-        } => optional_fits(env, handler_binding),
-        _ => Ok(()),
-    }
+    let places = terminal_places(alloc, terminal)?;
+    places_fit(env, places.as_slice())
 }
 
 fn phi_fits(env: &Environment, phi: &Phi) -> Result<(), UnitFault>
@@ -157,28 +127,33 @@ fn listed(len: usize, instructions: &[InstructionId]) -> Result<(), UnitFault>
     Ok(())
 }
 
-fn block_fits(env: &Environment, func: &HirFunction, block: &BasicBlock) -> Result<(), UnitFault>
-    ensures { result ≡ block_fits env.now func.now block.now }
+fn block_fits(
+    alloc: Global,
+    env: &Environment,
+    func: &HirFunction,
+    block: &BasicBlock,
+) -> Result<(), UnitFault>
+    ensures { Gives is_memory (block_fits env.now func.now block.now) result }
 {
     phis_fit(env, block.phis.as_slice())?;
     listed(func.instructions.len(), block.instructions.as_slice())?;
-    terminal_fits(env, &block.terminal)
+    terminal_fits(alloc, env, &block.terminal)
 }
 
-fn blocks_fit(env: &Environment, func: &HirFunction) -> Result<(), UnitFault>
-    ensures { result ≡ all_pass (λ e. block_fits env.now func.now e.1) func.now.body.blocks }
+fn blocks_fit(alloc: Global, env: &Environment, func: &HirFunction) -> Result<(), UnitFault>
+    ensures { Gives is_memory (all_pass (λ e. block_fits env.now func.now e.1) func.now.body.blocks) result }
 {
     for (_, block) in func.body.blocks.iter() {
-        block_fits(env, func, block)?;
+        block_fits(alloc, env, func, block)?;
     }
     Ok(())
 }
 
-/// The first number in the function that is not below the length of its table.
-pub fn numbers_fit(env: &Environment, func: &HirFunction) -> Result<(), UnitFault>
-    ensures { result ≡ numbers_fit env.now func.now }
+/// The first number in the function that is not below the length of its table, or want of memory.
+pub fn numbers_fit(alloc: Global, env: &Environment, func: &HirFunction) -> Result<(), UnitFault>
+    ensures { Gives is_memory (numbers_fit env.now func.now) result }
 {
     place_fits(env, &func.returns)?;
-    instructions_fit(env, func.instructions.as_slice())?;
-    blocks_fit(env, func)
+    instructions_fit(alloc, env, func.instructions.as_slice())?;
+    blocks_fit(alloc, env, func)
 }

@@ -9,8 +9,10 @@ pub mod function;
 mod handlers;
 mod ids;
 mod listing;
+mod nesting;
 mod orders;
 mod phis;
+mod rules;
 #[cfg(test)]
 mod tests;
 mod uninferred;

@@ -1,9 +1,10 @@
 //! Each instruction is listed by some block, and none twice.
-ghost use Rattle.std.specs.Prelude.{◌≡◌, ◌<◌, ◌^◌, ◌++◌, [], ℕ, length, map, IfOk, OnOk};
+ghost use Rattle.std.specs.Prelude.{◌≡◌, ◌++◌, [], ℕ, map, IfOk, OnOk};
 ghost use Rattle.std.specs.Ordering.{nat_cmp};
 ghost use Rattle.std.specs.BTreeSet.{contains};
 ghost use Rattle.alias_base.specs.declared.ids.InstructionId.{InstructionId};
-ghost use Rattle.alias_rules.specs.Fault.{Gives};
+ghost use Rattle.alias_base.specs.Answer.{Gives};
+ghost use Rattle.alias_rules.specs.Fault.{is_memory};
 ghost use Rattle.alias_rules.specs.Rules.{listed_instructions, is_among, first_missing, first_again, instructions_listed, none_listed_twice};
 
 use crate::fault::UnitFault;
@@ -68,17 +69,21 @@ pub fn first_again(alloc: Global, numbers: &[u32]) -> Result<Option<u32>, AllocE
     Ok(None)
 }
 
-/// The smallest instruction that no block lists, or want of memory.
+/// The smallest instruction that no block lists, or want of memory. A list with more instructions than there
+/// are numbers for them is answered as want of memory too.
 pub fn instructions_listed(
     alloc: Global,
     function: Option<FunctionId>,
     func: &HirFunction,
 ) -> Result<(), UnitFault>
-    requires { length func.now.instructions < 2 ^ 32 }
-    ensures { Gives (λ x. x) result (instructions_listed function func.now) }
+    ensures { Gives is_memory (instructions_listed function func.now) result }
 {
+    let len = func.instructions.len();
+    if len > u32::MAX as usize {
+        return Err(UnitFault::Memory(AllocError));
+    }
     let numbers = listed_instructions(alloc, func)?;
-    match first_missing(alloc, func.instructions.len() as u32, &numbers)? {
+    match first_missing(alloc, len as u32, &numbers)? {
         None => Ok(()),
         Some(missing) => Err(UnitFault::InstructionMissing {
             function,
@@ -93,7 +98,7 @@ pub fn none_listed_twice(
     function: Option<FunctionId>,
     func: &HirFunction,
 ) -> Result<(), UnitFault>
-    ensures { Gives (λ x. x) result (none_listed_twice function func.now) }
+    ensures { Gives is_memory (none_listed_twice function func.now) result }
 {
     let numbers = listed_instructions(alloc, func)?;
     match first_again(alloc, &numbers)? {

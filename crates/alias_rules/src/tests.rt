@@ -2,8 +2,8 @@ use crate::check::check_unit;
 use crate::fault::{Table, UnitFault};
 use crate::function::check_function;
 use alias_base::{
-    BlockId, BlockMap, DeclarationId, EvaluationOrder, IdentifierId, InstructionId, List, Text,
-    TypeId,
+    BlockId, BlockMap, DeclarationId, EvaluationOrder, FunctionId, IdentifierId, InstructionId,
+    List, Text, TypeId,
 };
 use alias_hir::effect::AliasingEffect;
 use alias_hir::env::{Environment, Identifier, IdentifierName, MutableRange, Unit};
@@ -14,7 +14,6 @@ use alias_hir::terminal::Terminal;
 use alias_hir::types::Ty;
 use alias_hir::value::InstructionValue;
 use std::alloc::{AllocError, Global};
-use std::process::Abort;
 use std::test::Fail;
 
 const NO_SPAN: Option<Span> = None;
@@ -121,7 +120,6 @@ fn unit(
 }
 
 fn refusal(
-    rt: &impl Abort,
     alloc: Global,
     type_: u32,
     listed_instructions: &[u32],
@@ -129,7 +127,6 @@ fn refusal(
     order: u32,
 ) -> Result<Option<UnitFault>, AllocError> {
     let unit = unit(alloc, type_, listed_instructions, entry, order)?;
-    assert!(rt; unit.function.instructions.len() == 4);
     Ok(check_unit(alloc, unit).err())
 }
 
@@ -143,7 +140,6 @@ fn is_taken(alloc: Global, listed_instructions: &[u32]) -> Result<bool, AllocErr
 fn accepts_a_well_formed_unit(rt: HostRuntime) -> Result<(), Fail> {
     let alloc = rt.alloc();
     let unit = unit(alloc, 0, &[0, 1, 2, 3], 0, 5)?;
-    assert!(rt; unit.function.instructions.len() == 4);
     match check_unit(alloc, unit) {
         Ok(checked) => {
             assert!(rt; checked.unit().function.aliasing_effects.is_none());
@@ -166,7 +162,7 @@ fn names_the_first_broken_rule(rt: HostRuntime) -> Result<(), Fail> {
     let alloc = rt.alloc();
     assert!(rt;
         matches!(
-            refusal(&rt, alloc, 9, &[0, 1, 2], 5, 0)?,
+            refusal(alloc, 9, &[0, 1, 2], 5, 0)?,
             Some(UnitFault::IdOutOfRange {
                 table: Table::Types,
                 number: 9,
@@ -175,13 +171,13 @@ fn names_the_first_broken_rule(rt: HostRuntime) -> Result<(), Fail> {
     );
     assert!(rt;
         matches!(
-            refusal(&rt, alloc, 0, &[0, 1, 2], 5, 0)?,
+            refusal(alloc, 0, &[0, 1, 2], 5, 0)?,
             Some(UnitFault::EntryMissing { function: None })
         )
     );
     assert!(rt;
         matches!(
-            refusal(&rt, alloc, 0, &[0, 1, 2], 0, 0)?,
+            refusal(alloc, 0, &[0, 1, 2], 0, 0)?,
             Some(UnitFault::InstructionMissing {
                 function: None,
                 instruction: InstructionId(3),
@@ -196,7 +192,7 @@ fn names_the_later_rules(rt: HostRuntime) -> Result<(), Fail> {
     let alloc = rt.alloc();
     assert!(rt;
         matches!(
-            refusal(&rt, alloc, 0, &[0, 3, 1, 3, 2, 1], 0, 0)?,
+            refusal(alloc, 0, &[0, 3, 1, 3, 2, 1], 0, 0)?,
             Some(UnitFault::InstructionTwice {
                 function: None,
                 instruction: InstructionId(3),
@@ -205,13 +201,36 @@ fn names_the_later_rules(rt: HostRuntime) -> Result<(), Fail> {
     );
     assert!(rt;
         matches!(
-            refusal(&rt, alloc, 0, &[0, 1, 2, 3], 0, 0)?,
+            refusal(alloc, 0, &[0, 1, 2, 3], 0, 0)?,
             Some(UnitFault::OrderOutOfRange {
                 function: None,
                 order: EvaluationOrder(0),
             })
         )
     );
+    Ok(())
+}
+
+#[test]
+fn nested_functions_are_named(rt: HostRuntime) -> Result<(), Fail> {
+    let alloc = rt.alloc();
+    let mut root = unit(alloc, 0, &[0, 1, 2], 0, 0)?;
+    let nested = unit(alloc, 0, &[0, 1, 2, 3], 0, 5)?;
+    root.env.functions.push(nested.function)?;
+    match check_unit(alloc, root) {
+        Err(fault) => {
+            assert!(rt;
+                matches!(
+                    fault,
+                    UnitFault::NestingNoTree {
+                        function: FunctionId(0),
+                    }
+                )
+            );
+            assert_eq!(rt; fault.rule_number(), Some(4));
+        }
+        Ok(_) => assert!(rt; false),
+    }
     Ok(())
 }
 
@@ -287,8 +306,7 @@ fn looping(alloc: Global, phis: List<Phi>) -> Result<Unit, AllocError> {
     Ok(unit)
 }
 
-fn fault(rt: &impl Abort, alloc: Global, unit: Unit) -> Option<UnitFault> {
-    assert!(rt; unit.function.instructions.len() == 4);
+fn fault(alloc: Global, unit: Unit) -> Option<UnitFault> {
     check_unit(alloc, unit).err()
 }
 
@@ -298,7 +316,7 @@ fn accepts_a_loop_with_a_phi(rt: HostRuntime) -> Result<(), Fail> {
     let phis = phi_of(alloc, place(1), &[0, 2], place(0))?;
     let unit = looping(alloc, phis)?;
     assert!(rt; check_function(alloc, &unit.function, &unit.env)?);
-    assert!(rt; fault(&rt, alloc, unit).is_none());
+    assert!(rt; fault(alloc, unit).is_none());
     Ok(())
 }
 
@@ -309,7 +327,7 @@ fn terminals_lead_to_blocks(rt: HostRuntime) -> Result<(), Fail> {
     assert!(rt; !check_function(alloc, &unit.function, &unit.env)?);
     assert!(rt;
         matches!(
-            fault(&rt, alloc, unit),
+            fault(alloc, unit),
             Some(UnitFault::SuccessorMissing {
                 function: None,
                 block: BlockId(0),
@@ -321,7 +339,7 @@ fn terminals_lead_to_blocks(rt: HostRuntime) -> Result<(), Fail> {
     put(alloc, &mut unit, 1, List::new(alloc), entering(0, 8))?;
     assert!(rt;
         matches!(
-            fault(&rt, alloc, unit),
+            fault(alloc, unit),
             Some(UnitFault::SuccessorMissing {
                 function: None,
                 block: BlockId(1),
@@ -342,7 +360,7 @@ fn a_handler_has_one_try(rt: HostRuntime) -> Result<(), Fail> {
     assert!(rt; !check_function(alloc, &unit.function, &unit.env)?);
     assert!(rt;
         matches!(
-            fault(&rt, alloc, unit),
+            fault(alloc, unit),
             Some(UnitFault::TwoTrys {
                 function: None,
                 handler: BlockId(2),
@@ -360,7 +378,7 @@ fn operands_are_for_predecessors(rt: HostRuntime) -> Result<(), Fail> {
     assert!(rt; !check_function(alloc, &unit.function, &unit.env)?);
     assert!(rt;
         matches!(
-            fault(&rt, alloc, unit),
+            fault(alloc, unit),
             Some(UnitFault::PhiNoPredecessor {
                 function: None,
                 block: BlockId(1),
@@ -378,7 +396,7 @@ fn looks_at_the_places_of_phis(rt: HostRuntime) -> Result<(), Fail> {
     let unit = looping(alloc, phis)?;
     assert!(rt;
         matches!(
-            fault(&rt, alloc, unit),
+            fault(alloc, unit),
             Some(UnitFault::IdOutOfRange {
                 table: Table::Identifiers,
                 number: 2,
@@ -389,7 +407,7 @@ fn looks_at_the_places_of_phis(rt: HostRuntime) -> Result<(), Fail> {
     captured.effect = Effect::Capture;
     let phis = phi_of(alloc, place(1), &[0, 2], captured)?;
     let unit = looping(alloc, phis)?;
-    assert!(rt; matches!(fault(&rt, alloc, unit), Some(UnitFault::SomethingInferred)));
+    assert!(rt; matches!(fault(alloc, unit), Some(UnitFault::SomethingInferred)));
     Ok(())
 }
 

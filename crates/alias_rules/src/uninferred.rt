@@ -1,18 +1,19 @@
 //! Nothing is inferred.
-ghost use Rattle.std.specs.Prelude.{◌≡◌};
-ghost use Rattle.std.specs.List.{flat_map, list_all};
+ghost use Rattle.std.specs.Prelude.{◌≡◌, ◌&&◌, IfOk};
+ghost use Rattle.std.specs.List.{list_all};
+ghost use Rattle.alias_base.specs.Answer.{Gives};
 ghost use Rattle.alias_base.specs.declared.ids.BlockId.{BlockId};
 ghost use Rattle.alias_hir.specs.declared.hir.BasicBlock.{BasicBlock};
-ghost use Rattle.alias_hir.specs.Terminals.{optional_place, case_places, terminal_places};
-ghost use Rattle.alias_hir.specs.Values.{places_of};
+ghost use Rattle.alias_rules.specs.Fault.{is_memory};
 ghost use Rattle.alias_rules.specs.Rules.{place_is_uninferred, identifier_is_uninferred, instruction_is_uninferred, terminal_is_uninferred, phi_is_uninferred, block_is_uninferred, function_is_uninferred, environment_is_uninferred, nothing_inferred};
 
 use crate::fault::UnitFault;
-use alias_hir::env::{Environment, Identifier, Unit};
+use alias_hir::env::{Environment, Identifier};
 use alias_hir::hir::{BasicBlock, Hir, HirFunction, Instruction, Phi};
 use alias_hir::place::{Effect, Place};
-use alias_hir::terminal::{SwitchCase, Terminal};
-use alias_hir::value::InstructionValue;
+use alias_hir::places::{places_of, terminal_places};
+use alias_hir::terminal::Terminal;
+use std::alloc::{AllocError, Global};
 
 fn place_is_uninferred(place: &Place) -> bool
     ensures { result ≡ place_is_uninferred place.now }
@@ -27,81 +28,42 @@ fn identifier_is_uninferred(identifier: &Identifier) -> bool
     range.start.0 == 0 && range.end.0 == 0 && identifier.scope.is_none()
 }
 
-fn value_is_uninferred(value: &InstructionValue) -> bool
-    ensures { result ≡ list_all place_is_uninferred (places_of value.now) }
+fn places_are_uninferred(places: &[Place]) -> bool
+    ensures { result ≡ list_all place_is_uninferred places.now }
 {
-    match value {
-        InstructionValue::ObjectExpression | InstructionValue::Primitive => true,
-        InstructionValue::PropertyLoad { object } => place_is_uninferred(object),
-        InstructionValue::PropertyStore { object, value, .. } => {
-            place_is_uninferred(object) && place_is_uninferred(value)
-        }
-        InstructionValue::LoadLocal { place } => place_is_uninferred(place),
-        InstructionValue::StoreLocal { lvalue, value } => {
-            place_is_uninferred(&lvalue.place) && place_is_uninferred(value)
-        }
-    }
+    places.iter().all(|place| place_is_uninferred(place))
 }
 
-fn instruction_is_uninferred(instruction: &Instruction) -> bool
-    ensures { result ≡ instruction_is_uninferred instruction.now }
+fn instruction_is_uninferred(alloc: Global, instruction: &Instruction) -> Result<bool, AllocError>
+    ensures { IfOk result (λ b. b ≡ instruction_is_uninferred instruction.now) }
 {
-    instruction.effects.is_none()
-        && place_is_uninferred(&instruction.lvalue)
-        && value_is_uninferred(&instruction.value)
+    let places = places_of(alloc, &instruction.value)?;
+    Ok(
+        instruction.effects.is_none()
+            && place_is_uninferred(&instruction.lvalue)
+            && places_are_uninferred(places.as_slice()),
+    )
 }
 
-fn optional_is_uninferred(place: &Option<Place>) -> bool
-    ensures { result ≡ list_all place_is_uninferred (optional_place place.now) }
+fn terminal_is_uninferred(alloc: Global, terminal: &Terminal) -> Result<bool, AllocError>
+    ensures { IfOk result (λ b. b ≡ terminal_is_uninferred terminal.now) }
 {
-    match place {
-        None => true,
-        Some(place) => place_is_uninferred(place),
-    }
+    let places = terminal_places(alloc, terminal)?;
+    Ok(terminal.effects().is_none() && places_are_uninferred(places.as_slice()))
 }
 
-fn cases_are_uninferred(cases: &[SwitchCase]) -> bool
-    ensures { result ≡ list_all place_is_uninferred (flat_map case_places cases.now) }
+fn instructions_are_uninferred(
+    alloc: Global,
+    instructions: &[Instruction],
+) -> Result<bool, AllocError>
+    ensures { IfOk result (λ b. b ≡ list_all instruction_is_uninferred instructions.now) }
 {
-    for case in cases {
-        if !optional_is_uninferred(&case.test) {
-            return false;
+    for instruction in instructions {
+        if !instruction_is_uninferred(alloc, instruction)? {
+            return Ok(false);
         }
     }
-    true
-}
-
-fn terminal_places_are_uninferred(terminal: &Terminal) -> bool
-    ensures { result ≡ list_all place_is_uninferred (terminal_places terminal.now) }
-{
-    match terminal {
-        Terminal::If { test: place, .. }
-        | Terminal::Branch { test: place, .. }
-        | Terminal::Return { value: place, .. }
-        | Terminal::Throw { value: place, .. } => place_is_uninferred(place),
-        Terminal::Switch { test, cases, .. } => {
-            place_is_uninferred(test) && cases_are_uninferred(cases.as_slice())
-        }
-        Terminal::Try {
-            handler_binding,
-            ..
-        } => optional_is_uninferred(handler_binding),
-        _ => true,
-    }
-}
-
-fn terminal_is_uninferred(terminal: &Terminal) -> bool
-    ensures { result ≡ terminal_is_uninferred terminal.now }
-{
-    terminal.effects().is_none() && terminal_places_are_uninferred(terminal)
-}
-
-fn instructions_are_uninferred(instructions: &[Instruction]) -> bool
-    ensures { result ≡ list_all instruction_is_uninferred instructions.now }
-{
-    instructions
-        .iter()
-        .all(|instruction| instruction_is_uninferred(instruction))
+    Ok(true)
 }
 
 fn phi_is_uninferred(phi: &Phi) -> bool
@@ -124,30 +86,34 @@ fn phis_are_uninferred(phis: &[Phi]) -> bool
     phis.iter().all(|phi| phi_is_uninferred(phi))
 }
 
-fn block_is_uninferred(block: &BasicBlock) -> bool
-    ensures { result ≡ block_is_uninferred block.now }
+fn block_is_uninferred(alloc: Global, block: &BasicBlock) -> Result<bool, AllocError>
+    ensures { IfOk result (λ b. b ≡ block_is_uninferred block.now) }
 {
-    phis_are_uninferred(block.phis.as_slice()) && terminal_is_uninferred(&block.terminal)
+    let ends_uninferred = terminal_is_uninferred(alloc, &block.terminal)?;
+    Ok(phis_are_uninferred(block.phis.as_slice()) && ends_uninferred)
 }
 
-fn blocks_are_uninferred(body: &Hir) -> bool
-    ensures { result ≡ list_all (λ (e : BlockId × BasicBlock). block_is_uninferred e.1) body.now.blocks }
+fn blocks_are_uninferred(alloc: Global, body: &Hir) -> Result<bool, AllocError>
+    ensures { IfOk result (λ b. b ≡ list_all (λ (e : BlockId × BasicBlock). block_is_uninferred e.1) body.now.blocks) }
 {
     for (_, block) in body.blocks.iter() {
-        if !block_is_uninferred(block) {
-            return false;
+        if !block_is_uninferred(alloc, block)? {
+            return Ok(false);
         }
     }
-    true
+    Ok(true)
 }
 
-fn function_is_uninferred(func: &HirFunction) -> bool
-    ensures { result ≡ function_is_uninferred func.now }
+fn function_is_uninferred(alloc: Global, func: &HirFunction) -> Result<bool, AllocError>
+    ensures { IfOk result (λ b. b ≡ function_is_uninferred func.now) }
 {
-    func.aliasing_effects.is_none()
-        && place_is_uninferred(&func.returns)
-        && instructions_are_uninferred(func.instructions.as_slice())
-        && blocks_are_uninferred(&func.body)
+    if func.aliasing_effects.is_some() || !place_is_uninferred(&func.returns) {
+        return Ok(false);
+    }
+    if !instructions_are_uninferred(alloc, func.instructions.as_slice())? {
+        return Ok(false);
+    }
+    blocks_are_uninferred(alloc, &func.body)
 }
 
 fn identifiers_are_uninferred(identifiers: &[Identifier]) -> bool
@@ -166,11 +132,29 @@ fn environment_is_uninferred(env: &Environment) -> bool
         && identifiers_are_uninferred(env.identifiers.as_slice())
 }
 
-/// Whether nothing of the unit is inferred.
-pub fn nothing_inferred(unit: &Unit) -> Result<(), UnitFault>
-    ensures { result ≡ nothing_inferred unit.now }
+fn unit_is_uninferred(
+    alloc: Global,
+    env: &Environment,
+    func: &HirFunction,
+) -> Result<bool, AllocError>
+    ensures { IfOk result (λ b. b ≡ (environment_is_uninferred env.now && function_is_uninferred func.now)) }
 {
-    if environment_is_uninferred(&unit.env) && function_is_uninferred(&unit.function) {
+    if environment_is_uninferred(env) {
+        function_is_uninferred(alloc, func)
+    } else {
+        Ok(false)
+    }
+}
+
+/// Whether nothing of the unit is inferred, given as its tables and its root; or want of memory.
+pub fn nothing_inferred(
+    alloc: Global,
+    env: &Environment,
+    func: &HirFunction,
+) -> Result<(), UnitFault>
+    ensures { Gives is_memory (nothing_inferred env.now func.now) result }
+{
+    if unit_is_uninferred(alloc, env, func)? {
         Ok(())
     } else {
         Err(UnitFault::SomethingInferred)

@@ -1,21 +1,18 @@
 -- The lines that are printed of refusals.
-use Rattle.std.specs.Prelude.{ℕ, List, [], ◌++◌, codes, Option}
+use Rattle.std.specs.Prelude.{ℕ, List, [], ◌++◌, codes, Option, None, Some}
 use Rattle.alias_base.specs.declared.ids.FunctionId.{FunctionId}
 use Rattle.alias_hir.specs.declared.error.InferError.{InferError}
 use Rattle.alias_hir.specs.declared.error.InferError.TheVariants as infer
+use Rattle.alias_rules.specs.Fault.{rule_number}
 use Rattle.alias_rules.specs.declared.fault.Table.{Table}
 use Rattle.alias_rules.specs.declared.fault.Table.TheVariants.{Identifiers, Types, Instructions, Declarations}
 use Rattle.alias_rules.specs.declared.fault.UnitFault.{UnitFault}
-use Rattle.alias_rules.specs.declared.fault.UnitFault.TheVariants.{IdOutOfRange, EntryMissing, SuccessorMissing, InstructionMissing, InstructionTwice, TwoTrys, PhiNoPredecessor, OrderOutOfRange, SomethingInferred, Memory}
+use Rattle.alias_rules.specs.declared.fault.UnitFault.TheVariants.{IdOutOfRange, EntryMissing, SuccessorMissing, NestingNoTree, InstructionMissing, InstructionTwice, TwoTrys, PhiNoPredecessor, OrderOutOfRange, SomethingInferred, Memory}
 use Rattle.alias_text.specs.Lines.{spaced, function_name}
 
 -- what is refused, and the function
 abbrev pub refused_head : List ℕ → Option FunctionId → List ℕ
 refused_head name f = codes "refused " ++ name ++ codes " " ++ function_name f
-
--- a refusal of a function
-abbrev pub at_function_text : List ℕ → Option FunctionId → List ℕ
-at_function_text name f = refused_head name f ++ codes "\n"
 
 -- a refusal at one number of a function
 abbrev pub at_number_text : List ℕ → Option FunctionId → ℕ → List ℕ
@@ -42,18 +39,27 @@ table_word Types = codes "Types"
 table_word Instructions = codes "Instructions"
 table_word Declarations = codes "Declarations"
 
-abbrev pub out_of_table_text : Table → ℕ → List ℕ
-out_of_table_text t n = codes "refused Unfit 1 " ++ table_word t ++ spaced n ++ codes "\n"
+abbrev pub spaced_function : Option FunctionId → List ℕ
+spaced_function f = codes " " ++ function_name f
 
--- want of memory has no line
+-- where the rule is broken
+abbrev pub unfit_data : UnitFault → List ℕ
+unfit_data (IdOutOfRange t n) = codes " " ++ table_word t ++ spaced n
+unfit_data (EntryMissing f) = spaced_function f
+unfit_data (SuccessorMissing f b named) = spaced_function f ++ spaced b.0 ++ spaced named.0
+unfit_data (NestingNoTree f) = spaced_function (Some f)
+unfit_data (InstructionMissing f k) = spaced_function f ++ spaced k.0
+unfit_data (InstructionTwice f k) = spaced_function f ++ spaced k.0
+unfit_data (TwoTrys f handler) = spaced_function f ++ spaced handler.0
+unfit_data (PhiNoPredecessor f b named) = spaced_function f ++ spaced b.0 ++ spaced named.0
+unfit_data (OrderOutOfRange f o) = spaced_function f ++ spaced o.0
+unfit_data SomethingInferred = []
+unfit_data (Memory e) = []
+
+abbrev pub unfit_line : UnitFault → Option ℕ → List ℕ
+unfit_line fault None = []
+unfit_line fault (Some rule) = codes "refused Unfit" ++ spaced rule ++ unfit_data fault ++ codes "\n"
+
+-- the number of the rule, and where it is broken; want of memory has no line
 abbrev pub unfit_text : UnitFault → List ℕ
-unfit_text (IdOutOfRange t n) = out_of_table_text t n
-unfit_text (EntryMissing f) = at_function_text (codes "Unfit 2") f
-unfit_text (SuccessorMissing f b named) = at_numbers_text (codes "Unfit 3") f b.0 named.0
-unfit_text (InstructionMissing f k) = at_number_text (codes "Unfit 7") f k.0
-unfit_text (InstructionTwice f k) = at_number_text (codes "Unfit 8") f k.0
-unfit_text (TwoTrys f handler) = at_number_text (codes "Unfit 9") f handler.0
-unfit_text (PhiNoPredecessor f b named) = at_numbers_text (codes "Unfit 10") f b.0 named.0
-unfit_text (OrderOutOfRange f o) = at_number_text (codes "Unfit 11") f o.0
-unfit_text SomethingInferred = codes "refused Unfit 12\n"
-unfit_text (Memory e) = []
+unfit_text fault = unfit_line fault (rule_number fault)

@@ -1,6 +1,7 @@
 //! Why a unit or a function is refused, as lines.
-ghost use Rattle.std.specs.Prelude.{◌≡◌, ◌++◌, OnOk};
-ghost use Rattle.alias_text.specs.Refusals.{refused_head, at_function_text, at_number_text, at_numbers_text, refused_text, table_word, out_of_table_text, unfit_text};
+ghost use Rattle.std.specs.Prelude.{◌≡◌, ◌++◌, OnOk, codes};
+ghost use Rattle.alias_text.specs.Lines.{spaced};
+ghost use Rattle.alias_text.specs.Refusals.{refused_head, at_number_text, at_numbers_text, refused_text, table_word, spaced_function, unfit_data, unfit_text};
 
 use crate::effects::push_spaced;
 use crate::functions::push_function_name;
@@ -21,18 +22,6 @@ fn push_refused_head(
     out.push_str(name)?;
     out.push_str(" ")?;
     push_function_name(out, function)
-}
-
-/// Appends the line of a refusal of a function.
-fn push_at_function(
-    out: &mut Text,
-    name: &str,
-    function: Option<FunctionId>,
-) -> Result<(), AllocError>
-    ensures { OnOk result (out.new ≡ out.old ++ at_function_text name.now function) }
-{
-    push_refused_head(out, name, function)?;
-    out.push_str("\n")
 }
 
 /// Appends the line of a refusal at one number of a function.
@@ -102,14 +91,79 @@ fn table_word(table: Table) -> &'static str
     }
 }
 
-/// Appends the line of a number that is past the end of its table.
-fn push_out_of_table(out: &mut Text, table: Table, number: u32) -> Result<(), AllocError>
-    ensures { OnOk result (out.new ≡ out.old ++ out_of_table_text table number) }
+/// Appends a space and the function.
+fn push_spaced_function(out: &mut Text, function: Option<FunctionId>) -> Result<(), AllocError>
+    ensures { OnOk result (out.new ≡ out.old ++ spaced_function function) }
 {
-    out.push_str("refused Unfit 1 ")?;
+    out.push_str(" ")?;
+    push_function_name(out, function)
+}
+
+/// Appends the function and a number in it.
+fn push_in_function(
+    out: &mut Text,
+    function: Option<FunctionId>,
+    number: u32,
+) -> Result<(), AllocError>
+    ensures { OnOk result (out.new ≡ out.old ++ spaced_function function ++ spaced number) }
+{
+    push_spaced_function(out, function)?;
+    push_spaced(out, u64::from(number))
+}
+
+/// Appends the function and two numbers in it.
+fn push_both_in_function(
+    out: &mut Text,
+    function: Option<FunctionId>,
+    first: u32,
+    second: u32,
+) -> Result<(), AllocError>
+    ensures { OnOk result (out.new ≡ out.old ++ spaced_function function ++ spaced first ++ spaced second) }
+{
+    push_in_function(out, function, first)?;
+    push_spaced(out, u64::from(second))
+}
+
+/// Appends the table and the number that is past its end.
+fn push_in_table(out: &mut Text, table: Table, number: u32) -> Result<(), AllocError>
+    ensures { OnOk result (out.new ≡ out.old ++ codes " " ++ table_word table ++ spaced number) }
+{
+    out.push_str(" ")?;
     out.push_str(table_word(table))?;
-    push_spaced(out, u64::from(number))?;
-    out.push_str("\n")
+    push_spaced(out, u64::from(number))
+}
+
+/// Appends where a unit breaks a rule.
+fn push_unfit_data(out: &mut Text, fault: UnitFault) -> Result<(), AllocError>
+    ensures { OnOk result (out.new ≡ out.old ++ unfit_data fault) }
+{
+    match fault {
+        UnitFault::IdOutOfRange { table, number } => push_in_table(out, table, number),
+        UnitFault::EntryMissing { function } => push_spaced_function(out, function),
+        UnitFault::SuccessorMissing {
+            function,
+            block,
+            named,
+        } => push_both_in_function(out, function, block.0, named.0),
+        UnitFault::NestingNoTree { function } => push_spaced_function(out, Some(function)),
+        UnitFault::InstructionMissing {
+            function,
+            instruction,
+        } => push_in_function(out, function, instruction.0),
+        UnitFault::InstructionTwice {
+            function,
+            instruction,
+        } => push_in_function(out, function, instruction.0),
+        UnitFault::TwoTrys { function, handler } => push_in_function(out, function, handler.0),
+        UnitFault::PhiNoPredecessor {
+            function,
+            block,
+            named,
+        } => push_both_in_function(out, function, block.0, named.0),
+        UnitFault::OrderOutOfRange { function, order } => push_in_function(out, function, order.0),
+        UnitFault::SomethingInferred => Ok(()),
+        UnitFault::Memory(_) => Ok(()),
+    }
 }
 
 /// Appends the line of a unit that does not fit: the number of the rule that it breaks, and where. Want of
@@ -117,34 +171,13 @@ fn push_out_of_table(out: &mut Text, table: Table, number: u32) -> Result<(), Al
 pub fn push_unfit(out: &mut Text, fault: UnitFault) -> Result<(), AllocError>
     ensures { OnOk result (out.new ≡ out.old ++ unfit_text fault) }
 {
-    match fault {
-        UnitFault::IdOutOfRange { table, number } => push_out_of_table(out, table, number),
-        UnitFault::EntryMissing { function } => push_at_function(out, "Unfit 2", function),
-        UnitFault::SuccessorMissing {
-            function,
-            block,
-            named,
-        } => push_at_numbers(out, "Unfit 3", function, block.0, named.0),
-        UnitFault::InstructionMissing {
-            function,
-            instruction,
-        } => push_at_number(out, "Unfit 7", function, u64::from(instruction.0)),
-        UnitFault::InstructionTwice {
-            function,
-            instruction,
-        } => push_at_number(out, "Unfit 8", function, u64::from(instruction.0)),
-        UnitFault::TwoTrys { function, handler } => {
-            push_at_number(out, "Unfit 9", function, u64::from(handler.0))
+    match fault.rule_number() {
+        Some(rule) => {
+            out.push_str("refused Unfit")?;
+            push_spaced(out, u64::from(rule))?;
+            push_unfit_data(out, fault)?;
+            out.push_str("\n")
         }
-        UnitFault::PhiNoPredecessor {
-            function,
-            block,
-            named,
-        } => push_at_numbers(out, "Unfit 10", function, block.0, named.0),
-        UnitFault::OrderOutOfRange { function, order } => {
-            push_at_number(out, "Unfit 11", function, u64::from(order.0))
-        }
-        UnitFault::SomethingInferred => out.push_str("refused Unfit 12\n"),
-        UnitFault::Memory(_) => Ok(()),
+        None => Ok(()),
     }
 }

@@ -162,6 +162,9 @@ fn prints_refusals_of_blocks(rt: HostRuntime) -> Result<(), Fail> {
             block: BlockId(0),
             named: BlockId(7),
         },
+        UnitFault::NestingNoTree {
+            function: FunctionId(6),
+        },
         UnitFault::TwoTrys {
             function: None,
             handler: BlockId(4),
@@ -175,7 +178,7 @@ fn prints_refusals_of_blocks(rt: HostRuntime) -> Result<(), Fail> {
         push_unfit(&mut out, fault)?;
     }
     let want =
-        "refused NotSettled root 301\nrefused Unfit 3 root 0 7\nrefused Unfit 9 root 4\nrefused Unfit 10 root 3 5\n";
+        "refused NotSettled root 301\nrefused Unfit 3 root 0 7\nrefused Unfit 4 6\nrefused Unfit 9 root 4\nrefused Unfit 10 root 3 5\n";
     assert_eq!(rt; out.as_str(), want);
     Ok(())
 }
