@@ -29,8 +29,8 @@ use Rattle.alias_effects.specs.declared.block.BlockProgress.{BlockProgress}
 use Rattle.alias_effects.specs.declared.solved.InstructionEffects.{InstructionEffects}
 use Rattle.alias_effects.specs.declared.solved.TerminalEffects.{TerminalEffects}
 use Rattle.alias_effects.specs.declared.progress.StepProgress.{StepProgress}
-use Rattle.alias_effects.specs.Signatures.{compute_signature_for_instruction}
-use Rattle.alias_effects.specs.SignatureLaws.{Speaks, signature_speaks}
+use Rattle.alias_signature.specs.Signatures.{compute_signature_for_instruction}
+use Rattle.alias_signature.specs.SignatureLaws.{Speaks, signature_speaks}
 use Rattle.alias_effects.specs.ApplyKeepsLaws.{PartsKeep, apply_effects_keep}
 use Rattle.alias_effects.specs.BlockKeepsLaws.{BlockPartsKeep, BlockKeeps, HasAt, infer_block_keeps}
 use Rattle.alias_effects.specs.Blocks.{recorded_as, terminal_effects, infer_block}

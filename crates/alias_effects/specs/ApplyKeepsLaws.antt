@@ -20,7 +20,7 @@ use Rattle.alias_effects.specs.declared.faults.EffectFault.{EffectFault}
 use Rattle.alias_effects.specs.declared.faults.EffectFault.TheVariants.{Reinitialized}
 use Rattle.alias_effects.specs.declared.progress.StepProgress.{StepProgress}
 use Rattle.alias_effects.specs.Progress.{record_of, with_state, looked, made, is_made}
-use Rattle.alias_effects.specs.SignatureLaws.{Speaks}
+use Rattle.alias_signature.specs.SignatureLaws.{Speaks}
 use Rattle.alias_effects.specs.Apply.{apply_effect, apply_effects, is_constant, is_frozen, may_be_frozen, captures, may_alias, value_with, kind_at, looked_at, looked_with_span, apply_immutable_capture, record_create_from, apply_create_from, apply_create, assign_value, apply_assign, apply_maybe_alias, apply_capture, record_mutation, apply_freeze}
 
 -- each part of a step keeps K, where the values that are given have V, and what is recorded speaks of P and Q

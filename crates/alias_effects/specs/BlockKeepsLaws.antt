@@ -16,7 +16,7 @@ use Rattle.alias_effects.specs.declared.faults.BlockFault.{BlockFault}
 use Rattle.alias_effects.specs.declared.faults.EffectFault.{EffectFault}
 use Rattle.alias_effects.specs.declared.progress.StepProgress.{StepProgress}
 use Rattle.alias_effects.specs.declared.solved.TerminalEffects.{TerminalEffects}
-use Rattle.alias_effects.specs.Signatures.{compute_signature_for_instruction}
+use Rattle.alias_signature.specs.Signatures.{compute_signature_for_instruction}
 use Rattle.alias_effects.specs.Apply.{apply_effects}
 use Rattle.alias_effects.specs.ApplyKeepsLaws.{StepKeeps}
 use Rattle.alias_effects.specs.Blocks.{step_start, after_signature, in_block, apply_signature, apply_signature_at, apply_signatures, block_start, infer_phis, terminal_effects, finished, infer_block}

@@ -31,7 +31,7 @@ use Rattle.alias_effects.specs.declared.solved.TerminalEffects.{TerminalEffects}
 use Rattle.alias_effects.specs.declared.progress.StepProgress.{StepProgress}
 use Rattle.alias_effects.specs.declared.block.BlockProgress.{BlockProgress}
 use Rattle.alias_effects.specs.declared.block.BlockEffects.{BlockEffects}
-use Rattle.alias_effects.specs.Signatures.{compute_signature_for_instruction}
+use Rattle.alias_signature.specs.Signatures.{compute_signature_for_instruction}
 use Rattle.alias_effects.specs.Apply.{apply_effects}
 
 -- an instruction begins with nothing made and nothing recorded

@@ -1,9 +1,7 @@
 pub mod Progress
 pub mod Apply
-pub mod Signatures
 pub mod Blocks
 pub mod Faults
-pub mod SignatureLaws
 pub mod ApplyKeepsLaws
 pub mod BlockKeepsLaws
 pub mod ProperLaws

@@ -22,9 +22,9 @@ use Rattle.alias_effects.specs.declared.block.BlockEffects.{BlockEffects}
 use Rattle.alias_effects.specs.declared.block.BlockProgress.{BlockProgress}
 use Rattle.alias_effects.specs.declared.faults.BlockFault.{BlockFault}
 use Rattle.alias_effects.specs.declared.progress.StepProgress.{StepProgress}
-use Rattle.alias_effects.specs.Signatures.{compute_signature_for_instruction}
+use Rattle.alias_signature.specs.Signatures.{compute_signature_for_instruction}
 use Rattle.alias_effects.specs.ApplyKeepsLaws.{PartsKeep, apply_effects_keep}
-use Rattle.alias_effects.specs.SignatureLaws.{Speaks}
+use Rattle.alias_signature.specs.SignatureLaws.{Speaks}
 use Rattle.alias_effects.specs.BlockKeepsLaws.{BlockPartsKeep, BlockKeeps, HasAt, infer_block_keeps}
 use Rattle.alias_effects.specs.Blocks.{with_default, infer_block, outcome_of}
 use Rattle.alias_effects.specs.Numbered.{step_at}

@@ -9,7 +9,6 @@ ghost use Rattle.alias_effects.specs.Faults.{is_block_memory};
 use crate::apply::{apply_effects, value_with};
 use crate::faults::{BlockFault, EffectFault};
 use crate::progress::StepProgress;
-use crate::signature::compute_signature_for_instruction;
 use crate::solved::{InstructionEffects, TerminalEffects};
 use alias_base::{BlockId, IdentifierId, InstructionId, List};
 use alias_hir::effect::{AliasingEffect, AliasingEffects, ValueKind, ValueReason};
@@ -18,6 +17,7 @@ use alias_hir::hir::{BasicBlock, Instruction, Phi};
 use alias_hir::place::Place;
 use alias_hir::terminal::Terminal;
 use alias_lattice::{InferenceState, MissingLook, Site};
+use alias_signature::compute_signature_for_instruction;
 use std::alloc::{AllocError, Global};
 
 /// How far the step of a block has come.

@@ -168,7 +168,7 @@ fn last_effects(
 /// step of a visited block looks at an identifier without a value, `Reinitialized` exactly where an
 /// instruction's effects make an identifier twice, and `NotSettled` exactly where a block is still dirty
 /// after 100 rounds. `Memory` can come at any growth, and comes where the function has 2^32 blocks or more.
-/// docs/MODEL.md has the rules.
+/// Writes of the property `current` aren't told apart from other writes yet. docs/MODEL.md has the rules.
 #[tactic(auto, using(crate::proofs::StillFits::recorded_fits))]
 pub fn infer_effects_certified(
     alloc: Global,
@@ -198,6 +198,7 @@ pub fn infer_effects_certified(
 /// At `Ok` the effects are on the instructions and terminals: those that `infer_effects_certified` hands
 /// out. An `Err` comes exactly where that comes there, and leaves the function unchanged; want of memory can
 /// come at any growth. The environment doesn't change, and on every answer `check_function` still holds.
+/// Writes of the property `current` aren't told apart from other writes yet.
 pub fn infer_mutation_aliasing_effects(
     alloc: Global,
     func: &mut HirFunction,

@@ -13,7 +13,7 @@ use Rattle.alias_hir.specs.declared.place.Place.{Place}
 use Rattle.alias_hir.specs.declared.report.DiagnosticId.{DiagnosticId}
 use Rattle.alias_hir.specs.declared.value.InstructionValue.{InstructionValue}
 use Rattle.alias_hir.specs.declared.value.InstructionValue.TheVariants as value
-use Rattle.alias_effects.specs.Signatures.{signature_of_value}
+use Rattle.alias_signature.specs.Signatures.{signature_of_value}
 
 -- the effect speaks of places with P alone, and its report has Q
 abbrev pub Speaks : (Place → Type 0) → (Option DiagnosticId → Type 0) → AliasingEffect → Type 0
