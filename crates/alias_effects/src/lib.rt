@@ -10,7 +10,6 @@ mod output;
 mod pass;
 pub mod progress;
 mod recording;
-mod signature;
 pub mod solved;
 
 pub use infer::{infer_effects_certified, infer_mutation_aliasing_effects};

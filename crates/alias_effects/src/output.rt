@@ -17,6 +17,7 @@ pub(crate) fn block_at(blocks: &BlockMap<BasicBlock>, position: usize) -> BlockI
 {
     match blocks.get_index(position) {
         Some((name, _)) => *name,
+        // Never asked for: the positions that visits and faults name are those of blocks.
         None => BlockId(0),
     }
 }

@@ -41,6 +41,7 @@ fn entry_position(func: &HirFunction) -> usize
 {
     match func.body.blocks.position(func.body.entry) {
         Some(position) => position,
+        // Never so: the entry of a function that fits is a block.
         None => 0,
     }
 }

@@ -25,6 +25,7 @@ fn record_instruction(instructions: &mut List<Instruction>, recorded: Instructio
 pub fn record_instructions(instructions: &mut List<Instruction>, recorded: List<InstructionEffects>)
     ensures { instructions.new ≡ recorded_instructions recorded instructions.old }
 {
+    // From the back, where `pop` moves an item out and no other moves.
     let mut left = recorded;
     'left: while let Some(last) = left.pop() {
         record_instruction(instructions, last);
@@ -53,6 +54,7 @@ fn record_terminal(blocks: &mut BlockMap<BasicBlock>, recorded: TerminalEffects)
 pub fn record_terminals(blocks: &mut BlockMap<BasicBlock>, recorded: List<TerminalEffects>)
     ensures { blocks.new ≡ recorded_terminals recorded blocks.old }
 {
+    // From the back, as above.
     let mut left = recorded;
     'left: while let Some(last) = left.pop() {
         record_terminal(blocks, last);

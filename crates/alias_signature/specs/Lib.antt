@@ -1,0 +1,6 @@
+pub mod Literals
+pub mod Objects
+pub mod Loads
+pub mod Stores
+pub mod Signatures
+pub mod SignatureLaws

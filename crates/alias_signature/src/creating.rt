@@ -1,0 +1,24 @@
+//! The effect that makes a value.
+ghost use Rattle.std.specs.Prelude.{◌≡◌, ◌++◌, ◌∷◌, [], OnOk};
+ghost use Rattle.alias_hir.specs.declared.effect.AliasingEffect.TheVariants.{Create};
+ghost use Rattle.alias_hir.specs.declared.effect.ValueReason.TheVariants.{Other};
+
+use alias_hir::effect::{AliasingEffect, AliasingEffects, ValueKind, ValueReason};
+use alias_hir::place::Place;
+use std::alloc::AllocError;
+
+/// Appends that the place is a new value of the kind, for no reason that is known.
+pub(crate) fn push_create(
+    effects: &mut AliasingEffects,
+    into: &Place,
+    value: ValueKind,
+) -> Result<(), AllocError>
+    ensures { OnOk result (effects.new ≡ effects.old ++ Create into.now value Other ∷ []) }
+{
+    effects.push(AliasingEffect::Create {
+        into: *into,
+        value,
+        reason: ValueReason::Other,
+    })?;
+    Ok(())
+}
