@@ -14,8 +14,8 @@ use Rattle.alias_lattice.specs.declared.site.Site.TheVariants.{Created, CreatedF
 use Rattle.alias_lattice.specs.declared.value.AbstractValue.{AbstractValue}
 use Rattle.alias_lattice.specs.AbstractValues.{AbstractProper}
 use Rattle.alias_lattice.specs.States.{look, does_freeze}
-use Rattle.alias_lattice.specs.StateLaws.{StateProper}
-use Rattle.alias_lattice.specs.Proper.{proper-single_reason, proper-given, proper-assigned, proper-frozen, proper-look}
+use Rattle.alias_lattice.specs.ProperStates.{StateProper}
+use Rattle.alias_lattice.specs.ProperLaws.{proper-single_reason, proper-given, proper-assigned, proper-frozen, proper-look}
 use Rattle.alias_effects.specs.declared.progress.StepProgress.{StepProgress}
 use Rattle.alias_effects.specs.declared.faults.EffectFault.{EffectFault}
 use Rattle.alias_effects.specs.declared.faults.EffectFault.TheVariants.{Reinitialized}

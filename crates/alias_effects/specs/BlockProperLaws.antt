@@ -14,8 +14,8 @@ use Rattle.alias_lattice.specs.declared.look.MissingLook.{MissingLook}
 use Rattle.alias_lattice.specs.declared.site.Site.TheVariants.{Default}
 use Rattle.alias_lattice.specs.States.{State, sites_of, phied}
 use Rattle.alias_lattice.specs.Flows.{Stepped}
-use Rattle.alias_lattice.specs.StateLaws.{StateProper}
-use Rattle.alias_lattice.specs.Proper.{proper-phied, proper-defined_default}
+use Rattle.alias_lattice.specs.ProperStates.{StateProper}
+use Rattle.alias_lattice.specs.ProperLaws.{proper-phied, proper-defined_default}
 use Rattle.alias_effects.specs.declared.block.BlockEffects.{BlockEffects}
 use Rattle.alias_effects.specs.declared.block.BlockProgress.{BlockProgress}
 use Rattle.alias_effects.specs.declared.faults.BlockFault.{BlockFault}
