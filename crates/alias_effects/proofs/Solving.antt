@@ -14,7 +14,7 @@ use Rattle.alias_hir.specs.declared.hir.BasicBlock.{BasicBlock}
 use Rattle.alias_hir.specs.declared.hir.HirFunction.{HirFunction}
 use Rattle.alias_hir.specs.Terminals.{successors}
 use Rattle.alias_lattice.specs.States.{State, state_below}
-use Rattle.alias_lattice.specs.StateLaws.{StateProper}
+use Rattle.alias_lattice.specs.ProperStates.{StateProper}
 use Rattle.alias_effects.specs.declared.block.BlockEffects.{BlockEffects}
 use Rattle.alias_effects.specs.declared.faults.BlockFault.{BlockFault}
 use Rattle.alias_lattice.specs.Flows.{Flow, IsOneOf, IsReached, at_entry, by_edge, IsAbove, IsSolution, AreJoins}

@@ -15,8 +15,8 @@ use Rattle.alias_hir.specs.Terminals.{successors}
 use Rattle.alias_flow.specs.declared.flow.StepFault.{StepFault}
 use Rattle.alias_flow.specs.declared.flow.StepFault.TheVariants.{Refused as Refuses, Memory as NoMemory}
 use Rattle.alias_flow.specs.Machine.{FlowLaws}
-use Rattle.alias_lattice.specs.StateLaws.{StateProper}
-use Rattle.alias_lattice.specs.Proper.{proper-empty_state}
+use Rattle.alias_lattice.specs.ProperStates.{StateProper}
+use Rattle.alias_lattice.specs.ProperLaws.{proper-empty_state}
 use Rattle.alias_effects.specs.declared.faults.BlockFault.{BlockFault}
 use Rattle.alias_effects.specs.declared.faults.BlockFault.TheVariants.{Reinitialized, Uninitialized, Memory}
 use Rattle.alias_effects.specs.declared.block.BlockEffects.{BlockEffects}

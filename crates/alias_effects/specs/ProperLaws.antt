@@ -14,8 +14,8 @@ use Rattle.alias_hir.specs.declared.place.Place.{Place}
 use Rattle.alias_hir.specs.declared.report.DiagnosticId.{DiagnosticId}
 use Rattle.alias_lattice.specs.AbstractValues.{AbstractProper}
 use Rattle.alias_lattice.specs.Flows.{Stepped}
-use Rattle.alias_lattice.specs.Proper.{proper-single_reason, proper-mutable_other, proper-given, proper-assigned, proper-frozen, proper-look, proper-phied}
-use Rattle.alias_lattice.specs.StateLaws.{StateProper}
+use Rattle.alias_lattice.specs.ProperLaws.{proper-single_reason, proper-mutable_other, proper-given, proper-assigned, proper-frozen, proper-look, proper-phied}
+use Rattle.alias_lattice.specs.ProperStates.{StateProper}
 use Rattle.alias_lattice.specs.States.{State, mutable_other, sites_of}
 use Rattle.alias_lattice.specs.declared.site.Site.TheVariants.{Default}
 use Rattle.alias_effects.specs.declared.block.BlockEffects.{BlockEffects}

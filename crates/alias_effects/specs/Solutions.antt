@@ -7,7 +7,7 @@ use Rattle.alias_base.specs.declared.ids.BlockId.{BlockId}
 use Rattle.alias_hir.specs.declared.env.Environment.{Environment}
 use Rattle.alias_hir.specs.declared.hir.HirFunction.{HirFunction}
 use Rattle.alias_lattice.specs.States.{State, state_below}
-use Rattle.alias_lattice.specs.StateLaws.{StateProper}
+use Rattle.alias_lattice.specs.ProperStates.{StateProper}
 use Rattle.alias_lattice.specs.Flows.{Flow, Outcome, Stepped, Refused, IsOneOf, IsSolution, AreJoins}
 use Rattle.alias_effects.specs.declared.faults.BlockFault.{BlockFault}
 use Rattle.alias_effects.specs.declared.block.BlockEffects.{BlockEffects}

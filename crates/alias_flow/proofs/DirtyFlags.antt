@@ -4,7 +4,7 @@ use Rattle.std.proofs.lemmas.List.{get_or-set_same, get_or-set_other, length-set
 use Rattle.std.proofs.lemmas.Bool.{cases_eq, false≢true}
 use Rattle.std.specs.List.{AllByRecursion, list_any}
 use Rattle.alias_lattice.specs.Laws.{LatticeLaws}
-use Rattle.alias_lattice.specs.Pairs.{and-both, and-first}
+use Rattle.alias_lattice.specs.PairLaws.{and-both, and-first}
 use Rattle.alias_lattice.specs.Flows.{Outcome, Stepped, Refused}
 use Rattle.alias_flow.specs.Machine.{Rules, VisitLog, SolverState, Run, Going, Stopped, End, Solved, Fault, NotSettled, after, ending, up, joined, send, send_all, input_changed, dirty, outcome_after, visit_at, visit, turn, round, any_dirty, rounds, start, solution, FlowLaws}
 use Rattle.alias_flow.specs.WorkLists.{WorkList, grows, work_list_send, work_list_sends, work_list_visited, work_list_outcome, work_list_visit_at, work_list_visit, work_list_turn, work_list_round, work_list_rounds, work_list_start, work_list_solution}

@@ -12,7 +12,8 @@ use Rattle.std.specs.declared.rc.Rc.{Rc}
 use Rattle.std.specs.Cmp.{IsTotalOrder}
 use Rattle.std.specs.FinMap.{find, put, is_sorted}
 use Rattle.std.specs.FinMap.Entries.{below_all, by_order, is_sorted-put}
-use Rattle.alias_lattice.specs.Maps.{T-first, T-second, lesser, equal}
+use Rattle.alias_lattice.specs.PairLaws.{T-first, T-second}
+use Rattle.alias_lattice.specs.MapLaws.{lesser, equal}
 use Rattle.alias_lattice.specs.Nexts.{next_entry}
 use Rattle.alias_lattice.specs.Slots.{above_all}
 use Rattle.alias_lattice.specs.Chunks.{values_of, entries_of, chunk_at, begins_above, IsChunkFor, IsChunk}

@@ -1,4 +1,4 @@
--- Each site in a set has a value, and what keeps this.
+-- What keeps each site in a set with a value.
 use Rattle.std.specs.Prelude.{◌≡◌, Bool, true, false, cond, IsTrue, List, [], ◌∷◌, Option, Some, None, MatchOption, refl}
 use Rattle.std.proofs.Common.{ap, sym, ◌∙◌, subst}
 use Rattle.std.proofs.Math.Dec.{T}
@@ -9,39 +9,17 @@ use Rattle.std.specs.FinMap.{find, put}
 use Rattle.std.specs.FinMap.Entries.{find-put, by_order}
 use Rattle.std.specs.declared.cmp.Ordering.TheVariants.{Less, Equal, Greater}
 use Rattle.alias_lattice.specs.declared.value.AbstractValue.{AbstractValue}
-use Rattle.alias_lattice.specs.Maps.{equal}
+use Rattle.alias_lattice.specs.MapLaws.{equal}
 use Rattle.alias_lattice.specs.AbstractValues.{AbstractProper}
-use Rattle.alias_lattice.specs.ListMaps.{ListProper}
-use Rattle.alias_lattice.specs.Puts.{proper_put}
+use Rattle.alias_lattice.specs.PutLaws.{proper_put}
 use Rattle.alias_lattice.specs.declared.site.Site.{Site}
 use Rattle.alias_base.specs.declared.ids.IdentifierId.{IdentifierId}
-use Rattle.alias_lattice.specs.Keys.{id_cmp, ids_total}
-use Rattle.alias_lattice.specs.SiteOrder.{site_cmp, sites_apart, sites_total}
+use Rattle.alias_lattice.specs.Keys.{id_cmp}
+use Rattle.alias_lattice.specs.KeyLaws.{ids_total}
+use Rattle.alias_lattice.specs.SiteOrder.{site_cmp}
+use Rattle.alias_lattice.specs.SiteOrderLaws.{sites_apart, sites_total}
 use Rattle.alias_lattice.specs.States.{State, Sites, value_at, initialized, defined_as, defined, one_site, defaulted, defaulted_at, mutable_other, all_set, frozen_at, both_sites, with_site}
-
--- whether the set has a site
-abbrev pub is_full : Sites → Bool
-is_full [] = false
-is_full (e ∷ es) = true
-
--- the set isn't empty, and each of its sites has a value
-pub record AreValued (values : List (Site × AbstractValue)) (t : Sites) : Type 0 where
-  pub full : IsTrue (is_full t)
-  pub valued : (k : Site) → IsTrue (is_some (find site_cmp k t)) → IsTrue (is_some (find site_cmp k values))
-
--- no set is empty, and each site in a set has a value
-abbrev pub AllValued : State → Type 0
-AllValued s = (x : IdentifierId) (t : Sites) → find id_cmp x s.variables ≡ Some t → AreValued s.values t
-
--- the sites ascend
-abbrev pub SitesProper : Sites → Type 0
-SitesProper = ListProper site_cmp (λ (u : Unit {0}). Unit {0})
-
--- both lists ascend, and each site in a set has a value
-pub record StateProper (s : State) : Type 0 where
-  pub values : ListProper site_cmp AbstractProper s.values
-  pub variables : ListProper id_cmp SitesProper s.variables
-  pub all_valued : AllValued s
+use Rattle.alias_lattice.specs.ProperStates.{is_full, AreValued, AllValued, SitesProper, StateProper, Keeps}
 
 hit_true : {X : Type 0} (b : Bool) (v : X) (o : Option X) → IsTrue (is_some o) → IsTrue (is_some (cond b (Some v) o))
 hit_true true v o h = refl
@@ -49,10 +27,6 @@ hit_true false v o h = h
 
 still_valued : (k : Site) (v : AbstractValue) (m : List (Site × AbstractValue)) (q : Site) → IsTrue (is_some (find site_cmp q m)) → IsTrue (is_some (find site_cmp q (put site_cmp k v m)))
 still_valued k v m q h = subst (λ o. IsTrue (is_some o)) (sym (find-put site_cmp sites_total q k v m)) (hit_true (eq_by_cmp site_cmp q k) v (find site_cmp q m) h)
-
--- each site that has a value keeps one
-abbrev pub Keeps : List (Site × AbstractValue) → List (Site × AbstractValue) → Type 0
-Keeps m n = (k : Site) → IsTrue (is_some (find site_cmp k m)) → IsTrue (is_some (find site_cmp k n))
 
 pub keeps-put : (k : Site) (v : AbstractValue) (m : List (Site × AbstractValue)) → Keeps m (put site_cmp k v m)
 keeps-put k v m q h = still_valued k v m q h

@@ -4,7 +4,8 @@ ghost use Rattle.std.specs.Prelude.{◌≡◌, [], not, IfOk, OnOk, OnErr, Optio
 ghost use Rattle.std.proofs.Math.Dec.{T};
 ghost use Rattle.std.specs.FinMap.{is_sorted, find, put};
 ghost use Rattle.alias_lattice.specs.Maps.{below_option, join_value, entries_below};
-ghost use Rattle.alias_lattice.specs.ListMaps.{list_map, list_join, list_below, ListProper, list_laws, joined_list, list_grew};
+ghost use Rattle.alias_lattice.specs.ListMaps.{list_map, list_join, list_below, ListProper, joined_list, list_grew};
+ghost use Rattle.alias_lattice.specs.ListMapLaws.{list_laws};
 ghost use Rattle.alias_lattice.specs.Nexts.{next_entry};
 ghost use Rattle.alias_lattice.specs.Chunks.{values_of, entries_of};
 

@@ -6,8 +6,8 @@ ghost use Rattle.std.specs.FinMap.{find};
 ghost use Rattle.alias_lattice.specs.Maps.{join_option};
 ghost use Rattle.alias_lattice.specs.Keys.{id_cmp};
 ghost use Rattle.alias_lattice.specs.States.{State, empty_state, initialized, defined, defined_as, defaulted, assigned, given, look_with_span, value_at, sites_of, next_value, next_variable, frozen, does_freeze, does_freeze_at, frozen_at, freezes, freezes_value, value_over, all_set, mutable_other, one_site, look_at, union_over, operand_ids, sites_join, both_sites, phied, appended, state_join, state_below};
-ghost use Rattle.alias_lattice.specs.StateLaws.{StateProper, AllValued, AreValued};
-ghost use Rattle.alias_lattice.specs.Joins.{state_laws};
+ghost use Rattle.alias_lattice.specs.ProperStates.{StateProper, AllValued, AreValued};
+ghost use Rattle.alias_lattice.specs.JoinLaws.{state_laws};
 ghost use Rattle.alias_lattice.specs.declared.site.Site.TheVariants.{Default};
 
 use crate::lattice::Lattice;
@@ -35,7 +35,7 @@ pub struct InferenceState {
 
 impl Model for InferenceState {
     ghost use Rattle.alias_lattice.specs.States.{State};
-    ghost use Rattle.alias_lattice.specs.StateLaws.{AllValued};
+    ghost use Rattle.alias_lattice.specs.ProperStates.{AllValued};
 
     ghost Value = { State };
 

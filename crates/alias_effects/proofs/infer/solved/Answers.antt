@@ -1,7 +1,7 @@
 use Rattle.std.proofs.Common.{◌≡◌, ◌∙◌, ap, sym, subst, length}
 use Rattle.alias_lattice.specs.Flows.{IsSolution, AreJoins}
 use Rattle.alias_lattice.specs.States.{state_below}
-use Rattle.alias_lattice.specs.StateLaws.{StateProper}
+use Rattle.alias_lattice.specs.ProperStates.{StateProper}
 use Rattle.alias_flow.specs.Solutions.{entry_at, RecordsSteps, KeepsOthers, IsForward}
 use Rattle.alias_rules.specs.RuleLaws.{fitting_entry, fitting_successors}
 use Rattle.alias_effects.specs.Output.{solver_state_with}

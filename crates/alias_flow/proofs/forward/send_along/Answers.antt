@@ -1,5 +1,5 @@
 use Rattle.std.proofs.Common.{◌-◌, ◌≤◌, length, take, ◌∙◌, arith}
-use Rattle.alias_lattice.specs.Laws.{on_ok}
+use Rattle.alias_lattice.specs.OutcomeLaws.{on_ok}
 use Rattle.alias_flow.proofs.Along.{sent_along}
 use Rattle.alias_flow.proofs.forward.send_along.Goals as goal
 

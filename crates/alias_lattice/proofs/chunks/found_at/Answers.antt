@@ -1,6 +1,6 @@
 use Rattle.std.proofs.Common.{◌<◌, length, refl, sym, ap, ◌∙◌, arith}
 use Rattle.std.specs.FinMap.{find}
-use Rattle.alias_lattice.specs.Laws.{if_some}
+use Rattle.alias_lattice.specs.OutcomeLaws.{if_some}
 use Rattle.alias_lattice.specs.Chunks.{values_of}
 use Rattle.alias_lattice.proofs.ChunkSlots.{count_values, read_at, found_in}
 use Rattle.alias_lattice.proofs.chunks.found_at.Goals as goal

@@ -1,7 +1,7 @@
 use Rattle.std.proofs.Common.{◌<◌, length, Some, sym, ap, ◌∙◌, subst, arith}
 use Rattle.std.proofs.Math.Dec.{T}
 use Rattle.std.specs.FinMap.{find}
-use Rattle.alias_lattice.specs.Maps.{equal}
+use Rattle.alias_lattice.specs.MapLaws.{equal}
 use Rattle.alias_lattice.proofs.Slots.{is_slot, find_slot}
 use Rattle.alias_lattice.proofs.chunk.Chunk.get_at.Goals as goal
 

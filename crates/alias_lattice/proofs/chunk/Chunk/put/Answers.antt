@@ -1,5 +1,5 @@
 use Rattle.std.specs.FinMap.{put}
-use Rattle.alias_lattice.specs.Laws.{on_either}
+use Rattle.alias_lattice.specs.OutcomeLaws.{on_either}
 use Rattle.alias_lattice.specs.Chunks.{IsChunk}
 use Rattle.alias_lattice.proofs.ChunkSlots.{chunk_put}
 use Rattle.alias_lattice.proofs.chunk.Chunk.put.Goals as goal

@@ -1,7 +1,7 @@
 use Rattle.std.proofs.Common.{sym, subst}
 use Rattle.std.proofs.Math.Dec.{T}
 use Rattle.std.specs.FinMap.{is_sorted, put}
-use Rattle.alias_lattice.specs.Laws.{on_either}
+use Rattle.alias_lattice.specs.OutcomeLaws.{on_either}
 use Rattle.alias_lattice.specs.Chunks.{IsChunk}
 use Rattle.alias_lattice.proofs.ChunkSlots.{chunk_put}
 use Rattle.alias_lattice.proofs.chunk.Chunk.put_both.Goals as goal

@@ -3,8 +3,8 @@ use Rattle.alias_lattice.specs.ListMaps.{list_join}
 use Rattle.alias_lattice.specs.AbstractValues.{abstract_join}
 use Rattle.alias_lattice.specs.SiteOrder.{site_cmp}
 use Rattle.alias_lattice.specs.States.{state_of}
-use Rattle.alias_lattice.specs.StateLaws.{StateProper, AllValued}
-use Rattle.alias_lattice.specs.Joins.{all_valued-join}
+use Rattle.alias_lattice.specs.ProperStates.{StateProper, AllValued}
+use Rattle.alias_lattice.specs.JoinLaws.{all_valued-join}
 use Rattle.alias_lattice.proofs.state.InferenceState.merge_from.Goals as goal
 
 pub invariant_of-self : goal.invariant_of-self
