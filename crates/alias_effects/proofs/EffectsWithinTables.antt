@@ -26,11 +26,13 @@ use Rattle.alias_rules.specs.declared.fault.UnitFault.{UnitFault}
 use Rattle.alias_lattice.specs.States.{State}
 use Rattle.alias_effects.specs.declared.block.BlockEffects.{BlockEffects}
 use Rattle.alias_effects.specs.declared.block.BlockProgress.{BlockProgress}
+use Rattle.alias_effects.specs.declared.context.Tables.{Tables}
 use Rattle.alias_effects.specs.declared.solved.InstructionEffects.{InstructionEffects}
 use Rattle.alias_effects.specs.declared.solved.TerminalEffects.{TerminalEffects}
 use Rattle.alias_effects.specs.declared.progress.StepProgress.{StepProgress}
 use Rattle.alias_signature.specs.Signatures.{compute_signature_for_instruction}
 use Rattle.alias_signature.specs.SignatureLaws.{Speaks, signature_speaks}
+use Rattle.alias_effects.specs.Contexts.{Context}
 use Rattle.alias_effects.specs.ApplyKeepsLaws.{PartsKeep, apply_effects_keep}
 use Rattle.alias_effects.specs.BlockKeepsLaws.{BlockPartsKeep, BlockKeeps, HasAt, infer_block_keeps}
 use Rattle.alias_effects.specs.Blocks.{recorded_as, terminal_effects, infer_block}
@@ -106,9 +108,9 @@ effects_within env = record {
 
 -- ---- what the instructions of a block record
 
--- what the instructions recorded is within the tables
-abbrev SignaturesWithinTables : Environment → BlockProgress → Type 0
-SignaturesWithinTables env s = list_all (λ (i : InstructionEffects). list_all (effect_within_tables env) i.effects) s.effects ≡ true
+-- what was recorded is within the tables
+abbrev ProgressWithinTables : Environment → BlockProgress → Type 0
+ProgressWithinTables env s = BlockWithinTables env s.effects
 
 abbrev InstructionFits : Environment → Instruction → Type 0
 InstructionFits env i = instruction_fits env i ≡ Ok tt
@@ -127,13 +129,13 @@ recorded_within : (env : Environment) (i : InstructionId) (es : List AliasingEff
 recorded_within env i [] h = refl
 recorded_within env i (e ∷ es) h = alone (list_all (effect_within_tables env) (e ∷ es)) h
 
-parts_within : (env : Environment) → BlockPartsKeep env (λ x. ⊤) (StepWithinTables env) (SignaturesWithinTables env) (InstructionFits env)
-parts_within env = record {
+parts_within : (c : Context) → BlockPartsKeep c (λ x. ⊤) (StepWithinTables c.env) (ProgressWithinTables c.env) (InstructionFits c.env)
+parts_within c = record {
   phis = λ p x h. tt;
-  starts = λ x h. refl;
+  starts = λ t x h. (refl, refl);
   opens = λ s h. refl;
-  effects = λ i s p h. apply_effects_keep (effects_within env) (compute_signature_for_instruction env i) s (signature_within env i p) h;
-  closes = λ i result s u h g. appended (λ (i : InstructionEffects). list_all (effect_within_tables env) i.effects) s.effects (recorded_as i u.recorded) h (recorded_within env i u.recorded g);
+  effects = λ i s p h. apply_effects_keep (effects_within c.env) (compute_signature_for_instruction c.env i) s (signature_within c.env i p) h;
+  closes = λ i result s u h g. (appended (λ (i : InstructionEffects). list_all (effect_within_tables c.env) i.effects) s.effects.instructions (recorded_as i u.recorded) h.0 (recorded_within c.env i u.recorded g), h.1);
 }
 
 -- ---- what the terminal records
@@ -154,10 +156,9 @@ terminal_within env f b t h = refl
 -- ---- what a block records
 
 -- what a block records is within the tables, where its instructions and its terminal are
-pub block_stands : (env : Environment) (xs : List Instruction) (e : Bool) (b : BlockId) (block : BasicBlock) (x y : State) (r : BlockEffects)
-    → all_pass (instruction_fits env) xs ≡ Ok tt → all_pass (place_fits env) (terminal_places block.terminal) ≡ Ok tt
-    → infer_block env xs e b block x ≡ Ok (y, r) → BlockWithinTables env r
-block_stands env xs e b block x y r f t h =
-    let Within : State × BlockEffects → Type 0 = λ z. BlockWithinTables env z.1 in
-    subst (BlockKeeps Within) h
-    (infer_block_keeps (parts_within env) Within xs e b block x (λ s k. (k, terminal_within env e b block.terminal t)) (λ n. fits_at env xs n f) tt)
+pub block_stands : (c : Context) (b : BlockId) (block : BasicBlock) (t u : Tables) (x y : State) (r : BlockEffects)
+    → all_pass (instruction_fits c.env) c.func.instructions ≡ Ok tt → all_pass (place_fits c.env) (terminal_places block.terminal) ≡ Ok tt
+    → infer_block c b block t x ≡ Ok (y, u, r) → BlockWithinTables c.env r
+block_stands c b block t u x y r f p h =
+    subst (BlockKeeps (ProgressWithinTables c.env)) h
+    (infer_block_keeps (parts_within c) b block t x (λ n. fits_at c.env c.func.instructions n f) (λ s k. (k.0, terminal_within c.env c.is_function_expression b block.terminal p)) tt)

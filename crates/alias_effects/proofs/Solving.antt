@@ -16,15 +16,18 @@ use Rattle.alias_hir.specs.Terminals.{successors}
 use Rattle.alias_lattice.specs.States.{State, state_below}
 use Rattle.alias_lattice.specs.ProperStates.{StateProper}
 use Rattle.alias_effects.specs.declared.block.BlockEffects.{BlockEffects}
+use Rattle.alias_effects.specs.declared.context.Tables.{Tables}
 use Rattle.alias_effects.specs.declared.faults.BlockFault.{BlockFault}
 use Rattle.alias_lattice.specs.Flows.{Flow, IsOneOf, IsReached, at_entry, by_edge, IsAbove, IsSolution, AreJoins}
 use Rattle.alias_flow.specs.Machine.{SolverState, VisitLog}
 use Rattle.alias_flow.specs.Solutions.{entry_at, RecordsSteps, KeepsOthers, IsForward}
 use Rattle.alias_effects.specs.Blocks.{flow_of, successors_at, outcome_at}
-use Rattle.alias_effects.specs.Numbered.{Blocks, numbered, position_of, with_position, positions_of, edges_at, entry_position, step_at}
+use Rattle.alias_effects.specs.Contexts.{context_of}
+use Rattle.alias_effects.specs.Numbered.{Blocks, numbered, position_of, with_position, positions_of, edges_at, entry_position, step_at, tables_left}
 use Rattle.alias_effects.specs.Inference.{entries_of, solved_of, instructions_recorded, terminal_recorded}
 use Rattle.alias_effects.specs.Solutions.{entry_state, IsSolved, effects_recorded, recorded_from, IsForwardFrom}
-use Rattle.alias_effects.specs.PositionLaws.{IsAt, found_has_position, some_is, position_is_at, at_position, at_value}
+use Rattle.alias_effects.specs.Positions.{IsAt}
+use Rattle.alias_effects.specs.PositionLaws.{found_has_position, some_is, position_is_at, at_position, at_value}
 use Rattle.alias_effects.proofs.Entering.{entered, has_entered, entries_in_order, KeepsRecorded, recorded_over}
 
 -- what the pass asks of a function: no two blocks have one name, and the entry and all successors are blocks
@@ -112,16 +115,16 @@ all_along A B (x ∷ xs) f a = (f x a.0, all_along A B xs f a.1)
 abbrev Later : Blocks → ℕ → BlockId → Type 0
 Later es n c = (m : ℕ) × (n < m) × IsAt es m c
 
-one_stands : (es : Blocks) (c : BlockId) → IsOneOf c (keys_of es) → (m : ℕ) × IsAt es m c
-one_stands [] c h = absurd h
-one_stands (e ∷ es) c (inl s) = (0, (e.1, ap (λ k. Some (k, e.1)) (sym s)))
-one_stands (e ∷ es) c (inr h) = let r = one_stands es c h in (suc r.0, (r.1.0, r.1.1))
+one_is_at : (es : Blocks) (c : BlockId) → IsOneOf c (keys_of es) → (m : ℕ) × IsAt es m c
+one_is_at [] c h = absurd h
+one_is_at (e ∷ es) c (inl s) = (0, (e.1, ap (λ k. Some (k, e.1)) (sym s)))
+one_is_at (e ∷ es) c (inr h) = let r = one_is_at es c h in (suc r.0, (r.1.0, r.1.1))
 
 later_more : (e : BlockId × BasicBlock) (es : Blocks) (n : ℕ) (c : BlockId) → Later es n c → Later (e ∷ es) (suc n) c
 later_more e es n c r = let h : n < r.0 = r.1 in (suc r.0, omega arith, r.2)
 
 later_first : (e : BlockId × BasicBlock) (es : Blocks) (c : BlockId) → IsOneOf c (keys_of es) → Later (e ∷ es) 0 c
-later_first e es c h = let r = one_stands es c h in (suc r.0, omega arith, r.1)
+later_first e es c h = let r = one_is_at es c h in (suc r.0, omega arith, r.1)
 
 later_at : (edges : BlockId → List BlockId) (es : Blocks) (n : ℕ) (b : BlockId) (x : BasicBlock) → IsForwardFrom edges (keys_of es) → slice_get es n ≡ Some (b, x) → AllByRecursion (Later es n) (edges b)
 later_at edges [] n b x f h = cc
@@ -147,12 +150,16 @@ module _ (env : Environment) (func : HirFunction) (is_function_expression : Bool
   es = func.body.blocks
 
   -- over blocks
-  abbrev over : Flow BlockId State (Unit {0}) BlockEffects BlockFault
-  over = flow_of env func is_function_expression
+  abbrev over : Flow BlockId State Tables BlockEffects BlockFault
+  over = flow_of (context_of env func is_function_expression)
 
   -- over positions
-  abbrev under : Flow ℕ State (Unit {0}) BlockEffects BlockFault
-  under = (numbered env func is_function_expression).flow
+  abbrev under : Flow ℕ State Tables BlockEffects BlockFault
+  under = (numbered (context_of env func is_function_expression)).flow
+
+  -- the tables that the visits leave
+  abbrev left : Tables
+  left = tables_left (context_of env func is_function_expression)
 
   edges_over : (n : ℕ) (b : BlockId) (x : BasicBlock) → slice_get es n ≡ Some (b, x) → over.edges b ≡ successors x.terminal
   edges_over n b x h = ap successors_at (at_value es n b x fits.distinct h)
@@ -160,10 +167,10 @@ module _ (env : Environment) (func : HirFunction) (is_function_expression : Bool
   edges_under : (n : ℕ) (b : BlockId) (x : BasicBlock) → slice_get es n ≡ Some (b, x) → under.edges n ≡ positions_of es (successors x.terminal)
   edges_under n b x h = ap (edges_at es) h
 
-  steps_same : (n : ℕ) (b : BlockId) (x : BasicBlock) (s : State) → slice_get es n ≡ Some (b, x) → over.step tt b s ≡ under.step tt n s
+  steps_same : (n : ℕ) (b : BlockId) (x : BasicBlock) (s : State) → slice_get es n ≡ Some (b, x) → over.step left b s ≡ under.step left n s
   steps_same n b x s h =
-      ap (λ o. outcome_at env func.instructions is_function_expression b o s) (at_value es n b x fits.distinct h)
-      ∙ sym (ap (λ o. step_at env func.instructions is_function_expression o s) h)
+      ap (λ o. outcome_at (context_of env func is_function_expression) b o left s) (at_value es n b x fits.distinct h)
+      ∙ sym (ap (λ o. step_at (context_of env func is_function_expression) o left s) h)
 
   entry_is : (o : Option ℕ) → is_some o ≡ true → o ≡ Some (option_map_or (λ n. n) o 0)
   entry_is None h = cc
@@ -228,7 +235,7 @@ module _ (env : Environment) (func : HirFunction) (is_function_expression : Bool
         let q = position_is_at es c m p in
         (a.0, entered es xs m c q.0 fits.distinct q.1 ∙ a.1, a.2)
 
-    pub solution_over : IsSolution state_below under tt (entry_at xs) → IsSolution state_below over tt state_over
+    pub solution_over : IsSolution state_below under left (entry_at xs) → IsSolution state_below over left state_over
     solution_over sol = record {
       reached = λ b r.
           let u = reached_at b r in
@@ -262,7 +269,7 @@ module _ (env : Environment) (func : HirFunction) (is_function_expression : Bool
         (all_of_blocks (λ m. n < m) (Later es n) es (successors x.terminal)
         (λ c m p l. subst (λ k. n < k) (same_number l.0 m (sym (at_position es l.0 c l.2.0 fits.distinct l.2.1) ∙ p)) l.1) later)
 
-    pub joins_over : length xs ≡ length es → AreJoins state_below under StateProper tt (entry_at xs) → AreJoins state_below over StateProper tt state_over
+    pub joins_over : length xs ≡ length es → AreJoins state_below under StateProper left (entry_at xs) → AreJoins state_below over StateProper left state_over
     joins_over long js b s h =
         let a = has_entered es xs b s h in
         let at : position_of es b ≡ Some a.at = at_position es a.at b a.block fits.distinct a.at_index in
@@ -289,23 +296,23 @@ module _ (env : Environment) (func : HirFunction) (is_function_expression : Bool
         }
 
     recorded_case : (recorded : List (Option BlockEffects)) (n : ℕ) (b : BlockId) (x : BasicBlock) (o : Option State) → slice_get es n ≡ Some (b, x) → entry_at xs n ≡ o
-        → RecordsSteps under tt (entry_at xs) recorded → (entry_at xs n ≡ None → slice_index_or recorded n None ≡ None)
+        → RecordsSteps under left (entry_at xs) recorded → (entry_at xs n ≡ None → slice_index_or recorded n None ≡ None)
         → slice_index_or recorded n None ≡ option_map (λ s. recorded_from env func is_function_expression (record { block = b; state = s })) o
     recorded_case recorded n b x None h i k z = z i
     recorded_case recorded n b x (Some s) h i k z =
         let r = k n s i in
         r.3 ∙ ap (λ o. Some (effects_recorded o)) (sym (steps_same n b x s h ∙ r.2))
 
-    keeps_recorded : (recorded : List (Option BlockEffects)) → RecordsSteps under tt (entry_at xs) recorded → KeepsOthers (entry_at xs) (replicate (length es) None) recorded
+    keeps_recorded : (recorded : List (Option BlockEffects)) → RecordsSteps under left (entry_at xs) recorded → KeepsOthers (entry_at xs) (replicate (length es) None) recorded
         → KeepsRecorded (recorded_from env func is_function_expression) es xs recorded
     keeps_recorded recorded k z n e h =
         let h' : slice_get es n ≡ Some (e.0, e.1) = h in
         recorded_case recorded n e.0 e.1 (entry_at xs n) h' refl k (λ i. z n i ∙ get_or-replicate (length es) n None None (slice_get_within es n e h))
 
   -- what the solver leaves of the flow over positions solves the function's flow over blocks
-  pub solved_over : (w : SolverState (VisitLog State) (Unit {0}) BlockEffects) → length w.progress.joined_input ≡ length es → length w.recorded ≡ length es
-      → IsSolution state_below under tt (entry_at w.progress.joined_input) → RecordsSteps under tt (entry_at w.progress.joined_input) w.recorded → KeepsOthers (entry_at w.progress.joined_input) (replicate (length es) None) w.recorded
-      → (IsForward (numbered env func is_function_expression) → AreJoins state_below under StateProper tt (entry_at w.progress.joined_input))
+  pub solved_over : (w : SolverState (VisitLog State) Tables BlockEffects) → length w.progress.joined_input ≡ length es → length w.recorded ≡ length es
+      → IsSolution state_below under left (entry_at w.progress.joined_input) → RecordsSteps under left (entry_at w.progress.joined_input) w.recorded → KeepsOthers (entry_at w.progress.joined_input) (replicate (length es) None) w.recorded
+      → (IsForward (numbered (context_of env func is_function_expression)) → AreJoins state_below under StateProper left (entry_at w.progress.joined_input))
       → IsSolved env func is_function_expression (solved_of func w)
   solved_over w long recorded_long sol k z joins =
       let r = recorded_from env func is_function_expression in

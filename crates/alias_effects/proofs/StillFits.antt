@@ -25,11 +25,13 @@ use Rattle.alias_rules.specs.Fitting.{effect_within_tables, recorded_within_tabl
 use Rattle.alias_rules.specs.RuleLaws.{fitting_rules, passes_at}
 use Rattle.alias_rules.specs.Rules.{place_fits, tables_fit, numbers_fit, instruction_fits, block_fits}
 use Rattle.alias_effects.specs.declared.block.BlockEffects.{BlockEffects}
+use Rattle.alias_effects.specs.declared.context.Tables.{Tables}
 use Rattle.alias_effects.specs.declared.faults.BlockFault.{BlockFault}
 use Rattle.alias_effects.specs.declared.solved.InstructionEffects.{InstructionEffects}
 use Rattle.alias_effects.specs.declared.solved.Solved.{Solved}
 use Rattle.alias_effects.specs.declared.solved.TerminalEffects.{TerminalEffects}
 use Rattle.alias_effects.specs.Blocks.{infer_block, outcome_of, no_effects}
+use Rattle.alias_effects.specs.Contexts.{context_of, no_tables}
 use Rattle.alias_effects.specs.Output.{last_effects}
 use Rattle.alias_effects.specs.Inference.{instructions_recorded, terminal_recorded, solved_of, answer_of, inferred}
 use Rattle.alias_effects.specs.Numbered.{Blocks, position_of, step_at, numbered, visits_end}
@@ -150,26 +152,26 @@ terminal_fits func env n b h e =
     let f = both_pass _ _ d in
     (both_pass _ _ f.1).1
 
-outcome_stands : (env : Environment) (r : Result (State × BlockEffects) BlockFault) (y : State) (u : Unit {0}) (k : BlockEffects) → ((z : State × BlockEffects) → r ≡ Ok z → BlockWithinTables env z.1) → outcome_of r ≡ Stepped y u k → BlockWithinTables env k
-outcome_stands env (Ok z) y u k g e = let same : z.1 ≡ k = cc in subst (BlockWithinTables env) same (g z refl)
+outcome_stands : (env : Environment) (r : Result (State × Tables × BlockEffects) BlockFault) (y : State) (u : Tables) (k : BlockEffects) → ((z : State × Tables × BlockEffects) → r ≡ Ok z → BlockWithinTables env z.2) → outcome_of r ≡ Stepped y u k → BlockWithinTables env k
+outcome_stands env (Ok z) y u k g e = let same : z.2 ≡ k = cc in subst (BlockWithinTables env) same (g z refl)
 outcome_stands env (Err f) y u k g e = cc
 
-step_stands : (func : HirFunction) (env : Environment) (f : Bool) (n : ℕ) (o : Option (BlockId × BasicBlock)) (x y : State) (u : Unit {0}) (k : BlockEffects) → function_fits func env ≡ true → slice_get func.body.blocks n ≡ o
-    → step_at env func.instructions f o x ≡ Stepped y u k → BlockWithinTables env k
-step_stands func env f n None x y u k h o e = let same : no_effects ≡ k = cc in subst (BlockWithinTables env) same (refl, refl)
-step_stands func env f n (Some b) x y u k h o e =
-    outcome_stands env (infer_block env func.instructions f b.0 b.1 x) y u k
-    (λ z s. block_stands env func.instructions f b.0 b.1 x z.0 z.1 (instructions_fit func env h) (terminal_fits func env n b h o) s) e
+step_stands : (func : HirFunction) (env : Environment) (f : Bool) (n : ℕ) (o : Option (BlockId × BasicBlock)) (t : Tables) (x y : State) (u : Tables) (k : BlockEffects) → function_fits func env ≡ true → slice_get func.body.blocks n ≡ o
+    → step_at (context_of env func f) o t x ≡ Stepped y u k → BlockWithinTables env k
+step_stands func env f n None t x y u k h o e = let same : no_effects ≡ k = cc in subst (BlockWithinTables env) same (refl, refl)
+step_stands func env f n (Some b) t x y u k h o e =
+    outcome_stands env (infer_block (context_of env func f) b.0 b.1 t x) y u k
+    (λ z s. block_stands (context_of env func f) b.0 b.1 t z.1 x z.0 z.2 (instructions_fit func env h) (terminal_fits func env n b h o) s) e
 
 none_hold : {K : Type 0} (q : K → Type 0) (n : ℕ) → AllHold q (replicate n None)
 none_hold q zero = tt
 none_hold q (suc n) = (tt, none_hold q n)
 
-recorded_exists : (func : HirFunction) (env : Environment) (f : Bool) (w : SolverState (VisitLog State) (Unit {0}) BlockEffects) → function_fits func env ≡ true → visits_end env func f ≡ end.Solved w → AllHold (BlockWithinTables env) w.recorded
+recorded_exists : (func : HirFunction) (env : Environment) (f : Bool) (w : SolverState (VisitLog State) Tables BlockEffects) → function_fits func env ≡ true → visits_end (context_of env func f) ≡ end.Solved w → AllHold (BlockWithinTables env) w.recorded
 recorded_exists func env f w h e =
-    solution_keeps state_join state_below (numbered env func f) (BlockWithinTables env)
-    (λ t n x y u k s. step_stands func env f n (slice_get func.body.blocks n) x y u k h refl s)
-    tt (replicate (length func.body.blocks) None) w (none_hold (BlockWithinTables env) (length func.body.blocks)) e
+    solution_keeps state_join state_below (numbered (context_of env func f)) (BlockWithinTables env)
+    (λ t n x y u k s. step_stands func env f n (slice_get func.body.blocks n) t x y u k h refl s)
+    no_tables (replicate (length func.body.blocks) None) w (none_hold (BlockWithinTables env) (length func.body.blocks)) e
 
 all_instructions : (env : Environment) (recorded : List (Option BlockEffects)) → AllHold (BlockWithinTables env) recorded → OfInstructions env (flat_map instructions_recorded recorded)
 all_instructions env [] a = refl
@@ -184,7 +186,7 @@ all_terminals env (Some r ∷ ks) a = list_all-append _ r.terminal (flat_map ter
 abbrev SolvedWithinTables : Environment → Solved → Type 0
 SolvedWithinTables env s = OfInstructions env s.effects × OfTerminals env s.terminal_effects
 
-answer_stands : (func : HirFunction) (env : Environment) (f : Bool) (s : Solved) (r : End (VisitLog State) (Unit {0}) BlockEffects BlockFault) → function_fits func env ≡ true → visits_end env func f ≡ r → answer_of env func r ≡ Ok s → SolvedWithinTables env s
+answer_stands : (func : HirFunction) (env : Environment) (f : Bool) (s : Solved) (r : End (VisitLog State) Tables BlockEffects BlockFault) → function_fits func env ≡ true → visits_end (context_of env func f) ≡ r → answer_of env func r ≡ Ok s → SolvedWithinTables env s
 answer_stands func env f s (end.Solved w) h v e =
     let recorded = recorded_exists func env f w h v in
     let same : solved_of func w ≡ s = cc in
@@ -207,7 +209,7 @@ recorded_fits func env f s h e =
     let a = both_true _ (reports_no_invariant env) h in
     let b : (is_ok (function_rules env func) ≡ true) × (effects_within_tables env func ≡ true) = both_true _ _ a.0 in
     let r : is_ok (function_rules env (with_effects_of s func)) ≡ true = ap is_ok (rules_kept env s func) ∙ b.0 in
-    let t : effects_within_tables env (with_effects_of s func) ≡ true = effects_put func env s b.1 (answer_stands func env f s (visits_end env func f) h refl e) in
+    let t : effects_within_tables env (with_effects_of s func) ≡ true = effects_put func env s b.1 (answer_stands func env f s (visits_end (context_of env func f)) h refl e) in
     rw (r, t) (a.1)
 
 -- the function with these effects on its instructions and terminals

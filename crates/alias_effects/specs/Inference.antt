@@ -16,10 +16,12 @@ use Rattle.alias_flow.specs.Machine as end
 use Rattle.alias_effects.specs.declared.faults.BlockFault.{BlockFault}
 use Rattle.alias_effects.specs.declared.faults.BlockFault.TheVariants.{Reinitialized, Uninitialized, Memory}
 use Rattle.alias_effects.specs.declared.block.BlockEffects.{BlockEffects}
+use Rattle.alias_effects.specs.declared.context.Tables.{Tables}
 use Rattle.alias_effects.specs.declared.solved.BlockEntry.{BlockEntry}
 use Rattle.alias_effects.specs.declared.solved.InstructionEffects.{InstructionEffects}
 use Rattle.alias_effects.specs.declared.solved.Solved.{Solved}
 use Rattle.alias_effects.specs.declared.solved.TerminalEffects.{TerminalEffects}
+use Rattle.alias_effects.specs.Contexts.{context_of}
 use Rattle.alias_effects.specs.Numbered.{Blocks, visits_end}
 use Rattle.alias_effects.specs.Recording.{with_effects_of}
 
@@ -51,7 +53,7 @@ terminal_recorded None = []
 terminal_recorded (Some r) = r.terminal
 
 -- what is handed out where nothing is dirty any more: entry states are the joins of what was sent, and effects those of last visits
-abbrev pub solved_of : HirFunction → SolverState (VisitLog State) (Unit {0}) BlockEffects → Solved
+abbrev pub solved_of : HirFunction → SolverState (VisitLog State) Tables BlockEffects → Solved
 solved_of func w = record {
   function = None;
   visits = map (block_at func.body.blocks) w.progress.visits;
@@ -60,14 +62,14 @@ solved_of func w = record {
   terminal_effects = flat_map terminal_recorded w.recorded;
 }
 
-abbrev pub answer_of : Environment → HirFunction → End (VisitLog State) (Unit {0}) BlockEffects BlockFault → Result Solved InferError
+abbrev pub answer_of : Environment → HirFunction → End (VisitLog State) Tables BlockEffects BlockFault → Result Solved InferError
 answer_of env func (end.Solved w) = Ok (solved_of func w)
 answer_of env func (end.Fault n fault) = Err (refusal env (block_at func.body.blocks n) fault)
 answer_of env func (end.NotSettled visits) = Err (error.NotSettled None visits not_settled_report)
 
 -- the solution that the sequence of visits ends with, or its refusal
 abbrev pub inferred : Environment → HirFunction → Bool → Result Solved InferError
-inferred env func is_function_expression = answer_of env func (visits_end env func is_function_expression)
+inferred env func is_function_expression = answer_of env func (visits_end (context_of env func is_function_expression))
 
 -- the function with its effects on its instructions and terminals, or the refusal
 abbrev pub effects_inferred : Environment → HirFunction → Bool → Result HirFunction InferError

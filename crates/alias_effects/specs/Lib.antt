@@ -1,3 +1,4 @@
+pub mod Contexts
 pub mod Progress
 pub mod Apply
 pub mod Blocks
@@ -6,6 +7,7 @@ pub mod ApplyKeepsLaws
 pub mod BlockKeepsLaws
 pub mod ProperLaws
 pub mod Solutions
+pub mod Positions
 pub mod PositionLaws
 pub mod Numbered
 pub mod PassLaws

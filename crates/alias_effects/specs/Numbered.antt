@@ -1,19 +1,20 @@
 -- A function as a flow over the positions of its blocks, which the solver works with.
-use Rattle.std.specs.Prelude.{ℕ, Bool, List, [], ◌∷◌, length, Option, Some, None, position, replicate, slice_get}
+use Rattle.std.specs.Prelude.{ℕ, List, [], ◌∷◌, length, Option, Some, None, position, replicate, slice_get}
 use Rattle.std.specs.Option.{option_map_or}
 use Rattle.std.specs.Map.{keys_of}
 use Rattle.alias_base.specs.Find.{same_block}
 use Rattle.alias_base.specs.declared.ids.BlockId.{BlockId}
 use Rattle.alias_hir.specs.Terminals.{successors}
-use Rattle.alias_hir.specs.declared.env.Environment.{Environment}
 use Rattle.alias_hir.specs.declared.hir.BasicBlock.{BasicBlock}
 use Rattle.alias_hir.specs.declared.hir.HirFunction.{HirFunction}
-use Rattle.alias_hir.specs.declared.hir.Instruction.{Instruction}
 use Rattle.alias_lattice.specs.Flows.{Outcome, Stepped}
 use Rattle.alias_lattice.specs.States.{State, state_below, state_join}
 use Rattle.alias_flow.specs.Machine.{Rules, VisitLog, End, solution}
+use Rattle.alias_flow.specs.Machine as end
 use Rattle.alias_effects.specs.Blocks.{infer_block, outcome_of, no_effects, initial_state}
+use Rattle.alias_effects.specs.Contexts.{Context, no_tables}
 use Rattle.alias_effects.specs.declared.block.BlockEffects.{BlockEffects}
+use Rattle.alias_effects.specs.declared.context.Tables.{Tables}
 use Rattle.alias_effects.specs.declared.faults.BlockFault.{BlockFault}
 
 -- the blocks of a function in stored order, with their names
@@ -39,27 +40,34 @@ edges_at blocks None = []
 edges_at blocks (Some b) = positions_of blocks (successors b.1.terminal)
 
 -- a position past the end does nothing
-abbrev pub step_at : Environment → List Instruction → Bool → Option (BlockId × BasicBlock) → State → Outcome State (Unit {0}) BlockEffects BlockFault
-step_at env instructions is_function_expression None x = Stepped x tt no_effects
-step_at env instructions is_function_expression (Some b) x = outcome_of (infer_block env instructions is_function_expression b.0 b.1 x)
+abbrev pub step_at : Context → Option (BlockId × BasicBlock) → Tables → State → Outcome State Tables BlockEffects BlockFault
+step_at c None tables x = Stepped x tables no_effects
+step_at c (Some b) tables x = outcome_of (infer_block c b.0 b.1 tables x)
 
 -- the position of the entry; a function that keeps the rules has one
 abbrev pub entry_position : HirFunction → ℕ
 entry_position func = option_map_or (λ n. n) (position_of func.body.blocks func.body.entry) 0
 
--- a function as a flow over the positions of its blocks; there are no tables yet
-abbrev pub numbered : Environment → HirFunction → Bool → Rules State (Unit {0}) BlockEffects BlockFault
-numbered env func is_function_expression = record {
-  blocks = length func.body.blocks;
+-- a function as a flow over the positions of its blocks
+abbrev pub numbered : Context → Rules State Tables BlockEffects BlockFault
+numbered c = record {
+  blocks = length c.func.body.blocks;
   flow = record {
-    entry = entry_position func;
-    initial = initial_state func;
-    edges = λ n. edges_at func.body.blocks (slice_get func.body.blocks n);
-    step = λ tables n x. step_at env func.instructions is_function_expression (slice_get func.body.blocks n) x;
+    entry = entry_position c.func;
+    initial = initial_state c;
+    edges = λ n. edges_at c.func.body.blocks (slice_get c.func.body.blocks n);
+    step = λ tables n x. step_at c (slice_get c.func.body.blocks n) tables x;
   };
 }
 
 -- how the sequence of visits of the function ends
-abbrev pub visits_end : Environment → HirFunction → Bool → End (VisitLog State) (Unit {0}) BlockEffects BlockFault
-visits_end env func is_function_expression =
-    solution state_join state_below (numbered env func is_function_expression) tt (replicate (length func.body.blocks) None)
+abbrev pub visits_end : Context → End (VisitLog State) Tables BlockEffects BlockFault
+visits_end c = solution state_join state_below (numbered c) no_tables (replicate (length c.func.body.blocks) None)
+
+-- the tables that the visits leave
+abbrev pub tables_at : End (VisitLog State) Tables BlockEffects BlockFault → Tables
+tables_at (end.Solved w) = w.tables
+tables_at e = no_tables
+
+abbrev pub tables_left : Context → Tables
+tables_left c = tables_at (visits_end c)

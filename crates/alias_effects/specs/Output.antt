@@ -15,6 +15,7 @@ use Rattle.alias_flow.specs.declared.flow.SolveFault.TheVariants.{Step, NotSettl
 use Rattle.alias_flow.specs.Machine.{SolverState, VisitLog, End}
 use Rattle.alias_flow.specs.Machine as end
 use Rattle.alias_effects.specs.declared.block.BlockEffects.{BlockEffects}
+use Rattle.alias_effects.specs.declared.context.Tables.{Tables}
 use Rattle.alias_effects.specs.declared.faults.BlockFault.{BlockFault}
 use Rattle.alias_effects.specs.declared.solved.BlockEntry.{BlockEntry}
 use Rattle.alias_effects.specs.Inference.{refusal, block_at, instructions_recorded, terminal_recorded, inferred}
@@ -29,8 +30,8 @@ abbrev pub all_recorded : List (Option BlockEffects) → BlockEffects
 all_recorded recorded = record { instructions = flat_map instructions_recorded recorded; terminal = flat_map terminal_recorded recorded }
 
 -- where the visits ended, as far as it is handed out
-abbrev pub solver_state_with : Solution State → List (Option BlockEffects) → SolverState (VisitLog State) (Unit {0}) BlockEffects
-solver_state_with s recorded = record { progress = record { visits = s.visits; joined_input = s.entries; last_input = [] }; tables = tt; recorded = recorded }
+abbrev pub solver_state_with : Solution State → Tables → List (Option BlockEffects) → SolverState (VisitLog State) Tables BlockEffects
+solver_state_with s tables recorded = record { progress = record { visits = s.visits; joined_input = s.entries; last_input = [] }; tables = tables; recorded = recorded }
 
 -- a block was still dirty after 100 rounds
 abbrev pub unsettled : ℕ → InferError
@@ -49,8 +50,8 @@ last_effects env func is_function_expression = do
   Ok (record { instructions = s.effects; terminal = s.terminal_effects })
 
 -- what is recorded is what the visits end with, and a fault is theirs. Memory may fail at any time.
-abbrev pub VisitsEnd : End (VisitLog State) (Unit {0}) BlockEffects BlockFault → Result (Unit {0}) (SolveFault BlockFault) → List (Option BlockEffects) → Type 0
-VisitsEnd ending (Ok u) recorded = (w : SolverState (VisitLog State) (Unit {0}) BlockEffects) × (ending ≡ end.Solved w) × (recorded ≡ w.recorded)
+abbrev pub VisitsEnd : End (VisitLog State) Tables BlockEffects BlockFault → Result (Unit {0}) (SolveFault BlockFault) → List (Option BlockEffects) → Type 0
+VisitsEnd ending (Ok u) recorded = (w : SolverState (VisitLog State) Tables BlockEffects) × (ending ≡ end.Solved w) × (recorded ≡ w.recorded)
 VisitsEnd ending (Err (Step n fault)) recorded = ending ≡ end.Fault n fault
 VisitsEnd ending (Err (NotSettled visits)) recorded = ending ≡ end.NotSettled visits
 VisitsEnd ending (Err (Memory e)) recorded = Unit {0}

@@ -1,4 +1,4 @@
--- Positions of blocks in stored order.
+-- What positions of blocks in stored order say.
 use Rattle.std.specs.Prelude.{◌≡◌, ℕ, zero, suc, ◌+◌, nat_lt, not, Bool, true, false, cond, List, [], ◌∷◌, length, Option, Some, None, position, option_map, is_some, slice_get, refl}
 use Rattle.std.proofs.Common.{sym, ◌∙◌, ap, subst, arith, eq-eqb}
 use Rattle.std.proofs.Math.Dec.{eqb→eq, T}
@@ -7,6 +7,7 @@ use Rattle.std.specs.List.{AllByRecursion, IsDistinct, position_or_len}
 use Rattle.std.proofs.lemmas.Grind.{common_steps}
 use Rattle.alias_base.specs.Find.{same_block, value_at}
 use Rattle.alias_base.specs.declared.ids.BlockId.{BlockId}
+use Rattle.alias_effects.specs.Positions.{position_in, IsAt}
 
 later : (t : Bool) (i m : ℕ) → cond (nat_lt (cond (not t) (1 + i) 0) (suc m)) (Some (cond (not t) (1 + i) 0)) None ≡ cond t (Some 0) (option_map suc (cond (nat_lt i m) (Some i) None))
 later true i m = grind (arith, common_steps)
@@ -21,10 +22,6 @@ same_is a b h = ap (λ n. let x : BlockId = record { 0 = n } in x) (eqb→eq a.0
 
 pub same_self : (b : BlockId) → same_block b b ≡ true
 same_self b = eq-eqb b.0 b.0 refl
-
--- the position of the block in stored order
-abbrev pub position_in : {V : Type 0} → List (BlockId × V) → BlockId → Option ℕ
-position_in es b = position (same_block b) (keys_of es)
 
 found_first : {V : Type 0} (t : Bool) (v : V) (o : Option V) (p : Option ℕ) → is_some (cond t (Some v) o) ≡ true → (is_some o ≡ true → is_some p ≡ true) → is_some (cond t (Some 0) (option_map suc p)) ≡ true
 found_first true v o p h f = refl
@@ -42,10 +39,6 @@ found_has_position (e ∷ es) b h =
 pub some_is : {A : Type 0} (o : Option A) → is_some o ≡ true → (x : A) × (o ≡ Some x)
 some_is None h = cc
 some_is (Some x) h = (x, refl)
-
--- the block is at the position
-abbrev pub IsAt : {V : Type 0} → List (BlockId × V) → ℕ → BlockId → Type 0
-IsAt {V} es n b = (x : V) × (slice_get es n ≡ Some (b, x))
 
 at_case : {V : Type 0} (e : BlockId × V) (es : List (BlockId × V)) (b : BlockId) (n : ℕ) (t : Bool) (p : Option ℕ) → same_block b e.0 ≡ t → position_in es b ≡ p → cond t (Some 0) (option_map suc p) ≡ Some n
     → ((m : ℕ) → position_in es b ≡ Some m → IsAt es m b) → IsAt (e ∷ es) n b

@@ -11,9 +11,12 @@ use Rattle.alias_lattice.specs.ProperStates.{StateProper}
 use Rattle.alias_lattice.specs.Flows.{Flow, Outcome, Stepped, Refused, IsOneOf, IsSolution, AreJoins}
 use Rattle.alias_effects.specs.declared.faults.BlockFault.{BlockFault}
 use Rattle.alias_effects.specs.declared.block.BlockEffects.{BlockEffects}
+use Rattle.alias_effects.specs.declared.context.Tables.{Tables}
 use Rattle.alias_effects.specs.declared.solved.BlockEntry.{BlockEntry}
 use Rattle.alias_effects.specs.declared.solved.Solved.{Solved}
 use Rattle.alias_effects.specs.Blocks.{flow_of, no_effects}
+use Rattle.alias_effects.specs.Contexts.{context_of}
+use Rattle.alias_effects.specs.Numbered.{tables_left}
 
 -- the entry state of a block, among those handed out
 abbrev pub entry_state : List BlockEntry → BlockId → Option State
@@ -27,7 +30,7 @@ IsSubsequence (x ∷ xs) [] = ⊥
 IsSubsequence (x ∷ xs) (y ∷ ys) = ((x ≡ y) × IsSubsequence xs ys) ⊎ IsSubsequence (x ∷ xs) ys
 
 -- what a step records, where it isn't refused
-abbrev pub effects_recorded : Outcome State (Unit {0}) BlockEffects BlockFault → BlockEffects
+abbrev pub effects_recorded : Outcome State Tables BlockEffects BlockFault → BlockEffects
 effects_recorded (Stepped y tables recorded) = recorded
 effects_recorded (Refused fault) = no_effects
 
@@ -40,21 +43,25 @@ abbrev pub IsForward : HirFunction → (BlockId → List BlockId) → Type 0
 IsForward func edges = IsForwardFrom edges (keys_of func.body.blocks)
 
 module _ (env : Environment) (func : HirFunction) (is_function_expression : Bool) where
-  abbrev pub flow : Flow BlockId State (Unit {0}) BlockEffects BlockFault
-  flow = flow_of env func is_function_expression
+  abbrev pub flow : Flow BlockId State Tables BlockEffects BlockFault
+  flow = flow_of (context_of env func is_function_expression)
+
+  -- the tables that the visits leave
+  abbrev pub tables : Tables
+  tables = tables_left (context_of env func is_function_expression)
 
   -- what the block of an entry records from its state
   abbrev pub recorded_from : BlockEntry → BlockEffects
-  recorded_from e = effects_recorded (flow.step tt e.block e.state)
+  recorded_from e = effects_recorded (flow.step tables e.block e.state)
 
   -- the entry states solve the flow of the function, and what is handed out is what the blocks record from them
   pub record IsSolved (s : Solved) : Type 0 where
     -- entry states stand in the stored order of their blocks
     pub in_order : IsSubsequence (map (λ (e : BlockEntry). e.block) s.entries) (keys_of func.body.blocks)
     -- each reached block has one, the initial state is below the entry's, and each block steps to a state below that of each successor
-    pub solution : IsSolution state_below flow tt (entry_state s.entries)
+    pub solution : IsSolution state_below flow tables (entry_state s.entries)
     -- the effects are those that the steps record
     pub effects : s.effects ≡ flat_map (λ (e : BlockEntry). (recorded_from e).instructions) s.entries
     pub terminal_effects : s.terminal_effects ≡ flat_map (λ (e : BlockEntry). (recorded_from e).terminal) s.entries
     -- in a forward function each entry state is the join of what arrives
-    pub joins : IsForward func flow.edges → AreJoins state_below flow StateProper tt (entry_state s.entries)
+    pub joins : IsForward func flow.edges → AreJoins state_below flow StateProper tables (entry_state s.entries)

@@ -3,16 +3,17 @@ ghost use Rattle.std.specs.Prelude.{◌≡◌, ◌++◌, OnOk, IfOk, option_map}
 ghost use Rattle.std.specs.Option.{is_some};
 ghost use Rattle.alias_base.specs.Answer.{Gives};
 ghost use Rattle.alias_lattice.specs.States.{sites_of};
-ghost use Rattle.alias_effects.specs.Blocks.{with_default, recorded_as, apply_signature, apply_signature_at, apply_signatures, infer_phis, block_start, return_effects, action_effects, terminal_recorded_as, terminal_effects, finished, infer_block, fault_at};
+ghost use Rattle.alias_effects.specs.Blocks.{with_default, recorded_as, apply_signature, apply_signature_at, apply_signatures, infer_phis, block_start, return_effects, action_effects, terminal_recorded_as, terminal_effects, apply_terminal, finished, infer_block, fault_at};
+ghost use Rattle.alias_effects.specs.Contexts.{held};
 ghost use Rattle.alias_effects.specs.Faults.{is_block_memory};
 
 use crate::apply::{apply_effects, value_with};
+use crate::context::{Context, Tables};
 use crate::faults::{BlockFault, EffectFault};
 use crate::progress::StepProgress;
 use crate::solved::{InstructionEffects, TerminalEffects};
 use alias_base::{BlockId, IdentifierId, InstructionId, List};
 use alias_hir::effect::{AliasingEffect, AliasingEffects, ValueKind, ValueReason};
-use alias_hir::env::Environment;
 use alias_hir::hir::{BasicBlock, Instruction, Phi};
 use alias_hir::place::Place;
 use alias_hir::terminal::Terminal;
@@ -20,20 +21,22 @@ use alias_lattice::{InferenceState, MissingLook, Site};
 use alias_signature::compute_signature_for_instruction;
 use std::alloc::{AllocError, Global};
 
-/// How far the step of a block has come.
-#[derive(Drop)]
-pub struct BlockProgress {
-    pub state: InferenceState,
-    pub effects: List<InstructionEffects>,
-    /// The first look at an identifier without a value.
-    pub missing: Option<MissingLook>,
-}
-
 /// What is recorded of a block.
 #[derive(Drop)]
 pub struct BlockEffects {
     pub instructions: List<InstructionEffects>,
     pub terminal: List<TerminalEffects>,
+}
+
+/// How far the step of a block has come.
+#[derive(Drop)]
+pub struct BlockProgress {
+    pub state: InferenceState,
+    pub tables: Tables,
+    /// What was recorded of the block.
+    pub effects: BlockEffects,
+    /// The first look at an identifier without a value.
+    pub missing: Option<MissingLook>,
 }
 
 /// A result without a set takes Default(result), which gets Mutable {Other} whatever value it had.
@@ -82,21 +85,23 @@ fn push_recorded(
 /// The step of an instruction.
 fn apply_signature(
     alloc: Global,
-    env: &Environment,
+    context: &Context<'_>,
     id: InstructionId,
     instruction: &Instruction,
     progress: BlockProgress,
 ) -> Result<BlockProgress, BlockFault>
-    ensures { Gives is_block_memory (apply_signature env.now id instruction.now progress) result }
+    ensures { Gives is_block_memory (apply_signature (held context.now) id instruction.now progress) result }
 {
-    let signature = compute_signature_for_instruction(alloc, env, instruction)?;
+    let signature = compute_signature_for_instruction(alloc, context.env, instruction)?;
     let BlockProgress {
         state,
+        tables,
         mut effects,
         missing,
     } = progress;
     let mut step = StepProgress {
         state,
+        tables,
         made: List::new(alloc),
         recorded: List::new(alloc),
         missing,
@@ -107,14 +112,16 @@ fn apply_signature(
     }
     let StepProgress {
         mut state,
+        tables,
         made: _made,
         recorded,
         missing,
     } = step;
     define_result(&mut state, instruction.lvalue.identifier)?;
-    push_recorded(&mut effects, id, recorded)?;
+    push_recorded(&mut effects.instructions, id, recorded)?;
     Ok(BlockProgress {
         state,
+        tables,
         effects,
         missing,
     })
@@ -122,15 +129,15 @@ fn apply_signature(
 
 fn apply_signature_at(
     alloc: Global,
-    env: &Environment,
+    context: &Context<'_>,
     id: InstructionId,
     instruction: Option<&Instruction>,
     progress: BlockProgress,
 ) -> Result<BlockProgress, BlockFault>
-    ensures { Gives is_block_memory (apply_signature_at env.now id (option_map (λ i. i.now) instruction.entry) progress) result }
+    ensures { Gives is_block_memory (apply_signature_at (held context.now) id (option_map (λ i. i.now) instruction.entry) progress) result }
 {
     match instruction {
-        Some(instruction) => apply_signature(alloc, env, id, instruction, progress),
+        Some(instruction) => apply_signature(alloc, context, id, instruction, progress),
         None => Ok(progress),
     }
 }
@@ -138,16 +145,16 @@ fn apply_signature_at(
 /// The steps of a block's instructions, in order.
 fn apply_signatures(
     alloc: Global,
-    env: &Environment,
-    instructions: &List<Instruction>,
+    context: &Context<'_>,
     block: &BasicBlock,
     progress: BlockProgress,
 ) -> Result<BlockProgress, BlockFault>
-    ensures { Gives is_block_memory (apply_signatures env.now instructions.now block.now.instructions progress) result }
+    ensures { Gives is_block_memory (apply_signatures (held context.now) block.now.instructions progress) result }
 {
     let mut progress = progress;
     for id in block.instructions.as_slice() {
-        progress = apply_signature_at(alloc, env, *id, instructions.get(id.0 as usize), progress)?;
+        let instruction = context.func.instructions.get(id.0 as usize);
+        progress = apply_signature_at(alloc, context, *id, instruction, progress)?;
     }
     Ok(progress)
 }
@@ -218,49 +225,66 @@ fn terminal_effects(
     terminal_recorded_as(alloc, block, effects)
 }
 
-fn finished(
+/// The step of a block's terminal, after its instructions.
+fn apply_terminal(
+    alloc: Global,
+    context: &Context<'_>,
+    id: BlockId,
+    terminal: &Terminal,
     progress: BlockProgress,
-    terminal: List<TerminalEffects>,
-) -> Result<(InferenceState, BlockEffects), BlockFault>
-    ensures { result ≡ finished progress.missing terminal progress }
+) -> Result<BlockProgress, BlockFault>
+    ensures { Gives is_block_memory (apply_terminal (held context.now) id terminal.now progress) result }
 {
+    let recorded = terminal_effects(alloc, context.is_function_expression, id, terminal)?;
     let BlockProgress {
         state,
+        tables,
         effects,
         missing,
     } = progress;
-    match missing {
+    Ok(BlockProgress {
+        state,
+        tables,
+        effects: BlockEffects {
+            instructions: effects.instructions,
+            terminal: recorded,
+        },
+        missing,
+    })
+}
+
+fn finished(progress: BlockProgress) -> Result<(InferenceState, Tables, BlockEffects), BlockFault>
+    ensures { result ≡ finished progress }
+{
+    match progress.missing {
         Some(look) => Err(BlockFault::Uninitialized(look)),
-        None => Ok((
-            state,
-            BlockEffects {
-                instructions: effects,
-                terminal,
-            },
-        )),
+        None => Ok((progress.state, progress.tables, progress.effects)),
     }
 }
 
-/// The step of a block from a state: the state after it, and what was recorded.
+/// The step of a block from a state: the state after it, the tables, and what was recorded.
 pub fn infer_block(
     alloc: Global,
-    env: &Environment,
-    instructions: &List<Instruction>,
-    is_function_expression: bool,
+    context: &Context<'_>,
     id: BlockId,
     block: &BasicBlock,
+    tables: Tables,
     state: InferenceState,
-) -> Result<(InferenceState, BlockEffects), BlockFault>
-    ensures { Gives is_block_memory (infer_block env.now instructions.now is_function_expression id block.now state) result }
+) -> Result<(InferenceState, Tables, BlockEffects), BlockFault>
+    ensures { Gives is_block_memory (infer_block (held context.now) id block.now tables state) result }
 {
     let mut state = state;
     infer_phis(&block.phis, &mut state)?;
     let progress = BlockProgress {
         state,
-        effects: List::new(alloc),
+        tables,
+        effects: BlockEffects {
+            instructions: List::new(alloc),
+            terminal: List::new(alloc),
+        },
         missing: None,
     };
-    let progress = apply_signatures(alloc, env, instructions, block, progress)?;
-    let terminal = terminal_effects(alloc, is_function_expression, id, &block.terminal)?;
-    finished(progress, terminal)
+    let progress = apply_signatures(alloc, context, block, progress)?;
+    let progress = apply_terminal(alloc, context, id, &block.terminal, progress)?;
+    finished(progress)
 }

@@ -8,14 +8,16 @@ ghost use Rattle.alias_hir.specs.Errors.{is_memory};
 ghost use Rattle.alias_lattice.specs.States.{state_join, state_below};
 ghost use Rattle.alias_flow.specs.Machine.{solution};
 ghost use Rattle.alias_rules.specs.Fitting.{function_fits};
+ghost use Rattle.alias_effects.specs.Contexts.{context_of, held, no_tables, with_tables};
 ghost use Rattle.alias_effects.specs.Faults.{GivesInto};
 ghost use Rattle.alias_effects.specs.Output.{unsettled, unsolved, last_effects, VisitsEnd};
 ghost use Rattle.alias_effects.specs.Inference.{refusal, inferred, effects_inferred};
-ghost use Rattle.alias_effects.specs.Numbered.{numbered};
+ghost use Rattle.alias_effects.specs.Numbered.{numbered, tables_left};
 ghost use Rattle.alias_effects.specs.Recording.{with_effects_of};
 ghost use Rattle.alias_effects.specs.Solutions.{IsSolved};
 
 use crate::block::BlockEffects;
+use crate::context::{Context, Tables};
 use crate::faults::BlockFault;
 use crate::output::{all_recorded, block_at, solved_of};
 use crate::pass::EffectsPass;
@@ -93,7 +95,8 @@ fn pass_over<'a>(
     is_function_expression: bool,
 ) -> Result<EffectsPass<'a>, AllocError>
     requires { function_fits func.now env.now ≡ true }
-    ensures rules { IfOk result (λ pass. numbered pass.env.now pass.func.now pass.is_function_expression ≡ numbered env.now func.now is_function_expression) }
+    ensures rules { IfOk result (λ pass. numbered (held pass.context) ≡ numbered (context_of env.now func.now is_function_expression)) }
+    ensures tables { IfOk result (λ pass. pass.tables ≡ no_tables) }
     ensures recorded { IfOk result (λ pass. pass.recorded.items ≡ replicate (length func.now.body.blocks) None) }
     ensures distinct { IfOk result (λ _. IsDistinct same_block (keys_of func.now.body.blocks)) }
 {
@@ -103,9 +106,12 @@ fn pass_over<'a>(
     }
     Ok(EffectsPass {
         alloc,
-        env,
-        func,
-        is_function_expression,
+        context: Context {
+            env,
+            func,
+            is_function_expression,
+        },
+        tables: Tables {},
         recorded: nothing_yet(alloc, count as u32)?,
     })
 }
@@ -132,7 +138,7 @@ fn solved(
 
 /// Visits the blocks until nothing is dirty, with no entry state kept where all edges go forward.
 fn visit_all(alloc: Global, pass: &mut EffectsPass<'_>) -> Result<(), SolveFault<BlockFault>>
-    ensures { VisitsEnd (solution state_join state_below (numbered pass.old.env.now pass.old.func.now pass.old.is_function_expression) tt pass.old.recorded.items) result pass.new.recorded.items }
+    ensures { VisitsEnd (solution state_join state_below (numbered (held pass.old.context)) pass.old.tables pass.old.recorded.items) result pass.new.recorded.items }
 {
     if is_forward(&*pass)? {
         return solve_forward(alloc, pass);
@@ -164,7 +170,7 @@ fn last_effects(
 ///
 /// At `Ok` the effects are on the instructions and terminals, and what is handed out has them too, with
 /// entry states that solve the function's flow. An `Err` leaves the function unchanged. The environment
-/// doesn't change, and on every answer `check_function` still holds. `Uninitialized` comes exactly where the
+/// gets what the tables of the pass hold, which is nothing yet, and on every answer `check_function` still holds. `Uninitialized` comes exactly where the
 /// step of a visited block looks at an identifier without a value, `Reinitialized` exactly where an
 /// instruction's effects make an identifier twice, and `NotSettled` exactly where a block is still dirty
 /// after 100 rounds. `Memory` can come at any growth, and comes where the function has 2^32 blocks or more.
@@ -181,7 +187,7 @@ pub fn infer_effects_certified(
     ensures solves { IfOk result (λ s. IsSolved env.old func.old is_function_expression s) }
     ensures recorded { IfOk result (λ s. func.new ≡ with_effects_of s func.old) }
     ensures err { OnErr result (func.new ≡ func.old) }
-    ensures env { env.new ≡ env.old }
+    ensures env { env.new ≡ with_tables (tables_left (context_of env.old func.old is_function_expression)) env.old }
     ensures fits { function_fits func.new env.new ≡ true }
 {
     let solved = solved(alloc, func, env, is_function_expression)?;
@@ -197,7 +203,7 @@ pub fn infer_effects_certified(
 ///
 /// At `Ok` the effects are on the instructions and terminals: those that `infer_effects_certified` hands
 /// out. An `Err` comes exactly where that comes there, and leaves the function unchanged; want of memory can
-/// come at any growth. The environment doesn't change, and on every answer `check_function` still holds.
+/// come at any growth. The environment gets what the tables hold, nothing yet, and on every answer `check_function` still holds.
 /// Writes of the property `current` aren't told apart from other writes yet.
 pub fn infer_mutation_aliasing_effects(
     alloc: Global,
@@ -208,7 +214,7 @@ pub fn infer_mutation_aliasing_effects(
     requires { function_fits func.old env.old ≡ true }
     ensures answer { GivesInto is_memory (effects_inferred env.old func.old is_function_expression) result func.new }
     ensures err { OnErr result (func.new ≡ func.old) }
-    ensures env { env.new ≡ env.old }
+    ensures env { env.new ≡ with_tables (tables_left (context_of env.old func.old is_function_expression)) env.old }
     ensures fits { function_fits func.new env.new ≡ true }
 {
     let recorded = last_effects(alloc, func, env, is_function_expression)?;

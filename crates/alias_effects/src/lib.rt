@@ -4,6 +4,7 @@
 
 mod apply;
 mod block;
+pub mod context;
 pub mod faults;
 mod infer;
 mod output;

@@ -1,5 +1,6 @@
 //! Making what is handed out of what solved the flow over positions.
 ghost use Rattle.std.specs.Prelude.{◌≡◌, ◌++◌, IfOk, OnOk, length, map};
+ghost use Rattle.alias_effects.specs.Contexts.{no_tables};
 ghost use Rattle.alias_effects.specs.Inference.{block_at, entries_of, instructions_recorded, terminal_recorded, solved_of};
 ghost use Rattle.alias_effects.specs.Output.{entry_as, all_recorded, solver_state_with};
 
@@ -120,7 +121,7 @@ pub(crate) fn solved_of(
     recorded: Vec<Option<BlockEffects>>,
 ) -> Result<Solved, AllocError>
     requires { length solution.entries ≡ length func.now.body.blocks }
-    ensures { IfOk result (λ s. s ≡ solved_of func.now (solver_state_with solution recorded.items)) }
+    ensures { IfOk result (λ s. s ≡ solved_of func.now (solver_state_with solution no_tables recorded.items)) }
 {
     let blocks = &func.body.blocks;
     let visits = names_of(alloc, blocks, solution.visits.as_slice())?;

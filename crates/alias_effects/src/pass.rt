@@ -6,15 +6,19 @@ ghost use Rattle.alias_base.specs.Find.{value_at};
 ghost use Rattle.alias_hir.specs.declared.env.Environment.{Environment};
 ghost use Rattle.alias_hir.specs.declared.hir.HirFunction.{HirFunction};
 ghost use Rattle.alias_effects.specs.declared.block.BlockEffects.{BlockEffects};
+ghost use Rattle.alias_effects.specs.declared.context.Tables.{Tables};
 ghost use Rattle.alias_effects.specs.declared.faults.BlockFault.{BlockFault};
+ghost use Rattle.alias_effects.specs.Blocks.{initial_state};
+ghost use Rattle.alias_effects.specs.Contexts.{Extends, held};
 ghost use Rattle.alias_effects.specs.Numbered.{positions_of, entry_position, numbered};
-ghost use Rattle.alias_effects.specs.PassLaws.{Extends, step_fault, pass_laws};
+ghost use Rattle.alias_effects.specs.Faults.{step_fault};
+ghost use Rattle.alias_effects.specs.PassLaws.{pass_laws};
 
 use crate::block::{BlockEffects, infer_block};
+use crate::context::{Context, Tables};
 use crate::faults::BlockFault;
 use alias_base::{BlockId, BlockMap, List};
 use alias_flow::{Flow, StepFault};
-use alias_hir::env::Environment;
 use alias_hir::hir::{BasicBlock, HirFunction};
 use alias_hir::successors::terminal_successors;
 use alias_lattice::InferenceState;
@@ -26,13 +30,20 @@ use std::mem;
 #[derive(Drop)]
 pub(crate) struct EffectsPass<'a> {
     pub(crate) alloc: Global,
-    pub(crate) env: &'a Environment,
-    pub(crate) func: &'a HirFunction,
-    pub(crate) is_function_expression: bool,
+    pub(crate) context: Context<'a>,
+    pub(crate) tables: Tables,
     pub(crate) recorded: Vec<Option<BlockEffects>>,
-    ghost entry_exists: { is_some (value_at func.now.body.blocks func.now.body.entry) ≡ true },
-    ghost few: { length func.now.body.blocks < 2 ^ 32 },
-    ghost recorded_long: { vec_len recorded ≡ length func.now.body.blocks },
+    ghost entry_exists: { is_some (value_at context.func.now.body.blocks context.func.now.body.entry) ≡ true },
+    ghost few: { length context.func.now.body.blocks < 2 ^ 32 },
+    ghost recorded_long: { vec_len recorded ≡ length context.func.now.body.blocks },
+}
+
+/// What the entry begins with.
+fn initial_state(alloc: Global, context: &Context<'_>) -> Result<InferenceState, AllocError>
+    ensures { IfOk result (λ state. state ≡ initial_state (held context.now)) }
+{
+    let _known = context;
+    Ok(InferenceState::empty(alloc))
 }
 
 /// The position of the entry.
@@ -78,7 +89,7 @@ impl<'a> Flow for EffectsPass<'a> {
 
     type Fault = BlockFault;
 
-    ghost Tables = { Unit {0} };
+    ghost Tables = { Tables };
 
     ghost Recorded = { BlockEffects };
 
@@ -86,34 +97,34 @@ impl<'a> Flow for EffectsPass<'a> {
 
     ghost cause = { λ e. e };
 
-    ghost rules = { λ p. numbered p.env.now p.func.now p.is_function_expression };
+    ghost rules = { λ p. numbered (held p.context) };
 
-    ghost tables = { λ p. tt };
+    ghost tables = { λ p. p.tables };
 
     ghost recorded = { λ p. p.recorded.items };
 
     ghost Borrows = { Bor Environment × Bor HirFunction };
 
-    ghost borrows = { λ p. (p.env, p.func) };
+    ghost borrows = { λ p. (p.context.env, p.context.func) };
 
     ghost extends = { Extends };
 
-    ghost laws = { λ p. pass_laws p.env.now p.func.now p.is_function_expression p.entry_exists p.recorded.items (sym p.recorded.ok.0 ∙ p.recorded_long) };
+    ghost laws = { λ p. pass_laws (held p.context) p.entry_exists p.recorded.items (sym p.recorded.ok.0 ∙ p.recorded_long) };
 
     fn blocks(&self) -> u32 {
-        self.func.body.blocks.len() as u32
+        self.context.func.body.blocks.len() as u32
     }
 
     fn entry(&self) -> u32 {
-        entry_position(self.func) as u32
+        entry_position(self.context.func) as u32
     }
 
     fn initial(&self) -> Result<InferenceState, AllocError> {
-        Ok(InferenceState::empty(self.alloc))
+        initial_state(self.alloc, &self.context)
     }
 
     fn edges(&self, block: u32) -> Result<SmallVec<u32, 2, Global>, AllocError> {
-        let blocks = &self.func.body.blocks;
+        let blocks = &self.context.func.body.blocks;
         let Some((_, from)) = blocks.get_index(block as usize) else {
             unreachable!()
         };
@@ -126,21 +137,15 @@ impl<'a> Flow for EffectsPass<'a> {
         block: u32,
         state: &mut InferenceState,
     ) -> Result<(), StepFault<BlockFault>> {
-        let Some((name, at)) = self.func.body.blocks.get_index(block as usize) else {
+        let Some((name, at)) = self.context.func.body.blocks.get_index(block as usize) else {
             unreachable!()
         };
         let entered = mem::replace(state, InferenceState::empty(self.alloc));
-        match infer_block(
-            self.alloc,
-            self.env,
-            &self.func.instructions,
-            self.is_function_expression,
-            *name,
-            at,
-            entered,
-        ) {
-            Ok((after, effects)) => {
+        let tables = mem::replace(&mut self.tables, Tables {});
+        match infer_block(self.alloc, &self.context, *name, at, tables, entered) {
+            Ok((after, tables, effects)) => {
                 *state = after;
+                self.tables = tables;
                 self.recorded[block as usize] = Some(effects);
                 Ok(())
             }

@@ -4,6 +4,7 @@ ghost use Rattle.alias_lattice.specs.States.{look as look_of};
 ghost use Rattle.alias_effects.specs.Faults.{is_effect_memory, GivesInto};
 ghost use Rattle.alias_effects.specs.Progress.{looked, made, record_of, is_made};
 
+use crate::context::Tables;
 use crate::faults::EffectFault;
 use alias_base::{IdentifierId, List};
 use alias_hir::effect::{AliasingEffect, AliasingEffects};
@@ -14,6 +15,7 @@ use alias_lattice::{AbstractValue, InferenceState, MissingLook};
 #[derive(Drop)]
 pub struct StepProgress {
     pub state: InferenceState,
+    pub tables: Tables,
     /// The identifiers that the instruction has made.
     pub made: List<IdentifierId>,
     /// What was recorded of the instruction.
