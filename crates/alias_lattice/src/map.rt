@@ -95,6 +95,13 @@ impl<K: PlainKey, V: Lattice + Drop> LatticeMap<K, V> {
         found(self.chunks(), key)
     }
 
+    /// The value at the key, which may stand near the cursor. The cursor moves behind the key, for one that follows it.
+    pub(crate) fn get_near(&self, key: K, near: &mut Cursor) -> Option<&V>
+        ensures { MatchOption result (find K.cmp key self.now ≡ None) (λ v. find K.cmp key self.now ≡ Some v.now) }
+    {
+        found_near(self.chunks(), near, key)
+    }
+
     /// The first entry whose key is above the one that is given, or the first of all where none is given.
     /// `None` where there is no such entry.
     pub fn entry_after(&self, after: Option<K>) -> Option<&(K, V)>
