@@ -4,3 +4,4 @@ pub mod Belows
 pub mod Each
 pub mod FirstReasons
 pub mod TwoSites
+pub mod CoverLemmas

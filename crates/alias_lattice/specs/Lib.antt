@@ -20,6 +20,7 @@ pub mod Nexts
 pub mod Slots
 pub mod Chunks
 pub mod Shares
+pub mod Covers
 pub mod Keys
 pub mod KeyLaws
 pub mod Sites

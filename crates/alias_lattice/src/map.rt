@@ -1,6 +1,6 @@
 //! Maps to a lattice.
 
-ghost use Rattle.std.specs.Prelude.{◌≡◌, [], not, IfOk, OnOk, OnErr, Option, Some, None, MatchOption, IsTrue};
+ghost use Rattle.std.specs.Prelude.{◌≡◌, [], not, IfOk, OnOk, OnErr, Option, Some, None, MatchOption};
 ghost use Rattle.std.proofs.Math.Dec.{T};
 ghost use Rattle.std.specs.FinMap.{is_sorted, find, put};
 ghost use Rattle.alias_lattice.specs.Maps.{below_option, join_value, entries_below};
@@ -10,7 +10,9 @@ ghost use Rattle.alias_lattice.specs.Nexts.{next_entry};
 ghost use Rattle.alias_lattice.specs.Chunks.{values_of, entries_of};
 
 use crate::chunk::Chunk;
-use crate::chunks::{Chunks, Cursor, entry_after, found, found_near};
+use crate::chunks::{Chunks, entry_after, found};
+use crate::covering::is_within;
+use crate::cursor::{Cursor, covered_near, found_near};
 use crate::lattice::{Lattice, PlainKey};
 use std::alloc::{AllocError, Global};
 use std::marker::Model;
@@ -93,6 +95,13 @@ impl<K: PlainKey, V: Lattice + Drop> LatticeMap<K, V> {
         found(self.chunks(), key)
     }
 
+    /// The value at the key, which may stand near the cursor. The cursor moves behind the key, for one that follows it.
+    pub(crate) fn get_near(&self, key: K, near: &mut Cursor) -> Option<&V>
+        ensures { MatchOption result (find K.cmp key self.now ≡ None) (λ v. find K.cmp key self.now ≡ Some v.now) }
+    {
+        found_near(self.chunks(), near, key)
+    }
+
     /// The first entry whose key is above the one that is given, or the first of all where none is given.
     /// `None` where there is no such entry.
     pub fn entry_after(&self, after: Option<K>) -> Option<&(K, V)>
@@ -166,9 +175,16 @@ impl<K: PlainKey, V: Lattice + Drop> LatticeMap<K, V> {
         ensures grew { IfOk result (λ grew. grew ≡ list_grew K.cmp V.join V.below self.old entries.now) }
     {
         let mut grew = false;
-        for entry in entries {
-            if self.join_entry(entry, near)? {
-                grew = true;
+        let mut slot = 0;
+        'entries: while slot < entries.len() {
+            let count = covered_near(&entries[slot..], self.chunks(), near);
+            if count > 0 {
+                slot += count;
+            } else {
+                if self.join_entry(&entries[slot], near)? {
+                    grew = true;
+                }
+                slot += 1;
             }
         }
         Ok(grew)
@@ -196,16 +212,6 @@ pub fn set_both<K: PlainKey, V: Lattice + Drop, L: PlainKey, W: Lattice + Drop>(
         .put_both(alloc, second_key, second_value, first, key, value)
 }
 
-/// Whether the value is below the one that is there, which it then leaves as it is.
-fn is_within<V: Lattice>(value: &V, there: &V) -> bool
-    ensures below { result ≡ V.below value.now there.now }
-    ensures same { IsTrue result → V.join there.now value.now ≡ there.now }
-{
-    value.known();
-    there.known();
-    value.is_below(there)
-}
-
 /// Each entry is below what the chunks have at its key. The first key may stand near the cursor.
 fn entries_below<K: PlainKey, V: Lattice + Drop>(
     entries: &[(K, V)],
@@ -215,17 +221,34 @@ fn entries_below<K: PlainKey, V: Lattice + Drop>(
     requires { T (is_sorted K.cmp (entries_of (values_of other.now))) }
     ensures { result ≡ entries_below K.cmp V.below entries.now (list_map K.cmp (entries_of (values_of other.now))) }
 {
-    for (key, value) in entries {
-        match found_near(other, near, *key) {
-            Some(there) => {
-                if !value.is_below(there) {
-                    return false;
-                }
+    let mut slot = 0;
+    'entries: while slot < entries.len() {
+        let count = covered_near(&entries[slot..], other, near);
+        if count > 0 {
+            slot += count;
+        } else {
+            if !entry_below(&entries[slot], other, near) {
+                return false;
             }
-            None => return false,
+            slot += 1;
         }
     }
     true
+}
+
+/// The entry is below what the chunks have at its key, which may stand near the cursor.
+fn entry_below<K: PlainKey, V: Lattice + Drop>(
+    entry: &(K, V),
+    other: &[Rc<Chunk<K, V>>],
+    near: &mut Cursor,
+) -> bool
+    requires { T (is_sorted K.cmp (entries_of (values_of other.now))) }
+    ensures { result ≡ below_option V.below (Some entry.now.1) (find K.cmp entry.now.0 (entries_of (values_of other.now))) }
+{
+    match found_near(other, near, entry.0) {
+        Some(there) => entry.1.is_below(there),
+        None => false,
+    }
 }
 
 /// Each entry is below what the other chunks have at its key.

@@ -10,6 +10,7 @@ ghost use Rattle.alias_lattice.specs.ProperStates.{StateProper, AllValued, AreVa
 ghost use Rattle.alias_lattice.specs.JoinLaws.{state_laws};
 ghost use Rattle.alias_lattice.specs.declared.site.Site.TheVariants.{Default};
 
+use crate::cursor::Cursor;
 use crate::lattice::Lattice;
 use crate::look::{Look, MissingLook};
 use crate::map::{LatticeMap, set_both};
@@ -362,17 +363,18 @@ fn one_site(alloc: Global, site: Site) -> Result<SiteSet, AllocError>
     Ok(set)
 }
 
-/// What is so far, joined with the values of the sites.
+/// What is so far, joined with the values of the sites. The first may stand near the cursor.
 fn value_over_sites(
     values: &LatticeMap<Site, AbstractValue>,
     sites: &[(Site, ())],
+    near: &mut Cursor,
     so_far: Option<AbstractValue>,
 ) -> Option<AbstractValue>
     ensures { result ≡ value_over values.now sites.now so_far }
 {
     let mut value = so_far;
     for (site, _) in sites {
-        if let Some(there) = values.get(*site) {
+        if let Some(there) = values.get_near(*site, near) {
             value = match value {
                 Some(so_far) => Some(so_far.joined(there)),
                 None => Some(*there),
@@ -387,9 +389,10 @@ fn value_over(values: &LatticeMap<Site, AbstractValue>, sites: &SiteSet) -> Opti
     ensures { result ≡ value_over values.now sites.now None }
 {
     let mut value = None;
+    let mut near = Cursor::start();
     let chunks = sites.chunks();
     for chunk in chunks {
-        value = value_over_sites(values, chunk.entries(), value);
+        value = value_over_sites(values, chunk.entries(), &mut near, value);
     }
     value
 }
