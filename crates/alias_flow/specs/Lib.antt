@@ -6,6 +6,6 @@ pub mod Solutions
 pub mod Steps
 pub mod Runs
 pub mod WorkListViews
-pub mod Climbs
-pub mod Climbing
+pub mod TestFlows
+pub mod TestFlowLaws
 pub mod FaultLaws

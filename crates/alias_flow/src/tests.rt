@@ -1,7 +1,7 @@
 //! A chain and a loop, whose visits are computed by hand.
 ghost use Rattle.std.specs.Prelude.{◌≡◌, ◌<◌, ℕ, List, [], ◌∷◌, Option, Some, slice_set, nat_le, refl};
-ghost use Rattle.alias_flow.specs.Climbs.{higher, IsHeight, Extends, forward_rules, loop_rules};
-ghost use Rattle.alias_flow.specs.Climbing.{height_laws, forward_laws, loop_laws};
+ghost use Rattle.alias_flow.specs.TestFlows.{higher, IsHeight, Extends, forward_rules, loop_rules};
+ghost use Rattle.alias_flow.specs.TestFlowLaws.{height_laws, forward_laws, loop_laws};
 
 use crate::flow::{Flow, StepFault};
 use crate::forward::{is_forward, solve_forward};

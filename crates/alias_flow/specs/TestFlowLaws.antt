@@ -5,7 +5,7 @@ use Rattle.std.specs.List.{AllByRecursion}
 use Rattle.alias_lattice.specs.Laws.{LatticeLaws}
 use Rattle.alias_flow.specs.Machine.{FlowLaws}
 use Rattle.alias_flow.specs.Solutions.{IsForward}
-use Rattle.alias_flow.specs.Climbs.{higher, IsHeight, Extends, forward_edges, forward_rules, loop_edges, loop_rules}
+use Rattle.alias_flow.specs.TestFlows.{higher, IsHeight, Extends, forward_edges, forward_rules, loop_edges, loop_rules}
 
 higher_commutes : (x y : ℕ) → higher x y ≡ higher y x
 higher_commutes x y = grind (arith, nat_tests)
