@@ -248,7 +248,8 @@ uninferred_rules env func =
     (then_same _ _ _ _ (uninferred_successors func)
     (then_same _ _ _ _ (uninferred_once func)
     (then_same _ _ _ _ (uninferred_handlers func)
-    (then_same _ _ _ _ (uninferred_phis func) (uninferred_orders func)))))))
+    (then_same _ _ _ _ (uninferred_phis func)
+    (then_same _ _ _ _ (uninferred_orders func) refl)))))))
 
 -- a function with what was recorded of it keeps just the rules that it kept
 pub rules_kept : (env : Environment) (s : Solved) (func : HirFunction) → function_rules env (with_effects_of s func) ≡ function_rules env func
