@@ -156,9 +156,9 @@ terminal_within env f b t h = refl
 -- ---- what a block records
 
 -- what a block records is within the tables, where its instructions and its terminal are
-pub block_stands : (c : Context) (b : BlockId) (block : BasicBlock) (t u : Tables) (x y : State) (r : BlockEffects)
+pub block_within_tables : (c : Context) (b : BlockId) (block : BasicBlock) (t u : Tables) (x y : State) (r : BlockEffects)
     → all_pass (instruction_fits c.env) c.func.instructions ≡ Ok tt → all_pass (place_fits c.env) (terminal_places block.terminal) ≡ Ok tt
     → infer_block c b block t x ≡ Ok (y, u, r) → BlockWithinTables c.env r
-block_stands c b block t u x y r f p h =
+block_within_tables c b block t u x y r f p h =
     subst (BlockKeeps (ProgressWithinTables c.env)) h
     (infer_block_keeps (parts_within c) b block t x (λ n. fits_at c.env c.func.instructions n f) (λ s k. (k.0, terminal_within c.env c.is_function_expression b block.terminal p)) tt)

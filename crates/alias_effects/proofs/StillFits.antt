@@ -36,7 +36,7 @@ use Rattle.alias_effects.specs.Output.{last_effects}
 use Rattle.alias_effects.specs.Inference.{instructions_recorded, terminal_recorded, solved_of, answer_of, inferred}
 use Rattle.alias_effects.specs.Numbered.{Blocks, position_of, step_at, numbered, visits_end}
 use Rattle.alias_effects.specs.Recording.{recorded_instructions, block_with, with_terminal_at, recorded_terminals, with_effects_of}
-use Rattle.alias_effects.proofs.EffectsWithinTables.{BlockWithinTables, block_stands}
+use Rattle.alias_effects.proofs.EffectsWithinTables.{BlockWithinTables, block_within_tables}
 use Rattle.alias_flow.specs.RecordingLaws.{AllHold, solution_keeps}
 use Rattle.alias_effects.proofs.RulesKept.{rules_kept}
 
@@ -161,7 +161,7 @@ step_stands : (func : HirFunction) (env : Environment) (f : Bool) (n : ℕ) (o :
 step_stands func env f n None t x y u k h o e = let same : no_effects ≡ k = cc in subst (BlockWithinTables env) same (refl, refl)
 step_stands func env f n (Some b) t x y u k h o e =
     outcome_stands env (infer_block (context_of env func f) b.0 b.1 t x) y u k
-    (λ z s. block_stands (context_of env func f) b.0 b.1 t z.1 x z.0 z.2 (instructions_fit func env h) (terminal_fits func env n b h o) s) e
+    (λ z s. block_within_tables (context_of env func f) b.0 b.1 t z.1 x z.0 z.2 (instructions_fit func env h) (terminal_fits func env n b h o) s) e
 
 none_hold : {K : Type 0} (q : K → Type 0) (n : ℕ) → AllHold q (replicate n None)
 none_hold q zero = tt

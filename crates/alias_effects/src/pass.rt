@@ -39,10 +39,9 @@ pub(crate) struct EffectsPass<'a> {
 }
 
 /// What the entry begins with.
-fn initial_state(alloc: Global, context: &Context<'_>) -> Result<InferenceState, AllocError>
-    ensures { IfOk result (λ state. state ≡ initial_state (held context.now)) }
+fn initial_state(alloc: Global, _context: &Context<'_>) -> Result<InferenceState, AllocError>
+    ensures { IfOk result (λ state. state ≡ initial_state (held _context.now)) }
 {
-    let _known = context;
     Ok(InferenceState::empty(alloc))
 }
 
