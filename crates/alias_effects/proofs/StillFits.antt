@@ -35,7 +35,7 @@ use Rattle.alias_effects.specs.Inference.{instructions_recorded, terminal_record
 use Rattle.alias_effects.specs.Numbered.{Blocks, position_of, step_at, numbered, visits_end}
 use Rattle.alias_effects.specs.Recording.{recorded_instructions, block_with, with_terminal_at, recorded_terminals, with_effects_of}
 use Rattle.alias_effects.proofs.EffectsWithinTables.{BlockWithinTables, block_stands}
-use Rattle.alias_flow.specs.Keeping.{AllHold, solution_keeps}
+use Rattle.alias_flow.specs.RecordingLaws.{AllHold, solution_keeps}
 use Rattle.alias_effects.proofs.RulesKept.{rules_kept}
 
 -- ---- lists of which one item is another

@@ -20,7 +20,7 @@ use Rattle.alias_hir.specs.declared.terminal.Terminal.{Terminal}
 use Rattle.alias_hir.specs.declared.terminal.Terminal.TheVariants.{Return}
 use Rattle.alias_lattice.specs.declared.site.Site.TheVariants.{Default}
 use Rattle.alias_lattice.specs.declared.look.MissingLook.{MissingLook}
-use Rattle.alias_lattice.specs.States.{State, empty_state, sites_of, defined, defaulted, phied}
+use Rattle.alias_lattice.specs.States.{State, empty_state, mutable_other, sites_of, given, phied}
 use Rattle.alias_lattice.specs.Flows.{Flow, Outcome, Stepped, Refused}
 use Rattle.alias_effects.specs.declared.faults.EffectFault.{EffectFault}
 use Rattle.alias_effects.specs.declared.faults.EffectFault.TheVariants as step
@@ -38,10 +38,10 @@ use Rattle.alias_effects.specs.Apply.{apply_effects}
 abbrev pub step_start : BlockProgress → StepProgress
 step_start s = record { state = s.state; made = []; recorded = []; missing = s.missing }
 
--- an identifier without sites gets one of its own, which reads Mutable {Other}
+-- an identifier without a set takes Default of itself, which gets Mutable {Other} whatever value it had
 abbrev pub with_default : Bool → IdentifierId → State → State
 with_default true x s = s
-with_default false x s = defined x (Default x) (defaulted (Default x) s)
+with_default false x s = given x (Default x) mutable_other s
 
 -- what was recorded of the instruction, if anything was
 abbrev pub recorded_as : InstructionId → List AliasingEffect → List InstructionEffects

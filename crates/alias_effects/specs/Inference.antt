@@ -1,5 +1,5 @@
 -- What the effects pass answers for a function.
-use Rattle.std.specs.Prelude.{◌≡◌, ℕ, Bool, List, [], ◌∷◌, map, slice_get, Option, Some, None, Result, Ok, Err, ⊤}
+use Rattle.std.specs.Prelude.{ℕ, Bool, List, [], ◌∷◌, map, slice_get, Option, Some, None, Result, Ok, Err}
 use Rattle.std.specs.List.{flat_map}
 use Rattle.std.specs.Option.{option_map_or}
 use Rattle.alias_base.specs.Answer.{◌>>=◌}
@@ -74,23 +74,3 @@ abbrev pub effects_inferred : Environment → HirFunction → Bool → Result Hi
 effects_inferred env func is_function_expression = do
   s ← inferred env func is_function_expression
   Ok (with_effects_of s func)
-
--- Ok is the answer stated, and so is a refusal. Memory may fail at any time.
-abbrev pub Infers : {A : Type 0} → Result A InferError → Result A InferError → Type 0
-Infers answer (Ok x) = answer ≡ Ok x
-Infers answer (Err (error.NotSettled f n r)) = answer ≡ Err (error.NotSettled f n r)
-Infers answer (Err (error.Uninitialized f b x s r)) = answer ≡ Err (error.Uninitialized f b x s r)
-Infers answer (Err (error.Reinitialized f i x)) = answer ≡ Err (error.Reinitialized f i x)
-Infers answer (Err (error.Memory e)) = ⊤
-
--- A refusal is the one stated, or memory failed.
-abbrev pub RefusesAs : InferError → InferError → Type 0
-RefusesAs stated (error.NotSettled f n r) = stated ≡ error.NotSettled f n r
-RefusesAs stated (error.Uninitialized f b x s r) = stated ≡ error.Uninitialized f b x s r
-RefusesAs stated (error.Reinitialized f i x) = stated ≡ error.Reinitialized f i x
-RefusesAs stated (error.Memory e) = ⊤
-
--- At Ok the function has become the one stated, and a refusal is the one stated. Memory may fail at any time.
-abbrev pub InfersInto : Result HirFunction InferError → Result (Unit {0}) InferError → HirFunction → Type 0
-InfersInto answer (Ok u) func = answer ≡ Ok func
-InfersInto answer (Err e) func = Infers answer (Err e)

@@ -2,9 +2,11 @@ pub mod Progress
 pub mod Apply
 pub mod Signatures
 pub mod Blocks
-pub mod BlockResults
-pub mod ApplyProperLaws
-pub mod BlockProperLaws
+pub mod Faults
+pub mod SignatureLaws
+pub mod ApplyKeepsLaws
+pub mod BlockKeepsLaws
+pub mod ProperLaws
 pub mod Solutions
 pub mod PositionLaws
 pub mod Numbered

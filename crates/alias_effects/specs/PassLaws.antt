@@ -20,7 +20,7 @@ use Rattle.alias_lattice.specs.Proper.{proper-empty_state}
 use Rattle.alias_effects.specs.declared.faults.BlockFault.{BlockFault}
 use Rattle.alias_effects.specs.declared.faults.BlockFault.TheVariants.{Reinitialized, Uninitialized, Memory}
 use Rattle.alias_effects.specs.declared.block.BlockEffects.{BlockEffects}
-use Rattle.alias_effects.specs.BlockProperLaws.{step_at_proper}
+use Rattle.alias_effects.specs.ProperLaws.{step_at_proper}
 use Rattle.alias_effects.specs.PositionLaws.{found_has_position}
 use Rattle.alias_effects.specs.Numbered.{Blocks, position_of, with_position, positions_of, edges_at, numbered}
 

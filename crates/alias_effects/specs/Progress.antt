@@ -1,5 +1,5 @@
 -- What the parts of a step do to its progress.
-use Rattle.std.specs.Prelude.{◌≡◌, Bool, ◌==◌, List, [], ◌∷◌, ◌++◌, Option, Some, None, Result, Ok, Err, ⊤, if◌then◌else◌}
+use Rattle.std.specs.Prelude.{Bool, ◌==◌, List, [], ◌∷◌, ◌++◌, Option, Some, None, Result, Ok, Err, if◌then◌else◌}
 use Rattle.std.specs.List.{list_any}
 use Rattle.alias_base.specs.declared.ids.IdentifierId.{IdentifierId}
 use Rattle.alias_hir.specs.declared.place.Span.{Span}
@@ -8,7 +8,7 @@ use Rattle.alias_lattice.specs.declared.look.MissingLook.{MissingLook}
 use Rattle.alias_lattice.specs.States.{State, missing_look}
 use Rattle.alias_effects.specs.declared.progress.StepProgress.{StepProgress}
 use Rattle.alias_effects.specs.declared.faults.EffectFault.{EffectFault}
-use Rattle.alias_effects.specs.declared.faults.EffectFault.TheVariants.{Reinitialized, Memory}
+use Rattle.alias_effects.specs.declared.faults.EffectFault.TheVariants.{Reinitialized}
 
 -- the effect is recorded
 abbrev pub record_of : AliasingEffect → StepProgress → StepProgress
@@ -33,9 +33,3 @@ is_made x made = list_any (λ (y : IdentifierId). y.0 == x.0) made
 -- the identifier is made, once in an instruction
 abbrev pub made : IdentifierId → StepProgress → Result StepProgress EffectFault
 made x s = if is_made x s.made then Err (Reinitialized x) else Ok (record s { made = s.made ++ x ∷ [] })
-
--- After Ok the progress is the one that the step gives, and a refusal is the step's. Memory may fail at any time.
-abbrev pub Follows : Result StepProgress EffectFault → Result ⊤ EffectFault → StepProgress → Type 0
-Follows step (Ok u) s = step ≡ Ok s
-Follows step (Err (Reinitialized x)) s = step ≡ Err (Reinitialized x)
-Follows step (Err (Memory e)) s = ⊤

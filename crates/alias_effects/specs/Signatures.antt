@@ -1,21 +1,16 @@
 -- The signature of each kind of instruction: the effects that it has before the state is looked at, in order.
-use Rattle.std.specs.Prelude.{Bool, false, ◌&&◌, nat_eq, List, [], ◌∷◌, Option, Some, None, codes, if◌then◌else◌}
-use Rattle.std.specs.Cmp.Lexicographic.{pointwise}
+use Rattle.std.specs.Prelude.{List, [], ◌∷◌, None, if◌then◌else◌}
 use Rattle.alias_hir.specs.declared.place.Place.{Place}
 use Rattle.alias_hir.specs.declared.effect.ValueKind.TheVariants.{Primitive, Mutable}
 use Rattle.alias_hir.specs.declared.effect.ValueReason.TheVariants.{Other}
-use Rattle.alias_hir.specs.declared.effect.MutationReason.{MutationReason}
-use Rattle.alias_hir.specs.declared.effect.MutationReason.TheVariants.{AssignCurrentProperty}
 use Rattle.alias_hir.specs.declared.effect.AliasingEffect.{AliasingEffect}
 use Rattle.alias_hir.specs.declared.effect.AliasingEffect.TheVariants.{Create, CreateFrom, Assign, Capture, Mutate}
 use Rattle.alias_hir.specs.declared.env.Environment.{Environment}
 use Rattle.alias_hir.specs.declared.hir.Instruction.{Instruction}
 use Rattle.alias_hir.specs.declared.value.LValue.{LValue}
-use Rattle.alias_hir.specs.declared.value.PropertyLiteral.{PropertyLiteral}
-use Rattle.alias_hir.specs.declared.value.PropertyLiteral.TheVariants as property
 use Rattle.alias_hir.specs.declared.value.InstructionValue.{InstructionValue}
 use Rattle.alias_hir.specs.declared.value.InstructionValue.TheVariants as value
-use Rattle.alias_hir.specs.Types.{is_primitive_at, is_untyped_at}
+use Rattle.alias_hir.specs.Types.{is_primitive_at}
 
 -- a new primitive value
 abbrev pub primitive_effects : Place → List AliasingEffect
@@ -30,20 +25,9 @@ abbrev pub property_load_effects : Environment → Place → Place → List Alia
 property_load_effects env l object =
     if is_primitive_at env l.identifier then Create l Primitive Other ∷ [] else CreateFrom object l ∷ []
 
--- the property `current`
-abbrev pub is_current : PropertyLiteral → Bool
-is_current (property.String name) = pointwise nat_eq name (codes "current")
-is_current property.Number = false
-
--- a write of `current` of an object of which nothing is known
-abbrev pub mutation_reason : Environment → Place → PropertyLiteral → Option MutationReason
-mutation_reason env object p =
-    if is_current p && is_untyped_at env object.identifier then Some AssignCurrentProperty else None
-
 -- the object is written and takes the value in; the result is primitive
-abbrev pub property_store_effects : Environment → Place → Place → PropertyLiteral → Place → List AliasingEffect
-property_store_effects env l object p v =
-    Mutate object (mutation_reason env object p) ∷ Capture v object ∷ Create l Primitive Other ∷ []
+abbrev pub property_store_effects : Place → Place → Place → List AliasingEffect
+property_store_effects l object v = Mutate object None ∷ Capture v object ∷ Create l Primitive Other ∷ []
 
 -- the same value again
 abbrev pub load_local_effects : Place → Place → List AliasingEffect
@@ -56,7 +40,7 @@ store_local_effects l variable v = Assign v variable.place ∷ Assign v l ∷ []
 abbrev pub signature_of_value : Environment → Place → InstructionValue → List AliasingEffect
 signature_of_value env l value.ObjectExpression = object_expression_effects l
 signature_of_value env l (value.PropertyLoad object) = property_load_effects env l object
-signature_of_value env l (value.PropertyStore object p v) = property_store_effects env l object p v
+signature_of_value env l (value.PropertyStore object p v) = property_store_effects l object v
 signature_of_value env l (value.LoadLocal place) = load_local_effects l place
 signature_of_value env l (value.StoreLocal variable v) = store_local_effects l variable v
 signature_of_value env l value.Primitive = primitive_effects l

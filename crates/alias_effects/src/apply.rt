@@ -1,8 +1,9 @@
 //! The step of each effect, a function for each effect.
-ghost use Rattle.std.specs.Prelude.{◌≡◌, OnOk};
+ghost use Rattle.std.specs.Prelude.{◌≡◌, OnOk, Ok};
 ghost use Rattle.alias_hir.specs.declared.effect.AliasingEffect.TheVariants.{Create};
 ghost use Rattle.alias_lattice.specs.States.{given};
-ghost use Rattle.alias_effects.specs.Progress.{with_state, record_of, Follows};
+ghost use Rattle.alias_effects.specs.Faults.{is_effect_memory, GivesInto};
+ghost use Rattle.alias_effects.specs.Progress.{with_state, record_of};
 ghost use Rattle.alias_effects.specs.Apply.{is_constant, is_frozen, may_be_frozen, value_with, apply_create, apply_immutable_capture, record_create_from, apply_create_from, assign_value, apply_assign, captures, may_alias, apply_maybe_alias, apply_capture, record_mutation, apply_mutate, apply_freeze, apply_effect, apply_effects};
 
 use crate::faults::EffectFault;
@@ -52,7 +53,8 @@ fn may_alias(from: ValueKind, into: ValueKind) -> bool
     }
 }
 
-fn value_with(kind: ValueKind, reason: ValueReason) -> AbstractValue
+/// A kind with one reason.
+pub fn value_with(kind: ValueKind, reason: ValueReason) -> AbstractValue
     ensures { result ≡ value_with kind reason }
 {
     AbstractValue {
@@ -73,13 +75,31 @@ fn give(
     step.state.give(place.identifier, site, value)
 }
 
+fn record_created(
+    step: &mut StepProgress,
+    into: &Place,
+    value: ValueKind,
+    reason: ValueReason,
+) -> Result<(), EffectFault>
+    ensures { GivesInto is_effect_memory (Ok (record_of (Create into.now value reason) step.old)) result step.new }
+{
+    record(
+        step,
+        AliasingEffect::Create {
+            into: *into,
+            value,
+            reason,
+        },
+    )
+}
+
 fn apply_create(
     step: &mut StepProgress,
     into: &Place,
     value: ValueKind,
     reason: ValueReason,
 ) -> Result<(), EffectFault>
-    ensures { Follows (apply_create into.now value reason step.old) result step.new }
+    ensures { GivesInto is_effect_memory (apply_create into.now value reason step.old) result step.new }
 {
     make(step, into.identifier)?;
     let site = Site::Created {
@@ -88,23 +108,15 @@ fn apply_create(
         reason,
     };
     give(step, into, site, value_with(value, reason))?;
-    record(
-        step,
-        AliasingEffect::Create {
-            into: *into,
-            value,
-            reason,
-        },
-    )?;
-    Ok(())
+    record_created(step, into, value, reason)
 }
 
 fn apply_immutable_capture(
     step: &mut StepProgress,
     from: &Place,
     into: &Place,
-) -> Result<(), AllocError>
-    ensures { OnOk result (step.new ≡ apply_immutable_capture from.now into.now step.old) }
+) -> Result<(), EffectFault>
+    ensures { GivesInto is_effect_memory (Ok (apply_immutable_capture from.now into.now step.old)) result step.new }
 {
     let value = look(step, from.identifier, None);
     if is_constant(value.kind) {
@@ -119,32 +131,14 @@ fn apply_immutable_capture(
     )
 }
 
-fn record_created(
-    step: &mut StepProgress,
-    into: &Place,
-    value: ValueKind,
-    reason: ValueReason,
-) -> Result<(), AllocError>
-    ensures { OnOk result (step.new ≡ record_of (Create into.now value reason) step.old) }
-{
-    record(
-        step,
-        AliasingEffect::Create {
-            into: *into,
-            value,
-            reason,
-        },
-    )
-}
-
 fn record_create_from(
     step: &mut StepProgress,
     kind: ValueKind,
     reason: ValueReason,
     from: &Place,
     into: &Place,
-) -> Result<(), AllocError>
-    ensures { OnOk result (step.new ≡ record_create_from kind reason from.now into.now step.old) }
+) -> Result<(), EffectFault>
+    ensures { GivesInto is_effect_memory (Ok (record_create_from kind reason from.now into.now step.old)) result step.new }
 {
     match kind {
         ValueKind::Primitive | ValueKind::Global => record_created(step, into, kind, reason),
@@ -163,7 +157,7 @@ fn record_create_from(
 }
 
 fn apply_create_from(step: &mut StepProgress, from: &Place, into: &Place) -> Result<(), EffectFault>
-    ensures { Follows (apply_create_from from.now into.now step.old) result step.new }
+    ensures { GivesInto is_effect_memory (apply_create_from from.now into.now step.old) result step.new }
 {
     make(step, into.identifier)?;
     let value = look(step, from.identifier, None);
@@ -172,8 +166,7 @@ fn apply_create_from(step: &mut StepProgress, from: &Place, into: &Place) -> Res
         into: into.identifier,
     };
     give(step, into, site, value)?;
-    record_create_from(step, value.kind, primary_reason(&value.reason), from, into)?;
-    Ok(())
+    record_create_from(step, value.kind, primary_reason(&value.reason), from, into)
 }
 
 fn assign_value(
@@ -181,8 +174,8 @@ fn assign_value(
     value: AbstractValue,
     from: &Place,
     into: &Place,
-) -> Result<(), AllocError>
-    ensures { OnOk result (step.new ≡ assign_value value from.now into.now step.old) }
+) -> Result<(), EffectFault>
+    ensures { GivesInto is_effect_memory (Ok (assign_value value from.now into.now step.old)) result step.new }
 {
     let (source, target) = (from.identifier, into.identifier);
     if is_frozen(value.kind) {
@@ -191,14 +184,16 @@ fn assign_value(
             from: source,
             into: target,
         };
-        return give(step, into, site, value);
+        give(step, into, site, value)?;
+        return Ok(());
     }
     if is_constant(value.kind) {
         let site = Site::AssignCopy {
             from: source,
             into: target,
         };
-        return give(step, into, site, value);
+        give(step, into, site, value)?;
+        return Ok(());
     }
     step.state.assign(target, source)?;
     record(
@@ -211,16 +206,15 @@ fn assign_value(
 }
 
 fn apply_assign(step: &mut StepProgress, from: &Place, into: &Place) -> Result<(), EffectFault>
-    ensures { Follows (apply_assign from.now into.now step.old) result step.new }
+    ensures { GivesInto is_effect_memory (apply_assign from.now into.now step.old) result step.new }
 {
     make(step, into.identifier)?;
     let value = look(step, from.identifier, from.span);
-    assign_value(step, value, from, into)?;
-    Ok(())
+    assign_value(step, value, from, into)
 }
 
-fn apply_maybe_alias(step: &mut StepProgress, from: &Place, into: &Place) -> Result<(), AllocError>
-    ensures { OnOk result (step.new ≡ apply_maybe_alias from.now into.now step.old) }
+fn apply_maybe_alias(step: &mut StepProgress, from: &Place, into: &Place) -> Result<(), EffectFault>
+    ensures { GivesInto is_effect_memory (Ok (apply_maybe_alias from.now into.now step.old)) result step.new }
 {
     let _into = look(step, into.identifier, into.span);
     let value = look(step, from.identifier, from.span);
@@ -236,8 +230,8 @@ fn apply_maybe_alias(step: &mut StepProgress, from: &Place, into: &Place) -> Res
     )
 }
 
-fn apply_capture(step: &mut StepProgress, from: &Place, into: &Place) -> Result<(), AllocError>
-    ensures { OnOk result (step.new ≡ apply_capture from.now into.now step.old) }
+fn apply_capture(step: &mut StepProgress, from: &Place, into: &Place) -> Result<(), EffectFault>
+    ensures { GivesInto is_effect_memory (Ok (apply_capture from.now into.now step.old)) result step.new }
 {
     let target = look(step, into.identifier, into.span);
     let source = look(step, from.identifier, from.span);
@@ -264,8 +258,8 @@ fn record_mutation(
     kind: ValueKind,
     value: &Place,
     reason: Option<MutationReason>,
-) -> Result<(), AllocError>
-    ensures { OnOk result (step.new ≡ record_mutation kind value.now reason step.old) }
+) -> Result<(), EffectFault>
+    ensures { GivesInto is_effect_memory (Ok (record_mutation kind value.now reason step.old)) result step.new }
 {
     let place = *value;
     match kind {
@@ -288,8 +282,8 @@ fn apply_mutate(
     step: &mut StepProgress,
     value: &Place,
     reason: Option<MutationReason>,
-) -> Result<(), AllocError>
-    ensures { OnOk result (step.new ≡ apply_mutate value.now reason step.old) }
+) -> Result<(), EffectFault>
+    ensures { GivesInto is_effect_memory (Ok (apply_mutate value.now reason step.old)) result step.new }
 {
     let there = look(step, value.identifier, value.span);
     record_mutation(step, there.kind, value, reason)
@@ -299,8 +293,8 @@ fn apply_freeze(
     step: &mut StepProgress,
     value: &Place,
     reason: ValueReason,
-) -> Result<(), AllocError>
-    ensures { OnOk result (step.new ≡ apply_freeze value.now reason step.old) }
+) -> Result<(), EffectFault>
+    ensures { GivesInto is_effect_memory (Ok (apply_freeze value.now reason step.old)) result step.new }
 {
     if step.state.freeze(value.identifier, reason)? {
         record(
@@ -316,60 +310,42 @@ fn apply_freeze(
 
 /// The step of one effect.
 fn apply_effect(step: &mut StepProgress, effect: &AliasingEffect) -> Result<(), EffectFault>
-    ensures { Follows (apply_effect effect.now step.old) result step.new }
+    ensures { GivesInto is_effect_memory (apply_effect effect.now step.old) result step.new }
 {
     match effect {
         AliasingEffect::CreateFrom { from, into } => apply_create_from(step, from, into),
         AliasingEffect::ImmutableCapture { from, into } => {
-            apply_immutable_capture(step, from, into)?;
-            Ok(())
+            apply_immutable_capture(step, from, into)
         }
         AliasingEffect::Assign { from, into } => apply_assign(step, from, into),
-        AliasingEffect::Capture { from, into } => {
-            apply_capture(step, from, into)?;
-            Ok(())
-        }
-        AliasingEffect::MaybeAlias { from, into } => {
-            apply_maybe_alias(step, from, into)?;
-            Ok(())
-        }
+        AliasingEffect::Capture { from, into } => apply_capture(step, from, into),
+        AliasingEffect::MaybeAlias { from, into } => apply_maybe_alias(step, from, into),
         AliasingEffect::Create {
             into,
             value,
             reason,
         } => apply_create(step, into, *value, *reason),
-        AliasingEffect::Freeze { value, reason } => {
-            apply_freeze(step, value, *reason)?;
-            Ok(())
-        }
+        AliasingEffect::Freeze { value, reason } => apply_freeze(step, value, *reason),
         AliasingEffect::MutateFrozen { place } => {
-            record(step, AliasingEffect::MutateFrozen { place: *place })?;
-            Ok(())
+            record(step, AliasingEffect::MutateFrozen { place: *place })
         }
         AliasingEffect::MutateGlobal { place } => {
-            record(step, AliasingEffect::MutateGlobal { place: *place })?;
-            Ok(())
+            record(step, AliasingEffect::MutateGlobal { place: *place })
         }
-        AliasingEffect::Impure { place, error } => {
-            record(
-                step,
-                AliasingEffect::Impure {
-                    place: *place,
-                    error: *error,
-                },
-            )?;
-            Ok(())
-        }
-        AliasingEffect::Mutate { value, reason } => {
-            apply_mutate(step, value, *reason)?;
-            Ok(())
-        }
+        AliasingEffect::Impure { place, error } => record(
+            step,
+            AliasingEffect::Impure {
+                place: *place,
+                error: *error,
+            },
+        ),
+        AliasingEffect::Mutate { value, reason } => apply_mutate(step, value, *reason),
     }
 }
 
 /// The steps of a list of effects, in order.
 pub fn apply_effects(step: &mut StepProgress, effects: &[AliasingEffect]) -> Result<(), EffectFault>
-    ensures { Follows (apply_effects effects.now step.old) result step.new }
+    ensures { GivesInto is_effect_memory (apply_effects effects.now step.old) result step.new }
 {
     for effect in effects {
         apply_effect(step, effect)?;

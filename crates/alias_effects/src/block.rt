@@ -1,22 +1,23 @@
 //! The step of a block.
 ghost use Rattle.std.specs.Prelude.{◌≡◌, ◌++◌, OnOk, IfOk, option_map};
 ghost use Rattle.std.specs.Option.{is_some};
+ghost use Rattle.alias_base.specs.Answer.{Gives};
 ghost use Rattle.alias_lattice.specs.States.{sites_of};
 ghost use Rattle.alias_effects.specs.Blocks.{with_default, recorded_as, apply_signature, apply_signature_at, apply_signatures, infer_phis, block_start, return_effects, action_effects, terminal_recorded_as, terminal_effects, finished, infer_block, fault_at};
-ghost use Rattle.alias_effects.specs.BlockResults.{SignatureGives, BlockGives};
+ghost use Rattle.alias_effects.specs.Faults.{is_block_memory};
 
-use crate::apply::apply_effects;
+use crate::apply::{apply_effects, value_with};
 use crate::faults::{BlockFault, EffectFault};
 use crate::progress::StepProgress;
 use crate::signature::compute_signature_for_instruction;
 use crate::solved::{InstructionEffects, TerminalEffects};
 use alias_base::{BlockId, IdentifierId, InstructionId, List};
-use alias_hir::effect::{AliasingEffect, AliasingEffects, ValueReason};
+use alias_hir::effect::{AliasingEffect, AliasingEffects, ValueKind, ValueReason};
 use alias_hir::env::Environment;
 use alias_hir::hir::{BasicBlock, Instruction, Phi};
 use alias_hir::place::Place;
 use alias_hir::terminal::Terminal;
-use alias_lattice::{InferenceState, MissingLook};
+use alias_lattice::{InferenceState, MissingLook, Site};
 use std::alloc::{AllocError, Global};
 
 /// How far the step of a block has come.
@@ -35,13 +36,18 @@ pub struct BlockEffects {
     pub terminal: List<TerminalEffects>,
 }
 
+/// A result without a set takes Default(result), which gets Mutable {Other} whatever value it had.
 fn define_result(state: &mut InferenceState, result_id: IdentifierId) -> Result<(), AllocError>
     ensures { OnOk result (state.new ≡ with_default (is_some (sites_of state.old result_id)) result_id state.old) }
 {
     if state.is_defined(result_id) {
         return Ok(());
     }
-    state.define_default(result_id)
+    state.give(
+        result_id,
+        Site::Default(result_id),
+        value_with(ValueKind::Mutable, ValueReason::Other),
+    )
 }
 
 fn fault_at(instruction: InstructionId, fault: EffectFault) -> BlockFault
@@ -81,7 +87,7 @@ fn apply_signature(
     instruction: &Instruction,
     progress: BlockProgress,
 ) -> Result<BlockProgress, BlockFault>
-    ensures { SignatureGives (apply_signature env.now id instruction.now progress) result }
+    ensures { Gives is_block_memory (apply_signature env.now id instruction.now progress) result }
 {
     let signature = compute_signature_for_instruction(alloc, env, instruction)?;
     let BlockProgress {
@@ -121,7 +127,7 @@ fn apply_signature_at(
     instruction: Option<&Instruction>,
     progress: BlockProgress,
 ) -> Result<BlockProgress, BlockFault>
-    ensures { SignatureGives (apply_signature_at env.now id (option_map (λ i. i.now) instruction.entry) progress) result }
+    ensures { Gives is_block_memory (apply_signature_at env.now id (option_map (λ i. i.now) instruction.entry) progress) result }
 {
     match instruction {
         Some(instruction) => apply_signature(alloc, env, id, instruction, progress),
@@ -137,7 +143,7 @@ fn apply_signatures(
     block: &BasicBlock,
     progress: BlockProgress,
 ) -> Result<BlockProgress, BlockFault>
-    ensures { SignatureGives (apply_signatures env.now instructions.now block.now.instructions progress) result }
+    ensures { Gives is_block_memory (apply_signatures env.now instructions.now block.now.instructions progress) result }
 {
     let mut progress = progress;
     for id in block.instructions.as_slice() {
@@ -245,7 +251,7 @@ pub fn infer_block(
     block: &BasicBlock,
     state: InferenceState,
 ) -> Result<(InferenceState, BlockEffects), BlockFault>
-    ensures { BlockGives (infer_block env.now instructions.now is_function_expression id block.now state) result }
+    ensures { Gives is_block_memory (infer_block env.now instructions.now is_function_expression id block.now state) result }
 {
     let mut state = state;
     infer_phis(&block.phis, &mut state)?;

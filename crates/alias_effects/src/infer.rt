@@ -2,12 +2,15 @@
 ghost use Rattle.std.specs.List.{IsDistinct};
 ghost use Rattle.std.specs.Map.{keys_of};
 ghost use Rattle.std.specs.Prelude.{◌≡◌, true, None, IfOk, OnErr, length, replicate};
+ghost use Rattle.alias_base.specs.Answer.{Gives};
 ghost use Rattle.alias_base.specs.Find.{same_block};
+ghost use Rattle.alias_hir.specs.Errors.{is_memory};
 ghost use Rattle.alias_lattice.specs.States.{state_join, state_below};
 ghost use Rattle.alias_flow.specs.Machine.{solution};
 ghost use Rattle.alias_rules.specs.Fitting.{function_fits};
+ghost use Rattle.alias_effects.specs.Faults.{GivesInto};
 ghost use Rattle.alias_effects.specs.Output.{unsettled, unsolved, last_effects, VisitsEnd};
-ghost use Rattle.alias_effects.specs.Inference.{refusal, inferred, effects_inferred, Infers, InfersInto, RefusesAs};
+ghost use Rattle.alias_effects.specs.Inference.{refusal, inferred, effects_inferred};
 ghost use Rattle.alias_effects.specs.Numbered.{numbered};
 ghost use Rattle.alias_effects.specs.Recording.{with_effects_of};
 ghost use Rattle.alias_effects.specs.Solutions.{IsSolved};
@@ -26,45 +29,42 @@ use alias_hir::hir::HirFunction;
 use alias_hir::report::{not_settled_report, uninitialized_report};
 use std::alloc::{AllocError, Global};
 
-fn refusal(alloc: Global, env: &Environment, block: BlockId, fault: BlockFault) -> InferError
-    ensures { RefusesAs (refusal env.now block fault) result }
+fn refusal(
+    alloc: Global,
+    env: &Environment,
+    block: BlockId,
+    fault: BlockFault,
+) -> Result<InferError, AllocError>
+    ensures { IfOk result (λ e. e ≡ refusal env.now block fault) }
 {
     match fault {
         BlockFault::Reinitialized {
             instruction,
             identifier,
-        } => InferError::Reinitialized {
+        } => Ok(InferError::Reinitialized {
             function: None,
             instruction,
             identifier,
-        },
-        BlockFault::Uninitialized(look) => {
-            match uninitialized_report(alloc, env, look.identifier, look.span) {
-                Ok(report) => InferError::Uninitialized {
-                    function: None,
-                    block,
-                    identifier: look.identifier,
-                    span: look.span,
-                    report,
-                },
-                Err(e) => InferError::Memory(e),
-            }
-        }
-        BlockFault::Memory(e) => InferError::Memory(e),
+        }),
+        BlockFault::Uninitialized(look) => Ok(InferError::Uninitialized {
+            function: None,
+            block,
+            identifier: look.identifier,
+            span: look.span,
+            report: uninitialized_report(alloc, env, look.identifier, look.span)?,
+        }),
+        BlockFault::Memory(e) => Ok(InferError::Memory(e)),
     }
 }
 
-fn not_settled(alloc: Global, visits: u64) -> InferError
-    ensures { RefusesAs (unsettled visits) result }
+fn not_settled(alloc: Global, visits: u64) -> Result<InferError, AllocError>
+    ensures { IfOk result (λ e. e ≡ unsettled visits) }
 {
-    match not_settled_report(alloc) {
-        Ok(report) => InferError::NotSettled {
-            function: None,
-            visits,
-            report,
-        },
-        Err(e) => InferError::Memory(e),
-    }
+    Ok(InferError::NotSettled {
+        function: None,
+        visits,
+        report: not_settled_report(alloc)?,
+    })
 }
 
 fn unsolved(
@@ -72,8 +72,8 @@ fn unsolved(
     env: &Environment,
     func: &HirFunction,
     fault: SolveFault<BlockFault>,
-) -> InferError
-    ensures { RefusesAs (unsolved env.now func.now fault) result }
+) -> Result<InferError, AllocError>
+    ensures { IfOk result (λ e. e ≡ unsolved env.now func.now fault) }
 {
     match fault {
         SolveFault::Step { block, fault } => {
@@ -81,7 +81,7 @@ fn unsolved(
             refusal(alloc, env, name, fault)
         }
         SolveFault::NotSettled { visits } => not_settled(alloc, visits),
-        SolveFault::Memory(e) => InferError::Memory(e),
+        SolveFault::Memory(e) => Ok(InferError::Memory(e)),
     }
 }
 
@@ -118,7 +118,7 @@ fn solved(
     is_function_expression: bool,
 ) -> Result<Solved, InferError>
     requires { function_fits func.now env.now ≡ true }
-    ensures answer { Infers (inferred env.now func.now is_function_expression) result }
+    ensures answer { Gives is_memory (inferred env.now func.now is_function_expression) result }
     ensures solves { IfOk result (λ s. IsSolved env.now func.now is_function_expression s) }
 {
     let mut pass = pass_over(alloc, func, env, is_function_expression)?;
@@ -126,7 +126,7 @@ fn solved(
     let EffectsPass { recorded, .. } = pass;
     match answer {
         Ok(solution) => Ok(solved_of(alloc, func, solution, recorded)?),
-        Err(fault) => Err(unsolved(alloc, env, func, fault)),
+        Err(fault) => Err(unsolved(alloc, env, func, fault)?),
     }
 }
 
@@ -149,14 +149,14 @@ fn last_effects(
     is_function_expression: bool,
 ) -> Result<BlockEffects, InferError>
     requires { function_fits func.now env.now ≡ true }
-    ensures { Infers (last_effects env.now func.now is_function_expression) result }
+    ensures { Gives is_memory (last_effects env.now func.now is_function_expression) result }
 {
     let mut pass = pass_over(alloc, func, env, is_function_expression)?;
     let answer = visit_all(alloc, &mut pass);
     let EffectsPass { recorded, .. } = pass;
     match answer {
         Ok(()) => Ok(all_recorded(alloc, recorded)?),
-        Err(fault) => Err(unsolved(alloc, env, func, fault)),
+        Err(fault) => Err(unsolved(alloc, env, func, fault)?),
     }
 }
 
@@ -177,7 +177,7 @@ pub fn infer_effects_certified(
     is_function_expression: bool,
 ) -> Result<Solved, InferError>
     requires { function_fits func.old env.old ≡ true }
-    ensures answer { Infers (inferred env.old func.old is_function_expression) result }
+    ensures answer { Gives is_memory (inferred env.old func.old is_function_expression) result }
     ensures solves { IfOk result (λ s. IsSolved env.old func.old is_function_expression s) }
     ensures recorded { IfOk result (λ s. func.new ≡ with_effects_of s func.old) }
     ensures err { OnErr result (func.new ≡ func.old) }
@@ -205,7 +205,7 @@ pub fn infer_mutation_aliasing_effects(
     is_function_expression: bool,
 ) -> Result<(), InferError>
     requires { function_fits func.old env.old ≡ true }
-    ensures answer { InfersInto (effects_inferred env.old func.old is_function_expression) result func.new }
+    ensures answer { GivesInto is_memory (effects_inferred env.old func.old is_function_expression) result func.new }
     ensures err { OnErr result (func.new ≡ func.old) }
     ensures env { env.new ≡ env.old }
     ensures fits { function_fits func.new env.new ≡ true }

@@ -1,14 +1,14 @@
 //! How far the step of an instruction has come.
-ghost use Rattle.std.specs.Prelude.{◌≡◌, OnOk};
+ghost use Rattle.std.specs.Prelude.{◌≡◌, Ok};
 ghost use Rattle.alias_lattice.specs.States.{look as look_of};
-ghost use Rattle.alias_effects.specs.Progress.{looked, made, record_of, Follows, is_made};
+ghost use Rattle.alias_effects.specs.Faults.{is_effect_memory, GivesInto};
+ghost use Rattle.alias_effects.specs.Progress.{looked, made, record_of, is_made};
 
 use crate::faults::EffectFault;
 use alias_base::{IdentifierId, List};
 use alias_hir::effect::{AliasingEffect, AliasingEffects};
 use alias_hir::place::Span;
 use alias_lattice::{AbstractValue, InferenceState, MissingLook};
-use std::alloc::AllocError;
 
 /// How far the step of an instruction has come.
 #[derive(Drop)]
@@ -23,8 +23,8 @@ pub struct StepProgress {
 }
 
 /// Appends the effect to what was recorded.
-pub fn record(step: &mut StepProgress, effect: AliasingEffect) -> Result<(), AllocError>
-    ensures { OnOk result (step.new ≡ record_of effect step.old) }
+pub fn record(step: &mut StepProgress, effect: AliasingEffect) -> Result<(), EffectFault>
+    ensures { GivesInto is_effect_memory (Ok (record_of effect step.old)) result step.new }
 {
     step.recorded.push(effect)?;
     Ok(())
@@ -38,7 +38,7 @@ fn is_made(made: &[IdentifierId], identifier: IdentifierId) -> bool
 
 /// Notes that the instruction makes the identifier, which it may do once.
 pub fn make(step: &mut StepProgress, identifier: IdentifierId) -> Result<(), EffectFault>
-    ensures { Follows (made identifier step.old) result step.new }
+    ensures { GivesInto is_effect_memory (made identifier step.old) result step.new }
 {
     if is_made(step.made.as_slice(), identifier) {
         return Err(EffectFault::Reinitialized { identifier });

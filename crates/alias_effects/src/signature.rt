@@ -2,15 +2,15 @@
 ghost use Rattle.std.specs.Prelude.{◌≡◌, ◌++◌, OnOk, IfOk};
 ghost use Rattle.alias_hir.specs.declared.effect.AliasingEffect.TheVariants.{Create};
 ghost use Rattle.alias_hir.specs.declared.effect.ValueReason.TheVariants.{Other};
-ghost use Rattle.alias_effects.specs.Signatures.{primitive_effects, object_expression_effects, property_load_effects, is_current, mutation_reason, property_store_effects, load_local_effects, store_local_effects, signature_of_value, compute_signature_for_instruction};
+ghost use Rattle.alias_effects.specs.Signatures.{primitive_effects, object_expression_effects, property_load_effects, property_store_effects, load_local_effects, store_local_effects, signature_of_value, compute_signature_for_instruction};
 
 use alias_base::List;
-use alias_hir::effect::{AliasingEffect, AliasingEffects, MutationReason, ValueKind, ValueReason};
+use alias_hir::effect::{AliasingEffect, AliasingEffects, ValueKind, ValueReason};
 use alias_hir::env::Environment;
 use alias_hir::hir::Instruction;
 use alias_hir::place::Place;
-use alias_hir::types::{is_primitive_at, is_untyped_at};
-use alias_hir::value::{InstructionValue, LValue, PropertyLiteral};
+use alias_hir::types::is_primitive_at;
+use alias_hir::value::{InstructionValue, LValue};
 use std::alloc::{AllocError, Global};
 
 fn created(into: &Place, value: ValueKind) -> AliasingEffect
@@ -55,42 +55,17 @@ fn push_property_load(
     Ok(())
 }
 
-fn is_current(property: &PropertyLiteral) -> bool
-    ensures { result ≡ is_current property.now }
-{
-    match property {
-        PropertyLiteral::String(name) => name.as_str() == "current",
-        PropertyLiteral::Number => false,
-    }
-}
-
-fn mutation_reason(
-    env: &Environment,
-    object: &Place,
-    property: &PropertyLiteral,
-) -> Option<MutationReason>
-    ensures { result ≡ mutation_reason env.now object.now property.now }
-{
-    if is_current(property) && is_untyped_at(env, object.identifier) {
-        Some(MutationReason::AssignCurrentProperty)
-    } else {
-        None
-    }
-}
-
 fn push_property_store(
     effects: &mut AliasingEffects,
-    env: &Environment,
     lvalue: &Place,
     object: &Place,
-    property: &PropertyLiteral,
     value: &Place,
 ) -> Result<(), AllocError>
-    ensures { OnOk result (effects.new ≡ effects.old ++ property_store_effects env.now lvalue.now object.now property.now value.now) }
+    ensures { OnOk result (effects.new ≡ effects.old ++ property_store_effects lvalue.now object.now value.now) }
 {
     effects.push(AliasingEffect::Mutate {
         value: *object,
-        reason: mutation_reason(env, object, property),
+        reason: None,
     })?;
     effects.push(AliasingEffect::Capture {
         from: *value,
@@ -146,11 +121,9 @@ fn push_value_effects(
         InstructionValue::PropertyLoad { object } => {
             push_property_load(effects, env, lvalue, object)
         }
-        InstructionValue::PropertyStore {
-            object,
-            property,
-            value,
-        } => push_property_store(effects, env, lvalue, object, property, value),
+        InstructionValue::PropertyStore { object, value, .. } => {
+            push_property_store(effects, lvalue, object, value)
+        }
         InstructionValue::LoadLocal { place } => push_load_local(effects, lvalue, place),
         InstructionValue::StoreLocal {
             lvalue: variable,
