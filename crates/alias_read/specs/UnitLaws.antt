@@ -10,7 +10,7 @@ use Rattle.alias_read.specs.Fault.{refusal}
 use Rattle.alias_read.specs.Built.{built, fits}
 use Rattle.alias_read.specs.Units.{unit_at, unit_of, if_built, IsReading}
 use Rattle.alias_read.specs.Kinds.{terminal_word, kind_among}
-use Rattle.alias_read.specs.declared.fault.TextFault.{TextFault}
+use Rattle.alias_read.specs.declared.fault.ValueFault.{ValueFault}
 use Rattle.alias_read.specs.declared.fault.TextRule.TheVariants.{NotBuilt}
 use Rattle.alias_read.specs.declared.kinds.JumpKind.TheVariants as jump
 use Rattle.alias_read.specs.declared.kinds.BranchKind.TheVariants as branch
@@ -27,7 +27,7 @@ built_by : (b : Bool) (v u : HirUnit) → built v ≡ b → (if b then Ok v else
 built_by true v u is e = cc
 built_by false v u is e = cc
 
-built_after : (r : Result HirUnit TextFault) (u : HirUnit) → (r >>= if_built) ≡ Ok u → built u ≡ true
+built_after : (r : Result HirUnit ValueFault) (u : HirUnit) → (r >>= if_built) ≡ Ok u → built u ≡ true
 built_after (Ok v) u e = built_by (built v) v u refl e
 built_after (Err x) u e = cc
 
