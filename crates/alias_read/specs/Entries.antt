@@ -7,7 +7,7 @@ use Rattle.serde_json.specs.Data.{null, boolean, number, string, array, object, 
 use Rattle.alias_read.specs.Pointer.{at_index}
 use Rattle.alias_read.specs.Fault.{refusal}
 use Rattle.alias_read.specs.Reading.{Reads, number_at}
-use Rattle.alias_read.specs.declared.fault.TextFault.{TextFault}
+use Rattle.alias_read.specs.declared.fault.ValueFault.{ValueFault}
 use Rattle.alias_read.specs.declared.fault.TextRule.TheVariants.{Kind, Twice}
 
 abbrev pub block_id_at : Reads BlockId
@@ -18,11 +18,11 @@ abbrev pub ReadsEntry : Type 0 → Type 0
 ReadsEntry V = List (BlockId × V) → Reads (BlockId × V)
 
 -- no entry so far is that of the block
-abbrev pub new_block : {V : Type 0} → List (BlockId × V) → List ℕ → BlockId → Result ⊤ TextFault
+abbrev pub new_block : {V : Type 0} → List (BlockId × V) → List ℕ → BlockId → Result ⊤ ValueFault
 new_block found p id = if is_some (value_at found id) then refusal p Twice else Ok tt
 
 -- the found entries and then the items, the first of which has the index i
-abbrev pub entry_items_at : {V : Type 0} → ReadsEntry V → List ℕ → ℕ → List (BlockId × V) → Items → Result (List (BlockId × V)) TextFault
+abbrev pub entry_items_at : {V : Type 0} → ReadsEntry V → List ℕ → ℕ → List (BlockId × V) → Items → Result (List (BlockId × V)) ValueFault
 entry_items_at f p i found no_items = Ok found
 entry_items_at f p i found (item d ds) = do
   e ← f found (at_index p i) d

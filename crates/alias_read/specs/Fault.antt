@@ -1,21 +1,22 @@
--- What a reader answers, where memory may run out.
-use Rattle.std.specs.Prelude.{◌≡◌, ℕ, List, Result, Ok, Err, ⊤}
+-- What a reader answers where a value is refused, and which faults are want of memory.
+use Rattle.std.specs.Prelude.{ℕ, Bool, true, false, List, Result, Err, ⊤}
 use Rattle.alias_read.specs.declared.fault.TextRule.{TextRule}
+use Rattle.alias_read.specs.declared.fault.ValueFault.{ValueFault}
+use Rattle.alias_read.specs.declared.fault.ValueFault.TheVariants as value
 use Rattle.alias_read.specs.declared.fault.TextFault.{TextFault}
 use Rattle.alias_read.specs.declared.fault.TextFault.TheVariants.{NotJson, Memory, NotUnit}
 
-abbrev pub refusal : {A : Type 0} → List ℕ → TextRule → Result A TextFault
-refusal pointer rule = Err (NotUnit pointer rule)
+abbrev pub refusal : {A : Type 0} → List ℕ → TextRule → Result A ValueFault
+refusal pointer rule = Err (value.Refused pointer rule)
 
-abbrev pub Fails : {A : Type 0} → TextFault → Result A TextFault → Type 0
-Fails (Memory e) reading = ⊤
-Fails (NotUnit p r) reading = reading ≡ Err (NotUnit p r)
-Fails NotJson reading = ⊥
+abbrev pub is_memory : ValueFault → Bool
+is_memory (value.Memory e) = true
+is_memory (value.Refused p r) = false
 
--- what a function answered is what the reading gives, unless memory ran out
-abbrev pub Gives : {A : Type 0} → Result A TextFault → Result A TextFault → Type 0
-Gives (Ok x) reading = reading ≡ Ok x
-Gives (Err e) reading = Fails e reading
+-- the fault of the text whose value it is
+abbrev pub of_value : ValueFault → TextFault
+of_value (value.Refused p r) = NotUnit p r
+of_value (value.Memory e) = Memory e
 
 abbrev pub IsMemory : TextFault → Type 0
 IsMemory (Memory e) = ⊤

@@ -15,7 +15,7 @@ use Rattle.alias_read.specs.Reading.{Reads, number_at, text_at, list_at, object_
 use Rattle.alias_read.specs.Entries.{ReadsEntry, block_id_at, new_block, entries_at}
 use Rattle.alias_read.specs.Values.{place_at, instruction_value_at}
 use Rattle.alias_read.specs.Terminals.{terminal_at}
-use Rattle.alias_read.specs.declared.fault.TextFault.{TextFault}
+use Rattle.alias_read.specs.declared.fault.ValueFault.{ValueFault}
 use Rattle.alias_read.specs.declared.fault.TextRule.TheVariants.{Name}
 
 abbrev pub instruction_at : Reads Instruction
@@ -60,7 +60,7 @@ block_at found p d = do
   _ ← known_keys (codes "id" ∷ codes "phis" ∷ codes "instructions" ∷ codes "terminal" ∷ []) p d
   Ok (id, record { phis = phis; instructions = instructions; terminal = ending })
 
-abbrev pub function_type_named : List ℕ → List ℕ → Result FunctionType TextFault
+abbrev pub function_type_named : List ℕ → List ℕ → Result FunctionType ValueFault
 function_type_named p name = if text_is name (codes "Other") then Ok Other else refusal p Name
 
 abbrev pub function_type_at : Reads FunctionType

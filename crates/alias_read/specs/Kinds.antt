@@ -3,7 +3,7 @@ use Rattle.std.specs.Prelude.{ℕ, List, Option, None, Some, Result, Ok, codes, 
 use Rattle.alias_base.specs.Answer.{◌>>=◌}
 use Rattle.alias_read.specs.Fault.{refusal}
 use Rattle.alias_read.specs.Reading.{Reads, text_at, text_is}
-use Rattle.alias_read.specs.declared.fault.TextFault.{TextFault}
+use Rattle.alias_read.specs.declared.fault.ValueFault.{ValueFault}
 use Rattle.alias_read.specs.declared.fault.TextRule.TheVariants.{Name}
 use Rattle.alias_read.specs.declared.kinds.JumpKind.{JumpKind}
 use Rattle.alias_read.specs.declared.kinds.JumpKind.TheVariants as jump
@@ -51,11 +51,11 @@ terminal_word MaybeThrow = codes "MaybeThrow"
 unfoldable pub kind_among : List TerminalKind → List ℕ → Option TerminalKind
 kind_among kinds name = find (λ k. text_is (terminal_word k) name) kinds
 
-abbrev pub if_named : List ℕ → Option TerminalKind → Result TerminalKind TextFault
+abbrev pub if_named : List ℕ → Option TerminalKind → Result TerminalKind ValueFault
 if_named p None = refusal p Name
 if_named p (Some k) = Ok k
 
-abbrev pub terminal_kind_named : List ℕ → List ℕ → Result TerminalKind TextFault
+abbrev pub terminal_kind_named : List ℕ → List ℕ → Result TerminalKind ValueFault
 terminal_kind_named p name = if_named p (kind_among TERMINAL_KINDS name)
 
 abbrev pub terminal_kind_at : Reads TerminalKind

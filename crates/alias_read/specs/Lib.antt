@@ -1,11 +1,11 @@
 pub mod Built
 pub mod Entries
-pub mod Facts
 pub mod Fault
 pub mod Functions
 pub mod Kinds
 pub mod Pointer
 pub mod Reading
 pub mod Terminals
+pub mod UnitLaws
 pub mod Units
 pub mod Values

@@ -6,14 +6,14 @@ use Rattle.std.specs.Cmp.Lexicographic.{pointwise}
 use Rattle.serde_json.specs.Find.{get, at}
 use Rattle.alias_read.specs.Pointer.{at_key, at_index}
 use Rattle.alias_read.specs.Fault.{refusal}
-use Rattle.alias_read.specs.declared.fault.TextFault.{TextFault}
+use Rattle.alias_read.specs.declared.fault.ValueFault.{ValueFault}
 use Rattle.alias_read.specs.declared.fault.TextRule.TheVariants.{Missing, Unknown, Kind, Range, NotBuilt, Float as FloatRule}
 
 -- reads a value that stands at a pointer
 abbrev pub Reads : Type 0 → Type 0
-Reads A = List ℕ → Data → Result A TextFault
+Reads A = List ℕ → Data → Result A ValueFault
 
-abbrev pub whole_at : List ℕ → Num → Result ℕ TextFault
+abbrev pub whole_at : List ℕ → Num → Result ℕ ValueFault
 whole_at p (unsigned n) = if nat_lt n (2 ^ 32) then Ok n else refusal p Range
 whole_at p (negative z) = refusal p Range
 whole_at p (float x) = refusal p FloatRule
@@ -43,7 +43,7 @@ text_at p (array ds) = refusal p Kind
 text_at p (object ms) = refusal p Kind
 
 -- `found` and then the items, the first of which has the index i
-abbrev pub items_at : {A : Type 0} → Reads A → List ℕ → ℕ → List A → Items → Result (List A) TextFault
+abbrev pub items_at : {A : Type 0} → Reads A → List ℕ → ℕ → List A → Items → Result (List A) ValueFault
 items_at f p i found no_items = Ok found
 items_at f p i found (item d ds) = do
   x ← f (at_index p i) d
@@ -65,23 +65,23 @@ object_at p (string s) = refusal p Kind
 object_at p (array ds) = refusal p Kind
 object_at p (object ms) = Ok tt
 
-abbrev pub if_there : {A : Type 0} → Reads A → List ℕ → Option Data → Result A TextFault
+abbrev pub if_there : {A : Type 0} → Reads A → List ℕ → Option Data → Result A ValueFault
 if_there f p None = refusal p Missing
 if_there f p (Some d) = f p d
 
 -- the value of a key that has to be there
-abbrev pub required : {A : Type 0} → Reads A → List ℕ → List ℕ → Data → Result A TextFault
+abbrev pub required : {A : Type 0} → Reads A → List ℕ → List ℕ → Data → Result A ValueFault
 required f p key d = if_there f (at_key p key) (get key d)
 
-abbrev pub some : {A : Type 0} → Result A TextFault → Result (Option A) TextFault
+abbrev pub some : {A : Type 0} → Result A ValueFault → Result (Option A) ValueFault
 some r = r >>= (λ x. Ok (Some x))
 
-abbrev pub if_given : {A : Type 0} → Reads A → A → List ℕ → Option Data → Result A TextFault
+abbrev pub if_given : {A : Type 0} → Reads A → A → List ℕ → Option Data → Result A ValueFault
 if_given f default p None = Ok default
 if_given f default p (Some d) = f p d
 
 -- the value of a key that may be absent
-abbrev pub given_or : {A : Type 0} → Reads A → A → List ℕ → List ℕ → Data → Result A TextFault
+abbrev pub given_or : {A : Type 0} → Reads A → A → List ℕ → List ℕ → Data → Result A ValueFault
 given_or f default p key d = if_given f default (at_key p key) (get key d)
 
 -- null is none
@@ -97,12 +97,12 @@ option_at f p (object ms) = some (f p (object ms))
 abbrev pub pair_at : Reads ⊤
 pair_at p d = if is_some (at 1 d) && not (is_some (at 2 d)) then Ok tt else refusal p Kind
 
-abbrev pub if_item : {A : Type 0} → Reads A → List ℕ → ℕ → Option Data → Result A TextFault
+abbrev pub if_item : {A : Type 0} → Reads A → List ℕ → ℕ → Option Data → Result A ValueFault
 if_item f p i None = refusal p Kind
 if_item f p i (Some d) = f (at_index p i) d
 
 -- the item at an index of an array that has one there
-abbrev pub element : {A : Type 0} → Reads A → List ℕ → ℕ → Data → Result A TextFault
+abbrev pub element : {A : Type 0} → Reads A → List ℕ → ℕ → Data → Result A ValueFault
 element f p i d = if_item f p i (at i d)
 
 abbrev pub text_is : List ℕ → List ℕ → Bool
@@ -113,7 +113,7 @@ is_known [] key = false
 is_known (k ∷ ks) key = text_is key k || is_known ks key
 
 -- no key but these
-abbrev pub members_known : List (List ℕ) → List ℕ → Members → Result ⊤ TextFault
+abbrev pub members_known : List (List ℕ) → List ℕ → Members → Result ⊤ ValueFault
 members_known keys p no_members = Ok tt
 members_known keys p (member k d ms) = if is_known keys k then members_known keys p ms else refusal (at_key p k) Unknown
 
@@ -127,7 +127,7 @@ known_keys keys p (object ms) = members_known keys p ms
 
 -- ---- keys of which only the value is read yet that an absent key stands for
 
-abbrev pub no_item_there : List ℕ → Items → Result ⊤ TextFault
+abbrev pub no_item_there : List ℕ → Items → Result ⊤ ValueFault
 no_item_there p no_items = Ok tt
 no_item_there p (item d ds) = refusal p NotBuilt
 

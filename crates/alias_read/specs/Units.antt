@@ -13,12 +13,14 @@ use Rattle.alias_read.specs.Fault.{refusal}
 use Rattle.alias_read.specs.Reading.{Reads, number_at, boolean_at, text_at, list_at, object_at, required, given_or, known_keys, no_items_at, no_text_at, no_array_at, false_at, text_is}
 use Rattle.alias_read.specs.Functions.{root_at}
 use Rattle.alias_read.specs.Built.{built}
+use Rattle.alias_read.specs.declared.fault.ValueFault.{ValueFault}
+use Rattle.alias_read.specs.declared.fault.ValueFault.TheVariants as value
 use Rattle.alias_read.specs.declared.fault.TextFault.{TextFault}
 use Rattle.alias_read.specs.declared.fault.TextFault.TheVariants as fault
 use Rattle.alias_read.specs.declared.fault.TextRule.TheVariants.{Range, Name, NotBuilt}
 
 -- the whole format has further kinds, which are refused as names of none
-abbrev pub type_named : List ℕ → List ℕ → Result Ty TextFault
+abbrev pub type_named : List ℕ → List ℕ → Result Ty ValueFault
 type_named p name =
     if text_is name (codes "Var") then Ok ty.Var
     else (if text_is name (codes "Primitive") then Ok ty.Primitive
@@ -55,7 +57,7 @@ config_at p d = do
   _ ← known_keys (codes "enable_validations" ∷ codes "enable_preserve_existing_memoization_guarantees" ∷ codes "enable_transitively_freeze_function_expressions" ∷ codes "validate_no_impure_functions_in_render" ∷ []) p d
   Ok (record { enable_validations = validations })
 
-abbrev pub known_format : List ℕ → ℕ → Result ⊤ TextFault
+abbrev pub known_format : List ℕ → ℕ → Result ⊤ ValueFault
 known_format p n = if n == 1 then Ok tt else refusal (at_key p (codes "format")) Range
 
 abbrev pub unit_keys : Reads ⊤
@@ -75,11 +77,11 @@ unit_at p d = do
   _ ← unit_keys p d
   Ok (record { function = root; env = record { identifiers = identifiers; types = types; functions = []; errors = []; interned = []; config = config } })
 
-abbrev pub if_built : HirUnit → Result HirUnit TextFault
+abbrev pub if_built : HirUnit → Result HirUnit ValueFault
 if_built u = if built u then Ok u else refusal [] NotBuilt
 
 -- the unit that data spell, or the first fault
-abbrev pub unit_of : Data → Result HirUnit TextFault
+abbrev pub unit_of : Data → Result HirUnit ValueFault
 unit_of d = unit_at [] d >>= if_built
 
 -- the tree that the whole of the bytes reads as, with at most 127 levels
@@ -98,6 +100,6 @@ NoUnit bytes = (u : HirUnit) → UnitReading bytes u → ⊥
 -- what `read_unit` answers
 abbrev pub ReadsUnit : List ℕ → Result HirUnit TextFault → Type 0
 ReadsUnit bytes (Ok u) = UnitReading bytes u
-ReadsUnit bytes (Err (fault.NotUnit p r)) = (d : Data) × IsReading bytes d × (unit_of d ≡ Err (fault.NotUnit p r))
+ReadsUnit bytes (Err (fault.NotUnit p r)) = (d : Data) × IsReading bytes d × (unit_of d ≡ Err (value.Refused p r))
 ReadsUnit bytes (Err fault.NotJson) = (d : Data) → IsReading bytes d → ⊥
 ReadsUnit bytes (Err (fault.Memory e)) = ⊤

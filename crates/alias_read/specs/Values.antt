@@ -15,7 +15,7 @@ use Rattle.alias_hir.specs.declared.value.InstructionValue.TheVariants as value
 use Rattle.alias_read.specs.Pointer.{at_key}
 use Rattle.alias_read.specs.Fault.{refusal}
 use Rattle.alias_read.specs.Reading.{Reads, whole_at, text_at, object_at, option_at, required, given_or, known_keys, no_items_at, text_is}
-use Rattle.alias_read.specs.declared.fault.TextFault.{TextFault}
+use Rattle.alias_read.specs.declared.fault.ValueFault.{ValueFault}
 use Rattle.alias_read.specs.declared.fault.TextRule.TheVariants.{Kind, Name, NotBuilt}
 
 abbrev pub place_of : ℕ → Place
@@ -33,7 +33,7 @@ place_at p (string s) = refusal p Kind
 place_at p (array ds) = spanned_at p (array ds)
 place_at p (object ms) = refusal p Kind
 
-abbrev pub instruction_kind_named : List ℕ → List ℕ → Result InstructionKind TextFault
+abbrev pub instruction_kind_named : List ℕ → List ℕ → Result InstructionKind ValueFault
 instruction_kind_named p name =
     if text_is name (codes "Const") then Ok kind.Const
     else (if text_is name (codes "Let") then Ok kind.Let

@@ -4,11 +4,12 @@ ghost use Rattle.alias_base.specs.declared.ids.BlockId.{BlockId};
 ghost use Rattle.serde_json.specs.Data.{Data};
 ghost use Rattle.serde_json.specs.View.{view, items_view};
 ghost use Rattle.alias_read.specs.Pointer.{pointer};
-ghost use Rattle.alias_read.specs.Fault.{Gives};
+ghost use Rattle.alias_base.specs.Answer.{Gives};
+ghost use Rattle.alias_read.specs.Fault.{is_memory};
 ghost use Rattle.alias_read.specs.Entries.{block_id_at, new_block, entry_items_at, entries_at};
-ghost use Rattle.alias_read.specs.declared.fault.TextFault.{TextFault};
+ghost use Rattle.alias_read.specs.declared.fault.ValueFault.{ValueFault};
 
-use crate::fault::{TextFault, TextRule};
+use crate::fault::{TextRule, ValueFault};
 use crate::json::{FromJson, refused};
 use crate::path::Path;
 use alias_base::{BlockId, BlockMap};
@@ -18,14 +19,14 @@ use std::alloc::Global;
 impl FromJson for BlockId {
     ghost reads = { block_id_at };
 
-    fn from_json(alloc: Global, path: &Path, value: &Value) -> Result<BlockId, TextFault> {
+    fn from_json(alloc: Global, path: &Path, value: &Value) -> Result<BlockId, ValueFault> {
         Ok(BlockId(u32::from_json(alloc, path, value)?))
     }
 }
 
 /// A type whose values are read with the block that each belongs to.
 pub trait FromEntry {
-    ghost reads_entry: { List (BlockId × Self) → List ℕ → Data → Result (BlockId × Self) TextFault };
+    ghost reads_entry: { List (BlockId × Self) → List ℕ → Data → Result (BlockId × Self) ValueFault };
 
     /// Reads an entry that stands at a path, after those that were found so far, or says what is wrong with
     /// it.
@@ -34,8 +35,8 @@ pub trait FromEntry {
         path: &Path,
         found: &BlockMap<Self>,
         value: &Value,
-    ) -> Result<(BlockId, Self), TextFault>
-        ensures { Gives result (reads_entry found.now (pointer path.now) (view value.now)) };
+    ) -> Result<(BlockId, Self), ValueFault>
+        ensures { Gives is_memory (reads_entry found.now (pointer path.now) (view value.now)) result };
 }
 
 /// Refuses a block that has an entry.
@@ -44,8 +45,8 @@ pub fn new_block<V>(
     path: &Path,
     found: &BlockMap<V>,
     id: BlockId,
-) -> Result<(), TextFault>
-    ensures { Gives result (new_block found.now (pointer path.now) id) }
+) -> Result<(), ValueFault>
+    ensures { Gives is_memory (new_block found.now (pointer path.now) id) result }
 {
     if found.get(id).is_some() {
         return refused(alloc, path, TextRule::Twice);
@@ -56,7 +57,7 @@ pub fn new_block<V>(
 impl<V: FromEntry + Drop> FromJson for BlockMap<V> {
     ghost reads = { entries_at V.reads_entry };
 
-    fn from_json(alloc: Global, path: &Path, value: &Value) -> Result<BlockMap<V>, TextFault> {
+    fn from_json(alloc: Global, path: &Path, value: &Value) -> Result<BlockMap<V>, ValueFault> {
         match value.as_array() {
             Some(values) => entries(alloc, path, values.as_slice()),
             None => refused(alloc, path, TextRule::Kind),
@@ -68,8 +69,8 @@ fn entries<V: FromEntry + Drop>(
     alloc: Global,
     path: &Path,
     values: &[Value],
-) -> Result<BlockMap<V>, TextFault>
-    ensures { Gives result (entry_items_at V.reads_entry (pointer path.now) 0 [] (items_view values.now)) }
+) -> Result<BlockMap<V>, ValueFault>
+    ensures { Gives is_memory (entry_items_at V.reads_entry (pointer path.now) 0 [] (items_view values.now)) result }
 {
     let mut found = BlockMap::new(alloc);
     for (index, value) in values.iter().enumerate() {

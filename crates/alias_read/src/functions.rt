@@ -2,11 +2,12 @@
 ghost use Rattle.std.specs.Prelude.{◌≡◌, [], Result};
 ghost use Rattle.serde_json.specs.View.{view};
 ghost use Rattle.alias_read.specs.Pointer.{pointer};
-ghost use Rattle.alias_read.specs.Fault.{Gives};
+ghost use Rattle.alias_base.specs.Answer.{Gives};
+ghost use Rattle.alias_read.specs.Fault.{is_memory};
 ghost use Rattle.alias_read.specs.Functions.{instruction_at, instruction_id_at, operand_at, phi_at, block_at, function_type_at, function_type_named, root_keys, root_at};
 
 use crate::entries::{FromEntry, new_block};
-use crate::fault::{TextFault, TextRule};
+use crate::fault::{TextRule, ValueFault};
 use crate::json::{FromJson, element, given_or, known_keys, object, pair, refused, required};
 use crate::only::{no_array, only_empty, only_false};
 use crate::path::Path;
@@ -19,7 +20,7 @@ use std::alloc::Global;
 impl FromJson for Instruction {
     ghost reads = { instruction_at };
 
-    fn from_json(alloc: Global, path: &Path, value: &Value) -> Result<Instruction, TextFault> {
+    fn from_json(alloc: Global, path: &Path, value: &Value) -> Result<Instruction, ValueFault> {
         object(alloc, path, value)?;
         let id = required(alloc, path, "id", value)?;
         let lvalue = required(alloc, path, "lvalue", value)?;
@@ -39,7 +40,7 @@ impl FromJson for Instruction {
 impl FromJson for InstructionId {
     ghost reads = { instruction_id_at };
 
-    fn from_json(alloc: Global, path: &Path, value: &Value) -> Result<InstructionId, TextFault> {
+    fn from_json(alloc: Global, path: &Path, value: &Value) -> Result<InstructionId, ValueFault> {
         Ok(InstructionId(u32::from_json(alloc, path, value)?))
     }
 }
@@ -47,7 +48,7 @@ impl FromJson for InstructionId {
 impl FromJson for FunctionType {
     ghost reads = { function_type_at };
 
-    fn from_json(alloc: Global, path: &Path, value: &Value) -> Result<FunctionType, TextFault> {
+    fn from_json(alloc: Global, path: &Path, value: &Value) -> Result<FunctionType, ValueFault> {
         match value.as_str() {
             Some(name) => function_type(alloc, path, name),
             None => refused(alloc, path, TextRule::Kind),
@@ -55,8 +56,8 @@ impl FromJson for FunctionType {
     }
 }
 
-fn function_type(alloc: Global, path: &Path, name: &str) -> Result<FunctionType, TextFault>
-    ensures { Gives result (function_type_named (pointer path.now) name.now) }
+fn function_type(alloc: Global, path: &Path, name: &str) -> Result<FunctionType, ValueFault>
+    ensures { Gives is_memory (function_type_named (pointer path.now) name.now) result }
 {
     if name == "Other" {
         Ok(FunctionType::Other)
@@ -73,7 +74,7 @@ impl FromEntry for Place {
         path: &Path,
         found: &BlockMap<Place>,
         value: &Value,
-    ) -> Result<(BlockId, Place), TextFault> {
+    ) -> Result<(BlockId, Place), ValueFault> {
         pair(alloc, path, value)?;
         let block = element(alloc, path, 0, value)?;
         let here = Path::Index {
@@ -89,7 +90,7 @@ impl FromEntry for Place {
 impl FromJson for Phi {
     ghost reads = { phi_at };
 
-    fn from_json(alloc: Global, path: &Path, value: &Value) -> Result<Phi, TextFault> {
+    fn from_json(alloc: Global, path: &Path, value: &Value) -> Result<Phi, ValueFault> {
         object(alloc, path, value)?;
         let place = required(alloc, path, "place", value)?;
         let operands = required(alloc, path, "operands", value)?;
@@ -106,7 +107,7 @@ impl FromEntry for BasicBlock {
         path: &Path,
         found: &BlockMap<BasicBlock>,
         value: &Value,
-    ) -> Result<(BlockId, BasicBlock), TextFault> {
+    ) -> Result<(BlockId, BasicBlock), ValueFault> {
         object(alloc, path, value)?;
         let id = required(alloc, path, "id", value)?;
         let here = Path::Key {
@@ -132,8 +133,8 @@ impl FromEntry for BasicBlock {
     }
 }
 
-fn root_keys(alloc: Global, path: &Path, value: &Value) -> Result<(), TextFault>
-    ensures { Gives result (root_keys (pointer path.now) (view value.now)) }
+fn root_keys(alloc: Global, path: &Path, value: &Value) -> Result<(), ValueFault>
+    ensures { Gives is_memory (root_keys (pointer path.now) (view value.now)) result }
 {
     known_keys(
         alloc,
@@ -156,7 +157,7 @@ fn root_keys(alloc: Global, path: &Path, value: &Value) -> Result<(), TextFault>
 impl FromJson for HirFunction {
     ghost reads = { root_at };
 
-    fn from_json(alloc: Global, path: &Path, value: &Value) -> Result<HirFunction, TextFault> {
+    fn from_json(alloc: Global, path: &Path, value: &Value) -> Result<HirFunction, ValueFault> {
         object(alloc, path, value)?;
         let fn_type = required(alloc, path, "fn_type", value)?;
         only_empty(alloc, path, "params", value)?;

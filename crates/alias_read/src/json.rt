@@ -3,11 +3,12 @@ ghost use Rattle.std.specs.Prelude.{◌≡◌, [], ℕ, List, Result, map};
 ghost use Rattle.serde_json.specs.Data.{Data};
 ghost use Rattle.serde_json.specs.View.{view, items_view};
 ghost use Rattle.alias_read.specs.Pointer.{pointer};
-ghost use Rattle.alias_read.specs.Fault.{Gives, refusal};
+ghost use Rattle.alias_base.specs.Answer.{Gives};
+ghost use Rattle.alias_read.specs.Fault.{is_memory, refusal};
 ghost use Rattle.alias_read.specs.Reading.{number_at, boolean_at, text_at, list_at, items_at, object_at, required, given_or, option_at, pair_at, element, is_known, known_keys};
-ghost use Rattle.alias_read.specs.declared.fault.TextFault.{TextFault};
+ghost use Rattle.alias_read.specs.declared.fault.ValueFault.{ValueFault};
 
-use crate::fault::{TextFault, TextRule};
+use crate::fault::{TextRule, ValueFault};
 use crate::path::{Path, pointer_text};
 use alias_base::{List, Text};
 use serde_json::Value;
@@ -15,18 +16,18 @@ use std::alloc::Global;
 
 /// A type whose values are read from JSON.
 pub trait FromJson {
-    ghost reads: { List ℕ → Data → Result Self TextFault };
+    ghost reads: { List ℕ → Data → Result Self ValueFault };
 
     /// Reads a value that stands at a path, or says what is wrong with it.
-    fn from_json(alloc: Global, path: &Path, value: &Value) -> Result<Self, TextFault>
-        ensures { Gives result (reads (pointer path.now) (view value.now)) };
+    fn from_json(alloc: Global, path: &Path, value: &Value) -> Result<Self, ValueFault>
+        ensures { Gives is_memory (reads (pointer path.now) (view value.now)) result };
 }
 
 /// The fault of a value that breaks a rule.
-pub fn refused<T>(alloc: Global, path: &Path, rule: TextRule) -> Result<T, TextFault>
-    ensures { Gives result (refusal (pointer path.now) rule) }
+pub fn refused<T>(alloc: Global, path: &Path, rule: TextRule) -> Result<T, ValueFault>
+    ensures { Gives is_memory (refusal (pointer path.now) rule) result }
 {
-    Err(TextFault::NotUnit {
+    Err(ValueFault::Refused {
         pointer: pointer_text(alloc, path)?,
         rule,
     })
@@ -35,7 +36,7 @@ pub fn refused<T>(alloc: Global, path: &Path, rule: TextRule) -> Result<T, TextF
 impl FromJson for u32 {
     ghost reads = { number_at };
 
-    fn from_json(alloc: Global, path: &Path, value: &Value) -> Result<u32, TextFault> {
+    fn from_json(alloc: Global, path: &Path, value: &Value) -> Result<u32, ValueFault> {
         let Some(number) = value.as_number() else {
             return refused(alloc, path, TextRule::Kind);
         };
@@ -58,7 +59,7 @@ impl FromJson for u32 {
 impl FromJson for bool {
     ghost reads = { boolean_at };
 
-    fn from_json(alloc: Global, path: &Path, value: &Value) -> Result<bool, TextFault> {
+    fn from_json(alloc: Global, path: &Path, value: &Value) -> Result<bool, ValueFault> {
         match value.as_bool() {
             Some(flag) => Ok(flag),
             None => refused(alloc, path, TextRule::Kind),
@@ -69,7 +70,7 @@ impl FromJson for bool {
 impl FromJson for Text {
     ghost reads = { text_at };
 
-    fn from_json(alloc: Global, path: &Path, value: &Value) -> Result<Text, TextFault> {
+    fn from_json(alloc: Global, path: &Path, value: &Value) -> Result<Text, ValueFault> {
         match value.as_str() {
             Some(text) => Ok(Text::from_str(alloc, text)?),
             None => refused(alloc, path, TextRule::Kind),
@@ -80,7 +81,7 @@ impl FromJson for Text {
 impl<T: FromJson + Drop> FromJson for List<T> {
     ghost reads = { list_at T.reads };
 
-    fn from_json(alloc: Global, path: &Path, value: &Value) -> Result<List<T>, TextFault> {
+    fn from_json(alloc: Global, path: &Path, value: &Value) -> Result<List<T>, ValueFault> {
         match value.as_array() {
             Some(values) => items(alloc, path, values.as_slice()),
             None => refused(alloc, path, TextRule::Kind),
@@ -92,8 +93,8 @@ fn items<T: FromJson + Drop>(
     alloc: Global,
     path: &Path,
     values: &[Value],
-) -> Result<List<T>, TextFault>
-    ensures { Gives result (items_at T.reads (pointer path.now) 0 [] (items_view values.now)) }
+) -> Result<List<T>, ValueFault>
+    ensures { Gives is_memory (items_at T.reads (pointer path.now) 0 [] (items_view values.now)) result }
 {
     let mut found = List::new(alloc);
     for (index, value) in values.iter().enumerate() {
@@ -106,7 +107,7 @@ fn items<T: FromJson + Drop>(
 impl<T: FromJson> FromJson for Option<T> {
     ghost reads = { option_at T.reads };
 
-    fn from_json(alloc: Global, path: &Path, value: &Value) -> Result<Option<T>, TextFault> {
+    fn from_json(alloc: Global, path: &Path, value: &Value) -> Result<Option<T>, ValueFault> {
         match value {
             Value::Null => Ok(None),
             _ => Ok(Some(T::from_json(alloc, path, value)?)),
@@ -115,8 +116,8 @@ impl<T: FromJson> FromJson for Option<T> {
 }
 
 /// Refuses a value that is no object.
-pub fn object(alloc: Global, path: &Path, value: &Value) -> Result<(), TextFault>
-    ensures { Gives result (object_at (pointer path.now) (view value.now)) }
+pub fn object(alloc: Global, path: &Path, value: &Value) -> Result<(), ValueFault>
+    ensures { Gives is_memory (object_at (pointer path.now) (view value.now)) result }
 {
     if value.is_object() {
         Ok(())
@@ -131,8 +132,8 @@ pub fn required<T: FromJson>(
     path: &Path,
     key: &str,
     value: &Value,
-) -> Result<T, TextFault>
-    ensures { Gives result (required T.reads (pointer path.now) key.now (view value.now)) }
+) -> Result<T, ValueFault>
+    ensures { Gives is_memory (required T.reads (pointer path.now) key.now (view value.now)) result }
 {
     let here = Path::Key { above: path, key };
     match value.get(key) {
@@ -148,8 +149,8 @@ pub fn given_or<T: FromJson + Drop>(
     key: &str,
     value: &Value,
     default: T,
-) -> Result<T, TextFault>
-    ensures { Gives result (given_or T.reads default (pointer path.now) key.now (view value.now)) }
+) -> Result<T, ValueFault>
+    ensures { Gives is_memory (given_or T.reads default (pointer path.now) key.now (view value.now)) result }
 {
     let here = Path::Key { above: path, key };
     match value.get(key) {
@@ -159,8 +160,8 @@ pub fn given_or<T: FromJson + Drop>(
 }
 
 /// Refuses a value that is no array of two.
-pub fn pair(alloc: Global, path: &Path, value: &Value) -> Result<(), TextFault>
-    ensures { Gives result (pair_at (pointer path.now) (view value.now)) }
+pub fn pair(alloc: Global, path: &Path, value: &Value) -> Result<(), ValueFault>
+    ensures { Gives is_memory (pair_at (pointer path.now) (view value.now)) result }
 {
     if value.get(1).is_some() && value.get(2).is_none() {
         Ok(())
@@ -175,8 +176,8 @@ pub fn element<T: FromJson>(
     path: &Path,
     index: usize,
     value: &Value,
-) -> Result<T, TextFault>
-    ensures { Gives result (element T.reads (pointer path.now) index (view value.now)) }
+) -> Result<T, ValueFault>
+    ensures { Gives is_memory (element T.reads (pointer path.now) index (view value.now)) result }
 {
     match value.get(index) {
         Some(found) => T::from_json(alloc, &Path::Index { above: path, index }, found),
@@ -197,8 +198,13 @@ fn is_known(keys: &[&str], key: &str) -> bool
 
 /// Refuses a value that is no object, and an object that has a key besides these: the first one in
 /// ascending order.
-pub fn known_keys(alloc: Global, path: &Path, keys: &[&str], value: &Value) -> Result<(), TextFault>
-    ensures { Gives result (known_keys (map (λ k. k.now) keys.now) (pointer path.now) (view value.now)) }
+pub fn known_keys(
+    alloc: Global,
+    path: &Path,
+    keys: &[&str],
+    value: &Value,
+) -> Result<(), ValueFault>
+    ensures { Gives is_memory (known_keys (map (λ k. k.now) keys.now) (pointer path.now) (view value.now)) result }
 {
     let Some(members) = value.as_object() else {
         return refused(alloc, path, TextRule::Kind);

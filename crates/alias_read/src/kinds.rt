@@ -1,10 +1,11 @@
 //! The kinds of terminals, by what fields they have, and their names.
 ghost use Rattle.std.specs.Prelude.{◌≡◌};
 ghost use Rattle.alias_read.specs.Pointer.{pointer};
-ghost use Rattle.alias_read.specs.Fault.{Gives};
+ghost use Rattle.alias_base.specs.Answer.{Gives};
+ghost use Rattle.alias_read.specs.Fault.{is_memory};
 ghost use Rattle.alias_read.specs.Kinds.{jump_word, branch_word, exit_word, terminal_word, kind_among, terminal_kind_named, terminal_kind_at};
 
-use crate::fault::{TextFault, TextRule};
+use crate::fault::{TextRule, ValueFault};
 use crate::json::{FromJson, refused};
 use crate::path::Path;
 use serde_json::Value;
@@ -82,7 +83,7 @@ pub const TERMINAL_KINDS: [TerminalKind; 21] = [
 impl FromJson for TerminalKind {
     ghost reads = { terminal_kind_at };
 
-    fn from_json(alloc: Global, path: &Path, value: &Value) -> Result<TerminalKind, TextFault> {
+    fn from_json(alloc: Global, path: &Path, value: &Value) -> Result<TerminalKind, ValueFault> {
         match value.as_str() {
             Some(name) => terminal_kind(alloc, path, name),
             None => refused(alloc, path, TextRule::Kind),
@@ -90,8 +91,8 @@ impl FromJson for TerminalKind {
     }
 }
 
-fn terminal_kind(alloc: Global, path: &Path, name: &str) -> Result<TerminalKind, TextFault>
-    ensures { Gives result (terminal_kind_named (pointer path.now) name.now) }
+fn terminal_kind(alloc: Global, path: &Path, name: &str) -> Result<TerminalKind, ValueFault>
+    ensures { Gives is_memory (terminal_kind_named (pointer path.now) name.now) result }
 {
     match kind_among(&TERMINAL_KINDS, name) {
         Some(kind) => Ok(kind),

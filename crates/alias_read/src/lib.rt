@@ -16,5 +16,5 @@ mod tests;
 pub mod unit;
 pub mod values;
 
-pub use fault::{TextFault, TextRule};
+pub use fault::{TextFault, TextRule, ValueFault};
 pub use unit::read_unit;

@@ -2,10 +2,11 @@
 ghost use Rattle.std.specs.Prelude.{◌≡◌, Result};
 ghost use Rattle.serde_json.specs.View.{view};
 ghost use Rattle.alias_read.specs.Pointer.{pointer};
-ghost use Rattle.alias_read.specs.Fault.{Gives};
+ghost use Rattle.alias_base.specs.Answer.{Gives};
+ghost use Rattle.alias_read.specs.Fault.{is_memory};
 ghost use Rattle.alias_read.specs.Units.{type_at, type_named, identifier_at, config_at};
 
-use crate::fault::{TextFault, TextRule};
+use crate::fault::{TextRule, ValueFault};
 use crate::json::{FromJson, given_or, known_keys, object, refused, required};
 use crate::only::{no_array, no_text, only_false};
 use crate::path::Path;
@@ -18,7 +19,7 @@ use std::alloc::Global;
 impl FromJson for Ty {
     ghost reads = { type_at };
 
-    fn from_json(alloc: Global, path: &Path, value: &Value) -> Result<Ty, TextFault> {
+    fn from_json(alloc: Global, path: &Path, value: &Value) -> Result<Ty, ValueFault> {
         object(alloc, path, value)?;
         let kind: Text = required(alloc, path, "kind", value)?;
         let ty = type_of_kind(alloc, path, kind.as_str())?;
@@ -27,8 +28,8 @@ impl FromJson for Ty {
     }
 }
 
-fn type_of_kind(alloc: Global, path: &Path, kind: &str) -> Result<Ty, TextFault>
-    ensures { Gives result (type_named (pointer path.now) kind.now) }
+fn type_of_kind(alloc: Global, path: &Path, kind: &str) -> Result<Ty, ValueFault>
+    ensures { Gives is_memory (type_named (pointer path.now) kind.now) result }
 {
     if kind == "Var" {
         Ok(Ty::Var)
@@ -46,7 +47,7 @@ fn type_of_kind(alloc: Global, path: &Path, kind: &str) -> Result<Ty, TextFault>
 impl FromJson for Identifier {
     ghost reads = { identifier_at };
 
-    fn from_json(alloc: Global, path: &Path, value: &Value) -> Result<Identifier, TextFault> {
+    fn from_json(alloc: Global, path: &Path, value: &Value) -> Result<Identifier, ValueFault> {
         object(alloc, path, value)?;
         let declaration = required(alloc, path, "declaration", value)?;
         let type_ = required(alloc, path, "type", value)?;
@@ -76,7 +77,7 @@ const NO_IMPURE: &str = "validate_no_impure_functions_in_render";
 impl FromJson for Config {
     ghost reads = { config_at };
 
-    fn from_json(alloc: Global, path: &Path, value: &Value) -> Result<Config, TextFault> {
+    fn from_json(alloc: Global, path: &Path, value: &Value) -> Result<Config, ValueFault> {
         object(alloc, path, value)?;
         let enable_validations = given_or(alloc, path, "enable_validations", value, false)?;
         only_false(alloc, path, PRESERVE, value)?;

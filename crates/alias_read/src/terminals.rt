@@ -2,10 +2,11 @@
 ghost use Rattle.std.specs.Prelude.{◌≡◌, Result};
 ghost use Rattle.serde_json.specs.View.{view};
 ghost use Rattle.alias_read.specs.Pointer.{pointer};
-ghost use Rattle.alias_read.specs.Fault.{Gives};
+ghost use Rattle.alias_base.specs.Answer.{Gives};
+ghost use Rattle.alias_read.specs.Fault.{is_memory};
 ghost use Rattle.alias_read.specs.Terminals.{order_at, jump_key, jump_with, jump_at, branch_with, branch_at, case_at, switch_at, exit_with, exit_at, unreachable_at, try_at, maybe_throw_at, terminal_of_kind, terminal_at};
 
-use crate::fault::TextFault;
+use crate::fault::ValueFault;
 use crate::json::{FromJson, given_or, known_keys, object, required};
 use crate::kinds::{BranchKind, ExitKind, JumpKind, TerminalKind};
 use crate::path::Path;
@@ -18,7 +19,7 @@ use std::alloc::Global;
 impl FromJson for EvaluationOrder {
     ghost reads = { order_at };
 
-    fn from_json(alloc: Global, path: &Path, value: &Value) -> Result<EvaluationOrder, TextFault> {
+    fn from_json(alloc: Global, path: &Path, value: &Value) -> Result<EvaluationOrder, ValueFault> {
         Ok(EvaluationOrder(u32::from_json(alloc, path, value)?))
     }
 }
@@ -26,7 +27,7 @@ impl FromJson for EvaluationOrder {
 impl FromJson for Terminal {
     ghost reads = { terminal_at };
 
-    fn from_json(alloc: Global, path: &Path, value: &Value) -> Result<Terminal, TextFault> {
+    fn from_json(alloc: Global, path: &Path, value: &Value) -> Result<Terminal, ValueFault> {
         object(alloc, path, value)?;
         let kind = required(alloc, path, "kind", value)?;
         let id = required(alloc, path, "id", value)?;
@@ -40,8 +41,8 @@ fn terminal_of_kind(
     id: EvaluationOrder,
     path: &Path,
     value: &Value,
-) -> Result<Terminal, TextFault>
-    ensures { Gives result (terminal_of_kind kind id (pointer path.now) (view value.now)) }
+) -> Result<Terminal, ValueFault>
+    ensures { Gives is_memory (terminal_of_kind kind id (pointer path.now) (view value.now)) result }
 {
     match kind {
         TerminalKind::Jump(kind) => jump_of(alloc, kind, id, path, value),
@@ -95,8 +96,8 @@ fn jump_of(
     id: EvaluationOrder,
     path: &Path,
     value: &Value,
-) -> Result<Terminal, TextFault>
-    ensures { Gives result (jump_at kind id (pointer path.now) (view value.now)) }
+) -> Result<Terminal, ValueFault>
+    ensures { Gives is_memory (jump_at kind id (pointer path.now) (view value.now)) result }
 {
     let key = jump_key(kind);
     let block = required(alloc, path, key, value)?;
@@ -135,8 +136,8 @@ fn branch_of(
     id: EvaluationOrder,
     path: &Path,
     value: &Value,
-) -> Result<Terminal, TextFault>
-    ensures { Gives result (branch_at kind id (pointer path.now) (view value.now)) }
+) -> Result<Terminal, ValueFault>
+    ensures { Gives is_memory (branch_at kind id (pointer path.now) (view value.now)) result }
 {
     let test = required(alloc, path, "test", value)?;
     let consequent = required(alloc, path, "consequent", value)?;
@@ -153,7 +154,7 @@ fn branch_of(
 impl FromJson for SwitchCase {
     ghost reads = { case_at };
 
-    fn from_json(alloc: Global, path: &Path, value: &Value) -> Result<SwitchCase, TextFault> {
+    fn from_json(alloc: Global, path: &Path, value: &Value) -> Result<SwitchCase, ValueFault> {
         object(alloc, path, value)?;
         let test = given_or(alloc, path, "test", value, None)?;
         let block = required(alloc, path, "block", value)?;
@@ -167,8 +168,8 @@ fn switch(
     id: EvaluationOrder,
     path: &Path,
     value: &Value,
-) -> Result<Terminal, TextFault>
-    ensures { Gives result (switch_at id (pointer path.now) (view value.now)) }
+) -> Result<Terminal, ValueFault>
+    ensures { Gives is_memory (switch_at id (pointer path.now) (view value.now)) result }
 {
     let test = required(alloc, path, "test", value)?;
     let cases = given_or(alloc, path, "cases", value, List::new(alloc))?;
@@ -195,8 +196,8 @@ fn exit_of(
     id: EvaluationOrder,
     path: &Path,
     value: &Value,
-) -> Result<Terminal, TextFault>
-    ensures { Gives result (exit_at kind id (pointer path.now) (view value.now)) }
+) -> Result<Terminal, ValueFault>
+    ensures { Gives is_memory (exit_at kind id (pointer path.now) (view value.now)) result }
 {
     let place = required(alloc, path, "value", value)?;
     known_keys(alloc, path, &["kind", "id", "value"], value)?;
@@ -208,8 +209,8 @@ fn unreachable(
     id: EvaluationOrder,
     path: &Path,
     value: &Value,
-) -> Result<Terminal, TextFault>
-    ensures { Gives result (unreachable_at id (pointer path.now) (view value.now)) }
+) -> Result<Terminal, ValueFault>
+    ensures { Gives is_memory (unreachable_at id (pointer path.now) (view value.now)) result }
 {
     known_keys(alloc, path, &["kind", "id"], value)?;
     Ok(Terminal::Unreachable { id })
@@ -220,8 +221,8 @@ fn try_(
     id: EvaluationOrder,
     path: &Path,
     value: &Value,
-) -> Result<Terminal, TextFault>
-    ensures { Gives result (try_at id (pointer path.now) (view value.now)) }
+) -> Result<Terminal, ValueFault>
+    ensures { Gives is_memory (try_at id (pointer path.now) (view value.now)) result }
 {
     let block = required(alloc, path, "block", value)?;
     let handler = required(alloc, path, "handler", value)?;
@@ -245,8 +246,8 @@ fn maybe_throw(
     id: EvaluationOrder,
     path: &Path,
     value: &Value,
-) -> Result<Terminal, TextFault>
-    ensures { Gives result (maybe_throw_at id (pointer path.now) (view value.now)) }
+) -> Result<Terminal, ValueFault>
+    ensures { Gives is_memory (maybe_throw_at id (pointer path.now) (view value.now)) result }
 {
     let continuation = required(alloc, path, "continuation", value)?;
     let handler = given_or(alloc, path, "handler", value, None)?;

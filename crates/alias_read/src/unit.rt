@@ -2,11 +2,12 @@
 ghost use Rattle.std.specs.Prelude.{◌≡◌, Result, IfOk, IfErr};
 ghost use Rattle.serde_json.specs.View.{view};
 ghost use Rattle.alias_read.specs.Pointer.{pointer};
-ghost use Rattle.alias_read.specs.Fault.{Gives, IsMemory};
+ghost use Rattle.alias_base.specs.Answer.{Gives};
+ghost use Rattle.alias_read.specs.Fault.{is_memory, IsMemory};
 ghost use Rattle.alias_read.specs.Units.{known_format, unit_at, unit_of, unit_keys, ReadsUnit, UnitReading, NoUnit};
 
 use crate::built::is_built;
-use crate::fault::{TextFault, TextRule};
+use crate::fault::{TextFault, TextRule, ValueFault};
 use crate::json::{FromJson, given_or, known_keys, object, refused, required};
 use crate::only::only_empty;
 use crate::path::Path;
@@ -15,8 +16,8 @@ use alias_hir::env::{Config, Environment, Unit};
 use serde_json::Value;
 use std::alloc::{AllocError, Global};
 
-fn known_format(alloc: Global, path: &Path, number: u32) -> Result<(), TextFault>
-    ensures { Gives result (known_format (pointer path.now) number) }
+fn known_format(alloc: Global, path: &Path, number: u32) -> Result<(), ValueFault>
+    ensures { Gives is_memory (known_format (pointer path.now) number) result }
 {
     if number == 1 {
         return Ok(());
@@ -28,8 +29,8 @@ fn known_format(alloc: Global, path: &Path, number: u32) -> Result<(), TextFault
     refused(alloc, &here, TextRule::Range)
 }
 
-fn unit_keys(alloc: Global, path: &Path, value: &Value) -> Result<(), TextFault>
-    ensures { Gives result (unit_keys (pointer path.now) (view value.now)) }
+fn unit_keys(alloc: Global, path: &Path, value: &Value) -> Result<(), ValueFault>
+    ensures { Gives is_memory (unit_keys (pointer path.now) (view value.now)) result }
 {
     known_keys(
         alloc,
@@ -50,7 +51,7 @@ fn unit_keys(alloc: Global, path: &Path, value: &Value) -> Result<(), TextFault>
 impl FromJson for Unit {
     ghost reads = { unit_at };
 
-    fn from_json(alloc: Global, path: &Path, value: &Value) -> Result<Unit, TextFault> {
+    fn from_json(alloc: Global, path: &Path, value: &Value) -> Result<Unit, ValueFault> {
         object(alloc, path, value)?;
         let number = required(alloc, path, "format", value)?;
         known_format(alloc, path, number)?;
@@ -78,8 +79,8 @@ impl FromJson for Unit {
     }
 }
 
-fn unit_of(alloc: Global, value: &Value) -> Result<Unit, TextFault>
-    ensures { Gives result (unit_of (view value.now)) }
+fn unit_of(alloc: Global, value: &Value) -> Result<Unit, ValueFault>
+    ensures { Gives is_memory (unit_of (view value.now)) result }
 {
     let unit = Unit::from_json(alloc, &Path::Root, value)?;
     if is_built(&unit) {
@@ -96,7 +97,7 @@ pub fn read_unit(alloc: Global, bytes: &[u8]) -> Result<Unit, TextFault>
     ensures none { IfErr result (λ e. ¬ IsMemory e → NoUnit bytes.now) }
 {
     match Value::from_slice(alloc, bytes) {
-        Ok(value) => unit_of(alloc, &value),
+        Ok(value) => Ok(unit_of(alloc, &value)?),
         Err(e) => {
             if e.is_memory() {
                 Err(TextFault::Memory(AllocError))

@@ -2,10 +2,11 @@
 ghost use Rattle.std.specs.Prelude.{◌≡◌, Result};
 ghost use Rattle.serde_json.specs.View.{view};
 ghost use Rattle.alias_read.specs.Pointer.{pointer};
-ghost use Rattle.alias_read.specs.Fault.{Gives};
+ghost use Rattle.alias_base.specs.Answer.{Gives};
+ghost use Rattle.alias_read.specs.Fault.{is_memory};
 ghost use Rattle.alias_read.specs.Values.{place_of, place_at, spanned_at, instruction_kind_at, instruction_kind_named, lvalue_at, primitive_at, object_expression_at, load_local_at, store_local_at, property_load_at, property_store_at, value_of_kind, instruction_value_at, property_of};
 
-use crate::fault::{TextFault, TextRule};
+use crate::fault::{TextRule, ValueFault};
 use crate::json::{FromJson, known_keys, object, refused, required};
 use crate::only::only_empty;
 use crate::path::Path;
@@ -29,7 +30,7 @@ fn place_of(number: u32) -> Place
 impl FromJson for Place {
     ghost reads = { place_at };
 
-    fn from_json(alloc: Global, path: &Path, value: &Value) -> Result<Place, TextFault> {
+    fn from_json(alloc: Global, path: &Path, value: &Value) -> Result<Place, ValueFault> {
         match value {
             Value::Number(_) => Ok(place_of(u32::from_json(alloc, path, value)?)),
             Value::Array(_) => spanned(alloc, path, value),
@@ -38,8 +39,8 @@ impl FromJson for Place {
     }
 }
 
-fn spanned(alloc: Global, path: &Path, value: &Value) -> Result<Place, TextFault>
-    ensures { Gives result (spanned_at (pointer path.now) (view value.now)) }
+fn spanned(alloc: Global, path: &Path, value: &Value) -> Result<Place, ValueFault>
+    ensures { Gives is_memory (spanned_at (pointer path.now) (view value.now)) result }
 {
     if value.get(2).is_none() || value.get(3).is_some() {
         return refused(alloc, path, TextRule::Kind);
@@ -50,7 +51,7 @@ fn spanned(alloc: Global, path: &Path, value: &Value) -> Result<Place, TextFault
 impl FromJson for InstructionKind {
     ghost reads = { instruction_kind_at };
 
-    fn from_json(alloc: Global, path: &Path, value: &Value) -> Result<InstructionKind, TextFault> {
+    fn from_json(alloc: Global, path: &Path, value: &Value) -> Result<InstructionKind, ValueFault> {
         match value.as_str() {
             Some(name) => instruction_kind(alloc, path, name),
             None => refused(alloc, path, TextRule::Kind),
@@ -58,8 +59,8 @@ impl FromJson for InstructionKind {
     }
 }
 
-fn instruction_kind(alloc: Global, path: &Path, name: &str) -> Result<InstructionKind, TextFault>
-    ensures { Gives result (instruction_kind_named (pointer path.now) name.now) }
+fn instruction_kind(alloc: Global, path: &Path, name: &str) -> Result<InstructionKind, ValueFault>
+    ensures { Gives is_memory (instruction_kind_named (pointer path.now) name.now) result }
 {
     if name == "Const" {
         Ok(InstructionKind::Const)
@@ -85,7 +86,7 @@ fn instruction_kind(alloc: Global, path: &Path, name: &str) -> Result<Instructio
 impl FromJson for LValue {
     ghost reads = { lvalue_at };
 
-    fn from_json(alloc: Global, path: &Path, value: &Value) -> Result<LValue, TextFault> {
+    fn from_json(alloc: Global, path: &Path, value: &Value) -> Result<LValue, ValueFault> {
         object(alloc, path, value)?;
         let kind = required(alloc, path, "kind", value)?;
         let place = required(alloc, path, "place", value)?;
@@ -97,7 +98,11 @@ impl FromJson for LValue {
 impl FromJson for InstructionValue {
     ghost reads = { instruction_value_at };
 
-    fn from_json(alloc: Global, path: &Path, value: &Value) -> Result<InstructionValue, TextFault> {
+    fn from_json(
+        alloc: Global,
+        path: &Path,
+        value: &Value,
+    ) -> Result<InstructionValue, ValueFault> {
         object(alloc, path, value)?;
         let kind: Text = required(alloc, path, "kind", value)?;
         value_of_kind(alloc, kind.as_str(), path, value)
@@ -109,8 +114,8 @@ fn value_of_kind(
     kind: &str,
     path: &Path,
     value: &Value,
-) -> Result<InstructionValue, TextFault>
-    ensures { Gives result (value_of_kind kind.now (pointer path.now) (view value.now)) }
+) -> Result<InstructionValue, ValueFault>
+    ensures { Gives is_memory (value_of_kind kind.now (pointer path.now) (view value.now)) result }
 {
     if kind == "Primitive" {
         primitive(alloc, path, value)
@@ -133,8 +138,8 @@ fn value_of_kind(
     }
 }
 
-fn primitive(alloc: Global, path: &Path, value: &Value) -> Result<InstructionValue, TextFault>
-    ensures { Gives result (primitive_at (pointer path.now) (view value.now)) }
+fn primitive(alloc: Global, path: &Path, value: &Value) -> Result<InstructionValue, ValueFault>
+    ensures { Gives is_memory (primitive_at (pointer path.now) (view value.now)) result }
 {
     known_keys(alloc, path, &["kind"], value)?;
     Ok(InstructionValue::Primitive)
@@ -144,24 +149,24 @@ fn object_expression(
     alloc: Global,
     path: &Path,
     value: &Value,
-) -> Result<InstructionValue, TextFault>
-    ensures { Gives result (object_expression_at (pointer path.now) (view value.now)) }
+) -> Result<InstructionValue, ValueFault>
+    ensures { Gives is_memory (object_expression_at (pointer path.now) (view value.now)) result }
 {
     only_empty(alloc, path, "properties", value)?;
     known_keys(alloc, path, &["kind", "properties"], value)?;
     Ok(InstructionValue::ObjectExpression)
 }
 
-fn load_local(alloc: Global, path: &Path, value: &Value) -> Result<InstructionValue, TextFault>
-    ensures { Gives result (load_local_at (pointer path.now) (view value.now)) }
+fn load_local(alloc: Global, path: &Path, value: &Value) -> Result<InstructionValue, ValueFault>
+    ensures { Gives is_memory (load_local_at (pointer path.now) (view value.now)) result }
 {
     let place = required(alloc, path, "place", value)?;
     known_keys(alloc, path, &["kind", "place"], value)?;
     Ok(InstructionValue::LoadLocal { place })
 }
 
-fn store_local(alloc: Global, path: &Path, value: &Value) -> Result<InstructionValue, TextFault>
-    ensures { Gives result (store_local_at (pointer path.now) (view value.now)) }
+fn store_local(alloc: Global, path: &Path, value: &Value) -> Result<InstructionValue, ValueFault>
+    ensures { Gives is_memory (store_local_at (pointer path.now) (view value.now)) result }
 {
     let lvalue = required(alloc, path, "lvalue", value)?;
     let stored = required(alloc, path, "value", value)?;
@@ -172,16 +177,16 @@ fn store_local(alloc: Global, path: &Path, value: &Value) -> Result<InstructionV
     })
 }
 
-fn property_load(alloc: Global, path: &Path, value: &Value) -> Result<InstructionValue, TextFault>
-    ensures { Gives result (property_load_at (pointer path.now) (view value.now)) }
+fn property_load(alloc: Global, path: &Path, value: &Value) -> Result<InstructionValue, ValueFault>
+    ensures { Gives is_memory (property_load_at (pointer path.now) (view value.now)) result }
 {
     let object = required(alloc, path, "object", value)?;
     known_keys(alloc, path, &["kind", "object"], value)?;
     Ok(InstructionValue::PropertyLoad { object })
 }
 
-fn property_store(alloc: Global, path: &Path, value: &Value) -> Result<InstructionValue, TextFault>
-    ensures { Gives result (property_store_at (pointer path.now) (view value.now)) }
+fn property_store(alloc: Global, path: &Path, value: &Value) -> Result<InstructionValue, ValueFault>
+    ensures { Gives is_memory (property_store_at (pointer path.now) (view value.now)) result }
 {
     let object = required(alloc, path, "object", value)?;
     let name: Option<Text> = required(alloc, path, "property", value)?;

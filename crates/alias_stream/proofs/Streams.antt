@@ -1,9 +1,13 @@
 -- Pieces that are taken and added one after the other.
-use Rattle.std.proofs.Common.{ℕ, ◌≡◌, ◌+◌, ◌-◌, ◌<◌, ◌≤◌, Bool, List, [], ◌++◌, Option, None, Some, length, take, drop, refl, sym, ◌∙◌, ap, subst, inl, inr, append_assoc, arith, length-append}
+use Rattle.std.proofs.Common.{ℕ, ◌≡◌, ◌+◌, ◌-◌, ◌<◌, ◌≤◌, Bool, List, [], ◌∷◌, ◌++◌, Option, None, Some, length, take, drop, refl, sym, ◌∙◌, ap, subst, inl, inr, append_assoc, arith, length-append}
 use Rattle.std.proofs.Math.Seq.{take-add, take-append_seam}
 use Rattle.std.proofs.lemmas.List.{append-nil, take_rest}
 use Rattle.std.proofs.lemmas.List.Folds.{drop_split}
 use Rattle.alias_stream.specs.Streams.{Takes, IsAtEnd, Adds, HasFailed, IsAllOf, IfKnown}
+
+rest_empty : (xs ys : List ℕ) → xs ++ ys ≡ [] → ys ≡ []
+rest_empty [] ys e = e
+rest_empty (x ∷ xs) ys e = cc
 
 pub takes-none : (a : Option (List ℕ)) → Takes a [] a
 takes-none None = refl
@@ -22,6 +26,14 @@ takes-all None xs b p q = tt
 takes-all (Some old) xs b p q =
     let e : p.0 ≡ [] = subst IsAtEnd p.2 q in
     p.1 ∙ ap (λ zs. xs ++ zs) e ∙ append-nil xs
+
+-- what is at its end gives nothing, and stays there
+pub takes-end : (a : Option (List ℕ)) (xs : List ℕ) (b : Option (List ℕ)) → Takes a xs b → IsAtEnd a → IsAtEnd b
+takes-end None xs b p q = subst IsAtEnd (sym p) tt
+takes-end (Some old) xs b p q =
+    let both : xs ++ p.0 ≡ [] = sym p.1 ∙ q in
+    let rest : IsAtEnd (Some p.0) = rest_empty xs p.0 both in
+    subst IsAtEnd (sym p.2) rest
 
 pub takes-long : (a : Option (List ℕ)) (xs : List ℕ) (b : Option (List ℕ)) (n : ℕ) → Takes a xs b → n < length xs → IfKnown a (λ all. n < length all)
 takes-long None xs b n p h = tt

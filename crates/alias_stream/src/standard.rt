@@ -1,5 +1,5 @@
 //! Standard input as a source, and standard output as a sink. Nothing is known of what they hold.
-ghost use Rattle.std.specs.Prelude.{None, ◌==◌};
+ghost use Rattle.std.specs.Prelude.{None, ◌==◌, ◌≡◌};
 
 use crate::sink::{Sink, SinkStop};
 use crate::source::{Failed, Source};
@@ -13,7 +13,10 @@ pub struct ReaderSource<R: Read + Drop> {
 }
 
 impl<R: Read + Drop> ReaderSource<R> {
-    pub fn new(reader: R) -> Self {
+    /// A source of what the reader gives, of which no read has failed yet.
+    pub fn new(reader: R) -> Self
+        ensures { ⟦<Self as Source>⟧.faults result ≡ 0 }
+    {
         ReaderSource { reader, faults: 0 }
     }
 }
@@ -44,7 +47,10 @@ pub struct WriterSink<W: Write + Drop> {
 }
 
 impl<W: Write + Drop> WriterSink<W> {
-    pub fn new(writer: W) -> Self {
+    /// A sink into the writer, of which no write has failed yet.
+    pub fn new(writer: W) -> Self
+        ensures { ⟦<Self as Sink>⟧.faults result ≡ 0 }
+    {
         WriterSink { writer, faults: 0 }
     }
 }

@@ -1,6 +1,6 @@
 //! Reading to the end, and writing all.
 ghost use Rattle.std.specs.Prelude.{ℕ, ◌≡◌, ◌<◌, ◌≤◌, Err, vec_len, length, take, IfOk, OnOk, OnErr};
-ghost use Rattle.alias_stream.specs.Streams.{Adds, HasFailed, IsAllOf, IfKnown};
+ghost use Rattle.alias_stream.specs.Streams.{Adds, HasFailed, IsAllOf, IsAtEnd, IfKnown};
 ghost use Rattle.alias_stream.specs.declared.whole.ReadStop.{ReadStop};
 ghost use Rattle.alias_stream.specs.declared.sink.SinkStop.{SinkStop};
 
@@ -49,10 +49,11 @@ fn new_chunk(alloc: Global) -> Result<Vec<u8>, AllocError>
     vec![in alloc; 0; CHUNK]
 }
 
-/// Reads to the end, and gives all the bytes. An `Err` says that a read failed, that there are more than
-/// `LIMIT` bytes, or that memory is out; what was read before it is lost.
+/// Reads to the end, and gives all the bytes; the source has none left then. An `Err` says that a read failed,
+/// that there are more than `LIMIT` bytes, or that memory is out; what was read before it is lost.
 pub fn read_whole<S: Source>(alloc: Global, source: &mut S) -> Result<List<u8>, ReadStop>
     ensures whole { IfOk result (λ bytes. IsAllOf (S.left source.old) bytes × (length bytes ≤ LIMIT)) }
+    ensures end { OnOk result (IsAtEnd (S.left source.new)) }
     ensures failed { result ≡ Err ReadStop.Failed → HasFailed (S.faults source.old) (S.faults source.new) (S.at_last source.new) }
     ensures too_long { result ≡ Err ReadStop.TooLong → IfKnown (S.left source.old) (λ all. LIMIT < length all) }
     ensures faults { S.faults source.old ≤ S.faults source.new }

@@ -4,5 +4,6 @@
 pub mod effects;
 pub mod functions;
 pub mod refusals;
+pub mod results;
 #[cfg(test)]
 mod tests;

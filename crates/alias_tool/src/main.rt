@@ -1,18 +1,9 @@
-//! The program: `alias infer < unit.json`.
+//! The program: `jirrambeo infer < unit.json`. Its words and streams are the system's; all else is alias_run.
 #![tactic(auto)]
 
-mod finding;
-mod inferred;
-mod run;
-mod status;
-#[cfg(test)]
-mod tests;
-mod text;
-mod words;
-
 use alias_base::Text;
+use alias_run::run_alias;
 use alias_stream::{ReaderSource, WriterSink};
-use run::run_alias;
 use std::alloc::Global;
 use std::io;
 use std::process::ExitCode;

@@ -1,7 +1,7 @@
 use Rattle.std.proofs.Common.{arith, ◌≡◌, ◌<◌, ◌++◌, length, take}
 use Rattle.std.proofs.lemmas.Grind.{common_steps}
 use Rattle.std.proofs.lemmas.List.{length-take, length-append}
-use Rattle.alias_stream.proofs.Streams.{takes-none, takes-more, takes-piece, takes-all, takes-long, failed-later}
+use Rattle.alias_stream.proofs.Streams.{takes-none, takes-more, takes-piece, takes-all, takes-end, takes-long, failed-later}
 use Rattle.alias_stream.proofs.whole.read_whole.Goals as goal
 
 pub loop-bytes-init : goal.loop-bytes-init
@@ -19,6 +19,11 @@ pub returns-then-count-eq0-clause-whole : goal.returns-then-count-eq0-clause-who
 returns-then-count-eq0-clause-whole g c =
     let some : 0 < length c.read.new.buf = omega (arith, c.loop-bytes.invariant.chunk) in
     rw c.from_vec.ensures (takes-all _ _ _ c.loop-bytes.invariant.taken (c.in_ok-count.ensures.end c.if-count-eq0.true some), omega (arith, c.loop-bytes.invariant.within, c.loop-bytes.bytes.ok))
+
+pub returns-then-count-eq0-clause-end : goal.returns-then-count-eq0-clause-end
+returns-then-count-eq0-clause-end g c =
+    let some : 0 < length c.read.new.buf = omega (arith, c.loop-bytes.invariant.chunk) in
+    takes-end _ _ _ c.in_ok-count.ensures.taken (c.in_ok-count.ensures.end c.if-count-eq0.true some)
 
 pub returns-then-count-len-clause-too_long : goal.returns-then-count-len-clause-too_long
 returns-then-count-len-clause-too_long g c = λ _.

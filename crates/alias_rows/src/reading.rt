@@ -1,0 +1,61 @@
+//! Worked examples from their text.
+
+use crate::example::Example;
+use alias_base::Text;
+use anyhow::{Context, Result};
+use std::alloc::{AllocError, Global};
+
+fn push_line(text: &mut Text, line: &str) -> Result<(), AllocError> {
+    text.push_str(line)?;
+    text.push_str("\n")
+}
+
+fn push_blanks(text: &mut Text, count: usize) -> Result<(), AllocError> {
+    for _ in 0..count {
+        text.push_str(" ")?;
+    }
+    Ok(())
+}
+
+/// Takes what a line says of an example. A line that says nothing of one is a remark.
+fn take(example: &mut Example, key: &str, value: &str) -> Result<()> {
+    if key == "words" {
+        example.words.push_str(value)?;
+    } else if key == "unit" {
+        example.input.push_str(value)?;
+    } else if key == "blanks" {
+        push_blanks(
+            &mut example.input,
+            value.parse().context("how many blanks")?,
+        )?;
+    } else if key == "piece" {
+        example.piece = value.parse().context("how many bytes a piece has")?;
+    } else if key == "failing_read" {
+        example.failing_read = value.parse().context("the number of a read")?;
+    } else if key == "failing_write" {
+        example.failing_write = value.parse().context("the number of a write")?;
+    } else if key == "status" {
+        example.status = value.parse().context("a status")?;
+    } else if key == ">" {
+        push_line(&mut example.written, value)?;
+    } else if key == "cut" {
+        example.written.push_str(value)?;
+    }
+    Ok(())
+}
+
+/// The examples of a text, in its order.
+pub fn examples(alloc: Global, text: &str) -> Result<Vec<Example>> {
+    let mut examples = Vec::new(alloc);
+    for line in text.lines() {
+        let Some((key, value)) = line.split_once(' ') else {
+            continue;
+        };
+        if key == "example" {
+            examples.push(Example::new(alloc, value)?)?;
+        } else if let Some(example) = examples.last_mut() {
+            take(example, key, value)?;
+        }
+    }
+    Ok(examples)
+}

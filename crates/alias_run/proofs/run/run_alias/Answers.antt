@@ -1,0 +1,47 @@
+use Rattle.std.proofs.Common.{◌≡◌, ◌∙◌, subst, take, ap, Err}
+use Rattle.alias_stream.specs.Streams.{Adds, HasFailed}
+use Rattle.alias_run.specs.Commands.{command_of}
+use Rattle.alias_run.specs.Texts.{text_of}
+use Rattle.alias_run.proofs.Running.{ran_out, broke_off, ran, leaves_unwritten}
+use Rattle.alias_run.proofs.run.run_alias.Goals as goal
+
+pub returns-in_default-clause-run : goal.returns-in_default-clause-run
+returns-in_default-clause-run g c =
+    let source = c.args.source.now in
+    let after = c.find-outcome.new.source in
+    let sink = c.args.sink.now in
+    let read_failed = HasFailed (g.S.Source.faults source) (g.S.Source.faults after) (g.S.Source.at_last after) in
+    let write_failed = HasFailed (g.K.Sink.faults sink) (g.K.Sink.faults sink) (g.K.Sink.at_last sink) in
+    let held = g.K.Sink.held sink in
+    ran_out (command_of c.args.words.now) (g.S.Source.left source) read_failed write_failed held held c.find-outcome.result c.ended.result c.ended.ensures c.find-outcome.ensures.found
+
+pub returns-in-Ok-write_whole-clause-headline : goal.returns-in-Ok-write_whole-clause-headline
+returns-in-Ok-write_whole-clause-headline g c =
+    let found = c.find-outcome.result in
+    let source = c.args.source.now in
+    let after = c.find-outcome.new.source in
+    let read_failed = HasFailed (g.S.Source.faults source) (g.S.Source.faults after) (g.S.Source.at_last after) in
+    let held = g.K.Sink.held c.args.sink.now in
+    let held' = g.K.Sink.held c.write_whole.new.sink in
+    let text : c.as_bytes.result.now ≡ text_of found = c.as_bytes.ensures.value ∙ c.as_str.ensures ∙ c.in-Ok.ensures in
+    (ran (g.S.Source.left source) read_failed (Unit {0}) held held' (command_of c.args.words.now) found.status found.inferred c.find-outcome.ensures.found
+    (subst (λ t. Adds held t held') text c.in-Ok-write_whole.ensures.whole)).1
+
+pub returns-in-Err-clause-run : goal.returns-in-Err-clause-run
+returns-in-Err-clause-run g c =
+    let found = c.find-outcome.result in
+    let source = c.args.source.now in
+    let after = c.find-outcome.new.source in
+    let sink = c.args.sink.now in
+    let sink' = c.write_whole.new.sink in
+    let read_failed = HasFailed (g.S.Source.faults source) (g.S.Source.faults after) (g.S.Source.at_last after) in
+    let write_failed = HasFailed (g.K.Sink.faults sink) (g.K.Sink.faults sink') (g.K.Sink.at_last sink') in
+    let held = g.K.Sink.held sink in
+    let held' = g.K.Sink.held sink' in
+    let text : c.as_bytes.result.now ≡ text_of found = c.as_bytes.ensures.value ∙ c.as_str.ensures ∙ c.in-Ok.ensures in
+    let part = c.in-Err.ensures.part in
+    broke_off (command_of c.args.words.now) (g.S.Source.left source) read_failed write_failed held held' found part.0 c.in-Err.stop _ c.ended-in-Err.result c.ended-in-Err.ensures c.from.ensures
+    c.find-outcome.ensures.found (subst (λ t. Adds held (take part.0 t) held') text part.2) (λ failed. c.in-Err.ensures.failed (ap Err failed))
+
+pub returns-in-Err-clause-leaves : goal.returns-in-Err-clause-leaves
+returns-in-Err-clause-leaves g c = leaves_unwritten c.in-Err.stop (g.S.Source.left c.find-outcome.new.source) _ c.ended-in-Err.result c.ended-in-Err.ensures c.from.ensures

@@ -1,0 +1,6 @@
+pub mod Commands
+pub mod Findings
+pub mod Inferences
+pub mod Runs
+pub mod Statuses
+pub mod Texts

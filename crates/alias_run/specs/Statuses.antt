@@ -1,0 +1,64 @@
+-- The status of each fault, the exit statuses, and the line that a refusal writes.
+use Rattle.std.specs.Prelude.{ℕ, List, [], codes}
+use Rattle.alias_hir.specs.declared.error.InferError.{InferError}
+use Rattle.alias_hir.specs.declared.error.InferError.TheVariants as infer
+use Rattle.alias_read.specs.declared.fault.TextFault.{TextFault}
+use Rattle.alias_read.specs.declared.fault.TextFault.TheVariants as text
+use Rattle.alias_rules.specs.declared.fault.UnitFault.{UnitFault}
+use Rattle.alias_rules.specs.declared.fault.UnitFault.TheVariants as unit
+use Rattle.alias_stream.specs.declared.sink.SinkStop.{SinkStop}
+use Rattle.alias_stream.specs.declared.sink.SinkStop.TheVariants as sink
+use Rattle.alias_stream.specs.declared.whole.ReadStop.{ReadStop}
+use Rattle.alias_stream.specs.declared.whole.ReadStop.TheVariants as read
+use Rattle.alias_text.specs.Refusals.{refused_text, unfit_text}
+use Rattle.alias_run.specs.declared.status.Status.{Status}
+use Rattle.alias_run.specs.declared.status.Status.TheVariants.{Done, Words, Unfit, Refused, ReadFault, WriteFault, TooLong, Memory, NotBuilt}
+
+-- ---- faults. Want of memory has one status, wherever it comes
+
+abbrev pub read_status : ReadStop → Status
+read_status read.Failed = ReadFault
+read_status read.TooLong = TooLong
+read_status (read.Memory e) = Memory
+
+abbrev pub text_status : TextFault → Status
+text_status text.NotJson = NotBuilt
+text_status (text.NotUnit pointer rule) = NotBuilt
+text_status (text.Memory e) = Memory
+
+abbrev pub unit_status : UnitFault → Status
+unit_status (unit.Memory e) = Memory
+unit_status fault = Unfit fault
+
+abbrev pub infer_status : InferError → Status
+infer_status (infer.Memory e) = Memory
+infer_status error = Refused error
+
+abbrev pub write_status : SinkStop → Status
+write_status sink.Failed = WriteFault
+write_status (sink.Memory e) = Memory
+
+-- ---- what is written
+
+abbrev pub status_code : Status → ℕ
+status_code Done = 0
+status_code Words = 2
+status_code (Unfit fault) = 5
+status_code (Refused error) = 6
+status_code ReadFault = 7
+status_code WriteFault = 8
+status_code TooLong = 9
+status_code Memory = 10
+status_code NotBuilt = 11
+
+-- one line, or nothing where the status writes none
+abbrev pub refusal_line : Status → List ℕ
+refusal_line Done = []
+refusal_line Words = codes "refused Words\n"
+refusal_line (Unfit fault) = unfit_text fault
+refusal_line (Refused error) = refused_text error
+refusal_line ReadFault = codes "refused ReadFault\n"
+refusal_line WriteFault = []
+refusal_line TooLong = codes "refused TooLong\n"
+refusal_line Memory = []
+refusal_line NotBuilt = []

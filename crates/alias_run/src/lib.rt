@@ -1,0 +1,18 @@
+//! A whole run: words and a source in, a status and a text out.
+#![tactic(auto)]
+
+pub mod command;
+mod finding;
+pub mod inferred;
+pub mod outcome;
+mod run;
+pub mod status;
+#[cfg(test)]
+mod tests;
+pub mod text;
+
+pub use command::Command;
+pub use inferred::{Inferred, infer_unit};
+pub use outcome::Outcome;
+pub use run::run_alias;
+pub use status::Status;

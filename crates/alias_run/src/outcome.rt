@@ -1,0 +1,33 @@
+//! How a run ends.
+ghost use Rattle.std.specs.Prelude.{◌≡◌};
+
+use crate::inferred::Inferred;
+use crate::status::Status;
+
+/// How a run ends, and what was inferred where the status is `Done`.
+#[derive(Drop)]
+pub struct Outcome {
+    pub status: Status,
+    /// There exactly where the status is `Done`.
+    pub inferred: Option<Inferred>,
+}
+
+/// An outcome with nothing inferred.
+pub(crate) fn ended(status: Status) -> Outcome
+    ensures { result ≡ record { status = status; inferred = None } }
+{
+    Outcome {
+        status,
+        inferred: None,
+    }
+}
+
+/// The outcome of a unit that was inferred.
+pub(crate) fn done(inferred: Inferred) -> Outcome
+    ensures { result ≡ record { status = Status.Done; inferred = Some inferred } }
+{
+    Outcome {
+        status: Status::Done,
+        inferred: Some(inferred),
+    }
+}

@@ -1,0 +1,112 @@
+//! How a run ends.
+ghost use Rattle.std.specs.Prelude.{◌≡◌};
+ghost use Rattle.alias_run.specs.Statuses.{status_code, read_status, text_status, unit_status, infer_status, write_status};
+
+use alias_hir::error::InferError;
+use alias_read::TextFault;
+use alias_rules::fault::UnitFault;
+use alias_stream::{ReadStop, SinkStop};
+
+/// How a run ends. docs/FORMAT.md has the table of exit statuses and of what each writes.
+#[derive(Drop)]
+pub enum Status {
+    /// The result was written.
+    Done,
+    /// The words are no command.
+    Words,
+    /// The unit breaks this rule first.
+    Unfit(UnitFault),
+    /// The inference refuses the unit.
+    Refused(InferError),
+    /// The source failed.
+    ReadFault,
+    /// The sink failed. What was written is the front of the text.
+    WriteFault,
+    /// The source had more than 16,777,216 bytes.
+    TooLong,
+    /// Memory ran out, which can happen at any growth.
+    Memory,
+    /// The input isn't the JSON of one unit of the forms that are built.
+    NotBuilt,
+}
+
+impl Status {
+    /// The exit status of the program. Takes no memory.
+    pub fn code(&self) -> u8
+        ensures { result ≡ status_code self.now }
+    {
+        match self {
+            Status::Done => 0,
+            Status::Words => 2,
+            Status::Unfit(_) => 5,
+            Status::Refused(_) => 6,
+            Status::ReadFault => 7,
+            Status::WriteFault => 8,
+            Status::TooLong => 9,
+            Status::Memory => 10,
+            Status::NotBuilt => 11,
+        }
+    }
+}
+
+/// The status of an input that couldn't be read to its end.
+impl From<ReadStop> for Status {
+    ghost from_gives = { λ stop status. status ≡ read_status stop };
+
+    fn from(stop: ReadStop) -> Status {
+        match stop {
+            ReadStop::Failed => Status::ReadFault,
+            ReadStop::TooLong => Status::TooLong,
+            ReadStop::Memory(_) => Status::Memory,
+        }
+    }
+}
+
+/// The status of an input that spells no unit.
+impl From<TextFault> for Status {
+    ghost from_gives = { λ fault status. status ≡ text_status fault };
+
+    fn from(fault: TextFault) -> Status {
+        match fault {
+            TextFault::NotJson => Status::NotBuilt,
+            TextFault::NotUnit { .. } => Status::NotBuilt,
+            TextFault::Memory(_) => Status::Memory,
+        }
+    }
+}
+
+/// The status of a unit that breaks a rule.
+impl From<UnitFault> for Status {
+    ghost from_gives = { λ fault status. status ≡ unit_status fault };
+
+    fn from(fault: UnitFault) -> Status {
+        match fault {
+            UnitFault::Memory(_) => Status::Memory,
+            broken => Status::Unfit(broken),
+        }
+    }
+}
+
+/// The status of a unit that the inference refuses.
+impl From<InferError> for Status {
+    ghost from_gives = { λ error status. status ≡ infer_status error };
+
+    fn from(error: InferError) -> Status {
+        match error {
+            InferError::Memory(_) => Status::Memory,
+            refused => Status::Refused(refused),
+        }
+    }
+}
+
+/// The status of a text that couldn't be written to its end.
+impl From<SinkStop> for Status {
+    ghost from_gives = { λ stop status. status ≡ write_status stop };
+
+    fn from(stop: SinkStop) -> Status {
+        match stop {
+            SinkStop::Failed => Status::WriteFault,
+            SinkStop::Memory(_) => Status::Memory,
+        }
+    }
+}
