@@ -8,4 +8,3 @@ pub mod Runs
 pub mod WorkListViews
 pub mod TestFlows
 pub mod TestFlowLaws
-pub mod FaultLaws
