@@ -2,4 +2,3 @@ pub mod Answer
 pub mod AnswerLaws
 pub mod Find
 pub mod Lending
-pub mod Parts

@@ -6,7 +6,7 @@ use Rattle.std.proofs.Common.{zero, suc, subst, ap, refl, ◌∙◌}
 use Rattle.std.proofs.lemmas.List.Folds.{list_all-append}
 use Rattle.indexmap.specs.IndexMap.{set_value_at}
 use Rattle.alias_base.specs.Answer.{◌>>=◌, all_pass}
-use Rattle.alias_base.specs.Parts.{both_true, both_pass}
+use Rattle.alias_base.specs.AnswerLaws.{both_true, both_pass}
 use Rattle.alias_base.specs.declared.ids.BlockId.{BlockId}
 use Rattle.alias_hir.specs.Terminals.{terminal_places, terminal_effects, with_terminal_effects}
 use Rattle.alias_hir.specs.declared.effect.AliasingEffect.{AliasingEffect}

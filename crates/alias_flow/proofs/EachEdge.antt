@@ -2,7 +2,7 @@
 use Rattle.std.proofs.Common.{◌≡◌, ℕ, ◌+◌, ◌<◌, ◌≤◌, ⊎_elim, Bool, true, nat_lt, List, [], ◌∷◌, zero, suc, arith, refl, ap, ◌∙◌}
 use Rattle.std.proofs.lemmas.Bool.{ltb-true, cases_eq}
 use Rattle.std.specs.List.{list_all, AllByRecursion}
-use Rattle.alias_base.specs.Parts.{both_true}
+use Rattle.alias_base.specs.AnswerLaws.{both_true}
 use Rattle.alias_flow.specs.Machine.{Rules, up}
 use Rattle.alias_flow.specs.Solutions.{goes_forward, IsForward}
 

@@ -3,7 +3,7 @@ use Rattle.std.specs.Prelude.{refl, ◌≡◌, ℕ, ◌^◌, ◌<◌, Bool, true
 use Rattle.std.proofs.Common.{sym, ◌∙◌}
 use Rattle.std.proofs.lemmas.Bool.{ltb-true}
 use Rattle.alias_base.specs.Answer.{◌>>=◌}
-use Rattle.alias_base.specs.Parts.{both_true}
+use Rattle.alias_base.specs.AnswerLaws.{both_true}
 use Rattle.serde_json.specs.Data.{Data}
 use Rattle.alias_hir.specs.declared.env.Unit.{Unit as HirUnit}
 use Rattle.alias_read.specs.Fault.{refusal}

@@ -6,7 +6,7 @@ use Rattle.std.proofs.lemmas.Bool.{eqb-true}
 use Rattle.std.proofs.lemmas.Grind.{common_steps}
 use Rattle.alias_base.specs.Answer.{◌>>=◌, all_pass}
 use Rattle.alias_base.specs.Find.{same_block, value_at}
-use Rattle.alias_base.specs.Parts.{both_true, both_pass}
+use Rattle.alias_base.specs.AnswerLaws.{both_true, both_pass}
 use Rattle.alias_base.specs.declared.ids.BlockId.{BlockId}
 use Rattle.alias_hir.specs.Diagnostics.{reports_invariant}
 use Rattle.alias_hir.specs.declared.report.Interned.{Interned}
