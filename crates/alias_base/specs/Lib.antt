@@ -2,3 +2,4 @@ pub mod Answer
 pub mod AnswerLaws
 pub mod Find
 pub mod Lending
+pub mod formers
