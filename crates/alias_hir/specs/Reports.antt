@@ -11,8 +11,7 @@ use Rattle.alias_hir.specs.declared.place.Span.{Span}
 use Rattle.alias_hir.specs.declared.report.ErrorCategory.TheVariants.{Invariant}
 use Rattle.alias_hir.specs.declared.report.Label.{Label}
 use Rattle.alias_hir.specs.declared.report.Report.{Report}
-use Rattle.alias_hir.specs.declared.types.Ty.{Ty}
-use Rattle.alias_hir.specs.declared.types.Ty.TheVariants.{Primitive, Var}
+use Rattle.alias_hir.specs.Printed.{printed_type}
 use Rattle.alias_hir.specs.Types.{type_of}
 
 abbrev pub name_text : IdentifierName → List ℕ
@@ -27,11 +26,6 @@ identifier_name (Some i) = option_map_or name_text i.name []
 abbrev pub identifier_span : Option Identifier → Option Span
 identifier_span None = None
 identifier_span (Some i) = i.span
-
--- a type as it is printed behind an identifier
-abbrev pub printed_type : Ty → List ℕ
-printed_type Primitive = []
-printed_type Var = []
 
 -- the identifier as it is printed: name, `$`, number and type
 abbrev pub printed_identifier : Environment → IdentifierId → List ℕ

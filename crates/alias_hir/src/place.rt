@@ -31,3 +31,24 @@ pub struct Place {
     pub reactive: bool,
     pub span: Option<Span>,
 }
+
+/// A place whose items stand for it, as `...p`.
+#[derive(Clone, Copy, Debug, PartialEq, Eq)]
+pub struct SpreadPattern {
+    pub place: Place,
+}
+
+/// An argument of a call.
+#[derive(Clone, Copy, Debug, PartialEq, Eq)]
+pub enum PlaceOrSpread {
+    Place(Place),
+    Spread(SpreadPattern),
+}
+
+/// An argument of an effect that stands for a call. A hole is an argument that is left out.
+#[derive(Clone, Copy, Debug, PartialEq, Eq)]
+pub enum PlaceOrSpreadOrHole {
+    Place(Place),
+    Spread(SpreadPattern),
+    Hole,
+}

@@ -1,11 +1,12 @@
 //! Reports: what the author of the code is told.
 
 ghost use Rattle.std.specs.Prelude.{◌≡◌, ◌++◌, option_map, slice_get, IfOk, OnOk};
-ghost use Rattle.alias_hir.specs.Reports.{name_text, printed_type, printed_identifier, identifier_name, identifier_span, either_span, uninitialized_labels, uninitialized_report, not_settled_report};
+ghost use Rattle.alias_hir.specs.Reports.{name_text, printed_identifier, identifier_name, identifier_span, either_span, uninitialized_labels, uninitialized_report, not_settled_report};
 
 use crate::env::{Environment, Identifier, IdentifierName};
 use crate::place::Span;
-use crate::types::{Ty, type_of};
+use crate::printed::push_type;
+use crate::types::type_of;
 use alias_base::{IdentifierId, List, Text, TryClone};
 use std::alloc::{AllocError, Global};
 
@@ -71,11 +72,14 @@ impl TryClone for Report {
     }
 }
 
-fn name_text(name: &IdentifierName) -> &str
-    ensures { result.now ≡ name_text name.now }
-{
-    match name {
-        IdentifierName::Named(text) | IdentifierName::Promoted(text) => text.as_str(),
+impl IdentifierName {
+    /// The text of the name.
+    pub fn value(&self) -> &str
+        ensures { result.now ≡ name_text self.now }
+    {
+        match self {
+            IdentifierName::Named(text) | IdentifierName::Promoted(text) => text.as_str(),
+        }
     }
 }
 
@@ -85,18 +89,10 @@ fn push_name(text: &mut Text, identifier: Option<&Identifier>) -> Result<(), All
 {
     match identifier {
         Some(known) => match &known.name {
-            Some(name) => text.push_str(name_text(name)),
+            Some(name) => text.push_str(name.value()),
             None => Ok(()),
         },
         None => Ok(()),
-    }
-}
-
-fn printed_type(ty: &Ty) -> &'static str
-    ensures { result.now ≡ printed_type ty.now }
-{
-    match ty {
-        Ty::Primitive | Ty::Var => "",
     }
 }
 
@@ -112,7 +108,7 @@ fn push_identifier(
     text.push_str("$")?;
     text.push_number(identifier.0 as u64)?;
     match type_of(env, identifier) {
-        Some(ty) => text.push_str(printed_type(ty)),
+        Some(ty) => push_type(text, ty),
         None => Ok(()),
     }
 }

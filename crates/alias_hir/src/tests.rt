@@ -2,16 +2,19 @@ use crate::effect::{AliasingEffect, ValueKind, ValueReason, error_of};
 use crate::env::{Environment, Identifier, IdentifierName, MutableRange};
 use crate::error::{Counter, HirError};
 use crate::place::{Effect, Place, Span};
-use crate::places::{effect_places, places_of, terminal_places};
+use crate::printed::push_type;
 use crate::report::{
     DiagnosticId, ErrorCategory, Label, Report, not_settled_report, uninitialized_report,
 };
+use crate::signature::{FunctionSignature, HookKind, Shape};
 use crate::successors::terminal_successors;
 use crate::terminal::{SwitchCase, Terminal};
-use crate::types::{Ty, is_primitive_at, is_primitive_type, is_untyped_at, type_of};
-use crate::value::{InstructionKind, InstructionValue, LValue};
+use crate::types::{
+    Ty, is_builtin_collection_type, is_jsx_type, is_primitive_at, is_primitive_type, is_ref_at,
+    is_ref_or_ref_value, is_untyped_at, is_within, returns_jsx, type_of,
+};
 use alias_base::{
-    BlockId, DeclarationId, EvaluationOrder, IdentifierId, List, Text, TryClone, TypeId,
+    BlockId, Boxed, DeclarationId, EvaluationOrder, IdentifierId, List, Text, TryClone, TypeId,
 };
 use std::alloc::{AllocError, Global};
 use std::test::Fail;
@@ -291,39 +294,119 @@ fn records_reports(rt: HostRuntime) -> Result<(), Fail> {
     };
     let place = place(1);
     assert!(rt; error_of(&AliasingEffect::Impure { place, error }) == Some(error));
-    assert!(rt; error_of(&AliasingEffect::MutateGlobal { place }).is_none());
+    assert!(rt; error_of(&AliasingEffect::MutateGlobal { place, error }) == Some(error));
+    assert!(rt; error_of(&AliasingEffect::Render { place }).is_none());
+    Ok(())
+}
+
+fn object(alloc: Global, shape: &str) -> Result<Ty, AllocError> {
+    Ok(Ty::Object {
+        shape_id: Some(Text::from_str(alloc, shape)?),
+    })
+}
+
+fn function(alloc: Global, shape: &str, return_type: Ty) -> Result<Ty, AllocError> {
+    Ok(Ty::Function {
+        shape_id: Some(Text::from_str(alloc, shape)?),
+        return_type: Boxed::new(alloc, return_type)?,
+    })
+}
+
+#[test]
+fn shapes_have_names(rt: HostRuntime) -> Result<(), Fail> {
+    let alloc = rt.alloc();
+    assert!(rt; is_jsx_type(&object(alloc, "BuiltInJsx")?));
+    assert!(rt; !is_jsx_type(&object(alloc, "BuiltInArray")?));
+    assert!(rt; is_builtin_collection_type(&object(alloc, "BuiltInMap")?));
+    assert!(rt; is_ref_or_ref_value(&object(alloc, "BuiltInRefValue")?));
+    assert!(rt; returns_jsx(&function(alloc, "F", object(alloc, "BuiltInJsx")?)?));
+    let nested = function(alloc, "F", function(alloc, "G", Ty::Var)?)?;
+    assert!(rt; is_within(&nested, 3));
+    assert!(rt; !is_within(&nested, 2));
+    Ok(())
+}
+
+fn printed(alloc: Global, ty: &Ty) -> Result<Text, AllocError> {
+    let mut text = Text::new(alloc);
+    push_type(&mut text, ty)?;
+    Ok(text)
+}
+
+#[test]
+fn prints_types(rt: HostRuntime) -> Result<(), Fail> {
+    let alloc = rt.alloc();
+    let plain = function(alloc, "F", Ty::Primitive)?;
+    let bare = Ty::Object { shape_id: None };
+    let nested = function(alloc, "F", bare)?.try_clone(alloc)?;
+    assert_eq!(rt; printed(alloc, &plain)?.as_str(), ":TFunction<F>()");
+    assert_eq!(rt;
+        printed(alloc, &nested)?.as_str(),
+        ":TFunction<F>():  :TObject"
+    );
+    assert_eq!(rt;
+        printed(alloc, &object(alloc, "S")?)?.as_str(),
+        ":TObject<S>"
+    );
+    assert_eq!(rt; printed(alloc, &Ty::Var)?.as_str(), "");
+    Ok(())
+}
+
+fn signature(alloc: Global) -> FunctionSignature {
+    FunctionSignature {
+        positional_params: List::new(alloc),
+        rest_param: Some(Effect::Freeze),
+        return_value_kind: ValueKind::Frozen,
+        return_value_reason: Some(ValueReason::State),
+        callee_effect: Effect::Read,
+        no_alias: true,
+        mutable_only_if_operands_are_mutable: false,
+        impure: false,
+        known_incompatible: None,
+        canonical_name: None,
+        aliasing: None,
+    }
+}
+
+#[test]
+fn looks_up_the_first_shape(rt: HostRuntime) -> Result<(), Fail> {
+    let alloc = rt.alloc();
+    let mut env = Environment::new(alloc);
+    env.types.push(function(alloc, "useState", Ty::Var)?)?;
+    env.identifiers.push(identifier(0, 0, None))?;
+    env.shapes.push(Shape {
+        id: Text::from_str(alloc, "useState")?,
+        hook: true,
+        signature: Some(signature(alloc).try_clone(alloc)?),
+    })?;
+    env.shapes.push(Shape {
+        id: Text::from_str(alloc, "useState")?,
+        hook: false,
+        signature: None,
+    })?;
+    let ty = function(alloc, "useState", Ty::Var)?;
+    assert!(rt; env.get_hook_kind_for_type(&ty) == Some(HookKind::Hook));
+    assert!(rt;
+        env.get_hook_kind_for_type(&object(alloc, "useState")?)
+            .is_none()
+    );
+    assert!(rt; env.get_function_signature(&ty).is_some());
+    assert!(rt; env.has_no_alias_signature(IdentifierId(0)));
+    assert!(rt; !env.enable_validations());
+    assert!(rt; !is_ref_at(&env, IdentifierId(0)));
     Ok(())
 }
 
 #[test]
-fn gives_places_in_the_order_of_the_fields(rt: HostRuntime) -> Result<(), Fail> {
+fn makes_identifiers(rt: HostRuntime) -> Result<(), Fail> {
     let alloc = rt.alloc();
-    let store = InstructionValue::StoreLocal {
-        lvalue: LValue {
-            place: place(3),
-            kind: InstructionKind::Let,
-        },
-        value: place(1),
+    let mut env = environment(alloc, 0)?;
+    let made = match env.next_identifier_id() {
+        Ok(id) => Some(id),
+        Err(_) => None,
     };
-    let read = Terminal::Throw {
-        id: ORDER,
-        value: place(4),
-    };
-    let capture = AliasingEffect::Capture {
-        from: place(2),
-        into: place(5),
-    };
-    assert_eq!(rt;
-        places_of(alloc, &store)?.as_slice(),
-        [place(3), place(1)].as_slice()
-    );
-    assert_eq!(rt;
-        terminal_places(alloc, &read)?.as_slice(),
-        [place(4)].as_slice()
-    );
-    assert_eq!(rt;
-        effect_places(alloc, &capture)?.as_slice(),
-        [place(2), place(5)].as_slice()
-    );
+    assert!(rt; made == Some(IdentifierId(2)));
+    assert!(rt; is_untyped_at(&env, IdentifierId(2)));
+    assert_eq!(rt; env.identifiers.item(2).declaration_id, DeclarationId(2));
+    assert_eq!(rt; env.types.len(), 3);
     Ok(())
 }
