@@ -1,3 +1,4 @@
+pub mod Built
 pub mod Literals
 pub mod Objects
 pub mod Loads

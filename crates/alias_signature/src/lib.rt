@@ -2,6 +2,7 @@
 //! family of kinds, and one that chooses among them.
 #![tactic(auto)]
 
+mod built;
 mod creating;
 mod literals;
 mod loads;
@@ -9,6 +10,7 @@ mod objects;
 mod signatures;
 mod stores;
 
+pub use built::unit_is_built;
 pub use signatures::compute_signature_for_instruction;
 
 #[cfg(test)]

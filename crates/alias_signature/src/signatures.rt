@@ -23,7 +23,7 @@ fn push_signature_of_value(
     ensures { OnOk result (effects.new ≡ effects.old ++ signature_of_value env.now lvalue.now value.now) }
 {
     match value {
-        InstructionValue::ObjectExpression => push_object_expression(effects, lvalue),
+        InstructionValue::ObjectExpression { .. } => push_object_expression(effects, lvalue),
         InstructionValue::PropertyLoad { object } => {
             push_property_load(effects, env, lvalue, object)
         }
@@ -36,11 +36,13 @@ fn push_signature_of_value(
             value,
         } => push_store_local(effects, lvalue, variable, value),
         InstructionValue::Primitive => push_primitive(effects, lvalue),
+        _ => Ok(()),
     }
 }
 
 /// The signature of the instruction: the effects that it has whatever the state is, in order. docs/MODEL.md has a
-/// row for each kind. The one error is want of memory.
+/// row for each kind; a kind that isn't built has no effects yet, so ask `is_built` first. The one error is want of
+/// memory.
 pub fn compute_signature_for_instruction(
     alloc: Global,
     env: &Environment,

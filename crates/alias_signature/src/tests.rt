@@ -1,7 +1,7 @@
 //! The signature of each kind of instruction, as docs/MODEL.md has it.
 
 use crate::compute_signature_for_instruction;
-use alias_base::{DeclarationId, EvaluationOrder, IdentifierId, Text, TypeId};
+use alias_base::{DeclarationId, EvaluationOrder, IdentifierId, List, Text, TypeId};
 use alias_hir::effect::{AliasingEffect, ValueKind, ValueReason};
 use alias_hir::env::{Environment, Identifier, MutableRange};
 use alias_hir::hir::Instruction;
@@ -109,7 +109,9 @@ fn makes_and_reads(rt: HostRuntime) -> Result<(), Fail> {
     let alloc = rt.alloc();
     let literal = InstructionValue::Primitive;
     assert!(rt; has_effects(alloc, Ty::Var, literal, &[(Form::CreatePrimitive, 0, 0)])?);
-    let object = InstructionValue::ObjectExpression;
+    let object = InstructionValue::ObjectExpression {
+        properties: List::new(alloc),
+    };
     assert!(rt; has_effects(alloc, Ty::Var, object, &[(Form::CreateMutable, 0, 0)])?);
     let load = InstructionValue::LoadLocal { place: place(1) };
     assert!(rt; has_effects(alloc, Ty::Var, load, &[(Form::Assign, 1, 0)])?);
