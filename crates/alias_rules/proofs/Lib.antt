@@ -1,2 +1,4 @@
-mod Edges
-mod NumberSets
+mod Apart
+mod Holding
+mod Levels
+mod Reached

@@ -1,4 +1,8 @@
-pub mod Fault
+pub mod ApartLaws
 pub mod Fitting
+pub mod Functions
+pub mod Nesting
+pub mod RecordedLaws
 pub mod RuleLaws
-pub mod Rules
+pub mod Sharing
+pub mod TreeLaws

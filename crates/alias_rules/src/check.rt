@@ -1,12 +1,18 @@
 //! Whether a unit is well formed.
 ghost use Rattle.std.specs.Prelude.{◌≡◌, true, Ok};
 ghost use Rattle.alias_base.specs.Answer.{Gives};
-ghost use Rattle.alias_rules.specs.Fault.{is_memory};
+ghost use Rattle.alias_function_rules.specs.Fault.{is_memory};
 ghost use Rattle.alias_rules.specs.Fitting.{function_fits};
-ghost use Rattle.alias_rules.specs.Rules.{rules_hold, checks};
+ghost use Rattle.alias_rules.specs.Functions.{rules_hold, checks};
 
-use crate::fault::UnitFault;
-use crate::rules::{Subject, keeps_rules};
+use crate::rules::{Rule, each_function, numbers_below};
+use crate::sharing::identifiers_apart;
+use crate::tree::{nesting_is_tree, nesting_not_deep};
+use alias_function_rules::fault::UnitFault;
+use alias_function_rules::ids::tables_fit;
+use alias_function_rules::lengths::signatures_fit;
+use alias_function_rules::types::types_fit;
+use alias_function_rules::uninferred::nothing_inferred;
 use alias_hir::env::Unit;
 use std::alloc::Global;
 use std::marker::Model;
@@ -19,10 +25,14 @@ pub struct Checked {
 
 impl Model for Checked {
     ghost use Rattle.std.specs.Prelude.{◌≡◌, Ok};
+    ghost use Rattle.std.specs.Coded.{codes};
+    ghost use Rattle.alias_hir.specs.contracts.types.Ty as ty;
     ghost use Rattle.alias_hir.specs.declared.env.Unit.{Unit as HirUnit};
-    ghost use Rattle.alias_rules.specs.Rules.{rules_hold};
+    ghost use Rattle.alias_rules.specs.Functions.{rules_hold};
 
     ghost Value = { HirUnit };
+
+    ghost coded = { Prim.hlevel (codes, ty.the_row.coded) };
 
     ghost view = { λ c. c.unit };
 
@@ -52,14 +62,45 @@ impl Checked {
     }
 }
 
-/// The unit itself where it keeps all rules, else the first rule that it breaks: numbers are within their
-/// tables; the entry is a block; successors, and handlers of `Try`s, are blocks; there are no nested functions,
-/// since no kind of instruction names one yet; some block lists each instruction, and none is listed twice; each `Try` has a handler of its own; operands of phis are for blocks that
-/// have an edge to that of the phi; orders are neither unset nor the last number; nothing is inferred.
-/// `Memory` is for want of memory, and for a list of more than 4,294,967,295 instructions. After an `Err` the unit is gone.
+/// The first broken rule, or want of memory.
+fn rules_hold(alloc: Global, unit: &Unit) -> Result<(), UnitFault>
+    ensures { Gives is_memory (rules_hold unit.now) result }
+{
+    let (env, root) = (&unit.env, &unit.function);
+    let nested = numbers_below(alloc, env.functions.len())?;
+    tables_fit(env)?;
+    each_function(alloc, Rule::Numbers, env, root, &nested)?;
+    each_function(alloc, Rule::Entry, env, root, &nested)?;
+    each_function(alloc, Rule::Successors, env, root, &nested)?;
+    nesting_is_tree(alloc, unit, &nested)?;
+    nesting_not_deep(alloc, unit, &nested)?;
+    types_fit(env)?;
+    each_function(alloc, Rule::Listed, env, root, &nested)?;
+    each_function(alloc, Rule::ListedOnce, env, root, &nested)?;
+    each_function(alloc, Rule::Handlers, env, root, &nested)?;
+    each_function(alloc, Rule::Phis, env, root, &nested)?;
+    each_function(alloc, Rule::Orders, env, root, &nested)?;
+    nothing_inferred(alloc, env, root)?;
+    each_function(alloc, Rule::Distinct, env, root, &nested)?;
+    identifiers_apart(alloc, env, root, &nested)?;
+    signatures_fit(env)?;
+    each_function(alloc, Rule::Calls, env, root, &nested)?;
+    each_function(alloc, Rule::ContextValues, env, root, &nested)
+}
+
+/// The unit itself where it keeps all rules, else the first rule that it breaks, over the root and then the
+/// nested functions by their numbers: numbers are within their tables; the entry is a block; successors, and
+/// handlers of `Try`s, are blocks; nested functions are a tree of at most 64 levels; no type has more than 32
+/// levels; some block lists each instruction, and none is listed twice; each `Try` has a handler of its own;
+/// operands of phis are for blocks that have an edge to that of the phi; orders are neither unset nor the last
+/// number; nothing is inferred; parameters, context places and the place of what is returned are distinct; no
+/// identifier is both in a nested function, or below it, and outside, but for its context; neither signatures nor
+/// calls are too long; and what is said of context places is said of all those of the root.
+/// `Memory` is for want of memory, and for a table or list of more than 4,294,967,295 entries. After an `Err` the
+/// unit is gone.
 pub fn check_unit(alloc: Global, unit: Unit) -> Result<Checked, UnitFault>
     ensures { Gives is_memory (checks unit) result }
 {
-    keeps_rules(alloc, Subject::WholeUnit, &unit.env, &unit.function)?;
+    rules_hold(alloc, &unit)?;
     Ok(Checked { unit })
 }

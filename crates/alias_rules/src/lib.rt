@@ -1,18 +1,13 @@
-//! The rules of a well-formed unit.
+//! The rules of a well-formed unit, over the root and its nested functions.
 #![tactic(auto)]
 
-mod blocks;
 pub mod check;
 mod effects;
-pub mod fault;
 pub mod function;
-mod handlers;
-mod ids;
-mod listing;
+mod holders;
 mod nesting;
-mod orders;
-mod phis;
-mod rules;
-#[cfg(test)]
-mod tests;
-mod uninferred;
+pub mod rules;
+mod sharing;
+mod tree;
+
+pub use alias_function_rules::fault;

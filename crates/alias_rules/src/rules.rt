@@ -1,54 +1,113 @@
-//! All rules, in order.
-ghost use Rattle.std.specs.Prelude.{◌≡◌};
+//! The rules that each function keeps by itself, over a function and nested ones.
+ghost use Rattle.std.specs.Prelude.{◌≡◌, IfOk};
+ghost use Rattle.std.specs.List.{range_with_len};
 ghost use Rattle.alias_base.specs.Answer.{Gives};
-ghost use Rattle.alias_rules.specs.Fault.{is_memory};
-ghost use Rattle.alias_rules.specs.Rules.{keeps_rules};
+ghost use Rattle.alias_function_rules.specs.Fault.{is_memory};
+ghost use Rattle.alias_rules.specs.Functions.{rule_holds, at_function, each_function};
 
-use crate::blocks::{entry_exists, successors_exist};
-use crate::fault::UnitFault;
-use crate::handlers::handlers_distinct;
-use crate::ids::{numbers_fit, tables_fit};
-use crate::listing::{instructions_listed, none_listed_twice};
-use crate::nesting::nesting_is_tree;
-use crate::orders::orders_fit;
-use crate::phis::phis_fit;
-use crate::uninferred::nothing_inferred;
+use alias_base::FunctionId;
+use alias_function_rules::blocks::{entry_exists, successors_exist};
+use alias_function_rules::distinct::places_distinct;
+use alias_function_rules::fault::UnitFault;
+use alias_function_rules::handlers::handlers_distinct;
+use alias_function_rules::ids::numbers_fit;
+use alias_function_rules::lengths::{calls_fit, context_values_fit};
+use alias_function_rules::listing::{instructions_listed, none_listed_twice};
+use alias_function_rules::orders::orders_fit;
+use alias_function_rules::phis::phis_fit;
 use alias_hir::env::Environment;
 use alias_hir::hir::HirFunction;
-use std::alloc::Global;
+use std::alloc::{AllocError, Global};
 
-/// What the rules are asked of.
+/// A rule that each function keeps by itself.
 #[derive(Clone, Copy, Debug, PartialEq, Eq)]
-pub enum Subject {
-    /// A unit before the inference, of which all rules are asked.
-    WholeUnit,
-    /// A function, which may be inferred, of which those are asked that aren't of whole units alone.
-    OneFunction,
+pub enum Rule {
+    /// Numbers are within their tables.
+    Numbers,
+    /// The entry is a block.
+    Entry,
+    /// What terminals name are blocks.
+    Successors,
+    /// Some block lists each instruction.
+    Listed,
+    /// No instruction is listed twice.
+    ListedOnce,
+    /// No two `Try`s name one handler.
+    Handlers,
+    /// Operands of phis are for predecessors.
+    Phis,
+    /// Orders are set.
+    Orders,
+    /// Parameters, context places and the place of what it returns are distinct.
+    Distinct,
+    /// Calls are not too long.
+    Calls,
+    /// What is said of context places is said of all those of the root.
+    ContextValues,
 }
 
-/// The first rule that the subject breaks, or want of memory. A unit is given as its tables and its root.
-pub fn keeps_rules(
+fn rule_holds(
     alloc: Global,
-    subject: Subject,
+    rule: Rule,
     env: &Environment,
+    function: Option<FunctionId>,
     func: &HirFunction,
 ) -> Result<(), UnitFault>
-    ensures { Gives is_memory (keeps_rules subject env.now func.now) result }
+    ensures { Gives is_memory (rule_holds rule env.now function func.now) result }
 {
-    tables_fit(env)?;
-    numbers_fit(alloc, env, func)?;
-    entry_exists(None, func)?;
-    successors_exist(None, func)?;
-    if matches!(subject, Subject::WholeUnit) {
-        nesting_is_tree(env)?;
-        instructions_listed(alloc, None, func)?;
+    match rule {
+        Rule::Numbers => numbers_fit(alloc, env, func),
+        Rule::Entry => entry_exists(function, func),
+        Rule::Successors => successors_exist(function, func),
+        Rule::Listed => instructions_listed(alloc, function, func),
+        Rule::ListedOnce => none_listed_twice(alloc, function, func),
+        Rule::Handlers => handlers_distinct(alloc, function, func),
+        Rule::Phis => phis_fit(function, func),
+        Rule::Orders => orders_fit(function, func),
+        Rule::Distinct => places_distinct(alloc, function, func),
+        Rule::Calls => calls_fit(function, func),
+        Rule::ContextValues => context_values_fit(function, func),
     }
-    none_listed_twice(alloc, None, func)?;
-    handlers_distinct(alloc, None, func)?;
-    phis_fit(None, func)?;
-    orders_fit(None, func)?;
-    if matches!(subject, Subject::WholeUnit) {
-        nothing_inferred(alloc, env, func)?;
+}
+
+fn at_function(alloc: Global, rule: Rule, env: &Environment, number: u32) -> Result<(), UnitFault>
+    ensures { Gives is_memory (at_function rule env.now number) result }
+{
+    match env.functions.get(number as usize) {
+        Some(func) => rule_holds(alloc, rule, env, Some(FunctionId(number)), func),
+        None => Ok(()),
+    }
+}
+
+/// The first fault in a rule of a function, taken as the root, and then of the nested functions of these numbers;
+/// or want of memory.
+pub fn each_function(
+    alloc: Global,
+    rule: Rule,
+    env: &Environment,
+    func: &HirFunction,
+    nested: &[u32],
+) -> Result<(), UnitFault>
+    ensures { Gives is_memory (each_function rule env.now func.now nested.now) result }
+{
+    rule_holds(alloc, rule, env, None, func)?;
+    for number in nested {
+        at_function(alloc, rule, env, *number)?;
     }
     Ok(())
+}
+
+/// The numbers below `len`. The one error is want of memory; a table with more entries than there are numbers for
+/// them is answered as want of memory too.
+pub fn numbers_below(alloc: Global, len: usize) -> Result<Vec<u32>, AllocError>
+    ensures { IfOk result (λ v. v.items ≡ range_with_len 0 len) }
+{
+    if len > u32::MAX as usize {
+        return Err(AllocError);
+    }
+    let mut numbers = Vec::new(alloc);
+    for number in 0..len as u32 {
+        numbers.push(number)?;
+    }
+    Ok(numbers)
 }
