@@ -6,5 +6,3 @@ pub mod Solutions
 pub mod Steps
 pub mod Runs
 pub mod WorkListViews
-pub mod TestFlows
-pub mod TestFlowLaws

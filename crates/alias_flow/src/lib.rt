@@ -12,6 +12,3 @@ pub use flow::{Flow, Solution, SolveFault, StepFault};
 pub use forward::{is_forward, solve_forward};
 pub use nothing::nothing_yet;
 pub use solver::solve;
-
-#[cfg(test)]
-mod tests;

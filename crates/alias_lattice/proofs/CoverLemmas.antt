@@ -35,6 +35,11 @@ module _ {A : Type 0} (P Q : A → Type 0) (f : (x : A) → P x → Q x) where
   all_map [] h = tt
   all_map (x ∷ es) h = (f x h.0, all_map es h.1)
 
+module _ {K X : Type 0} (R : K → K → Ordering) (o : IsTotalOrder R) where
+  -- what is found in a rear part is found in the whole
+  pub found_behind : (es : List (K × X)) (i : ℕ) (k : K) (v : X) → T (is_sorted R es) → find R k (drop i es) ≡ Some v → find R k es ≡ Some v
+  found_behind es i k v s f = ap (find R k) (sym (take-append-drop i es)) ∙ found_front R o k (take i es) (drop i es) v (subst (λ z. T (is_sorted R z)) (sym (take-append-drop i es)) s) f
+
 module _ {K X : Type 0} (R : K → K → Ordering) (o : IsTotalOrder R) (j : X → X → X) (b : X → X → Bool) where
   -- a list covers what is beside one of its entries
   pub beside_covered : (others : List (K × X)) (i : ℕ) (e x : K × X) → T (is_sorted R others) → i < length others → x ≡ get_or others i x → IsBeside R j b e x → IsCovered R j b others e
@@ -45,18 +50,9 @@ module _ {K X : Type 0} (R : K → K → Ordering) (o : IsTotalOrder R) (j : X �
     same = h.same;
   }
 
-  -- what a rear part covers the whole covers
-  pub covered_rear : (es : List (K × X)) (i : ℕ) (e : K × X) → T (is_sorted R es) → IsCovered R j b (drop i es) e → IsCovered R j b es e
-  covered_rear es i e s h = record {
-    value = h.value;
-    found = ap (find R e.0) (sym (take-append-drop i es)) ∙ found_front R o e.0 (take i es) (drop i es) h.value (subst (λ z. T (is_sorted R z)) (sym (take-append-drop i es)) s) h.found;
-    below = h.below;
-    same = h.same;
-  }
-
-  -- what a chunk covers all of them cover
-  pub covered_chunk : (cs : List (List (K × X))) (i : ℕ) (e : K × X) → T (is_sorted R (entries_of cs)) → i < length cs → IsCovered R j b (chunk_at cs i) e → IsCovered R j b (entries_of cs) e
-  covered_chunk cs i e s w h = record { value = h.value; found = found_in R o e.0 cs i h.value s w h.found; below = h.below; same = h.same }
+  -- what a list covers one with all that is found in it covers
+  pub covered_more : (others list : List (K × X)) (e : K × X) → ((k : K) (v : X) → find R k others ≡ Some v → find R k list ≡ Some v) → IsCovered R j b others e → IsCovered R j b list e
+  covered_more others list e f h = record { value = h.value; found = f e.0 h.value h.found; below = h.below; same = h.same }
 
   -- to join in what is covered changes nothing
   covered_put : (xs : List (K × X)) (e : K × X) → T (is_sorted R xs) → IsCovered R j b xs e → put R e.0 (join_value j (find R e.0 xs) e.1) xs ≡ xs

@@ -87,15 +87,7 @@ impl<K: PlainKey, V: Lattice + Drop> Chunk<K, V> {
     pub(crate) fn get_at(&self, slot: usize, key: K) -> Option<&V>
         ensures { IfSome result (λ v. find K.cmp key self.now ≡ Some v.now) }
     {
-        if slot >= self.items.len() {
-            return None;
-        }
-        let entry = &self.items[slot];
-        if key.cmp(&entry.0).is_eq() {
-            Some(&entry.1)
-        } else {
-            None
-        }
+        value_at(&self.items, slot, key)
     }
 
     /// The first entry.
@@ -138,6 +130,26 @@ impl<K: PlainKey, V: Lattice + Drop> Chunk<K, V> {
         self.items.reserve(1)?;
         first.set(first_key, first_value)?;
         put(&mut self.items, key, value)
+    }
+}
+
+/// The value at the slot, if the key stands there.
+pub(crate) fn value_at<K: PlainKey, V: Lattice + Drop>(
+    items: &[(K, V)],
+    slot: usize,
+    key: K,
+) -> Option<&V>
+    requires sorted { T (is_sorted K.cmp items.now) }
+    ensures { IfSome result (λ v. find K.cmp key items.now ≡ Some v.now) }
+{
+    if slot >= items.len() {
+        return None;
+    }
+    let entry = &items[slot];
+    if key.cmp(&entry.0).is_eq() {
+        Some(&entry.1)
+    } else {
+        None
     }
 }
 

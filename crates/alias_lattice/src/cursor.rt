@@ -25,11 +25,11 @@ impl Cursor {
         Cursor { chunk: 0, slot: 0 }
     }
 
-    /// The entry behind this one in its chunk.
-    fn next(self) -> Cursor {
+    /// So many entries on in its chunk.
+    pub(crate) fn past(self, count: usize) -> Cursor {
         Cursor {
             chunk: self.chunk,
-            slot: self.slot.saturating_add(1),
+            slot: self.slot.saturating_add(count),
         }
     }
 
@@ -59,6 +59,26 @@ fn found_at<'a, K: PlainKey, V: Lattice + Drop>(
     }
 }
 
+/// The entries from the cursor on, within one chunk. What is found in them is found in all.
+pub(crate) fn entries_from<K: PlainKey, V: Lattice + Drop>(
+    chunks: &[Rc<Chunk<K, V>>],
+    cursor: Cursor,
+) -> &[(K, V)]
+    requires { T (is_sorted K.cmp (entries_of (values_of chunks.now))) }
+    ensures sorted { T (is_sorted K.cmp result.now) }
+    ensures found { (key : K) (value : V) → find K.cmp key result.now ≡ Some value → find K.cmp key (entries_of (values_of chunks.now)) ≡ Some value }
+{
+    let Cursor { chunk, slot } = cursor;
+    if chunk >= chunks.len() {
+        return &[];
+    }
+    let entries = chunks[chunk].entries();
+    if slot > entries.len() {
+        return &[];
+    }
+    &entries[slot..]
+}
+
 /// How many of the first entries those from the cursor on cover, within one chunk. The cursor moves behind these.
 pub(crate) fn covered_near<K: PlainKey, V: Lattice + Drop>(
     entries: &[(K, V)],
@@ -69,19 +89,8 @@ pub(crate) fn covered_near<K: PlainKey, V: Lattice + Drop>(
     ensures within { result ≤ length entries.now }
     ensures covered { AreCovered K.cmp V.join V.below (entries_of (values_of chunks.now)) (take result entries.now) }
 {
-    let Cursor { chunk, slot } = *near;
-    if chunk >= chunks.len() {
-        return 0;
-    }
-    let there = chunks[chunk].entries();
-    if slot > there.len() {
-        return 0;
-    }
-    let count = count_covered(entries, &there[slot..]);
-    *near = Cursor {
-        chunk,
-        slot: slot.saturating_add(count),
-    };
+    let count = count_covered(entries, entries_from(chunks, *near));
+    *near = near.past(count);
     count
 }
 
@@ -97,11 +106,11 @@ pub(crate) fn found_near<'a, K: PlainKey, V: Lattice + Drop>(
     let here = *near;
     let there = here.next_chunk();
     if let Some(value) = found_at(chunks, here, key) {
-        *near = here.next();
+        *near = here.past(1);
         return Some(value);
     }
     if let Some(value) = found_at(chunks, there, key) {
-        *near = there.next();
+        *near = there.past(1);
         return Some(value);
     }
     searched(chunks, near, key)
@@ -123,7 +132,7 @@ fn searched<'a, K: PlainKey, V: Lattice + Drop>(
     let entries = chunks[chunk].entries();
     match position(entries, key) {
         Ok(slot) => {
-            *near = Cursor { chunk, slot }.next();
+            *near = Cursor { chunk, slot }.past(1);
             Some(&entries[slot].1)
         }
         Err(slot) => {

@@ -1,6 +1,6 @@
 //! Maps to a lattice.
 
-ghost use Rattle.std.specs.Prelude.{◌≡◌, [], not, IfOk, OnOk, OnErr, Option, Some, None, MatchOption};
+ghost use Rattle.std.specs.Prelude.{◌≡◌, [], ◌∷◌, not, IfOk, IfSome, OnOk, OnErr, Option, Some, None, MatchOption};
 ghost use Rattle.std.proofs.Math.Dec.{T};
 ghost use Rattle.std.specs.FinMap.{is_sorted, find, put};
 ghost use Rattle.alias_lattice.specs.Maps.{below_option, join_value, entries_below};
@@ -11,8 +11,8 @@ ghost use Rattle.alias_lattice.specs.Chunks.{values_of, entries_of};
 
 use crate::chunk::Chunk;
 use crate::chunks::{Chunks, entry_after, found};
-use crate::covering::is_within;
-use crate::cursor::{Cursor, covered_near, found_near};
+use crate::covering::{is_within, join_of};
+use crate::cursor::{Cursor, covered_near, entries_from, found_near};
 use crate::lattice::{Lattice, PlainKey};
 use std::alloc::{AllocError, Global};
 use std::marker::Model;
@@ -58,7 +58,12 @@ impl<K: PlainKey, V: Lattice + Drop> Lattice for LatticeMap<K, V> {
     }
 
     fn is_below(&self, other: &Self) -> bool {
-        are_below(self.chunks(), other.chunks())
+        match (self.only_entry(), other.only_entry()) {
+            (Some(entry), Some(there)) => {
+                entry.0.cmp(&there.0).is_eq() && entry.1.is_below(&there.1)
+            }
+            _ => are_below(self.chunks(), other.chunks()),
+        }
     }
 
     fn try_clone(&self) -> Result<Self, AllocError> {
@@ -86,6 +91,27 @@ impl<K: PlainKey, V: Lattice + Drop> LatticeMap<K, V> {
         ensures sorted { T (is_sorted K.cmp self.now) }
     {
         self.chunks.as_slice()
+    }
+
+    /// The one entry, where there is one alone.
+    pub(crate) fn only_entry(&self) -> Option<&(K, V)>
+        ensures { IfSome result (λ e. self.now ≡ e.now ∷ []) }
+    {
+        match self.chunks() {
+            [chunk] => match chunk.entries() {
+                [entry] => Some(entry),
+                _ => None,
+            },
+            _ => None,
+        }
+    }
+
+    /// The entries from the cursor on, within one chunk. What is found in them is found in the map.
+    pub(crate) fn entries_from(&self, cursor: Cursor) -> &[(K, V)]
+        ensures sorted { T (is_sorted K.cmp result.now) }
+        ensures found { (key : K) (value : V) → find K.cmp key result.now ≡ Some value → find K.cmp key self.now ≡ Some value }
+    {
+        entries_from(self.chunks(), cursor)
     }
 
     /// The value at the key, or `None` where there is none.
@@ -156,8 +182,7 @@ impl<K: PlainKey, V: Lattice + Drop> LatticeMap<K, V> {
                 if is_within(&entry.1, there) {
                     return Ok(false);
                 }
-                let mut value = there.try_clone()?;
-                value.join_from(&entry.1)?;
+                let value = join_of(there, &entry.1)?;
                 self.set(entry.0, value)?;
                 Ok(true)
             }

@@ -1,22 +1,19 @@
 //! The state of a block: the values of sites, and the sites of identifiers.
 
-ghost use Rattle.std.specs.Prelude.{◌≡◌, IsTrue, IfSome, IfOk, OnOk, OnErr, Option, Some, None, MatchOption, if◌then◌else◌, not};
+ghost use Rattle.std.specs.Prelude.{◌≡◌, IsTrue, IfOk, OnOk, OnErr, Option, Some, None, MatchOption, if◌then◌else◌, not};
 ghost use Rattle.std.specs.Option.{is_some};
-ghost use Rattle.std.specs.FinMap.{find};
-ghost use Rattle.alias_lattice.specs.Maps.{join_option};
-ghost use Rattle.alias_lattice.specs.Keys.{id_cmp};
-ghost use Rattle.alias_lattice.specs.States.{State, empty_state, initialized, defined, defined_as, defaulted, assigned, given, look_with_span, value_at, sites_of, next_value, next_variable, frozen, does_freeze, does_freeze_at, frozen_at, freezes, freezes_value, value_over, all_set, mutable_other, one_site, look_at, union_over, operand_ids, sites_join, both_sites, phied, appended, state_join, state_below};
+ghost use Rattle.alias_lattice.specs.States.{State, empty_state, initialized, defined, defined_as, defaulted, assigned, given, look_with_span, value_at, sites_of, next_value, next_variable, frozen, does_freeze, union_over, operand_ids, both_sites, phied, appended, state_join, state_below};
 ghost use Rattle.alias_lattice.specs.ProperStates.{StateProper, AllValued, AreValued};
 ghost use Rattle.alias_lattice.specs.JoinLaws.{state_laws};
 ghost use Rattle.alias_lattice.specs.declared.site.Site.TheVariants.{Default};
 
-use crate::cursor::Cursor;
 use crate::lattice::Lattice;
 use crate::look::{Look, MissingLook};
 use crate::map::{LatticeMap, set_both};
 use crate::reasons::ReasonSet;
 use crate::site::Site;
-use crate::site_set::SiteSet;
+use crate::site_set::{SiteSet, one_site, union_over};
+use crate::site_values::{freeze_sites, mutable_other, value_of_sites};
 use crate::value::AbstractValue;
 use alias_base::{BlockMap, IdentifierId};
 use alias_hir::effect::{ValueKind, ValueReason};
@@ -114,15 +111,6 @@ impl InferenceState {
             Some(_) => self.define(place, site),
             None => self.give(place, site, mutable_other()),
         }
-    }
-
-    /// Makes Default(place), which gets Mutable {Other} unless it has a value, the place's set. An `Err` leaves
-    /// the state unchanged.
-    pub fn define_default(&mut self, place: IdentifierId) -> Result<(), AllocError>
-        ensures ok { OnOk result (self.new ≡ defined place (Default place) (defaulted (Default place) self.old)) }
-        ensures err { OnErr result (self.new ≡ self.old) }
-    {
-        self.define_at_default(place, Site::Default(place))
     }
 
     /// Makes the set of `from` that of `into`. Where `from` has none, `into` takes Default(from), which gets
@@ -342,183 +330,4 @@ impl Lattice for InferenceState {
             variables: self.variables.try_clone()?,
         })
     }
-}
-
-/// What is read where nothing is known.
-fn mutable_other() -> AbstractValue
-    ensures { result ≡ mutable_other }
-{
-    AbstractValue {
-        kind: ValueKind::Mutable,
-        reason: ReasonSet::single(ValueReason::Other),
-    }
-}
-
-/// The set of one site.
-fn one_site(alloc: Global, site: Site) -> Result<SiteSet, AllocError>
-    ensures { IfOk result (λ set. set ≡ one_site site) }
-{
-    let mut set = LatticeMap::empty(alloc);
-    set.set(site, ())?;
-    Ok(set)
-}
-
-/// What is so far, joined with the values of the sites. The first may stand near the cursor.
-fn value_over_sites(
-    values: &LatticeMap<Site, AbstractValue>,
-    sites: &[(Site, ())],
-    near: &mut Cursor,
-    so_far: Option<AbstractValue>,
-) -> Option<AbstractValue>
-    ensures { result ≡ value_over values.now sites.now so_far }
-{
-    let mut value = so_far;
-    for (site, _) in sites {
-        if let Some(there) = values.get_near(*site, near) {
-            value = match value {
-                Some(so_far) => Some(so_far.joined(there)),
-                None => Some(*there),
-            };
-        }
-    }
-    value
-}
-
-/// The join of the values of the sites.
-fn value_over(values: &LatticeMap<Site, AbstractValue>, sites: &SiteSet) -> Option<AbstractValue>
-    ensures { result ≡ value_over values.now sites.now None }
-{
-    let mut value = None;
-    let mut near = Cursor::start();
-    let chunks = sites.chunks();
-    for chunk in chunks {
-        value = value_over_sites(values, chunk.entries(), &mut near, value);
-    }
-    value
-}
-
-/// The join of the values of the sites, or Mutable {Other} where none has one.
-fn value_of_sites(values: &LatticeMap<Site, AbstractValue>, sites: &SiteSet) -> AbstractValue
-    ensures { result ≡ look_at values.now (Some sites.now) }
-{
-    match value_over(values, sites) {
-        Some(value) => value,
-        None => mutable_other(),
-    }
-}
-
-/// Whether a freeze changes a value of this kind.
-fn freezes(kind: ValueKind) -> bool
-    ensures { result ≡ freezes kind }
-{
-    matches!(
-        kind,
-        ValueKind::Context | ValueKind::Mutable | ValueKind::MaybeFrozen
-    )
-}
-
-/// Whether there is a value, and a freeze changes its kind.
-fn freezes_value(value: Option<AbstractValue>) -> bool
-    ensures { result ≡ freezes_value value }
-{
-    match value {
-        Some(value) => freezes(value.kind),
-        None => false,
-    }
-}
-
-/// Sets the value of each of the sites.
-fn set_each(
-    values: &mut LatticeMap<Site, AbstractValue>,
-    sites: &[(Site, ())],
-    value: &AbstractValue,
-) -> Result<(), AllocError>
-    ensures { OnOk result (values.new ≡ all_set value.now sites.now values.old) }
-{
-    for (site, _) in sites {
-        values.set(*site, *value)?;
-    }
-    Ok(())
-}
-
-/// The one site of the set, where it has one alone.
-fn only_site(sites: &SiteSet) -> Option<Site>
-    ensures { IfSome result (λ site. sites.now ≡ one_site site) }
-{
-    match sites.chunks() {
-        [chunk] => match chunk.entries() {
-            [(site, _)] => Some(*site),
-            _ => None,
-        },
-        _ => None,
-    }
-}
-
-/// Sets the value of each of the sites. An `Err` leaves the values unchanged.
-fn set_all(
-    values: &mut LatticeMap<Site, AbstractValue>,
-    sites: &SiteSet,
-    value: &AbstractValue,
-) -> Result<(), AllocError>
-    ensures set { OnOk result (values.new ≡ all_set value.now sites.now values.old) }
-    ensures err { OnErr result (values.new ≡ values.old) }
-{
-    if let Some(site) = only_site(sites) {
-        return values.set(site, *value);
-    }
-    let mut changed = values.try_clone()?;
-    let chunks = sites.chunks();
-    for chunk in chunks {
-        set_each(&mut changed, chunk.entries(), value)?;
-    }
-    *values = changed;
-    Ok(())
-}
-
-/// Sets the sites to the value, where their kind is Context, Mutable or MaybeFrozen. An `Err` leaves the values
-/// unchanged.
-fn freeze_sites(
-    values: &mut LatticeMap<Site, AbstractValue>,
-    sites: &SiteSet,
-    value: &AbstractValue,
-) -> Result<bool, AllocError>
-    ensures acts { IfOk result (λ acts. acts ≡ does_freeze_at values.old (Some sites.now)) }
-    ensures ok { OnOk result (values.new ≡ frozen_at value.now (does_freeze_at values.old (Some sites.now)) (Some sites.now) values.old) }
-    ensures err { OnErr result (values.new ≡ values.old) }
-{
-    let acts = freezes_value(value_over(values, sites));
-    if acts {
-        set_all(values, sites, value)?;
-    }
-    Ok(acts)
-}
-
-/// The union of what is there.
-fn union(so_far: Option<SiteSet>, more: &SiteSet) -> Result<Option<SiteSet>, AllocError>
-    ensures { IfOk result (λ sites. sites ≡ join_option sites_join so_far (Some more.now)) }
-{
-    match so_far {
-        Some(mut sites) => {
-            sites.join_from(more)?;
-            Ok(Some(sites))
-        }
-        None => Ok(Some(more.try_clone()?)),
-    }
-}
-
-/// The union of the sets of the operands that have one.
-fn union_over(
-    variables: &LatticeMap<IdentifierId, SiteSet>,
-    operands: &BlockMap<Place>,
-) -> Result<Option<SiteSet>, AllocError>
-    ensures { IfOk result (λ sites. sites ≡ union_over variables.now (operand_ids operands.now) None) }
-{
-    let mut sites = None;
-    for (_, place) in operands.iter() {
-        sites = match variables.get(place.identifier) {
-            Some(more) => union(sites, more)?,
-            None => sites,
-        };
-    }
-    Ok(sites)
 }
