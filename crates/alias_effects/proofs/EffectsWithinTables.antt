@@ -1,15 +1,17 @@
 -- The effects of what a block records are within the tables.
-use Rattle.std.proofs.Common.{◌≡◌, ℕ, Bool, true, ◌&&◌, List, [], ◌∷◌, ◌++◌, zero, suc, Option, refl, subst}
+use Rattle.std.proofs.Common.{◌≡◌, ℕ, Bool, true, ◌&&◌, List, [], ◌∷◌, ◌++◌, zero, suc, Option, None, Some, refl, subst, sym, ap, ◌∙◌}
 use Rattle.std.specs.Prelude.{false, Result, Ok, Err, ⊤, slice_get, if◌then◌else◌}
 use Rattle.std.specs.List.{list_all, AllByRecursion}
 use Rattle.alias_base.specs.Answer.{all_pass}
 use Rattle.alias_base.specs.AnswerLaws.{both_true, both_pass}
 use Rattle.alias_base.specs.declared.ids.BlockId.{BlockId}
 use Rattle.alias_base.specs.declared.ids.EvaluationOrder.{EvaluationOrder}
+use Rattle.alias_base.specs.declared.ids.FunctionId.{FunctionId}
 use Rattle.alias_base.specs.declared.ids.InstructionId.{InstructionId}
+use Rattle.alias_base.specs.declared.ids.TypeId.{TypeId}
 use Rattle.alias_hir.specs.Effects.{effect_places, error_of}
 use Rattle.alias_hir.specs.Terminals.{terminal_places}
-use Rattle.alias_hir.specs.Values.{places_of}
+use Rattle.alias_hir.specs.Values.{places_of, created}
 use Rattle.alias_hir.specs.declared.effect.AliasingEffect.{AliasingEffect}
 use Rattle.alias_hir.specs.declared.effect.AliasingEffect.TheVariants as effect
 use Rattle.alias_hir.specs.declared.effect.ValueReason.TheVariants.{JsxCaptured}
@@ -20,9 +22,9 @@ use Rattle.alias_hir.specs.declared.place.Place.{Place}
 use Rattle.alias_hir.specs.declared.report.DiagnosticId.{DiagnosticId}
 use Rattle.alias_hir.specs.declared.terminal.Terminal.{Terminal}
 use Rattle.alias_hir.specs.declared.terminal.Terminal.TheVariants as terminal
-use Rattle.alias_rules.specs.Fitting.{place_within_tables, error_within_tables, effect_within_tables}
-use Rattle.alias_rules.specs.Rules.{place_fits, instruction_fits}
-use Rattle.alias_rules.specs.declared.fault.UnitFault.{UnitFault}
+use Rattle.alias_rules.specs.Fitting.{place_within_tables, error_within_tables, function_of, function_within_tables, signature_of, type_within_tables, summary_within_tables, effect_within_tables}
+use Rattle.alias_function_rules.specs.Rules.{place_fits, created_fits, instruction_fits}
+use Rattle.alias_function_rules.specs.declared.fault.UnitFault.{UnitFault}
 use Rattle.alias_lattice.specs.States.{State}
 use Rattle.alias_effects.specs.declared.block.BlockEffects.{BlockEffects}
 use Rattle.alias_effects.specs.declared.block.BlockProgress.{BlockProgress}
@@ -31,7 +33,7 @@ use Rattle.alias_effects.specs.declared.solved.InstructionEffects.{InstructionEf
 use Rattle.alias_effects.specs.declared.solved.TerminalEffects.{TerminalEffects}
 use Rattle.alias_effects.specs.declared.progress.StepProgress.{StepProgress}
 use Rattle.alias_signature.specs.Signatures.{compute_signature_for_instruction}
-use Rattle.alias_signature.specs.SignatureLaws.{Speaks, signature_speaks}
+use Rattle.alias_signature.specs.SignatureLaws.{Named, names_of, Speaks, signature_speaks}
 use Rattle.alias_effects.specs.Contexts.{Context}
 use Rattle.alias_effects.specs.ApplyKeepsLaws.{PartsKeep, apply_effects_keep}
 use Rattle.alias_effects.specs.BlockKeepsLaws.{BlockPartsKeep, BlockKeeps, HasAt, infer_block_keeps}
@@ -45,7 +47,7 @@ BlockWithinTables env r =
 
 -- ---- lists and conjunctions
 
-together : (a b : Bool) → a ≡ true → b ≡ true → (a && b) ≡ true
+pub together : (a b : Bool) → a ≡ true → b ≡ true → (a && b) ≡ true
 together true b h k = k
 together false b h k = h
 
@@ -84,9 +86,46 @@ all_within : (env : Environment) (ps : List Place) → AllByRecursion (PlaceWith
 all_within env [] h = refl
 all_within env (p ∷ ps) h = together (place_within_tables env p) (list_all (place_within_tables env) ps) h.0 (all_within env ps h.1)
 
+-- neither a function nor a type
+abbrev NamesNothing : Named → Type 0
+NamesNothing n = n ≡ (None, None)
+
+-- what the signature of an instruction may name is what the tables are asked for
+names_as_asked : (e : AliasingEffect) → names_of e ≡ (function_of e, signature_of e)
+names_as_asked (effect.Apply receiver function mutates_function args into signature span) = refl
+names_as_asked (effect.CreateFrom a x) = refl
+names_as_asked (effect.ImmutableCapture a x) = refl
+names_as_asked (effect.Assign a x) = refl
+names_as_asked (effect.Alias a x) = refl
+names_as_asked (effect.Capture a x) = refl
+names_as_asked (effect.MaybeAlias a x) = refl
+names_as_asked (effect.Create x k r) = refl
+names_as_asked (effect.Freeze v r) = refl
+names_as_asked (effect.Impure v error) = refl
+names_as_asked (effect.MutateFrozen v error) = refl
+names_as_asked (effect.MutateGlobal v error) = refl
+names_as_asked (effect.Render v) = refl
+names_as_asked (effect.Mutate v r) = refl
+names_as_asked (effect.MutateConditionally v) = refl
+names_as_asked (effect.MutateTransitive v) = refl
+names_as_asked (effect.MutateTransitiveConditionally v) = refl
+names_as_asked (effect.CreateFunction x f captures) = refl
+
+-- where no function and no type is named, the places and the report decide
+places_decide : (env : Environment) (ps : Bool) (f : Option FunctionId) (t : Option TypeId) (error : Bool) → ps ≡ true → f ≡ None → t ≡ None → error ≡ true
+    → ((((ps && function_within_tables env f) && type_within_tables env t) && error) && summary_within_tables env f) ≡ true
+places_decide env true None None true a b c d = refl
+places_decide env true None None false a b c d = cc
+places_decide env true None (Some t) error a b c d = cc
+places_decide env true (Some f) t error a b c d = cc
+places_decide env false f t error a b c d = cc
+
 -- an effect that speaks of what is within the tables
-effect_within : (env : Environment) (e : AliasingEffect) → Speaks (PlaceWithin env) (ErrorWithin env) e → effect_within_tables env e ≡ true
-effect_within env e h = together (list_all (place_within_tables env) (effect_places e)) (error_within_tables env (error_of e)) (all_within env (effect_places e) h.0) h.1
+effect_within : (env : Environment) (e : AliasingEffect) → Speaks (PlaceWithin env) (ErrorWithin env) NamesNothing e → effect_within_tables env e ≡ true
+effect_within env e h =
+    let named : (function_of e, signature_of e) ≡ (None, None) = sym (names_as_asked e) ∙ h.1.1 in
+    places_decide env (list_all (place_within_tables env) (effect_places e)) (function_of e) (signature_of e) (error_within_tables env (error_of e))
+    (all_within env (effect_places e) h.0) (ap (λ (n : Named). n.0) named) (ap (λ (n : Named). n.1) named) h.1.0
 
 -- ---- what effects record
 
@@ -94,7 +133,7 @@ effect_within env e h = together (list_all (place_within_tables env) (effect_pla
 abbrev StepWithinTables : Environment → StepProgress → Type 0
 StepWithinTables env s = list_all (effect_within_tables env) s.recorded ≡ true
 
-effects_within : (env : Environment) → PartsKeep (StepWithinTables env) (λ v. ⊤) (PlaceWithin env) (ErrorWithin env)
+effects_within : (env : Environment) → PartsKeep (StepWithinTables env) (λ v. ⊤) (PlaceWithin env) (ErrorWithin env) NamesNothing
 effects_within env = record {
   value = λ k r. tt;
   reads = λ x s h. tt;
@@ -120,10 +159,11 @@ fits_at env [] n h = tt
 fits_at env (x ∷ xs) zero h = (both_pass (instruction_fits env x) (all_pass (instruction_fits env) xs) h).0
 fits_at env (x ∷ xs) (suc n) h = fits_at env xs n (both_pass (instruction_fits env x) (all_pass (instruction_fits env) xs) h).1
 
-signature_within : (env : Environment) (i : Instruction) → InstructionFits env i → AllByRecursion (Speaks (PlaceWithin env) (ErrorWithin env)) (compute_signature_for_instruction env i)
+signature_within : (env : Environment) (i : Instruction) → InstructionFits env i → AllByRecursion (Speaks (PlaceWithin env) (ErrorWithin env) NamesNothing) (compute_signature_for_instruction env i)
 signature_within env i h =
-    let b : (place_fits env i.lvalue ≡ Ok tt) × (all_pass (place_fits env) (places_of i.value) ≡ Ok tt) = both_pass (place_fits env i.lvalue) (all_pass (place_fits env) (places_of i.value)) h in
-    signature_speaks (PlaceWithin env) (ErrorWithin env) refl env i.lvalue i.value (place_within env i.lvalue b.0) (places_within env (places_of i.value) b.1)
+    let b = both_pass (place_fits env i.lvalue) _ h in
+    let c = both_pass (created_fits env (created i.value)) (all_pass (place_fits env) (places_of i.value)) b.1 in
+    signature_speaks (PlaceWithin env) (ErrorWithin env) refl NamesNothing refl env i.lvalue i.value (place_within env i.lvalue b.0) (places_within env (places_of i.value) c.1)
 
 recorded_within : (env : Environment) (i : InstructionId) (es : List AliasingEffect) → list_all (effect_within_tables env) es ≡ true → list_all (λ (i : InstructionEffects). list_all (effect_within_tables env) i.effects) (recorded_as i es) ≡ true
 recorded_within env i [] h = refl
@@ -147,7 +187,7 @@ EndWithinTables env es = list_all (λ (t : TerminalEffects). list_all (effect_wi
 return_within : (env : Environment) (f : Bool) (b : BlockId) (o : EvaluationOrder) (v : Place) (es : Option (List AliasingEffect)) → PlaceWithin env v → EndWithinTables env (terminal_effects f b (terminal.Return o v es))
 return_within env true b o v es p = refl
 return_within env false b o v es p =
-    alone (list_all (effect_within_tables env) (effect.Freeze v JsxCaptured ∷ [])) (alone (effect_within_tables env (effect.Freeze v JsxCaptured)) (effect_within env (effect.Freeze v JsxCaptured) ((p, tt), refl)))
+    alone (list_all (effect_within_tables env) (effect.Freeze v JsxCaptured ∷ [])) (alone (effect_within_tables env (effect.Freeze v JsxCaptured)) (effect_within env (effect.Freeze v JsxCaptured) ((p, tt), (refl, refl))))
 
 terminal_within : (env : Environment) (f : Bool) (b : BlockId) (t : Terminal) → all_pass (place_fits env) (terminal_places t) ≡ Ok tt → EndWithinTables env (terminal_effects f b t)
 terminal_within env f b (terminal.Return id v es) h = return_within env f b id v es (places_within env (v ∷ []) h).0

@@ -2,6 +2,7 @@ pub mod Entering
 pub mod EffectsWithinTables
 pub mod Moving
 pub mod Recordings
-pub mod RulesKept
+pub mod RecordedDiffers
+pub mod Refusals
 pub mod Solving
 pub mod StillFits

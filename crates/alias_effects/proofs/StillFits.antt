@@ -1,5 +1,5 @@
 -- The inference takes the function again, with what it recorded.
-use Rattle.std.specs.Prelude.{◌≡◌, ℕ, Bool, true, List, [], ◌∷◌, length, Option, Some, None, Result, Ok, Err, is_ok, replicate, slice_get, slice_set}
+use Rattle.std.specs.Prelude.{◌≡◌, ℕ, Bool, true, false, List, [], ◌∷◌, length, Option, Some, None, Result, Ok, Err, is_ok, replicate, slice_get, slice_set}
 use Rattle.std.specs.List.{list_all, flat_map}
 use Rattle.std.specs.Option.{option_map_or}
 use Rattle.std.proofs.Common.{zero, suc, subst, ap, refl, ◌∙◌}
@@ -8,6 +8,7 @@ use Rattle.indexmap.specs.IndexMap.{set_value_at}
 use Rattle.alias_base.specs.Answer.{◌>>=◌, all_pass}
 use Rattle.alias_base.specs.AnswerLaws.{both_true, both_pass}
 use Rattle.alias_base.specs.declared.ids.BlockId.{BlockId}
+use Rattle.alias_hir.specs.Parts.{param_place}
 use Rattle.alias_hir.specs.Terminals.{terminal_places, terminal_effects, with_terminal_effects}
 use Rattle.alias_hir.specs.declared.effect.AliasingEffect.{AliasingEffect}
 use Rattle.alias_hir.specs.declared.env.Environment.{Environment}
@@ -21,9 +22,11 @@ use Rattle.alias_lattice.specs.States.{State, state_join, state_below}
 use Rattle.alias_lattice.specs.Flows.{Stepped}
 use Rattle.alias_flow.specs.Machine.{SolverState, VisitLog, End}
 use Rattle.alias_flow.specs.Machine as end
-use Rattle.alias_rules.specs.Fitting.{effect_within_tables, recorded_within_tables, effects_within_tables, reports_no_invariant, function_rules, function_fits}
-use Rattle.alias_rules.specs.RuleLaws.{fitting_rules, passes_at}
-use Rattle.alias_rules.specs.Rules.{place_fits, tables_fit, numbers_fit, instruction_fits, block_fits}
+use Rattle.alias_rules.specs.Fitting.{effect_within_tables, recorded_within_tables, effects_within_tables, holds_no_call, effects_fit, effects_fit_at, reports_no_invariant, function_rules, function_fits}
+use Rattle.alias_rules.specs.Functions.{each_function}
+use Rattle.alias_rules.specs.declared.rules.Rule.TheVariants.{Numbers}
+use Rattle.alias_rules.specs.RuleLaws.{fitting_rules, fitting_tree, passes_at}
+use Rattle.alias_function_rules.specs.Rules.{place_fits, tables_fit, numbers_fit, instruction_fits, block_fits}
 use Rattle.alias_effects.specs.declared.block.BlockEffects.{BlockEffects}
 use Rattle.alias_effects.specs.declared.context.Tables.{Tables}
 use Rattle.alias_effects.specs.declared.faults.BlockFault.{BlockFault}
@@ -36,9 +39,10 @@ use Rattle.alias_effects.specs.Output.{last_effects}
 use Rattle.alias_effects.specs.Inference.{instructions_recorded, terminal_recorded, solved_of, answer_of, inferred}
 use Rattle.alias_effects.specs.Numbered.{Blocks, position_of, step_at, numbered, visits_end}
 use Rattle.alias_effects.specs.Recording.{recorded_instructions, block_with, with_terminal_at, recorded_terminals, with_effects_of}
-use Rattle.alias_effects.proofs.EffectsWithinTables.{BlockWithinTables, block_within_tables}
+use Rattle.alias_effects.proofs.EffectsWithinTables.{BlockWithinTables, block_within_tables, together}
 use Rattle.alias_flow.specs.RecordingLaws.{AllHold, solution_keeps}
-use Rattle.alias_effects.proofs.RulesKept.{rules_kept}
+use Rattle.alias_rules.specs.RecordedLaws.{fits_with_other_effects}
+use Rattle.alias_effects.proofs.RecordedDiffers.{recorded_differs}
 
 -- ---- lists of which one item is another
 
@@ -136,19 +140,25 @@ terminals_put env (e ∷ es) bs h a =
 -- the instructions of a function that the inference takes, and the places of a terminal, are within the tables
 numbers : (func : HirFunction) (env : Environment) → function_fits func env ≡ true → numbers_fit env func ≡ Ok tt
 numbers func env h =
-    let a = both_pass (tables_fit env) _ (fitting_rules func env h) in
-    (both_pass (numbers_fit env func) _ a.1).0
+    let t = fitting_tree func env h in
+    let a = both_pass (tables_fit env) _ (fitting_rules func env t.0 t.2) in
+    let each : each_function Numbers env func t.0 ≡ Ok tt = (both_pass (each_function Numbers env func t.0) _ a.1).0 in
+    (both_pass (numbers_fit env func) _ each).0
+
+-- those behind the parameters and the context places
+numbers_inside : (func : HirFunction) (env : Environment) → function_fits func env ≡ true → (all_pass (instruction_fits env) func.instructions ≡ Ok tt) × (all_pass (λ (e : BlockId × BasicBlock). block_fits env func e.1) func.body.blocks ≡ Ok tt)
+numbers_inside func env h =
+    let a = both_pass (all_pass (λ p. place_fits env (param_place p)) func.params) _ (numbers func env h) in
+    let b = both_pass (all_pass (place_fits env) func.context) _ a.1 in
+    let c = both_pass (place_fits env func.returns) _ b.1 in
+    both_pass (all_pass (instruction_fits env) func.instructions) _ c.1
 
 instructions_fit : (func : HirFunction) (env : Environment) → function_fits func env ≡ true → all_pass (instruction_fits env) func.instructions ≡ Ok tt
-instructions_fit func env h =
-    let a = both_pass (place_fits env func.returns) _ (numbers func env h) in
-    (both_pass (all_pass (instruction_fits env) func.instructions) _ a.1).0
+instructions_fit func env h = (numbers_inside func env h).0
 
 terminal_fits : (func : HirFunction) (env : Environment) (n : ℕ) (b : BlockId × BasicBlock) → function_fits func env ≡ true → slice_get func.body.blocks n ≡ Some b → all_pass (place_fits env) (terminal_places b.1.terminal) ≡ Ok tt
 terminal_fits func env n b h e =
-    let a = both_pass (place_fits env func.returns) _ (numbers func env h) in
-    let c = both_pass (all_pass (instruction_fits env) func.instructions) _ a.1 in
-    let d : block_fits env func b.1 ≡ Ok tt = passes_at (λ (e : BlockId × BasicBlock). block_fits env func e.1) func.body.blocks n b c.1 e in
+    let d : block_fits env func b.1 ≡ Ok tt = passes_at (λ (e : BlockId × BasicBlock). block_fits env func e.1) func.body.blocks n b (numbers_inside func env h).1 e in
     let f = both_pass _ _ d in
     (both_pass _ _ f.1).1
 
@@ -206,11 +216,14 @@ effects_put func env s h a =
 -- the inference takes the function with what it recorded
 pub recorded_fits : (func : HirFunction) (env : Environment) (f : Bool) (s : Solved) → function_fits func env ≡ true → inferred env func f ≡ Ok s → function_fits (with_effects_of s func) env ≡ true
 recorded_fits func env f s h e =
-    let a = both_true _ (reports_no_invariant env) h in
-    let b : (is_ok (function_rules env func) ≡ true) × (effects_within_tables env func ≡ true) = both_true _ _ a.0 in
-    let r : is_ok (function_rules env (with_effects_of s func)) ≡ true = ap is_ok (rules_kept env s func) ∙ b.0 in
-    let t : effects_within_tables env (with_effects_of s func) ≡ true = effects_put func env s b.1 (answer_stands func env f s (visits_end (context_of env func f)) h refl e) in
-    rw (r, t) (a.1)
+    let t = fitting_tree func env h in
+    let a = both_true _ (reports_no_invariant env) t.2 in
+    let b = both_true _ (list_all (effects_fit_at env) t.0) a.0 in
+    let c : (is_ok (function_rules env func t.0) ≡ true) × (effects_fit env func ≡ true) = both_true _ _ b.0 in
+    let d : (effects_within_tables env func ≡ true) × (holds_no_call func.aliasing_effects ≡ true) = both_true _ _ c.1 in
+    let g : HirFunction = with_effects_of s func in
+    let w : effects_within_tables env g ≡ true = effects_put func env s d.0 (answer_stands func env f s (visits_end (context_of env func f)) h refl e) in
+    fits_with_other_effects func g env (recorded_differs s func) h (together (effects_within_tables env g) (holds_no_call g.aliasing_effects) w d.1)
 
 -- the function with these effects on its instructions and terminals
 abbrev pub with_effects : List InstructionEffects → List TerminalEffects → HirFunction → HirFunction

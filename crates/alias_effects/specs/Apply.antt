@@ -112,14 +112,12 @@ apply_capture a x s =
     else (if captures (kind_at a s) (kind_at x s) then record_of (effect.Capture a x) u
     else (if may_alias (kind_at a s) (kind_at x s) then apply_maybe_alias a x u else u))
 
--- what a definite mutation records, by the kind of what it writes
+-- What a definite mutation records, by the kind of what it writes. A write of a frozen or global value has a report, which isn't built
+-- yet: no form that is built makes such a value.
 abbrev pub record_mutation : ValueKind → Place → Option MutationReason → StepProgress → StepProgress
-record_mutation Primitive v r s = s
-record_mutation Global v r s = record_of (effect.MutateGlobal v) s
-record_mutation Frozen v r s = record_of (effect.MutateFrozen v) s
-record_mutation MaybeFrozen v r s = record_of (effect.MutateGlobal v) s
 record_mutation Mutable v r s = record_of (effect.Mutate v r) s
 record_mutation Context v r s = record_of (effect.Mutate v r) s
+record_mutation k v r s = s
 
 abbrev pub apply_mutate : Place → Option MutationReason → StepProgress → StepProgress
 apply_mutate v r s = record_mutation (kind_at v s) v r (looked_with_span v s)
@@ -130,7 +128,7 @@ apply_freeze v r s =
     let u = with_state (frozen v.identifier r s.state) s in
     if does_freeze s.state v.identifier then record_of (effect.Freeze v r) u else u
 
--- the step of one effect
+-- the step of one effect; one that no built kind of instruction has does nothing yet
 abbrev pub apply_effect : AliasingEffect → StepProgress → Result StepProgress EffectFault
 apply_effect (effect.CreateFrom a x) s = apply_create_from a x s
 apply_effect (effect.ImmutableCapture a x) s = Ok (apply_immutable_capture a x s)
@@ -139,10 +137,12 @@ apply_effect (effect.Capture a x) s = Ok (apply_capture a x s)
 apply_effect (effect.MaybeAlias a x) s = Ok (apply_maybe_alias a x s)
 apply_effect (effect.Create x k r) s = apply_create x k r s
 apply_effect (effect.Freeze v r) s = Ok (apply_freeze v r s)
-apply_effect (effect.MutateFrozen p) s = Ok (record_of (effect.MutateFrozen p) s)
-apply_effect (effect.MutateGlobal p) s = Ok (record_of (effect.MutateGlobal p) s)
+apply_effect (effect.MutateFrozen p error) s = Ok (record_of (effect.MutateFrozen p error) s)
+apply_effect (effect.MutateGlobal p error) s = Ok (record_of (effect.MutateGlobal p error) s)
 apply_effect (effect.Impure p error) s = Ok (record_of (effect.Impure p error) s)
+apply_effect (effect.Render p) s = Ok (record_of (effect.Render p) s)
 apply_effect (effect.Mutate v r) s = Ok (apply_mutate v r s)
+apply_effect e s = Ok s
 
 -- the steps of a list of effects, in order
 abbrev pub apply_effects : List AliasingEffect → StepProgress → Result StepProgress EffectFault

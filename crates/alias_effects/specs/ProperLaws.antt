@@ -24,7 +24,7 @@ use Rattle.alias_effects.specs.declared.faults.BlockFault.{BlockFault}
 use Rattle.alias_effects.specs.declared.progress.StepProgress.{StepProgress}
 use Rattle.alias_signature.specs.Signatures.{compute_signature_for_instruction}
 use Rattle.alias_effects.specs.ApplyKeepsLaws.{PartsKeep, apply_effects_keep}
-use Rattle.alias_signature.specs.SignatureLaws.{Speaks}
+use Rattle.alias_signature.specs.SignatureLaws.{Named, Speaks}
 use Rattle.alias_effects.specs.BlockKeepsLaws.{BlockPartsKeep, BlockKeeps, HasAt, infer_block_keeps}
 use Rattle.alias_effects.specs.Blocks.{with_default, infer_block, outcome_of}
 use Rattle.alias_effects.specs.Contexts.{Context}
@@ -37,12 +37,15 @@ StepStateProper s = StateProper s.state
 abbrev BlockStateProper : BlockProgress → Type 0
 BlockStateProper s = StateProper s.state
 
--- any place, any report, and any instruction
+-- any place, any report, any names, and any instruction
 abbrev AnyPlace : Place → Type 0
 AnyPlace p = Unit {0}
 
 abbrev AnyReport : Option DiagnosticId → Type 0
 AnyReport o = Unit {0}
+
+abbrev AnyNames : Named → Type 0
+AnyNames n = Unit {0}
 
 abbrev AnyInstruction : Instruction → Type 0
 AnyInstruction i = Unit {0}
@@ -51,15 +54,15 @@ any_places : (ps : List Place) → AllByRecursion AnyPlace ps
 any_places [] = tt
 any_places (p ∷ ps) = (tt, any_places ps)
 
-any_effects : (es : List AliasingEffect) → AllByRecursion (Speaks AnyPlace AnyReport) es
+any_effects : (es : List AliasingEffect) → AllByRecursion (Speaks AnyPlace AnyReport AnyNames) es
 any_effects [] = tt
-any_effects (e ∷ es) = ((any_places (effect_places e), tt), any_effects es)
+any_effects (e ∷ es) = ((any_places (effect_places e), (tt, tt)), any_effects es)
 
 any_at : (o : Option Instruction) → HasAt AnyInstruction o
 any_at None = tt
 any_at (Some i) = tt
 
-effects_proper : PartsKeep StepStateProper AbstractProper AnyPlace AnyReport
+effects_proper : PartsKeep StepStateProper AbstractProper AnyPlace AnyReport AnyNames
 effects_proper = record {
   value = λ k r. (tt, proper-single_reason r);
   reads = λ x s h. proper-look s.state x h;

@@ -261,20 +261,15 @@ fn record_mutation(
 ) -> Result<(), EffectFault>
     ensures { GivesInto is_effect_memory (Ok (record_mutation kind value.now reason step.old)) result step.new }
 {
-    let place = *value;
     match kind {
-        ValueKind::Primitive => Ok(()),
-        ValueKind::Frozen => record(step, AliasingEffect::MutateFrozen { place }),
-        ValueKind::Global | ValueKind::MaybeFrozen => {
-            record(step, AliasingEffect::MutateGlobal { place })
-        }
         ValueKind::Mutable | ValueKind::Context => record(
             step,
             AliasingEffect::Mutate {
-                value: place,
+                value: *value,
                 reason,
             },
         ),
+        _ => Ok(()),
     }
 }
 
@@ -326,12 +321,20 @@ fn apply_effect(step: &mut StepProgress, effect: &AliasingEffect) -> Result<(), 
             reason,
         } => apply_create(step, into, *value, *reason),
         AliasingEffect::Freeze { value, reason } => apply_freeze(step, value, *reason),
-        AliasingEffect::MutateFrozen { place } => {
-            record(step, AliasingEffect::MutateFrozen { place: *place })
-        }
-        AliasingEffect::MutateGlobal { place } => {
-            record(step, AliasingEffect::MutateGlobal { place: *place })
-        }
+        AliasingEffect::MutateFrozen { place, error } => record(
+            step,
+            AliasingEffect::MutateFrozen {
+                place: *place,
+                error: *error,
+            },
+        ),
+        AliasingEffect::MutateGlobal { place, error } => record(
+            step,
+            AliasingEffect::MutateGlobal {
+                place: *place,
+                error: *error,
+            },
+        ),
         AliasingEffect::Impure { place, error } => record(
             step,
             AliasingEffect::Impure {
@@ -339,7 +342,11 @@ fn apply_effect(step: &mut StepProgress, effect: &AliasingEffect) -> Result<(), 
                 error: *error,
             },
         ),
+        AliasingEffect::Render { place } => {
+            record(step, AliasingEffect::Render { place: *place })
+        }
         AliasingEffect::Mutate { value, reason } => apply_mutate(step, value, *reason),
+        _ => Ok(()),
     }
 }
 

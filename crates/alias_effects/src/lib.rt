@@ -15,6 +15,3 @@ pub mod solved;
 
 pub use infer::{infer_effects_certified, infer_mutation_aliasing_effects};
 pub use solved::{BlockEntry, InstructionEffects, Solved, TerminalEffects};
-
-#[cfg(test)]
-mod tests;

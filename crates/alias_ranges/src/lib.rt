@@ -11,13 +11,9 @@ mod marks;
 pub mod node_map;
 mod pushes;
 mod render;
-#[cfg(test)]
-mod report_tests;
 mod reports;
 mod seen;
 pub mod steps;
-#[cfg(test)]
-mod tests;
 pub mod types;
 mod walk;
 

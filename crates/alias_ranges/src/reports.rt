@@ -10,14 +10,15 @@ use alias_base::{FunctionId, IdentifierId, List, TryClone};
 use alias_hir::effect::{AliasingEffect, error_of};
 use alias_hir::env::Environment;
 use alias_hir::hir::HirFunction;
-use alias_hir::report::{DiagnosticId, Interned, Report};
+use alias_hir::interned::InternedReports;
+use alias_hir::report::{DiagnosticId, Report};
 use std::alloc::{AllocError, Global};
 
 /// Appends an interned report.
 fn push_report(
     alloc: Global,
     errors: &mut List<Report>,
-    interned: &List<Interned>,
+    interned: &InternedReports,
     error: Option<DiagnosticId>,
 ) -> Result<(), AllocError>
     ensures ok { OnOk result (errors.new ≡ errors.old ++ report_at interned.now error) }
@@ -35,7 +36,7 @@ fn push_report(
 fn push_reports(
     alloc: Global,
     errors: &mut List<Report>,
-    interned: &List<Interned>,
+    interned: &InternedReports,
     effects: &[AliasingEffect],
 ) -> Result<(), AllocError>
     ensures ok { OnOk result (errors.new ≡ errors.old ++ effect_reports interned.now effects.now) }
@@ -51,7 +52,7 @@ fn push_reports(
 fn push_summary(
     alloc: Global,
     errors: &mut List<Report>,
-    interned: &List<Interned>,
+    interned: &InternedReports,
     functions: &List<HirFunction>,
     function: FunctionId,
 ) -> Result<(), AllocError>

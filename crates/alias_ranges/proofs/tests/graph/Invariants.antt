@@ -1,5 +1,0 @@
-use Rattle.alias_ranges.specs.Nodes.{Within}
-use Rattle.alias_ranges.proofs.tests.graph.Given as goal
-
-abbrev pub invariant-loop-link : goal.invariant-loop-link
-invariant-loop-link l = Within 4 l.graph

@@ -1,4 +1,0 @@
-use Rattle.alias_ranges.proofs.tests.raises_range_ends.Given as goal
-
-abbrev pub ghosts-mutate : goal.ghosts-mutate
-ghosts-mutate g a = record { name = a.blank.name; parts = a.blank.parts }
