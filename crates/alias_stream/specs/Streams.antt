@@ -1,5 +1,6 @@
 -- Bytes that come from a source and go into a sink.
-use Rattle.std.specs.Prelude.{ℕ, ◌≡◌, ◌<◌, ◌⊎◌, Bool, IsTrue, List, [], ◌++◌, Option, None, Some}
+use Rattle.std.specs.Prelude.{ℕ, ◌≡◌, List, [], ◌++◌, Option, None, Some}
+pub use Rattle.alias_failures.specs.Failures.{HasFailed}
 
 -- piece is first in what was left before, and the rest is left after
 abbrev pub Takes : Option (List ℕ) → List ℕ → Option (List ℕ) → Type 0
@@ -15,10 +16,6 @@ IsAtEnd (Some bytes) = bytes ≡ []
 abbrev pub Adds : Option (List ℕ) → List ℕ → Option (List ℕ) → Type 0
 Adds None piece new = new ≡ None
 Adds (Some old) piece new = new ≡ Some (old ++ piece)
-
--- the count of faults rose, or stands at its last value
-abbrev pub HasFailed : ℕ → ℕ → Bool → Type 0
-HasFailed before after last = (before < after) ⊎ IsTrue last
 
 -- the bytes are all that there were
 abbrev pub IsAllOf : Option (List ℕ) → List ℕ → Type 0

@@ -2,58 +2,15 @@
 ghost use Rattle.std.specs.Prelude.{ℕ, ◌≡◌, ◌+◌, ◌<◌, ◌≤◌, ◌↔◌, ◌++◌, min, Bool, false, List, [], Option, Some, Err, length, take, IfOk, OnErr, IsTrue, is_err};
 ghost use Rattle.alias_stream.specs.declared.sink.SinkStop.{SinkStop};
 ghost use Rattle.alias_stream.specs.Streams.{Takes, IsAtEnd, Adds, HasFailed};
-ghost use Rattle.alias_stream.specs.Memory.{Plan, Feed, Store, new_plan, fails_now, called};
+ghost use Rattle.alias_failures.specs.Failures.{new_plan, fails_now, called};
+ghost use Rattle.alias_stream.specs.Memory.{Feed, Store};
 
 use crate::sink::{Sink, SinkStop};
 use crate::source::{Failed, Source};
 use alias_base::List as Items;
+use alias_failures::PlannedFailures;
 use std::alloc::Global;
 use std::marker::Model;
-
-/// The calls that fail, and the calls so far. The first call has number 1, and the last number of a `u64`
-/// stands for all calls that come after the others.
-#[derive(Drop)]
-struct Calls {
-    fails: Items<u64>,
-    made: u64,
-    failed: u64,
-}
-
-impl Model for Calls {
-    ghost use Rattle.std.specs.Prelude.{◌≤◌};
-    ghost use Rattle.alias_stream.specs.Memory.{Plan};
-
-    ghost Value = { Plan };
-
-    ghost view = { λ c. record { fails = c.fails; calls = c.made; faults = c.failed } };
-
-    ghost invariant = { λ c. c.failed ≤ c.made };
-}
-
-impl Calls {
-    fn new(fails: Items<u64>) -> Calls
-        ensures { result ≡ new_plan fails }
-    {
-        Calls {
-            fails,
-            made: 0,
-            failed: 0,
-        }
-    }
-
-    /// Counts a call, and says whether it fails.
-    fn fails_now(&mut self) -> bool
-        ensures answer { result ≡ fails_now self.old }
-        ensures counted { self.new ≡ called self.old }
-    {
-        self.made = self.made.saturating_add(1);
-        let fails = self.made < u64::MAX && self.fails.as_slice().contains(&self.made);
-        if fails {
-            self.failed += 1;
-        }
-        fails
-    }
-}
 
 /// Bytes in memory, which are read in pieces of at most a given size, with failures as planned.
 #[derive(Drop)]
@@ -61,7 +18,7 @@ pub struct MemorySource {
     bytes: Items<u8>,
     at: usize,
     piece: usize,
-    calls: Calls,
+    calls: PlannedFailures,
 }
 
 impl Model for MemorySource {
@@ -76,7 +33,7 @@ impl Model for MemorySource {
 }
 
 impl MemorySource {
-    ghost use Rattle.alias_stream.specs.Memory.{new_plan};
+    ghost use Rattle.alias_failures.specs.Failures.{new_plan};
 
     /// A source of these bytes. A read takes at most `piece` of them. The reads whose number is in `fails`
     /// fail, where the first read has number 1.
@@ -88,7 +45,7 @@ impl MemorySource {
             bytes,
             at: 0,
             piece,
-            calls: Calls::new(fails),
+            calls: PlannedFailures::new(fails),
         }
     }
 }
@@ -128,7 +85,7 @@ impl Source for MemorySource {
 pub struct MemorySink {
     held: Vec<u8>,
     piece: usize,
-    calls: Calls,
+    calls: PlannedFailures,
 }
 
 impl Model for MemorySink {
@@ -143,7 +100,7 @@ impl Model for MemorySink {
 }
 
 impl MemorySink {
-    ghost use Rattle.alias_stream.specs.Memory.{new_plan};
+    ghost use Rattle.alias_failures.specs.Failures.{new_plan};
 
     /// A sink that holds nothing. A write adds at most `piece` bytes. The writes whose number is in `fails`
     /// fail, where the first write has number 1. Takes no memory.
@@ -154,7 +111,7 @@ impl MemorySink {
         MemorySink {
             held: Vec::new(alloc),
             piece,
-            calls: Calls::new(fails),
+            calls: PlannedFailures::new(fails),
         }
     }
 
