@@ -1,24 +1,17 @@
 -- From what a reader of data gives to what `read_unit` answers.
-use Rattle.std.proofs.Common.{refl, ◌≡◌, ℕ, ◌≤◌, List, [], ◌∷◌, length, arith}
-use Rattle.std.specs.Prelude.{Result, Ok, Err, IfOk, IfErr, ⊤}
+use Rattle.std.proofs.Common.{◌≡◌, ℕ, List, refl}
+use Rattle.std.specs.Prelude.{Result, Ok, Err, IfOk, IfErr}
 use Rattle.serde_json.specs.Data.{Data}
-use Rattle.serde_json.specs.View.{items_view}
-use Rattle.serde_json.specs.declared.value.Value.{Value}
 use Rattle.alias_hir.specs.declared.env.Unit.{Unit as HirUnit}
 use Rattle.alias_base.specs.Answer.{Gives}
-use Rattle.alias_read.specs.declared.fault.ValueFault.{ValueFault}
-use Rattle.alias_read.specs.declared.fault.ValueFault.TheVariants as value
+use Rattle.alias_json.specs.declared.fault.ValueFault.{ValueFault}
+use Rattle.alias_json.specs.declared.fault.ValueFault.TheVariants as value
+use Rattle.alias_json.specs.Fault.{is_memory}
 use Rattle.alias_read.specs.declared.fault.TextFault.{TextFault}
 use Rattle.alias_read.specs.declared.fault.TextFault.TheVariants as fault
-use Rattle.alias_read.specs.declared.fault.TextRule.TheVariants.{NotBuilt}
-use Rattle.alias_read.specs.Fault.{IsMemory, is_memory, of_value, refusal}
-use Rattle.alias_read.specs.Reading.{no_item_there}
+use Rattle.alias_read.specs.Fault.{IsMemory, of_value}
 use Rattle.alias_read.specs.Units.{unit_of, IsReading, UnitReading, NoUnit, ReadsUnit}
 use Rattle.alias_read.specs.UnitLaws.{one_reading}
-
-pub refused_item : (p : List ℕ) (vs : List Value) (r : Result ⊤ ValueFault) → 1 ≤ length vs → Gives is_memory (refusal p NotBuilt) r → Gives is_memory (no_item_there p (items_view vs)) r
-refused_item p [] r h g = absurd (omega arith)
-refused_item p (v ∷ vs) r h g = g
 
 -- the data's fault is the text's
 pub reads_fault : (bytes : List ℕ) (d : Data) (e : ValueFault) → IsReading bytes d → Gives {A = HirUnit} is_memory (unit_of d) (Err e) → ReadsUnit bytes (Err (of_value e))

@@ -6,13 +6,13 @@ use Rattle.serde_json.specs.declared.value.Value.{Value}
 use Rattle.alias_base.specs.Answer.{◌>>=◌, Gives}
 use Rattle.alias_base.specs.Find.{with_value}
 use Rattle.alias_base.specs.declared.ids.BlockId.{BlockId}
-use Rattle.alias_read.specs.declared.fault.ValueFault.{ValueFault}
-use Rattle.alias_read.specs.Fault.{is_memory}
-use Rattle.alias_read.specs.declared.path.Path.{Path, fold-roll-Path}
-use Rattle.alias_read.specs.declared.path.Path.TheOpen.{Path-F}
-use Rattle.alias_read.specs.declared.path.Path.TheViews.{Index}
-use Rattle.alias_read.specs.declared.path.Path.TheVariants.{rolls-Index}
-use Rattle.alias_read.specs.Pointer.{at_index, pointer, pointer_step}
+use Rattle.alias_json.specs.declared.fault.ValueFault.{ValueFault}
+use Rattle.alias_json.specs.Fault.{is_memory}
+use Rattle.alias_json.specs.declared.path.Path.{Path, fold-roll-Path}
+use Rattle.alias_json.specs.declared.path.Path.TheOpen.{Path-F}
+use Rattle.alias_json.specs.declared.path.Path.TheViews.{Index}
+use Rattle.alias_json.specs.declared.path.Path.TheVariants.{rolls-Index}
+use Rattle.alias_json.specs.Pointer.{at_index, pointer, pointer_step}
 use Rattle.alias_read.specs.Entries.{ReadsEntry, entry_items_at}
 
 -- the pointer of an item

@@ -4,11 +4,11 @@ use Rattle.alias_base.specs.Answer.{◌>>=◌}
 use Rattle.alias_base.specs.Find.{value_at, with_value}
 use Rattle.alias_base.specs.declared.ids.BlockId.{BlockId}
 use Rattle.serde_json.specs.Data.{null, boolean, number, string, array, object, Items, no_items, item}
-use Rattle.alias_read.specs.Pointer.{at_index}
-use Rattle.alias_read.specs.Fault.{refusal}
-use Rattle.alias_read.specs.Reading.{Reads, number_at}
-use Rattle.alias_read.specs.declared.fault.ValueFault.{ValueFault}
-use Rattle.alias_read.specs.declared.fault.TextRule.TheVariants.{Kind, Twice}
+use Rattle.alias_json.specs.Pointer.{at_index}
+use Rattle.alias_json.specs.Fault.{refusal}
+use Rattle.alias_json.specs.Reading.{Reads, number_at}
+use Rattle.alias_json.specs.declared.fault.ValueFault.{ValueFault}
+use Rattle.alias_json.specs.declared.fault.TextRule.TheVariants.{Kind, Twice}
 
 abbrev pub block_id_at : Reads BlockId
 block_id_at p d = number_at p d >>= (λ n. Ok (record { 0 = n }))

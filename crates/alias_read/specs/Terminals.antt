@@ -7,18 +7,20 @@ use Rattle.alias_hir.specs.declared.place.Place.{Place}
 use Rattle.alias_hir.specs.declared.terminal.SwitchCase.{SwitchCase}
 use Rattle.alias_hir.specs.declared.terminal.Terminal.{Terminal}
 use Rattle.alias_hir.specs.declared.terminal.Terminal.TheVariants as terminal
-use Rattle.alias_read.specs.Reading.{Reads, number_at, list_at, option_at, object_at, required, given_or, known_keys}
-use Rattle.alias_read.specs.Values.{place_at}
+use Rattle.alias_json.specs.Reading.{Reads, number_at, object_at, known_keys}
+use Rattle.alias_read.specs.Json.{required, optional, list_of}
 use Rattle.alias_read.specs.Entries.{block_id_at}
-use Rattle.alias_read.specs.Kinds.{terminal_kind_at}
-use Rattle.alias_read.specs.declared.kinds.JumpKind.{JumpKind}
-use Rattle.alias_read.specs.declared.kinds.JumpKind.TheVariants as jump
-use Rattle.alias_read.specs.declared.kinds.BranchKind.{BranchKind}
-use Rattle.alias_read.specs.declared.kinds.BranchKind.TheVariants as branch
-use Rattle.alias_read.specs.declared.kinds.ExitKind.{ExitKind}
-use Rattle.alias_read.specs.declared.kinds.ExitKind.TheVariants as exit
-use Rattle.alias_read.specs.declared.kinds.TerminalKind.{TerminalKind}
-use Rattle.alias_read.specs.declared.kinds.TerminalKind.TheVariants.{Jump, Branch, Exit, Switch, Unreachable, Try, MaybeThrow}
+use Rattle.alias_json.specs.Names.{named_at}
+use Rattle.alias_read.specs.Places.{place_at}
+use Rattle.alias_read.specs.TerminalKinds.{terminal_names}
+use Rattle.alias_read.specs.declared.terminal_kinds.JumpKind.{JumpKind}
+use Rattle.alias_read.specs.declared.terminal_kinds.JumpKind.TheVariants as jump
+use Rattle.alias_read.specs.declared.terminal_kinds.BranchKind.{BranchKind}
+use Rattle.alias_read.specs.declared.terminal_kinds.BranchKind.TheVariants as branch
+use Rattle.alias_read.specs.declared.terminal_kinds.ExitKind.{ExitKind}
+use Rattle.alias_read.specs.declared.terminal_kinds.ExitKind.TheVariants as exit
+use Rattle.alias_read.specs.declared.terminal_kinds.TerminalKind.{TerminalKind}
+use Rattle.alias_read.specs.declared.terminal_kinds.TerminalKind.TheVariants.{Jump, Branch, Exit, Switch, Unreachable, Try, MaybeThrow}
 
 abbrev pub order_at : Reads EvaluationOrder
 order_at p d = number_at p d >>= (λ n. Ok (record { 0 = n }))
@@ -80,7 +82,7 @@ branch_at kind id p d = do
 abbrev pub case_at : Reads SwitchCase
 case_at p d = do
   _ ← object_at p d
-  test ← given_or (option_at place_at) None p (codes "test") d
+  test ← optional place_at p (codes "test") d
   block ← required block_id_at p (codes "block") d
   _ ← known_keys (codes "test" ∷ codes "block" ∷ []) p d
   Ok (record { test = test; block = block })
@@ -88,7 +90,7 @@ case_at p d = do
 abbrev pub switch_at : EvaluationOrder → Reads Terminal
 switch_at id p d = do
   test ← required place_at p (codes "test") d
-  cases ← given_or (list_at case_at) [] p (codes "cases") d
+  cases ← list_of case_at p (codes "cases") d
   _ ← known_keys (codes "kind" ∷ codes "id" ∷ codes "test" ∷ codes "cases" ∷ []) p d
   Ok (terminal.Switch id test cases)
 
@@ -113,14 +115,14 @@ abbrev pub try_at : EvaluationOrder → Reads Terminal
 try_at id p d = do
   block ← required block_id_at p (codes "block") d
   handler ← required block_id_at p (codes "handler") d
-  binding ← given_or (option_at place_at) None p (codes "handler_binding") d
+  binding ← optional place_at p (codes "handler_binding") d
   _ ← known_keys (codes "kind" ∷ codes "id" ∷ codes "block" ∷ codes "handler" ∷ codes "handler_binding" ∷ []) p d
   Ok (terminal.Try id block handler binding)
 
 abbrev pub maybe_throw_at : EvaluationOrder → Reads Terminal
 maybe_throw_at id p d = do
   continuation ← required block_id_at p (codes "continuation") d
-  handler ← given_or (option_at block_id_at) None p (codes "handler") d
+  handler ← optional block_id_at p (codes "handler") d
   _ ← known_keys (codes "kind" ∷ codes "id" ∷ codes "continuation" ∷ codes "handler" ∷ []) p d
   Ok (terminal.MaybeThrow id continuation handler None)
 
@@ -138,6 +140,6 @@ terminal_of_kind MaybeThrow id p d = maybe_throw_at id p d
 abbrev pub terminal_at : Reads Terminal
 terminal_at p d = do
   _ ← object_at p d
-  kind ← required terminal_kind_at p (codes "kind") d
+  kind ← required (named_at terminal_names) p (codes "kind") d
   id ← required order_at p (codes "id") d
   terminal_of_kind kind id p d

@@ -1,88 +1,96 @@
 -- The unit that JSON data spell, and the one that a text spells.
-use Rattle.std.specs.Prelude.{◌≡◌, ℕ, false, List, [], ◌∷◌, Some, None, Result, Ok, Err, ⊤, codes, ◌==◌, if◌then◌else◌, IsUtf8}
+use Rattle.std.specs.Prelude.{◌≡◌, ℕ, ◌==◌, List, [], ◌∷◌, length, Some, Result, Ok, Err, ⊤, codes, if◌then◌else◌, IsUtf8}
 use Rattle.alias_base.specs.Answer.{◌>>=◌}
 use Rattle.serde_json.specs.Data.{Data}
 use Rattle.serde_json.specs.Read.{read}
-use Rattle.alias_hir.specs.declared.types.Ty.{Ty}
-use Rattle.alias_hir.specs.declared.types.Ty.TheVariants as ty
-use Rattle.alias_hir.specs.declared.env.Identifier.{Identifier}
-use Rattle.alias_hir.specs.declared.env.Config.{Config}
+use Rattle.alias_hir.specs.declared.hir.ContextValue.{ContextValue}
+use Rattle.alias_hir.specs.declared.hir.HirFunction.{HirFunction}
+use Rattle.alias_hir.specs.declared.env.Environment.{Environment}
 use Rattle.alias_hir.specs.declared.env.Unit.{Unit as HirUnit}
-use Rattle.alias_read.specs.Pointer.{at_key}
-use Rattle.alias_read.specs.Fault.{refusal}
-use Rattle.alias_read.specs.Reading.{Reads, number_at, boolean_at, text_at, list_at, object_at, required, given_or, known_keys, no_items_at, no_text_at, no_array_at, false_at, text_is}
-use Rattle.alias_read.specs.Functions.{root_at}
-use Rattle.alias_read.specs.Built.{built}
-use Rattle.alias_read.specs.declared.fault.ValueFault.{ValueFault}
-use Rattle.alias_read.specs.declared.fault.ValueFault.TheVariants as value
+use Rattle.alias_json.specs.Fault.{refusal}
+use Rattle.alias_json.specs.Reading.{Reads, number_at, object_at, known_keys, array_of}
+use Rattle.alias_read.specs.Json.{list_at, required, given_or, list_of}
+use Rattle.alias_json.specs.Names.{named_at}
+use Rattle.alias_json.specs.declared.fault.ValueFault.{ValueFault}
+use Rattle.alias_json.specs.declared.fault.ValueFault.TheVariants as value
+use Rattle.alias_json.specs.declared.fault.TextRule.TheVariants.{Range}
+use Rattle.alias_read.specs.Names.{value_kind_names, value_reason_names}
+use Rattle.alias_read.specs.Types.{type_at}
+use Rattle.alias_read.specs.Shapes.{shapes_at}
+use Rattle.alias_read.specs.Tables.{identifier_at, unset, config_at}
+use Rattle.alias_read.specs.Functions.{function_at}
+use Rattle.alias_read.specs.declared.unit.Format.{Format}
+use Rattle.alias_read.specs.declared.unit.Format.TheVariants.{First, Second}
 use Rattle.alias_read.specs.declared.fault.TextFault.{TextFault}
 use Rattle.alias_read.specs.declared.fault.TextFault.TheVariants as fault
-use Rattle.alias_read.specs.declared.fault.TextRule.TheVariants.{Range, Name, NotBuilt}
 
--- the whole format has further kinds, which are refused as names of none
-abbrev pub type_named : List ℕ → List ℕ → Result Ty ValueFault
-type_named p name =
-    if text_is name (codes "Var") then Ok ty.Var
-    else (if text_is name (codes "Primitive") then Ok ty.Primitive
-    else refusal (at_key p (codes "kind")) Name)
+-- the formats are 1 and 2
+abbrev pub format_numbered : List ℕ → ℕ → Result Format ValueFault
+format_numbered p n = if n == 1 then Ok First else (if n == 2 then Ok Second else refusal p Range)
 
-abbrev pub type_at : Reads Ty
-type_at p d = do
+abbrev pub format_at : Reads Format
+format_at p d = number_at p d >>= format_numbered p
+
+abbrev pub context_value_at : Reads ContextValue
+context_value_at p d = do
   _ ← object_at p d
-  name ← required text_at p (codes "kind") d
-  t ← type_named p name
-  _ ← known_keys (codes "kind" ∷ []) p d
-  Ok t
+  kind ← required (named_at value_kind_names) p (codes "kind") d
+  reasons ← list_of (named_at value_reason_names) p (codes "reasons") d
+  _ ← known_keys (codes "kind" ∷ codes "reasons" ∷ []) p d
+  Ok (record { kind = kind; reasons = reasons })
 
-abbrev pub identifier_at : Reads Identifier
-identifier_at p d = do
-  _ ← object_at p d
-  declaration ← required number_at p (codes "declaration") d
-  t ← required number_at p (codes "type") d
-  _ ← given_or no_text_at tt p (codes "name") d
-  _ ← given_or no_array_at tt p (codes "span") d
-  _ ← known_keys (codes "declaration" ∷ codes "type" ∷ codes "name" ∷ codes "span" ∷ []) p d
-  Ok (record { declaration_id = record { 0 = declaration }; name = None; mutable_range = record { start = record { 0 = 0 }; end = record { 0 = 0 } }; scope = None; type_ = record { 0 = t }; span = None })
+-- one for each of so many context places
+abbrev pub context_values_at : ℕ → Reads (List ContextValue)
+context_values_at count p d = do
+  _ ← array_of count p d
+  list_at context_value_at p d
 
-abbrev pub unset : Config
-unset = record { enable_validations = false }
+-- what the context places of the root are: the first format has no such key
+abbrev pub root_values_at : Format → HirFunction → Reads (List ContextValue)
+root_values_at First root p d = Ok []
+root_values_at Second root p d = given_or (context_values_at (length root.context)) [] p (codes "context_values") d
 
-abbrev pub config_at : Reads Config
-config_at p d = do
-  _ ← object_at p d
-  validations ← given_or boolean_at false p (codes "enable_validations") d
-  _ ← given_or false_at tt p (codes "enable_preserve_existing_memoization_guarantees") d
-  _ ← given_or false_at tt p (codes "enable_transitively_freeze_function_expressions") d
-  _ ← given_or false_at tt p (codes "validate_no_impure_functions_in_render") d
-  _ ← known_keys (codes "enable_validations" ∷ codes "enable_preserve_existing_memoization_guarantees" ∷ codes "enable_transitively_freeze_function_expressions" ∷ codes "validate_no_impure_functions_in_render" ∷ []) p d
-  Ok (record { enable_validations = validations })
+abbrev pub first_keys : List (List ℕ)
+first_keys = codes "format" ∷ codes "config" ∷ codes "types" ∷ codes "shapes" ∷ codes "identifiers" ∷ codes "functions" ∷ codes "root" ∷ []
 
-abbrev pub known_format : List ℕ → ℕ → Result ⊤ ValueFault
-known_format p n = if n == 1 then Ok tt else refusal (at_key p (codes "format")) Range
+abbrev pub second_keys : List (List ℕ)
+second_keys = codes "format" ∷ codes "config" ∷ codes "types" ∷ codes "shapes" ∷ codes "identifiers" ∷ codes "functions" ∷ codes "root" ∷ codes "context_values" ∷ []
 
-abbrev pub unit_keys : Reads ⊤
-unit_keys = known_keys (codes "format" ∷ codes "config" ∷ codes "types" ∷ codes "shapes" ∷ codes "identifiers" ∷ codes "functions" ∷ codes "root" ∷ [])
+abbrev pub unit_keys : Format → Reads ⊤
+unit_keys First p d = known_keys first_keys p d
+unit_keys Second p d = known_keys second_keys p d
+
+-- the tables of a unit, with no reports yet
+abbrev pub environment_at : Reads Environment
+environment_at p d = do
+  config ← given_or config_at unset p (codes "config") d
+  types ← list_of type_at p (codes "types") d
+  shapes ← given_or shapes_at [] p (codes "shapes") d
+  identifiers ← list_of identifier_at p (codes "identifiers") d
+  functions ← list_of function_at p (codes "functions") d
+  Ok (record { identifiers = identifiers; types = types; functions = functions; shapes = shapes; errors = []; interned = []; config = config })
+
+abbrev pub with_context_values : HirFunction → List ContextValue → HirFunction
+with_context_values root values = record root { context_values = values }
+
+-- the root, with the tables that were read
+abbrev pub rooted_at : Format → Environment → Reads HirUnit
+rooted_at format env p d = do
+  root ← required function_at p (codes "root") d
+  values ← root_values_at format root p d
+  _ ← unit_keys format p d
+  Ok (record { function = with_context_values root values; env = env })
 
 abbrev pub unit_at : Reads HirUnit
 unit_at p d = do
   _ ← object_at p d
-  format ← required number_at p (codes "format") d
-  _ ← known_format p format
-  config ← given_or config_at unset p (codes "config") d
-  types ← given_or (list_at type_at) [] p (codes "types") d
-  _ ← given_or no_items_at tt p (codes "shapes") d
-  identifiers ← given_or (list_at identifier_at) [] p (codes "identifiers") d
-  _ ← given_or no_items_at tt p (codes "functions") d
-  root ← required root_at p (codes "root") d
-  _ ← unit_keys p d
-  Ok (record { function = root; env = record { identifiers = identifiers; types = types; functions = []; errors = []; interned = []; config = config } })
-
-abbrev pub if_built : HirUnit → Result HirUnit ValueFault
-if_built u = if built u then Ok u else refusal [] NotBuilt
+  format ← required format_at p (codes "format") d
+  env ← environment_at p d
+  rooted_at format env p d
 
 -- the unit that data spell, or the first fault
 abbrev pub unit_of : Data → Result HirUnit ValueFault
-unit_of d = unit_at [] d >>= if_built
+unit_of = unit_at []
 
 -- the tree that the whole of the bytes reads as, with at most 127 levels
 pub record IsReading (bytes : List ℕ) (d : Data) : Type 0 where

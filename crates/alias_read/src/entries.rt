@@ -3,16 +3,15 @@ ghost use Rattle.std.specs.Prelude.{◌≡◌, [], ℕ, List, Result};
 ghost use Rattle.alias_base.specs.declared.ids.BlockId.{BlockId};
 ghost use Rattle.serde_json.specs.Data.{Data};
 ghost use Rattle.serde_json.specs.View.{view, items_view};
-ghost use Rattle.alias_read.specs.Pointer.{pointer};
+ghost use Rattle.alias_json.specs.Pointer.{pointer};
 ghost use Rattle.alias_base.specs.Answer.{Gives};
-ghost use Rattle.alias_read.specs.Fault.{is_memory};
+ghost use Rattle.alias_json.specs.Fault.{is_memory};
 ghost use Rattle.alias_read.specs.Entries.{block_id_at, new_block, entry_items_at, entries_at};
-ghost use Rattle.alias_read.specs.declared.fault.ValueFault.{ValueFault};
+ghost use Rattle.alias_json.specs.declared.fault.ValueFault.{ValueFault};
 
-use crate::fault::{TextRule, ValueFault};
-use crate::json::{FromJson, refused};
-use crate::path::Path;
+use crate::json::FromJson;
 use alias_base::{BlockId, BlockMap};
+use alias_json::{Path, TextRule, ValueFault, refused};
 use serde_json::Value;
 use std::alloc::Global;
 

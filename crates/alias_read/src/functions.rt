@@ -1,19 +1,17 @@
 //! Reads instructions, blocks and functions.
-ghost use Rattle.std.specs.Prelude.{◌≡◌, [], Result};
+ghost use Rattle.std.specs.Prelude.{◌≡◌, Result};
 ghost use Rattle.serde_json.specs.View.{view};
-ghost use Rattle.alias_read.specs.Pointer.{pointer};
 ghost use Rattle.alias_base.specs.Answer.{Gives};
-ghost use Rattle.alias_read.specs.Fault.{is_memory};
-ghost use Rattle.alias_read.specs.Functions.{instruction_at, instruction_id_at, operand_at, phi_at, block_at, function_type_at, function_type_named, root_keys, root_at};
+ghost use Rattle.alias_json.specs.Pointer.{pointer};
+ghost use Rattle.alias_json.specs.Fault.{is_memory};
+ghost use Rattle.alias_read.specs.Functions.{instruction_at, instruction_id_at, operand_at, phi_at, block_at, function_keys, function_at};
 
 use crate::entries::{FromEntry, new_block};
-use crate::fault::{TextRule, ValueFault};
-use crate::json::{FromJson, element, given_or, known_keys, object, pair, refused, required};
-use crate::only::{no_array, only_empty, only_false};
-use crate::path::Path;
+use crate::json::{FromJson, element, flag, list_of, optional, required};
 use alias_base::{BlockId, BlockMap, EvaluationOrder, InstructionId, List};
-use alias_hir::hir::{BasicBlock, FunctionType, Hir, HirFunction, Instruction, Phi};
+use alias_hir::hir::{BasicBlock, Hir, HirFunction, Instruction, Phi};
 use alias_hir::place::Place;
+use alias_json::{Path, ValueFault, array_of, known_keys, object};
 use serde_json::Value;
 use std::alloc::Global;
 
@@ -25,13 +23,13 @@ impl FromJson for Instruction {
         let id = required(alloc, path, "id", value)?;
         let lvalue = required(alloc, path, "lvalue", value)?;
         let computed = required(alloc, path, "value", value)?;
-        no_array(alloc, path, "span", value)?;
+        let span = optional(alloc, path, "span", value)?;
         known_keys(alloc, path, &["id", "lvalue", "value", "span"], value)?;
         Ok(Instruction {
             id: EvaluationOrder(id),
             lvalue,
             value: computed,
-            span: None,
+            span,
             effects: None,
         })
     }
@@ -45,27 +43,6 @@ impl FromJson for InstructionId {
     }
 }
 
-impl FromJson for FunctionType {
-    ghost reads = { function_type_at };
-
-    fn from_json(alloc: Global, path: &Path, value: &Value) -> Result<FunctionType, ValueFault> {
-        match value.as_str() {
-            Some(name) => function_type(alloc, path, name),
-            None => refused(alloc, path, TextRule::Kind),
-        }
-    }
-}
-
-fn function_type(alloc: Global, path: &Path, name: &str) -> Result<FunctionType, ValueFault>
-    ensures { Gives is_memory (function_type_named (pointer path.now) name.now) result }
-{
-    if name == "Other" {
-        Ok(FunctionType::Other)
-    } else {
-        refused(alloc, path, TextRule::Name)
-    }
-}
-
 impl FromEntry for Place {
     ghost reads_entry = { operand_at };
 
@@ -75,7 +52,7 @@ impl FromEntry for Place {
         found: &BlockMap<Place>,
         value: &Value,
     ) -> Result<(BlockId, Place), ValueFault> {
-        pair(alloc, path, value)?;
+        array_of(alloc, path, 2, value)?;
         let block = element(alloc, path, 0, value)?;
         let here = Path::Index {
             above: path,
@@ -115,8 +92,8 @@ impl FromEntry for BasicBlock {
             key: "id",
         };
         new_block(alloc, &here, found, id)?;
-        let phis = given_or(alloc, path, "phis", value, List::new(alloc))?;
-        let instructions = given_or(alloc, path, "instructions", value, List::new(alloc))?;
+        let phis = list_of(alloc, path, "phis", value)?;
+        let instructions = list_of(alloc, path, "instructions", value)?;
         let terminal = required(alloc, path, "terminal", value)?;
         known_keys(
             alloc,
@@ -133,8 +110,8 @@ impl FromEntry for BasicBlock {
     }
 }
 
-fn root_keys(alloc: Global, path: &Path, value: &Value) -> Result<(), ValueFault>
-    ensures { Gives is_memory (root_keys (pointer path.now) (view value.now)) result }
+fn function_keys(alloc: Global, path: &Path, value: &Value) -> Result<(), ValueFault>
+    ensures { Gives is_memory (function_keys (pointer path.now) (view value.now)) result }
 {
     known_keys(
         alloc,
@@ -155,27 +132,30 @@ fn root_keys(alloc: Global, path: &Path, value: &Value) -> Result<(), ValueFault
 }
 
 impl FromJson for HirFunction {
-    ghost reads = { root_at };
+    ghost reads = { function_at };
 
     fn from_json(alloc: Global, path: &Path, value: &Value) -> Result<HirFunction, ValueFault> {
         object(alloc, path, value)?;
         let fn_type = required(alloc, path, "fn_type", value)?;
-        only_empty(alloc, path, "params", value)?;
-        only_empty(alloc, path, "context", value)?;
+        let params = list_of(alloc, path, "params", value)?;
+        let context = list_of(alloc, path, "context", value)?;
         let returns = required(alloc, path, "returns", value)?;
         let entry = required(alloc, path, "entry", value)?;
-        only_false(alloc, path, "is_async", value)?;
-        no_array(alloc, path, "span", value)?;
-        let instructions = given_or(alloc, path, "instructions", value, List::new(alloc))?;
+        let is_async = flag(alloc, path, "is_async", value)?;
+        let span = optional(alloc, path, "span", value)?;
+        let instructions = list_of(alloc, path, "instructions", value)?;
         let blocks = required(alloc, path, "blocks", value)?;
-        root_keys(alloc, path, value)?;
+        function_keys(alloc, path, value)?;
         Ok(HirFunction {
             fn_type,
+            params,
+            context,
+            context_values: List::new(alloc),
             returns,
             body: Hir { entry, blocks },
             instructions,
-            is_async: false,
-            span: None,
+            is_async,
+            span,
             aliasing_effects: None,
         })
     }

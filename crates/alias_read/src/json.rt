@@ -1,16 +1,16 @@
-//! Readers of JSON values.
-ghost use Rattle.std.specs.Prelude.{◌≡◌, [], ℕ, List, Result, map};
+//! What is read from JSON: lists, members of objects, and items of arrays.
+ghost use Rattle.std.specs.Prelude.{◌≡◌, [], ℕ, List, Result};
 ghost use Rattle.serde_json.specs.Data.{Data};
 ghost use Rattle.serde_json.specs.View.{view, items_view};
-ghost use Rattle.alias_read.specs.Pointer.{pointer};
 ghost use Rattle.alias_base.specs.Answer.{Gives};
-ghost use Rattle.alias_read.specs.Fault.{is_memory, refusal};
-ghost use Rattle.alias_read.specs.Reading.{number_at, boolean_at, text_at, list_at, items_at, object_at, required, given_or, option_at, pair_at, element, is_known, known_keys};
-ghost use Rattle.alias_read.specs.declared.fault.ValueFault.{ValueFault};
+ghost use Rattle.alias_json.specs.Pointer.{pointer};
+ghost use Rattle.alias_json.specs.Fault.{is_memory};
+ghost use Rattle.alias_json.specs.Reading.{number_at, boolean_at, text_at};
+ghost use Rattle.alias_json.specs.declared.fault.ValueFault.{ValueFault};
+ghost use Rattle.alias_read.specs.Json.{list_at, items_at, required, given_or, option_at, optional, list_of, flag, element};
 
-use crate::fault::{TextRule, ValueFault};
-use crate::path::{Path, pointer_text};
 use alias_base::{List, Text};
+use alias_json::{Path, TextRule, ValueFault, boolean, number, refused, text};
 use serde_json::Value;
 use std::alloc::Global;
 
@@ -23,36 +23,11 @@ pub trait FromJson {
         ensures { Gives is_memory (reads (pointer path.now) (view value.now)) result };
 }
 
-/// The fault of a value that breaks a rule.
-pub fn refused<T>(alloc: Global, path: &Path, rule: TextRule) -> Result<T, ValueFault>
-    ensures { Gives is_memory (refusal (pointer path.now) rule) result }
-{
-    Err(ValueFault::Refused {
-        pointer: pointer_text(alloc, path)?,
-        rule,
-    })
-}
-
 impl FromJson for u32 {
     ghost reads = { number_at };
 
     fn from_json(alloc: Global, path: &Path, value: &Value) -> Result<u32, ValueFault> {
-        let Some(number) = value.as_number() else {
-            return refused(alloc, path, TextRule::Kind);
-        };
-        match number.as_u64() {
-            Some(whole) => match u32::try_from(whole) {
-                Ok(whole) => Ok(whole),
-                Err(_) => refused(alloc, path, TextRule::Range),
-            },
-            None => {
-                if number.is_f64() {
-                    refused(alloc, path, TextRule::Float)
-                } else {
-                    refused(alloc, path, TextRule::Range)
-                }
-            }
-        }
+        number(alloc, path, value)
     }
 }
 
@@ -60,10 +35,7 @@ impl FromJson for bool {
     ghost reads = { boolean_at };
 
     fn from_json(alloc: Global, path: &Path, value: &Value) -> Result<bool, ValueFault> {
-        match value.as_bool() {
-            Some(flag) => Ok(flag),
-            None => refused(alloc, path, TextRule::Kind),
-        }
+        boolean(alloc, path, value)
     }
 }
 
@@ -71,10 +43,7 @@ impl FromJson for Text {
     ghost reads = { text_at };
 
     fn from_json(alloc: Global, path: &Path, value: &Value) -> Result<Text, ValueFault> {
-        match value.as_str() {
-            Some(text) => Ok(Text::from_str(alloc, text)?),
-            None => refused(alloc, path, TextRule::Kind),
-        }
+        text(alloc, path, value)
     }
 }
 
@@ -115,17 +84,6 @@ impl<T: FromJson> FromJson for Option<T> {
     }
 }
 
-/// Refuses a value that is no object.
-pub fn object(alloc: Global, path: &Path, value: &Value) -> Result<(), ValueFault>
-    ensures { Gives is_memory (object_at (pointer path.now) (view value.now)) result }
-{
-    if value.is_object() {
-        Ok(())
-    } else {
-        refused(alloc, path, TextRule::Kind)
-    }
-}
-
 /// The value of a key that has to be there.
 pub fn required<T: FromJson>(
     alloc: Global,
@@ -159,15 +117,35 @@ pub fn given_or<T: FromJson + Drop>(
     }
 }
 
-/// Refuses a value that is no array of two.
-pub fn pair(alloc: Global, path: &Path, value: &Value) -> Result<(), ValueFault>
-    ensures { Gives is_memory (pair_at (pointer path.now) (view value.now)) result }
+/// The value of a key that may be absent or null.
+pub fn optional<T: FromJson + Drop>(
+    alloc: Global,
+    path: &Path,
+    key: &str,
+    value: &Value,
+) -> Result<Option<T>, ValueFault>
+    ensures { Gives is_memory (optional T.reads (pointer path.now) key.now (view value.now)) result }
 {
-    if value.get(1).is_some() && value.get(2).is_none() {
-        Ok(())
-    } else {
-        refused(alloc, path, TextRule::Kind)
-    }
+    given_or(alloc, path, key, value, None)
+}
+
+/// The list of a key that may be absent.
+pub fn list_of<T: FromJson + Drop>(
+    alloc: Global,
+    path: &Path,
+    key: &str,
+    value: &Value,
+) -> Result<List<T>, ValueFault>
+    ensures { Gives is_memory (list_of T.reads (pointer path.now) key.now (view value.now)) result }
+{
+    given_or(alloc, path, key, value, List::new(alloc))
+}
+
+/// The bool of a key that may be absent.
+pub fn flag(alloc: Global, path: &Path, key: &str, value: &Value) -> Result<bool, ValueFault>
+    ensures { Gives is_memory (flag (pointer path.now) key.now (view value.now)) result }
+{
+    given_or(alloc, path, key, value, false)
 }
 
 /// The item at an index of an array that has one there.
@@ -183,40 +161,4 @@ pub fn element<T: FromJson>(
         Some(found) => T::from_json(alloc, &Path::Index { above: path, index }, found),
         None => refused(alloc, path, TextRule::Kind),
     }
-}
-
-fn is_known(keys: &[&str], key: &str) -> bool
-    ensures { result ≡ is_known (map (λ k. k.now) keys.now) key.now }
-{
-    for k in keys {
-        if key == *k {
-            return true;
-        }
-    }
-    false
-}
-
-/// Refuses a value that is no object, and an object that has a key besides these: the first one in
-/// ascending order.
-pub fn known_keys(
-    alloc: Global,
-    path: &Path,
-    keys: &[&str],
-    value: &Value,
-) -> Result<(), ValueFault>
-    ensures { Gives is_memory (known_keys (map (λ k. k.now) keys.now) (pointer path.now) (view value.now)) result }
-{
-    let Some(members) = value.as_object() else {
-        return refused(alloc, path, TextRule::Kind);
-    };
-    for (key, _) in members.iter() {
-        if !is_known(keys, key.as_str()) {
-            let here = Path::Key {
-                above: path,
-                key: key.as_str(),
-            };
-            return refused(alloc, &here, TextRule::Unknown);
-        }
-    }
-    Ok(())
 }

@@ -1,46 +1,36 @@
-//! Reads the tables of a unit, and what is asked of the inference.
+//! Reads identifiers, and what is asked of the inference.
 ghost use Rattle.std.specs.Prelude.{◌≡◌, Result};
 ghost use Rattle.serde_json.specs.View.{view};
-ghost use Rattle.alias_read.specs.Pointer.{pointer};
 ghost use Rattle.alias_base.specs.Answer.{Gives};
-ghost use Rattle.alias_read.specs.Fault.{is_memory};
-ghost use Rattle.alias_read.specs.Units.{type_at, type_named, identifier_at, config_at};
+ghost use Rattle.alias_json.specs.Pointer.{pointer};
+ghost use Rattle.alias_json.specs.Fault.{is_memory};
+ghost use Rattle.alias_read.specs.Tables.{promoted_at, name_at, identifier_at, config_at};
 
-use crate::fault::{TextRule, ValueFault};
-use crate::json::{FromJson, given_or, known_keys, object, refused, required};
-use crate::only::{no_array, no_text, only_false};
-use crate::path::Path;
+use crate::json::{FromJson, flag, optional, required};
 use alias_base::{DeclarationId, EvaluationOrder, Text, TypeId};
-use alias_hir::env::{Config, Identifier, MutableRange};
-use alias_hir::types::Ty;
+use alias_hir::env::{Config, Identifier, IdentifierName, MutableRange};
+use alias_json::{Path, ValueFault, known_keys, object};
 use serde_json::Value;
 use std::alloc::Global;
 
-impl FromJson for Ty {
-    ghost reads = { type_at };
-
-    fn from_json(alloc: Global, path: &Path, value: &Value) -> Result<Ty, ValueFault> {
-        object(alloc, path, value)?;
-        let kind: Text = required(alloc, path, "kind", value)?;
-        let ty = type_of_kind(alloc, path, kind.as_str())?;
-        known_keys(alloc, path, &["kind"], value)?;
-        Ok(ty)
-    }
+fn promoted(alloc: Global, path: &Path, value: &Value) -> Result<IdentifierName, ValueFault>
+    ensures { Gives is_memory (promoted_at (pointer path.now) (view value.now)) result }
+{
+    object(alloc, path, value)?;
+    let name = required(alloc, path, "promoted", value)?;
+    known_keys(alloc, path, &["promoted"], value)?;
+    Ok(IdentifierName::Promoted(name))
 }
 
-fn type_of_kind(alloc: Global, path: &Path, kind: &str) -> Result<Ty, ValueFault>
-    ensures { Gives is_memory (type_named (pointer path.now) kind.now) result }
-{
-    if kind == "Var" {
-        Ok(Ty::Var)
-    } else if kind == "Primitive" {
-        Ok(Ty::Primitive)
-    } else {
-        let here = Path::Key {
-            above: path,
-            key: "kind",
-        };
-        refused(alloc, &here, TextRule::Name)
+impl FromJson for IdentifierName {
+    ghost reads = { name_at };
+
+    fn from_json(alloc: Global, path: &Path, value: &Value) -> Result<IdentifierName, ValueFault> {
+        if value.is_string() {
+            Ok(IdentifierName::Named(Text::from_json(alloc, path, value)?))
+        } else {
+            promoted(alloc, path, value)
+        }
     }
 }
 
@@ -51,19 +41,19 @@ impl FromJson for Identifier {
         object(alloc, path, value)?;
         let declaration = required(alloc, path, "declaration", value)?;
         let type_ = required(alloc, path, "type", value)?;
-        no_text(alloc, path, "name", value)?;
-        no_array(alloc, path, "span", value)?;
+        let name = optional(alloc, path, "name", value)?;
+        let span = optional(alloc, path, "span", value)?;
         known_keys(alloc, path, &["declaration", "type", "name", "span"], value)?;
         Ok(Identifier {
             declaration_id: DeclarationId(declaration),
-            name: None,
+            name,
             mutable_range: MutableRange {
                 start: EvaluationOrder(0),
                 end: EvaluationOrder(0),
             },
             scope: None,
             type_: TypeId(type_),
-            span: None,
+            span,
         })
     }
 }
@@ -79,16 +69,21 @@ impl FromJson for Config {
 
     fn from_json(alloc: Global, path: &Path, value: &Value) -> Result<Config, ValueFault> {
         object(alloc, path, value)?;
-        let enable_validations = given_or(alloc, path, "enable_validations", value, false)?;
-        only_false(alloc, path, PRESERVE, value)?;
-        only_false(alloc, path, FREEZE, value)?;
-        only_false(alloc, path, NO_IMPURE, value)?;
+        let enable_validations = flag(alloc, path, "enable_validations", value)?;
+        let preserve = flag(alloc, path, PRESERVE, value)?;
+        let freeze = flag(alloc, path, FREEZE, value)?;
+        let no_impure = flag(alloc, path, NO_IMPURE, value)?;
         known_keys(
             alloc,
             path,
             &["enable_validations", PRESERVE, FREEZE, NO_IMPURE],
             value,
         )?;
-        Ok(Config { enable_validations })
+        Ok(Config {
+            enable_validations,
+            enable_preserve_existing_memoization_guarantees: preserve,
+            enable_transitively_freeze_function_expressions: freeze,
+            validate_no_impure_functions_in_render: no_impure,
+        })
     }
 }

@@ -1,18 +1,17 @@
 //! Reads terminals.
 ghost use Rattle.std.specs.Prelude.{◌≡◌, Result};
 ghost use Rattle.serde_json.specs.View.{view};
-ghost use Rattle.alias_read.specs.Pointer.{pointer};
 ghost use Rattle.alias_base.specs.Answer.{Gives};
-ghost use Rattle.alias_read.specs.Fault.{is_memory};
+ghost use Rattle.alias_json.specs.Pointer.{pointer};
+ghost use Rattle.alias_json.specs.Fault.{is_memory};
 ghost use Rattle.alias_read.specs.Terminals.{order_at, jump_key, jump_with, jump_at, branch_with, branch_at, case_at, switch_at, exit_with, exit_at, unreachable_at, try_at, maybe_throw_at, terminal_of_kind, terminal_at};
 
-use crate::fault::ValueFault;
-use crate::json::{FromJson, given_or, known_keys, object, required};
-use crate::kinds::{BranchKind, ExitKind, JumpKind, TerminalKind};
-use crate::path::Path;
-use alias_base::{BlockId, EvaluationOrder, List};
+use crate::json::{FromJson, list_of, optional, required};
+use crate::terminal_kinds::{BranchKind, ExitKind, JumpKind, TerminalKind};
+use alias_base::{BlockId, EvaluationOrder};
 use alias_hir::place::Place;
 use alias_hir::terminal::{SwitchCase, Terminal};
+use alias_json::{Path, ValueFault, known_keys, object};
 use serde_json::Value;
 use std::alloc::Global;
 
@@ -156,7 +155,7 @@ impl FromJson for SwitchCase {
 
     fn from_json(alloc: Global, path: &Path, value: &Value) -> Result<SwitchCase, ValueFault> {
         object(alloc, path, value)?;
-        let test = given_or(alloc, path, "test", value, None)?;
+        let test = optional(alloc, path, "test", value)?;
         let block = required(alloc, path, "block", value)?;
         known_keys(alloc, path, &["test", "block"], value)?;
         Ok(SwitchCase { test, block })
@@ -172,7 +171,7 @@ fn switch(
     ensures { Gives is_memory (switch_at id (pointer path.now) (view value.now)) result }
 {
     let test = required(alloc, path, "test", value)?;
-    let cases = given_or(alloc, path, "cases", value, List::new(alloc))?;
+    let cases = list_of(alloc, path, "cases", value)?;
     known_keys(alloc, path, &["kind", "id", "test", "cases"], value)?;
     Ok(Terminal::Switch { id, test, cases })
 }
@@ -226,7 +225,7 @@ fn try_(
 {
     let block = required(alloc, path, "block", value)?;
     let handler = required(alloc, path, "handler", value)?;
-    let handler_binding = given_or(alloc, path, "handler_binding", value, None)?;
+    let handler_binding = optional(alloc, path, "handler_binding", value)?;
     known_keys(
         alloc,
         path,
@@ -250,7 +249,7 @@ fn maybe_throw(
     ensures { Gives is_memory (maybe_throw_at id (pointer path.now) (view value.now)) result }
 {
     let continuation = required(alloc, path, "continuation", value)?;
-    let handler = given_or(alloc, path, "handler", value, None)?;
+    let handler = optional(alloc, path, "handler", value)?;
     known_keys(
         alloc,
         path,

@@ -1,51 +1,181 @@
 //! Reads a whole unit.
-ghost use Rattle.std.specs.Prelude.{◌≡◌, Result, IfOk, IfErr};
+ghost use Rattle.std.specs.Prelude.{◌≡◌, [], Result, IfOk, IfErr, codes};
 ghost use Rattle.serde_json.specs.View.{view};
-ghost use Rattle.alias_read.specs.Pointer.{pointer};
 ghost use Rattle.alias_base.specs.Answer.{Gives};
-ghost use Rattle.alias_read.specs.Fault.{is_memory, IsMemory};
-ghost use Rattle.alias_read.specs.Units.{known_format, unit_at, unit_of, unit_keys, ReadsUnit, UnitReading, NoUnit};
+ghost use Rattle.alias_json.specs.Pointer.{pointer};
+ghost use Rattle.alias_json.specs.Fault.{is_memory};
+ghost use Rattle.alias_read.specs.Fault.{IsMemory};
+ghost use Rattle.alias_read.specs.Json.{given_or};
+ghost use Rattle.alias_read.specs.Units.{format_numbered, format_at, context_value_at, context_values_at, root_values_at, unit_keys, environment_at, with_context_values, rooted_at, unit_at, ReadsUnit, UnitReading, NoUnit};
 
-use crate::built::is_built;
-use crate::fault::{TextFault, TextRule, ValueFault};
-use crate::json::{FromJson, given_or, known_keys, object, refused, required};
-use crate::only::only_empty;
-use crate::path::Path;
+use crate::fault::TextFault;
+use crate::json::{FromJson, given_or, list_of, required};
+use crate::shapes::shapes_of;
 use alias_base::List;
 use alias_hir::env::{Config, Environment, Unit};
+use alias_hir::hir::{ContextValue, HirFunction};
+use alias_hir::interned::InternedReports;
+use alias_json::{Path, TextRule, ValueFault, array_of, known_keys, object, refused};
 use serde_json::Value;
 use std::alloc::{AllocError, Global};
 
-fn known_format(alloc: Global, path: &Path, number: u32) -> Result<(), ValueFault>
-    ensures { Gives is_memory (known_format (pointer path.now) number) result }
-{
-    if number == 1 {
-        return Ok(());
-    }
-    let here = Path::Key {
-        above: path,
-        key: "format",
-    };
-    refused(alloc, &here, TextRule::Range)
+/// The formats of units. The second says what the context places of the root are.
+#[derive(Clone, Copy)]
+pub enum Format {
+    First,
+    Second,
 }
 
-fn unit_keys(alloc: Global, path: &Path, value: &Value) -> Result<(), ValueFault>
-    ensures { Gives is_memory (unit_keys (pointer path.now) (view value.now)) result }
+fn format_numbered(alloc: Global, path: &Path, number: u32) -> Result<Format, ValueFault>
+    ensures { Gives is_memory (format_numbered (pointer path.now) number) result }
 {
-    known_keys(
-        alloc,
-        path,
-        &[
-            "format",
-            "config",
-            "types",
-            "shapes",
-            "identifiers",
-            "functions",
-            "root",
-        ],
-        value,
-    )
+    match number {
+        1 => Ok(Format::First),
+        2 => Ok(Format::Second),
+        _ => refused(alloc, path, TextRule::Range),
+    }
+}
+
+impl FromJson for Format {
+    ghost reads = { format_at };
+
+    fn from_json(alloc: Global, path: &Path, value: &Value) -> Result<Format, ValueFault> {
+        let number = u32::from_json(alloc, path, value)?;
+        format_numbered(alloc, path, number)
+    }
+}
+
+impl FromJson for ContextValue {
+    ghost reads = { context_value_at };
+
+    fn from_json(alloc: Global, path: &Path, value: &Value) -> Result<ContextValue, ValueFault> {
+        object(alloc, path, value)?;
+        let kind = required(alloc, path, "kind", value)?;
+        let reasons = list_of(alloc, path, "reasons", value)?;
+        known_keys(alloc, path, &["kind", "reasons"], value)?;
+        Ok(ContextValue { kind, reasons })
+    }
+}
+
+fn context_values(
+    alloc: Global,
+    count: usize,
+    path: &Path,
+    value: &Value,
+) -> Result<List<ContextValue>, ValueFault>
+    ensures { Gives is_memory (context_values_at count (pointer path.now) (view value.now)) result }
+{
+    array_of(alloc, path, count, value)?;
+    List::from_json(alloc, path, value)
+}
+
+fn second_values(
+    alloc: Global,
+    count: usize,
+    path: &Path,
+    value: &Value,
+) -> Result<List<ContextValue>, ValueFault>
+    ensures { Gives is_memory (given_or (context_values_at count) [] (pointer path.now) (codes "context_values") (view value.now)) result }
+{
+    let here = Path::Key {
+        above: path,
+        key: "context_values",
+    };
+    match value.get("context_values") {
+        Some(found) => context_values(alloc, count, &here, found),
+        None => Ok(List::new(alloc)),
+    }
+}
+
+fn root_values(
+    alloc: Global,
+    format: Format,
+    root: &HirFunction,
+    path: &Path,
+    value: &Value,
+) -> Result<List<ContextValue>, ValueFault>
+    ensures { Gives is_memory (root_values_at format root.now (pointer path.now) (view value.now)) result }
+{
+    match format {
+        Format::First => Ok(List::new(alloc)),
+        Format::Second => second_values(alloc, root.context.len(), path, value),
+    }
+}
+
+const FIRST_KEYS: [&str; 7] = [
+    "format",
+    "config",
+    "types",
+    "shapes",
+    "identifiers",
+    "functions",
+    "root",
+];
+
+const SECOND_KEYS: [&str; 8] = [
+    "format",
+    "config",
+    "types",
+    "shapes",
+    "identifiers",
+    "functions",
+    "root",
+    "context_values",
+];
+
+fn unit_keys(alloc: Global, format: Format, path: &Path, value: &Value) -> Result<(), ValueFault>
+    ensures { Gives is_memory (unit_keys format (pointer path.now) (view value.now)) result }
+{
+    match format {
+        Format::First => known_keys(alloc, path, &FIRST_KEYS, value),
+        Format::Second => known_keys(alloc, path, &SECOND_KEYS, value),
+    }
+}
+
+fn with_context_values(root: HirFunction, context_values: List<ContextValue>) -> HirFunction
+    ensures { result ≡ with_context_values root context_values }
+{
+    HirFunction {
+        context_values,
+        ..root
+    }
+}
+
+fn environment(alloc: Global, path: &Path, value: &Value) -> Result<Environment, ValueFault>
+    ensures { Gives is_memory (environment_at (pointer path.now) (view value.now)) result }
+{
+    let config = given_or(alloc, path, "config", value, Config::default())?;
+    let types = list_of(alloc, path, "types", value)?;
+    let shapes = shapes_of(alloc, path, value)?;
+    let identifiers = list_of(alloc, path, "identifiers", value)?;
+    let functions = list_of(alloc, path, "functions", value)?;
+    Ok(Environment {
+        identifiers,
+        types,
+        functions,
+        shapes,
+        errors: List::new(alloc),
+        interned: InternedReports::new(alloc),
+        config,
+    })
+}
+
+fn rooted(
+    alloc: Global,
+    format: Format,
+    env: Environment,
+    path: &Path,
+    value: &Value,
+) -> Result<Unit, ValueFault>
+    ensures { Gives is_memory (rooted_at format env (pointer path.now) (view value.now)) result }
+{
+    let root = required(alloc, path, "root", value)?;
+    let values = root_values(alloc, format, &root, path, value)?;
+    unit_keys(alloc, format, path, value)?;
+    Ok(Unit {
+        function: with_context_values(root, values),
+        env,
+    })
 }
 
 impl FromJson for Unit {
@@ -53,40 +183,9 @@ impl FromJson for Unit {
 
     fn from_json(alloc: Global, path: &Path, value: &Value) -> Result<Unit, ValueFault> {
         object(alloc, path, value)?;
-        let number = required(alloc, path, "format", value)?;
-        known_format(alloc, path, number)?;
-        let unset = Config {
-            enable_validations: false,
-        };
-        let config = given_or(alloc, path, "config", value, unset)?;
-        let types = given_or(alloc, path, "types", value, List::new(alloc))?;
-        only_empty(alloc, path, "shapes", value)?;
-        let identifiers = given_or(alloc, path, "identifiers", value, List::new(alloc))?;
-        only_empty(alloc, path, "functions", value)?;
-        let function = required(alloc, path, "root", value)?;
-        unit_keys(alloc, path, value)?;
-        Ok(Unit {
-            function,
-            env: Environment {
-                identifiers,
-                types,
-                functions: List::new(alloc),
-                errors: List::new(alloc),
-                interned: List::new(alloc),
-                config,
-            },
-        })
-    }
-}
-
-fn unit_of(alloc: Global, value: &Value) -> Result<Unit, ValueFault>
-    ensures { Gives is_memory (unit_of (view value.now)) result }
-{
-    let unit = Unit::from_json(alloc, &Path::Root, value)?;
-    if is_built(&unit) {
-        Ok(unit)
-    } else {
-        refused(alloc, &Path::Root, TextRule::NotBuilt)
+        let format = required(alloc, path, "format", value)?;
+        let env = environment(alloc, path, value)?;
+        rooted(alloc, format, env, path, value)
     }
 }
 
@@ -97,7 +196,7 @@ pub fn read_unit(alloc: Global, bytes: &[u8]) -> Result<Unit, TextFault>
     ensures none { IfErr result (λ e. ¬ IsMemory e → NoUnit bytes.now) }
 {
     match Value::from_slice(alloc, bytes) {
-        Ok(value) => Ok(unit_of(alloc, &value)?),
+        Ok(value) => Ok(Unit::from_json(alloc, &Path::Root, &value)?),
         Err(e) => {
             if e.is_memory() {
                 Err(TextFault::Memory(AllocError))

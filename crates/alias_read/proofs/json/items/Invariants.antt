@@ -1,7 +1,7 @@
 use Rattle.std.proofs.Common.{◌≡◌, [], drop}
 use Rattle.serde_json.specs.View.{items_view}
-use Rattle.alias_read.specs.Pointer.{pointer}
-use Rattle.alias_read.specs.Reading.{items_at}
+use Rattle.alias_json.specs.Pointer.{pointer}
+use Rattle.alias_read.specs.Json.{items_at}
 use Rattle.alias_read.proofs.json.items.Given as goal
 
 abbrev pub invariant-loop-index : goal.invariant-loop-index

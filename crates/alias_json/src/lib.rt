@@ -1,0 +1,12 @@
+//! Readers of JSON values, which say the first fault and where it is.
+#![tactic(auto)]
+
+pub mod fault;
+pub mod names;
+pub mod path;
+pub mod reading;
+
+pub use fault::{TextRule, ValueFault};
+pub use names::by_name;
+pub use path::{Path, pointer_text};
+pub use reading::{array_of, boolean, known_keys, number, object, refused, text};

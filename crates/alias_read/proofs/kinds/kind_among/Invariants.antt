@@ -1,6 +1,0 @@
-use Rattle.std.proofs.Common.{◌≡◌, drop}
-use Rattle.alias_read.specs.Kinds.{kind_among}
-use Rattle.alias_read.proofs.kinds.kind_among.Given as goal
-
-abbrev pub invariant-loop-kind : goal.invariant-loop-kind
-invariant-loop-kind l = kind_among l.kinds l.name ≡ kind_among (drop l.kind-index l.kinds) l.name

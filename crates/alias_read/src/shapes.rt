@@ -1,0 +1,97 @@
+//! Reads shapes, no two of one name.
+ghost use Rattle.std.specs.Prelude.{◌≡◌, [], Result, codes};
+ghost use Rattle.std.specs.BTreeSet.{contains_text};
+ghost use Rattle.serde_json.specs.View.{view, items_view};
+ghost use Rattle.alias_base.specs.Answer.{Gives};
+ghost use Rattle.alias_json.specs.Pointer.{pointer};
+ghost use Rattle.alias_json.specs.Fault.{is_memory};
+ghost use Rattle.alias_read.specs.Json.{given_or};
+ghost use Rattle.alias_read.specs.Shapes.{new_name, shape_named, shape_at, shape_items_at, shapes_at};
+
+use crate::json::{flag, optional, required};
+use alias_base::{List, Text};
+use alias_hir::signature::Shape;
+use alias_json::{Path, TextRule, ValueFault, known_keys, object, refused};
+use serde_json::Value;
+use std::alloc::Global;
+use std::collections::BTreeSet;
+
+/// The shapes of the key `shapes`, which may be absent.
+pub fn shapes_of(alloc: Global, path: &Path, value: &Value) -> Result<List<Shape>, ValueFault>
+    ensures { Gives is_memory (given_or shapes_at [] (pointer path.now) (codes "shapes") (view value.now)) result }
+{
+    let here = Path::Key {
+        above: path,
+        key: "shapes",
+    };
+    match value.get("shapes") {
+        None => Ok(List::new(alloc)),
+        Some(found) => match found.as_array() {
+            Some(values) => shapes(alloc, &here, values.as_slice()),
+            None => refused(alloc, &here, TextRule::Kind),
+        },
+    }
+}
+
+fn shapes(alloc: Global, path: &Path, values: &[Value]) -> Result<List<Shape>, ValueFault>
+    ensures { Gives is_memory (shape_items_at (pointer path.now) 0 [] (items_view values.now)) result }
+{
+    let mut names = BTreeSet::new(alloc);
+    let mut found = List::new(alloc);
+    for (index, value) in values.iter().enumerate() {
+        let here = Path::Index {
+            above: &*path,
+            index,
+        };
+        let shape = shape_of(alloc, &names, &here, value)?;
+        names.insert(String::from_str(alloc, shape.id.as_str())?)?;
+        found.push(shape)?;
+    }
+    Ok(found)
+}
+
+/// A shape whose name is none of these.
+fn shape_of(
+    alloc: Global,
+    names: &BTreeSet<String>,
+    path: &Path,
+    value: &Value,
+) -> Result<Shape, ValueFault>
+    ensures { Gives is_memory (shape_at (contains_text names.now) (pointer path.now) (view value.now)) result }
+{
+    object(alloc, path, value)?;
+    let id: Text = required(alloc, path, "id", value)?;
+    let here = Path::Key {
+        above: path,
+        key: "id",
+    };
+    new_name(alloc, names, &here, id.as_str())?;
+    shape_named(alloc, id, path, value)
+}
+
+fn shape_named(alloc: Global, id: Text, path: &Path, value: &Value) -> Result<Shape, ValueFault>
+    ensures { Gives is_memory (shape_named id (pointer path.now) (view value.now)) result }
+{
+    let hook = flag(alloc, path, "hook", value)?;
+    let signature = optional(alloc, path, "signature", value)?;
+    known_keys(alloc, path, &["id", "hook", "signature"], value)?;
+    Ok(Shape {
+        id,
+        hook,
+        signature,
+    })
+}
+
+fn new_name(
+    alloc: Global,
+    names: &BTreeSet<String>,
+    path: &Path,
+    name: &str,
+) -> Result<(), ValueFault>
+    ensures { Gives is_memory (new_name (contains_text names.now) (pointer path.now) name.now) result }
+{
+    if names.contains(name) {
+        return refused(alloc, path, TextRule::Twice);
+    }
+    Ok(())
+}
