@@ -9,14 +9,13 @@ use Rattle.alias_hir.specs.declared.error.InferError.{InferError}
 use Rattle.alias_stream.specs.Streams.{Adds, IsAllOf, IfKnown}
 use Rattle.alias_stream.specs.declared.sink.SinkStop.{SinkStop}
 use Rattle.alias_stream.specs.declared.sink.SinkStop.TheVariants as sink
-use Rattle.alias_read.specs.Fault.{IsMemory}
-use Rattle.alias_read.specs.Units.{UnitReading, NoUnit}
+use Rattle.alias_read.specs.Units.{UnitReading, ReadsUnit}
 use Rattle.alias_read.specs.declared.fault.TextFault.{TextFault}
 use Rattle.alias_read.specs.declared.fault.TextFault.TheVariants as text
 use Rattle.alias_run.specs.declared.command.Command.{Command}
 use Rattle.alias_run.specs.declared.command.Command.TheVariants.{Infer}
 use Rattle.alias_run.specs.declared.status.Status.{Status}
-use Rattle.alias_run.specs.declared.status.Status.TheVariants.{Done, Words, Unfit, Refused, ReadFault, WriteFault, TooLong, Memory, NotBuilt}
+use Rattle.alias_run.specs.declared.status.Status.TheVariants.{Done, Words, NotJson, NotUnit, Unfit, Refused, ReadFault, WriteFault, TooLong, Memory, NotBuilt}
 use Rattle.alias_run.specs.declared.inferred.Inferred.{Inferred}
 use Rattle.alias_run.specs.declared.outcome.Outcome.{Outcome}
 use Rattle.alias_run.specs.Findings.{IsJudged, IsRead, IsFound, Leaves, greatest_input}
@@ -38,12 +37,12 @@ refused_on r f (Err z) e h is = subst (λ (y : InferError). Gives is_memory (r >
 -- ---- bytes
 
 -- no unit is read
-pub judged_none : (bytes : List ℕ) (e : TextFault) → (¬ IsMemory e → NoUnit bytes) → IsJudged bytes (text_status e) None
-judged_none bytes text.NotJson h = (h (λ m. m), refl)
-judged_none bytes (text.NotUnit p r) h = (h (λ m. m), refl)
+pub judged_none : (bytes : List ℕ) (e : TextFault) → ReadsUnit bytes (Err e) → IsJudged bytes (text_status e) None
+judged_none bytes text.NotJson h = (h, refl)
+judged_none bytes (text.NotUnit p r) h = (h, refl)
 judged_none bytes (text.Memory e) h = refl
 
-pub judged_fault : (bytes : List ℕ) (e : TextFault) (status : Status) (o : Outcome) → o ≡ ended_as status → status ≡ text_status e → (¬ IsMemory e → NoUnit bytes) → IsJudged bytes o.status o.inferred
+pub judged_fault : (bytes : List ℕ) (e : TextFault) (status : Status) (o : Outcome) → o ≡ ended_as status → status ≡ text_status e → ReadsUnit bytes (Err e) → IsJudged bytes o.status o.inferred
 judged_fault bytes e status o is s h =
     let both : o ≡ ended_as (text_status e) = is ∙ ap ended_as s in
     subst (λ (z : Outcome). IsJudged bytes z.status z.inferred) (sym both) (judged_none bytes e h)
@@ -54,11 +53,13 @@ judged_fault bytes e status o is s h =
 pub read_bytes : (known : Option (List ℕ)) (failed : Type 0) (bytes : List ℕ) (status : Status) (i : Option Inferred) → IsAllOf known bytes → length bytes ≤ greatest_input → IsJudged bytes status i → IsRead known failed status i
 read_bytes known failed bytes Done i a l h = (bytes, a, l, h)
 read_bytes known failed bytes Words i a l h = (bytes, a, l, h)
+read_bytes known failed bytes NotJson i a l h = (bytes, a, l, h)
+read_bytes known failed bytes (NotUnit pointer rule) i a l h = (bytes, a, l, h)
 read_bytes known failed bytes (Unfit fault) i a l h = (bytes, a, l, h)
 read_bytes known failed bytes (Refused e) i a l h = (bytes, a, l, h)
-read_bytes known failed bytes ReadFault i a l h = absurd h.2.1
+read_bytes known failed bytes ReadFault i a l h = absurd h.2.2
 read_bytes known failed bytes WriteFault i a l h = (bytes, a, l, h)
-read_bytes known failed bytes TooLong i a l h = absurd h.2.1
+read_bytes known failed bytes TooLong i a l h = absurd h.2.2
 read_bytes known failed bytes Memory i a l h = h
 read_bytes known failed bytes NotBuilt i a l h = (bytes, a, l, h)
 
@@ -69,6 +70,22 @@ unwritten (sink.Memory e) left = tt
 -- an outcome of a sink that stopped
 pub leaves_unwritten : (stop : SinkStop) (left : Option (List ℕ)) (status : Status) (o : Outcome) → o ≡ ended_as status → status ≡ write_status stop → Leaves o.status left
 leaves_unwritten stop left status o is s = subst (λ (z : Outcome). Leaves z.status left) (sym (is ∙ ap ended_as s)) (unwritten stop left)
+
+-- a run that stopped before its end has no headline
+none_unwritten : (known held held' : Option (List ℕ)) (stop : SinkStop) → IsHeadline known held held' (write_status stop) None
+unfolding IsHeadline
+none_unwritten known held held' sink.Failed = tt
+none_unwritten known held held' (sink.Memory e) = tt
+
+pub no_headline : (known held held' : Option (List ℕ)) (stop : SinkStop) (status : Status) (o : Outcome) → o ≡ ended_as status → status ≡ write_status stop → IsHeadline known held held' o.status o.inferred
+no_headline known held held' stop status o is s = subst (λ (z : Outcome). IsHeadline known held held' z.status z.inferred) (sym (is ∙ ap ended_as s)) (none_unwritten known held held' stop)
+
+out_of_memory_alone : (known held held' : Option (List ℕ)) → IsHeadline known held held' Memory None
+unfolding IsHeadline
+out_of_memory_alone known held held' = tt
+
+pub no_headline_of_memory : (known held held' : Option (List ℕ)) (o : Outcome) → o ≡ ended_as Memory → IsHeadline known held held' o.status o.inferred
+no_headline_of_memory known held held' o is = subst (λ (z : Outcome). IsHeadline known held held' z.status z.inferred) (sym is) (out_of_memory_alone known held held')
 
 -- ---- runs
 
@@ -104,25 +121,31 @@ module _ (known : Option (List ℕ)) (read_failed write_failed : Type 0) (held h
   Ran asked status i = IsRun asked known read_failed write_failed held held' status i × IsHeadline known held held' status i
 
   ran_words : (i : Option Inferred) → i ≡ None → Adds held (text_with Words i) held' → Ran None Words i
+  unfolding IsFound IsHeadline
   ran_words i e a = (((refl, e), a), tt)
 
   out_of_memory : (i : Option Inferred) → i ≡ None → Adds held (text_with Memory i) held' → Ran (Some Infer) Memory i
+  unfolding IsFound IsHeadline
   out_of_memory None e a = (((Memory, None, refl, 0, a), refl), tt)
   out_of_memory (Some x) e a = cc
 
   ran_infer : (status : Status) (i : Option Inferred) → IsRead known read_failed status i → Adds held (text_with status i) held' → Ran (Some Infer) status i
-  ran_infer Done None f a = absurd f.3.2.1
-  ran_infer Done (Some x) f a = let j = f.3 in ((f, a), (j.0, known_unit known f.0 j.0 f.1 j.1, j.2.0, j.2.1.0, j.2.1.1, a))
-  ran_infer Words i f a = absurd f.3.2.1
+  unfolding IsFound IsHeadline
+  ran_infer Done None f a = absurd f.3.2.2
+  ran_infer Done (Some x) f a = let j = f.3 in ((f, a), (j.0, known_unit known f.0 j.0 f.1 j.1, j.2.0, j.2.2.0, j.2.2.1, a))
+  ran_infer Words i f a = absurd f.3.2.2
+  ran_infer NotJson i f a = ((f, a), tt)
+  ran_infer (NotUnit pointer rule) i f a = ((f, a), tt)
   ran_infer (Unfit fault) i f a = ((f, a), tt)
   ran_infer (Refused e) i f a = ((f, a), tt)
   ran_infer ReadFault i f a = ((f, a), tt)
-  ran_infer WriteFault i f a = absurd f.3.2.1
+  ran_infer WriteFault i f a = absurd f.3.2.2
   ran_infer TooLong i f a = ((f, a), tt)
   ran_infer Memory i f a = out_of_memory i f a
   ran_infer NotBuilt i f a = ((f, a), tt)
 
   pub ran : (asked : Option Command) (status : Status) (i : Option Inferred) → IsFound asked known read_failed status i → Adds held (text_with status i) held' → Ran asked status i
+  unfolding IsFound IsHeadline
   ran None status i f a =
       let b : Adds held (text_with Words i) held' = subst (λ z. Adds held (text_with z i) held') f.0 a in
       subst (λ z. Ran None z i) (sym f.0) (ran_words i f.1 b)

@@ -1,13 +1,15 @@
 -- Why a run comes to a status.
-use Rattle.std.specs.Prelude.{◌≡◌, ℕ, ◌<◌, ◌≤◌, List, length, Option, Some, None, Ok, Err}
-use Rattle.alias_rules.specs.Rules.{rules_hold}
+use Rattle.std.specs.Prelude.{◌≡◌, ℕ, ◌<◌, ◌≤◌, true, false, List, length, Option, Some, None, Ok, Err}
+use Rattle.alias_rules.specs.Functions.{rules_hold}
 use Rattle.alias_hir.specs.declared.env.Unit.{Unit as HirUnit}
-use Rattle.alias_read.specs.Units.{UnitReading, NoUnit}
+use Rattle.alias_read.specs.Units.{UnitReading, ReadsUnit}
+use Rattle.alias_read.specs.declared.fault.TextFault.TheVariants as text
+use Rattle.alias_signature.specs.Built.{unit_is_built}
 use Rattle.alias_stream.specs.Streams.{IsAllOf, IsAtEnd, IfKnown}
 use Rattle.alias_run.specs.declared.command.Command.{Command}
 use Rattle.alias_run.specs.declared.command.Command.TheVariants.{Infer}
 use Rattle.alias_run.specs.declared.status.Status.{Status}
-use Rattle.alias_run.specs.declared.status.Status.TheVariants.{Done, Words, Unfit, Refused, ReadFault, WriteFault, TooLong, Memory, NotBuilt}
+use Rattle.alias_run.specs.declared.status.Status.TheVariants.{Done, Words, NotJson, NotUnit, Unfit, Refused, ReadFault, WriteFault, TooLong, Memory, NotBuilt}
 use Rattle.alias_run.specs.declared.inferred.Inferred.{Inferred}
 use Rattle.alias_run.specs.Inferences.{inferred_unit, functions_of, AreSolved}
 
@@ -22,15 +24,17 @@ IsInferred u (Refused e) None = inferred_unit u ≡ Err e
 IsInferred u Memory None = Unit {0}
 IsInferred u status i = ⊥
 
--- what a unit leads to: it breaks this rule first, or it breaks none and is inferred
+-- what a unit leads to: it breaks this rule first, or it breaks none and has a form that isn't built, or it is inferred
 abbrev pub IsChecked : HirUnit → Status → Option Inferred → Type 0
 IsChecked u (Unfit fault) i = (rules_hold u ≡ Err fault) × (i ≡ None)
+IsChecked u NotBuilt i = (rules_hold u ≡ Ok tt) × (unit_is_built u ≡ false) × (i ≡ None)
 IsChecked u Memory i = i ≡ None
-IsChecked u status i = (rules_hold u ≡ Ok tt) × IsInferred u status i
+IsChecked u status i = (rules_hold u ≡ Ok tt) × (unit_is_built u ≡ true) × IsInferred u status i
 
--- what the bytes of the whole input lead to: they are the JSON of no unit of built forms, or of one
+-- what the bytes of the whole input lead to: they are no JSON, or JSON of no unit, or that of one
 abbrev pub IsJudged : List ℕ → Status → Option Inferred → Type 0
-IsJudged bytes NotBuilt i = NoUnit bytes × (i ≡ None)
+IsJudged bytes NotJson i = ReadsUnit bytes (Err text.NotJson) × (i ≡ None)
+IsJudged bytes (NotUnit pointer rule) i = ReadsUnit bytes (Err (text.NotUnit pointer rule)) × (i ≡ None)
 IsJudged bytes Memory i = i ≡ None
 IsJudged bytes status i = (u : HirUnit) × UnitReading bytes u × IsChecked u status i
 
@@ -43,13 +47,15 @@ IsRead known failed Memory i = i ≡ None
 IsRead known failed status i = (bytes : List ℕ) × IsAllOf known bytes × (length bytes ≤ greatest_input) × IsJudged bytes status i
 
 -- What the words and a source lead to, before anything is written: `asked` is the command of the words, where they are one.
-abbrev pub IsFound : Option Command → Option (List ℕ) → Type 0 → Status → Option Inferred → Type 0
+unfoldable pub IsFound : Option Command → Option (List ℕ) → Type 0 → Status → Option Inferred → Type 0
 IsFound None known failed status i = (status ≡ Words) × (i ≡ None)
 IsFound (Some Infer) known failed status i = IsRead known failed status i
 
 -- nothing is left, where that is known and the status is of the whole input
 abbrev pub Leaves : Status → Option (List ℕ) → Type 0
 Leaves Done left = IsAtEnd left
+Leaves NotJson left = IsAtEnd left
+Leaves (NotUnit pointer rule) left = IsAtEnd left
 Leaves (Unfit fault) left = IsAtEnd left
 Leaves (Refused error) left = IsAtEnd left
 Leaves NotBuilt left = IsAtEnd left

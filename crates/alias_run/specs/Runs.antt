@@ -1,6 +1,6 @@
 -- What a run comes to.
 use Rattle.std.specs.Prelude.{◌≡◌, ℕ, List, take, Option, Some, None, Ok}
-use Rattle.alias_rules.specs.Rules.{rules_hold}
+use Rattle.alias_rules.specs.Functions.{rules_hold}
 use Rattle.alias_hir.specs.declared.env.Unit.{Unit as HirUnit}
 use Rattle.alias_stream.specs.Streams.{Adds, IfKnown}
 use Rattle.alias_read.specs.Units.{UnitReading}
@@ -32,6 +32,6 @@ IsHeadlineOf known held held' None = ⊥
 IsHeadlineOf known held held' (Some i) =
     (u : HirUnit) × IfKnown known (λ bytes. UnitReading bytes u) × (rules_hold u ≡ Ok tt) × (inferred_unit u ≡ Ok i) × AreSolved u.env (functions_of u) i.solved × Adds held (result_text i.unit i.solved) held'
 
-abbrev pub IsHeadline : Option (List ℕ) → Option (List ℕ) → Option (List ℕ) → Status → Option Inferred → Type 0
+unfoldable pub IsHeadline : Option (List ℕ) → Option (List ℕ) → Option (List ℕ) → Status → Option Inferred → Type 0
 IsHeadline known held held' Done i = IsHeadlineOf known held held' i
 IsHeadline known held held' status i = Unit {0}

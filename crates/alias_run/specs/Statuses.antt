@@ -4,15 +4,15 @@ use Rattle.alias_hir.specs.declared.error.InferError.{InferError}
 use Rattle.alias_hir.specs.declared.error.InferError.TheVariants as infer
 use Rattle.alias_read.specs.declared.fault.TextFault.{TextFault}
 use Rattle.alias_read.specs.declared.fault.TextFault.TheVariants as text
-use Rattle.alias_rules.specs.declared.fault.UnitFault.{UnitFault}
-use Rattle.alias_rules.specs.declared.fault.UnitFault.TheVariants as unit
+use Rattle.alias_function_rules.specs.declared.fault.UnitFault.{UnitFault}
+use Rattle.alias_function_rules.specs.declared.fault.UnitFault.TheVariants as unit
 use Rattle.alias_stream.specs.declared.sink.SinkStop.{SinkStop}
 use Rattle.alias_stream.specs.declared.sink.SinkStop.TheVariants as sink
 use Rattle.alias_stream.specs.declared.whole.ReadStop.{ReadStop}
 use Rattle.alias_stream.specs.declared.whole.ReadStop.TheVariants as read
-use Rattle.alias_text.specs.Refusals.{refused_text, unfit_text}
+use Rattle.alias_text.specs.Refusals.{refused_text, unfit_text, not_unit_text}
 use Rattle.alias_run.specs.declared.status.Status.{Status}
-use Rattle.alias_run.specs.declared.status.Status.TheVariants.{Done, Words, Unfit, Refused, ReadFault, WriteFault, TooLong, Memory, NotBuilt}
+use Rattle.alias_run.specs.declared.status.Status.TheVariants.{Done, Words, NotJson, NotUnit, Unfit, Refused, ReadFault, WriteFault, TooLong, Memory, NotBuilt}
 
 -- ---- faults. Want of memory has one status, wherever it comes
 
@@ -22,8 +22,8 @@ read_status read.TooLong = TooLong
 read_status (read.Memory e) = Memory
 
 abbrev pub text_status : TextFault → Status
-text_status text.NotJson = NotBuilt
-text_status (text.NotUnit pointer rule) = NotBuilt
+text_status text.NotJson = NotJson
+text_status (text.NotUnit pointer rule) = NotUnit pointer rule
 text_status (text.Memory e) = Memory
 
 abbrev pub unit_status : UnitFault → Status
@@ -43,6 +43,8 @@ write_status (sink.Memory e) = Memory
 abbrev pub status_code : Status → ℕ
 status_code Done = 0
 status_code Words = 2
+status_code NotJson = 3
+status_code (NotUnit pointer rule) = 4
 status_code (Unfit fault) = 5
 status_code (Refused error) = 6
 status_code ReadFault = 7
@@ -55,6 +57,8 @@ status_code NotBuilt = 11
 abbrev pub refusal_line : Status → List ℕ
 refusal_line Done = []
 refusal_line Words = codes "refused Words\n"
+refusal_line NotJson = codes "refused NotJson\n"
+refusal_line (NotUnit pointer rule) = not_unit_text pointer rule
 refusal_line (Unfit fault) = unfit_text fault
 refusal_line (Refused error) = refused_text error
 refusal_line ReadFault = codes "refused ReadFault\n"

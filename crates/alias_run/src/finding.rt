@@ -1,5 +1,5 @@
 //! What the words and the input lead to, before anything is written.
-ghost use Rattle.std.specs.Prelude.{◌≡◌, ◌≤◌, ◌<◌, ◌^◌, None, length};
+ghost use Rattle.std.specs.Prelude.{◌≡◌, ◌≤◌, None};
 ghost use Rattle.alias_stream.specs.Streams.{HasFailed};
 ghost use Rattle.alias_run.specs.Commands.{command_of};
 ghost use Rattle.alias_run.specs.Findings.{IsFound, IsRead, IsJudged, IsChecked, IsInferred, Leaves};
@@ -12,6 +12,7 @@ use alias_base::Text;
 use alias_hir::env::Unit;
 use alias_read::read_unit;
 use alias_rules::check::{Checked, check_unit};
+use alias_signature::unit_is_built;
 use alias_stream::{Source, read_whole};
 use std::alloc::Global;
 
@@ -25,13 +26,23 @@ fn infer_checked(alloc: Global, unit: Checked) -> Outcome
     }
 }
 
+/// What a unit that keeps the rules leads to, whether its forms are built or not.
+fn infer_built(alloc: Global, unit: Checked) -> Outcome
+    ensures { IsChecked unit result.status result.inferred }
+{
+    if unit_is_built(unit.unit()) {
+        infer_checked(alloc, unit)
+    } else {
+        ended(Status::NotBuilt)
+    }
+}
+
 /// What a unit leads to.
 fn judge_unit(alloc: Global, unit: Unit) -> Outcome
-    requires { length unit.function.instructions < 2 ^ 32 }
     ensures { IsChecked unit result.status result.inferred }
 {
     match check_unit(alloc, unit) {
-        Ok(checked) => infer_checked(alloc, checked),
+        Ok(checked) => infer_built(alloc, checked),
         Err(fault) => ended(Status::from(fault)),
     }
 }
@@ -59,6 +70,7 @@ fn infer_source<S: Source>(alloc: Global, source: &mut S) -> Outcome
 }
 
 /// What the words and the source lead to.
+#[tactic(auto, unfolding(crate::specs::Findings::IsFound))]
 pub(crate) fn find<S: Source>(alloc: Global, words: &[Text], source: &mut S) -> Outcome
     ensures found { IsFound (command_of words.now) (S.left source.old) (HasFailed (S.faults source.old) (S.faults source.new) (S.at_last source.new)) result.status result.inferred }
     ensures unread { command_of words.now ≡ None → (S.left source.new ≡ S.left source.old) × (S.faults source.new ≡ S.faults source.old) }

@@ -7,8 +7,6 @@ pub mod inferred;
 pub mod outcome;
 mod run;
 pub mod status;
-#[cfg(test)]
-mod tests;
 pub mod text;
 
 pub use command::Command;

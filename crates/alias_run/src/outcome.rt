@@ -31,3 +31,10 @@ pub(crate) fn done(inferred: Inferred) -> Outcome
         inferred: Some(inferred),
     }
 }
+
+/// An outcome with nothing inferred, in place of one whose text couldn't be written.
+pub(crate) fn unwritten(_outcome: Outcome, status: Status) -> Outcome
+    ensures { result ≡ record { status = status; inferred = None } }
+{
+    ended(status)
+}

@@ -6,7 +6,7 @@ ghost use Rattle.alias_run.specs.Findings.{Leaves};
 ghost use Rattle.alias_run.specs.Runs.{IsRun, IsHeadline};
 
 use crate::finding::find;
-use crate::outcome::{Outcome, ended};
+use crate::outcome::{Outcome, unwritten};
 use crate::status::Status;
 use crate::text::text_of;
 use alias_base::Text;
@@ -35,10 +35,10 @@ pub fn run_alias<S: Source, K: Sink>(
 {
     let outcome = find(alloc, words, source);
     let Ok(text) = text_of(alloc, &outcome) else {
-        return ended(Status::Memory);
+        return unwritten(outcome, Status::Memory);
     };
     match write_whole(sink, text.as_str().as_bytes()) {
         Ok(()) => outcome,
-        Err(stop) => ended(Status::from(stop)),
+        Err(stop) => unwritten(outcome, Status::from(stop)),
     }
 }

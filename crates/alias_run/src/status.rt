@@ -2,9 +2,11 @@
 ghost use Rattle.std.specs.Prelude.{◌≡◌};
 ghost use Rattle.alias_run.specs.Statuses.{status_code, read_status, text_status, unit_status, infer_status, write_status};
 
+use alias_base::Text;
+use alias_function_rules::fault::UnitFault;
 use alias_hir::error::InferError;
+use alias_json::fault::TextRule;
 use alias_read::TextFault;
-use alias_rules::fault::UnitFault;
 use alias_stream::{ReadStop, SinkStop};
 
 /// How a run ends. docs/FORMAT.md has the table of exit statuses and of what each writes.
@@ -14,6 +16,11 @@ pub enum Status {
     Done,
     /// The words are no command.
     Words,
+    /// The input is no JSON, or nests deeper than 127 levels.
+    NotJson,
+    /// The input is JSON and no unit: the JSON Pointer of the first value that breaks a rule of the format, and the
+    /// rule.
+    NotUnit { pointer: Text, rule: TextRule },
     /// The unit breaks this rule first.
     Unfit(UnitFault),
     /// The inference refuses the unit.
@@ -26,7 +33,7 @@ pub enum Status {
     TooLong,
     /// Memory ran out, which can happen at any growth.
     Memory,
-    /// The input isn't the JSON of one unit of the forms that are built.
+    /// The unit keeps the rules, and has a form that isn't built yet.
     NotBuilt,
 }
 
@@ -38,6 +45,8 @@ impl Status {
         match self {
             Status::Done => 0,
             Status::Words => 2,
+            Status::NotJson => 3,
+            Status::NotUnit { .. } => 4,
             Status::Unfit(_) => 5,
             Status::Refused(_) => 6,
             Status::ReadFault => 7,
@@ -68,8 +77,8 @@ impl From<TextFault> for Status {
 
     fn from(fault: TextFault) -> Status {
         match fault {
-            TextFault::NotJson => Status::NotBuilt,
-            TextFault::NotUnit { .. } => Status::NotBuilt,
+            TextFault::NotJson => Status::NotJson,
+            TextFault::NotUnit { pointer, rule } => Status::NotUnit { pointer, rule },
             TextFault::Memory(_) => Status::Memory,
         }
     }

@@ -7,7 +7,7 @@ use Rattle.alias_base.specs.declared.ids.FunctionId.{FunctionId}
 use Rattle.alias_base.specs.declared.ids.InstructionId.{InstructionId}
 use Rattle.alias_hir.specs.Terminals.{terminal_effects}
 use Rattle.alias_hir.specs.declared.effect.AliasingEffect.{AliasingEffect}
-use Rattle.alias_hir.specs.declared.effect.AliasingEffect.TheVariants.{CreateFrom, ImmutableCapture, Assign, Capture, MaybeAlias, Create, Freeze, MutateFrozen, MutateGlobal, Impure, Mutate}
+use Rattle.alias_hir.specs.declared.effect.AliasingEffect.TheVariants.{Apply, CreateFrom, ImmutableCapture, Assign, Alias, Capture, MaybeAlias, Create, Freeze, Impure, MutateFrozen, MutateGlobal, Render, Mutate, MutateConditionally, MutateTransitive, MutateTransitiveConditionally, CreateFunction}
 use Rattle.alias_hir.specs.declared.report.DiagnosticId.{DiagnosticId}
 use Rattle.alias_hir.specs.declared.effect.MutationReason.{MutationReason}
 use Rattle.alias_hir.specs.declared.effect.MutationReason.TheVariants.{AssignCurrentProperty}
@@ -18,6 +18,8 @@ use Rattle.alias_hir.specs.declared.effect.ValueReason.TheVariants as reason
 use Rattle.alias_hir.specs.declared.hir.BasicBlock.{BasicBlock}
 use Rattle.alias_hir.specs.declared.hir.Instruction.{Instruction}
 use Rattle.alias_hir.specs.declared.place.Place.{Place}
+use Rattle.alias_hir.specs.declared.place.PlaceOrSpreadOrHole.{PlaceOrSpreadOrHole}
+use Rattle.alias_hir.specs.declared.place.PlaceOrSpreadOrHole.TheVariants as arg
 use Rattle.alias_hir.specs.declared.terminal.Terminal.{Terminal}
 
 -- ---- an effect
@@ -69,22 +71,41 @@ abbrev pub mutate_text : Place → Option MutationReason → List ℕ
 mutate_text value reason = one_text (codes "Mutate") value ++ mutation_text reason
 
 -- an error is printed as the number of its report
-abbrev pub impure_text : Place → DiagnosticId → List ℕ
-impure_text place error = one_text (codes "Impure") place ++ spaced error.instance
+abbrev pub error_text : List ℕ → Place → DiagnosticId → List ℕ
+error_text name place error = one_text name place ++ spaced error.instance
+
+-- an argument that is left out has no identifier
+abbrev pub arg_text : PlaceOrSpreadOrHole → List ℕ
+arg_text (arg.Place p) = spaced p.identifier.0
+arg_text (arg.Spread s) = spaced s.place.identifier.0
+arg_text arg.Hole = []
+
+abbrev pub apply_text : Place → Place → List PlaceOrSpreadOrHole → Place → List ℕ
+apply_text receiver function args into = pair_text (codes "Apply") receiver function ++ flat_map arg_text args ++ spaced into.identifier.0
+
+abbrev pub create_function_text : Place → FunctionId → List Place → List ℕ
+create_function_text into f captures = one_text (codes "CreateFunction") into ++ spaced f.0 ++ flat_map (λ (p : Place). spaced p.identifier.0) captures
 
 -- the name, the identifiers in the order of the fields, and then kind and reason
 abbrev pub effect_text : AliasingEffect → List ℕ
+effect_text (Apply receiver function mutates_function args into signature span) = apply_text receiver function args into
 effect_text (CreateFrom from into) = pair_text (codes "CreateFrom") from into
 effect_text (ImmutableCapture from into) = pair_text (codes "ImmutableCapture") from into
 effect_text (Assign from into) = pair_text (codes "Assign") from into
+effect_text (Alias from into) = pair_text (codes "Alias") from into
 effect_text (Capture from into) = pair_text (codes "Capture") from into
 effect_text (MaybeAlias from into) = pair_text (codes "MaybeAlias") from into
 effect_text (Create into value reason) = create_text into value reason
 effect_text (Freeze value reason) = freeze_text value reason
-effect_text (MutateFrozen place) = one_text (codes "MutateFrozen") place
-effect_text (MutateGlobal place) = one_text (codes "MutateGlobal") place
-effect_text (Impure place error) = impure_text place error
+effect_text (Impure place error) = error_text (codes "Impure") place error
+effect_text (MutateFrozen place error) = error_text (codes "MutateFrozen") place error
+effect_text (MutateGlobal place error) = error_text (codes "MutateGlobal") place error
+effect_text (Render place) = one_text (codes "Render") place
 effect_text (Mutate value reason) = mutate_text value reason
+effect_text (MutateConditionally value) = one_text (codes "MutateConditionally") value
+effect_text (MutateTransitive value) = one_text (codes "MutateTransitive") value
+effect_text (MutateTransitiveConditionally value) = one_text (codes "MutateTransitiveConditionally") value
+effect_text (CreateFunction into function_id captures) = create_function_text into function_id captures
 
 -- ---- lines
 

@@ -1,10 +1,11 @@
 //! Effects as text.
 ghost use Rattle.std.specs.Prelude.{◌≡◌, ◌++◌, OnOk, IfOk};
-ghost use Rattle.alias_text.specs.Lines.{kind_word, reason_word, mutation_text, spaced, one_text, pair_text, create_text, freeze_text, mutate_text, impure_text, effect_text};
+ghost use Rattle.std.specs.List.{flat_map};
+ghost use Rattle.alias_text.specs.Lines.{kind_word, reason_word, mutation_text, spaced, one_text, pair_text, create_text, freeze_text, mutate_text, error_text, arg_text, apply_text, create_function_text, effect_text};
 
-use alias_base::Text;
+use alias_base::{FunctionId, Text};
 use alias_hir::effect::{AliasingEffect, MutationReason, ValueKind, ValueReason};
-use alias_hir::place::Place;
+use alias_hir::place::{Place, PlaceOrSpreadOrHole};
 use alias_hir::report::DiagnosticId;
 use std::alloc::{AllocError, Global};
 
@@ -107,11 +108,72 @@ fn push_mutate(
     push_mutation(out, reason)
 }
 
-fn push_impure(out: &mut Text, place: &Place, error: DiagnosticId) -> Result<(), AllocError>
-    ensures { OnOk result (out.new ≡ out.old ++ impure_text place.now error) }
+/// Appends a name, an identifier, and the number of the report of an effect that is an error.
+fn push_error(
+    out: &mut Text,
+    name: &str,
+    place: &Place,
+    error: DiagnosticId,
+) -> Result<(), AllocError>
+    ensures { OnOk result (out.new ≡ out.old ++ error_text name.now place.now error) }
 {
-    push_one(out, "Impure", place)?;
+    push_one(out, name, place)?;
     push_spaced(out, u64::from(error.instance))
+}
+
+fn push_places(out: &mut Text, places: &[Place]) -> Result<(), AllocError>
+    ensures { OnOk result (out.new ≡ out.old ++ flat_map (λ p. spaced p.identifier.0) places.now) }
+{
+    for place in places {
+        push_spaced(out, u64::from(place.identifier.0))?;
+    }
+    Ok(())
+}
+
+fn push_arg(out: &mut Text, arg: &PlaceOrSpreadOrHole) -> Result<(), AllocError>
+    ensures { OnOk result (out.new ≡ out.old ++ arg_text arg.now) }
+{
+    match arg {
+        PlaceOrSpreadOrHole::Place(place) => push_spaced(out, u64::from(place.identifier.0)),
+        PlaceOrSpreadOrHole::Spread(s) => push_spaced(out, u64::from(s.place.identifier.0)),
+        PlaceOrSpreadOrHole::Hole => Ok(()),
+    }
+}
+
+fn push_args(out: &mut Text, args: &[PlaceOrSpreadOrHole]) -> Result<(), AllocError>
+    ensures { OnOk result (out.new ≡ out.old ++ flat_map arg_text args.now) }
+{
+    for arg in args {
+        push_arg(out, arg)?;
+    }
+    Ok(())
+}
+
+fn push_apply(
+    out: &mut Text,
+    receiver: &Place,
+    function: &Place,
+    args: &[PlaceOrSpreadOrHole],
+    into: &Place,
+) -> Result<(), AllocError>
+    ensures { OnOk result (out.new ≡ out.old ++ apply_text receiver.now function.now args.now into.now) }
+{
+    push_pair(out, "Apply", receiver, function)?;
+    push_args(out, args)?;
+    push_spaced(out, u64::from(into.identifier.0))
+}
+
+fn push_create_function(
+    out: &mut Text,
+    into: &Place,
+    function: FunctionId,
+    captures: &[Place],
+) -> Result<(), AllocError>
+    ensures { OnOk result (out.new ≡ out.old ++ create_function_text into.now function captures.now) }
+{
+    push_one(out, "CreateFunction", into)?;
+    push_spaced(out, u64::from(function.0))?;
+    push_places(out, captures)
 }
 
 /// Appends the effect: its name, and then its fields in their order. An `Err` is want of memory, and leaves
@@ -120,11 +182,19 @@ pub fn push_effect(out: &mut Text, effect: &AliasingEffect) -> Result<(), AllocE
     ensures { OnOk result (out.new ≡ out.old ++ effect_text effect.now) }
 {
     match effect {
+        AliasingEffect::Apply {
+            receiver,
+            function,
+            args,
+            into,
+            ..
+        } => push_apply(out, receiver, function, args.as_slice(), into),
         AliasingEffect::CreateFrom { from, into } => push_pair(out, "CreateFrom", from, into),
         AliasingEffect::ImmutableCapture { from, into } => {
             push_pair(out, "ImmutableCapture", from, into)
         }
         AliasingEffect::Assign { from, into } => push_pair(out, "Assign", from, into),
+        AliasingEffect::Alias { from, into } => push_pair(out, "Alias", from, into),
         AliasingEffect::Capture { from, into } => push_pair(out, "Capture", from, into),
         AliasingEffect::MaybeAlias { from, into } => push_pair(out, "MaybeAlias", from, into),
         AliasingEffect::Create {
@@ -133,10 +203,27 @@ pub fn push_effect(out: &mut Text, effect: &AliasingEffect) -> Result<(), AllocE
             reason,
         } => push_create(out, into, *value, *reason),
         AliasingEffect::Freeze { value, reason } => push_freeze(out, value, *reason),
-        AliasingEffect::MutateFrozen { place } => push_one(out, "MutateFrozen", place),
-        AliasingEffect::MutateGlobal { place } => push_one(out, "MutateGlobal", place),
-        AliasingEffect::Impure { place, error } => push_impure(out, place, *error),
+        AliasingEffect::Impure { place, error } => push_error(out, "Impure", place, *error),
+        AliasingEffect::MutateFrozen { place, error } => {
+            push_error(out, "MutateFrozen", place, *error)
+        }
+        AliasingEffect::MutateGlobal { place, error } => {
+            push_error(out, "MutateGlobal", place, *error)
+        }
+        AliasingEffect::Render { place } => push_one(out, "Render", place),
         AliasingEffect::Mutate { value, reason } => push_mutate(out, value, *reason),
+        AliasingEffect::MutateConditionally { value } => {
+            push_one(out, "MutateConditionally", value)
+        }
+        AliasingEffect::MutateTransitive { value } => push_one(out, "MutateTransitive", value),
+        AliasingEffect::MutateTransitiveConditionally { value } => {
+            push_one(out, "MutateTransitiveConditionally", value)
+        }
+        AliasingEffect::CreateFunction {
+            into,
+            function_id,
+            captures,
+        } => push_create_function(out, into, *function_id, captures.as_slice()),
     }
 }
 

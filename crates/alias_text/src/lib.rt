@@ -5,5 +5,3 @@ pub mod effects;
 pub mod functions;
 pub mod refusals;
 pub mod results;
-#[cfg(test)]
-mod tests;

@@ -2,7 +2,7 @@ use Rattle.std.proofs.Common.{◌≡◌, ◌∙◌, subst, take, ap, Err}
 use Rattle.alias_stream.specs.Streams.{Adds, HasFailed}
 use Rattle.alias_run.specs.Commands.{command_of}
 use Rattle.alias_run.specs.Texts.{text_of}
-use Rattle.alias_run.proofs.Running.{ran_out, broke_off, ran, leaves_unwritten}
+use Rattle.alias_run.proofs.Running.{ran_out, broke_off, ran, leaves_unwritten, no_headline, no_headline_of_memory}
 use Rattle.alias_run.proofs.run.run_alias.Goals as goal
 
 pub returns-in_default-clause-run : goal.returns-in_default-clause-run
@@ -13,7 +13,7 @@ returns-in_default-clause-run g c =
     let read_failed = HasFailed (g.S.Source.faults source) (g.S.Source.faults after) (g.S.Source.at_last after) in
     let write_failed = HasFailed (g.K.Sink.faults sink) (g.K.Sink.faults sink) (g.K.Sink.at_last sink) in
     let held = g.K.Sink.held sink in
-    ran_out (command_of c.args.words.now) (g.S.Source.left source) read_failed write_failed held held c.find-outcome.result c.ended.result c.ended.ensures c.find-outcome.ensures.found
+    ran_out (command_of c.args.words.now) (g.S.Source.left source) read_failed write_failed held held c.find-outcome.result c.unwritten.result c.unwritten.ensures c.find-outcome.ensures.found
 
 pub returns-in-Ok-write_whole-clause-headline : goal.returns-in-Ok-write_whole-clause-headline
 returns-in-Ok-write_whole-clause-headline g c =
@@ -27,8 +27,8 @@ returns-in-Ok-write_whole-clause-headline g c =
     (ran (g.S.Source.left source) read_failed (Unit {0}) held held' (command_of c.args.words.now) found.status found.inferred c.find-outcome.ensures.found
     (subst (λ t. Adds held t held') text c.in-Ok-write_whole.ensures.whole)).1
 
-pub returns-in-Err-clause-run : goal.returns-in-Err-clause-run
-returns-in-Err-clause-run g c =
+pub returns-clause-run : goal.returns-clause-run
+returns-clause-run g c =
     let found = c.find-outcome.result in
     let source = c.args.source.now in
     let after = c.find-outcome.new.source in
@@ -40,8 +40,31 @@ returns-in-Err-clause-run g c =
     let held' = g.K.Sink.held sink' in
     let text : c.as_bytes.result.now ≡ text_of found = c.as_bytes.ensures.value ∙ c.as_str.ensures ∙ c.in-Ok.ensures in
     let part = c.in-Err.ensures.part in
-    broke_off (command_of c.args.words.now) (g.S.Source.left source) read_failed write_failed held held' found part.0 c.in-Err.stop _ c.ended-in-Err.result c.ended-in-Err.ensures c.from.ensures
+    broke_off (command_of c.args.words.now) (g.S.Source.left source) read_failed write_failed held held' found part.0 c.in-Err.stop _ c.unwritten-in-Err.result c.unwritten-in-Err.ensures c.from.ensures
     c.find-outcome.ensures.found (subst (λ t. Adds held (take part.0 t) held') text part.2) (λ failed. c.in-Err.ensures.failed (ap Err failed))
 
-pub returns-in-Err-clause-leaves : goal.returns-in-Err-clause-leaves
-returns-in-Err-clause-leaves g c = leaves_unwritten c.in-Err.stop (g.S.Source.left c.find-outcome.new.source) _ c.ended-in-Err.result c.ended-in-Err.ensures c.from.ensures
+pub returns-clause-leaves : goal.returns-clause-leaves
+returns-clause-leaves g c = leaves_unwritten c.in-Err.stop (g.S.Source.left c.find-outcome.new.source) _ c.unwritten-in-Err.result c.unwritten-in-Err.ensures c.from.ensures
+
+pub returns-in-Ok-write_whole-clause-run : goal.returns-in-Ok-write_whole-clause-run
+returns-in-Ok-write_whole-clause-run g c =
+    let found = c.find-outcome.result in
+    let source = c.args.source.now in
+    let after = c.find-outcome.new.source in
+    let sink = c.args.sink.now in
+    let sink' = c.write_whole.new.sink in
+    let read_failed = HasFailed (g.S.Source.faults source) (g.S.Source.faults after) (g.S.Source.at_last after) in
+    let write_failed = HasFailed (g.K.Sink.faults sink) (g.K.Sink.faults sink') (g.K.Sink.at_last sink') in
+    let held = g.K.Sink.held sink in
+    let held' = g.K.Sink.held sink' in
+    let text : c.as_bytes.result.now ≡ text_of found = c.as_bytes.ensures.value ∙ c.as_str.ensures ∙ c.in-Ok.ensures in
+    (ran (g.S.Source.left source) read_failed write_failed held held' (command_of c.args.words.now) found.status found.inferred c.find-outcome.ensures.found
+    (subst (λ t. Adds held t held') text c.in-Ok-write_whole.ensures.whole)).0
+
+pub returns-clause-headline : goal.returns-clause-headline
+returns-clause-headline g c =
+    no_headline (g.S.Source.left c.args.source.now) (g.K.Sink.held c.args.sink.now) (g.K.Sink.held c.write_whole.new.sink) c.in-Err.stop _ c.unwritten-in-Err.result c.unwritten-in-Err.ensures c.from.ensures
+
+pub returns-in_default-clause-headline : goal.returns-in_default-clause-headline
+returns-in_default-clause-headline g c =
+    no_headline_of_memory (g.S.Source.left c.args.source.now) (g.K.Sink.held c.args.sink.now) (g.K.Sink.held c.args.sink.now) c.unwritten.result c.unwritten.ensures

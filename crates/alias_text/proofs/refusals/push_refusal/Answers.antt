@@ -8,3 +8,12 @@ returns-in-Reinitialized c = rw c.in-Reinitialized.is c.push_at_numbers-in-Reini
 
 pub returns-in-NotSettled : goal.returns-in-NotSettled
 returns-in-NotSettled c = rw c.in-NotSettled.is c.push_at_number.ensures
+
+pub returns-in-AliasBeforeCreate : goal.returns-in-AliasBeforeCreate
+returns-in-AliasBeforeCreate c = rw c.in-AliasBeforeCreate.is c.push_at_numbers-in-AliasBeforeCreate.ensures
+
+pub returns-in-IncompatibleLibrary : goal.returns-in-IncompatibleLibrary
+returns-in-IncompatibleLibrary c = rw c.in-IncompatibleLibrary.is c.push_at_instruction.ensures
+
+pub returns-in-SpreadArgument : goal.returns-in-SpreadArgument
+returns-in-SpreadArgument c = rw c.in-SpreadArgument.is c.push_at_instruction-in-SpreadArgument.ensures
