@@ -10,20 +10,34 @@ mod reach;
 
 use alias_base::Text;
 use alias_read::read_unit;
-use alias_rules::check::check_unit;
+use alias_rules::check::{Checked, check_unit};
 use alias_run::Status;
 use alias_run::text::push_refusal_line;
+use alias_signature::unit_is_built;
 use alias_stream::{ReaderSource, Sink, Source, WriterSink, read_whole, write_whole};
 use plain::effects_text;
 use std::alloc::Global;
 use std::process::ExitCode;
 
+/// The unit that the bytes spell, once it is checked.
+fn unit_of(alloc: Global, bytes: &[u8]) -> Result<Checked, Status> {
+    let unit = read_unit(alloc, bytes)?;
+    Ok(check_unit(alloc, unit)?)
+}
+
+/// The text of a unit, or why there is none.
+fn text_of(alloc: Global, unit: Checked) -> Result<Text, Status> {
+    if unit_is_built(unit.unit()) {
+        Ok(effects_text(alloc, unit)?)
+    } else {
+        Err(Status::NotBuilt)
+    }
+}
+
 /// The text of the unit that the source spells, or why there is none.
 fn find<S: Source>(alloc: Global, source: &mut S) -> Result<Text, Status> {
     let bytes = read_whole(alloc, source)?;
-    let unit = read_unit(alloc, bytes.as_slice())?;
-    let unit = check_unit(alloc, unit)?;
-    Ok(effects_text(alloc, unit)?)
+    text_of(alloc, unit_of(alloc, bytes.as_slice())?)
 }
 
 /// Writes a text, and gives the status where that is done.
@@ -40,7 +54,7 @@ fn run<S: Source, K: Sink>(alloc: Global, source: &mut S, sink: &mut K) -> Statu
         Ok(text) => write(sink, &text, Status::Done),
         Err(status) => {
             let mut line = Text::new(alloc);
-            match push_refusal_line(&mut line, &status) {
+            match push_refusal_line(alloc, &mut line, &status) {
                 Ok(()) => write(sink, &line, status),
                 Err(_) => Status::Memory,
             }

@@ -31,12 +31,17 @@ fn push_blocks(out: &mut Text, func: &HirFunction, blocks: &[BlockId]) -> Result
     Ok(())
 }
 
-/// The text of the effects that `infer_mutation_aliasing_effects` records of the unit's root: the reached blocks in
-/// stored order. No clause says so.
-pub fn effects_text(alloc: Global, unit: Checked) -> Result<Text, InferError> {
-    let func = with_effects(alloc, unit)?;
+/// The text of a function with its effects on it: its reached blocks in stored order.
+fn function_text(alloc: Global, func: &HirFunction) -> Result<Text, AllocError> {
     let blocks = reached(alloc, &func.body)?;
     let mut out = Text::new(alloc);
-    push_blocks(&mut out, &func, blocks.as_slice())?;
+    push_blocks(&mut out, func, blocks.as_slice())?;
     Ok(out)
+}
+
+/// The text of the effects that `infer_mutation_aliasing_effects` records of the unit's root. No clause says so.
+pub fn effects_text(alloc: Global, unit: Checked) -> Result<Text, InferError> {
+    let func = with_effects(alloc, unit)?;
+    let text = function_text(alloc, &func);
+    Ok(text?)
 }

@@ -1,7 +1,7 @@
 //! A worked example, and whether a run comes out as it says.
 
 use alias_base::{List, Text};
-use alias_run::run_alias;
+use alias_run::{Outcome, run_alias};
 use alias_stream::{MemorySink, MemorySource};
 use std::alloc::{AllocError, Global};
 
@@ -56,7 +56,15 @@ pub fn passes(alloc: Global, example: &Example) -> Result<bool, AllocError> {
     let bytes = List::from_slice(alloc, example.input.as_str().as_bytes())?;
     let mut source = MemorySource::new(bytes, piece, reads);
     let mut sink = MemorySink::new(alloc, piece, writes);
-    let outcome = run_alias(alloc, words.as_slice(), &mut source, &mut sink);
+    let code = run(alloc, words.as_slice(), &mut source, &mut sink);
     let wrote = sink.bytes() == example.written.as_str().as_bytes();
-    Ok(wrote && outcome.status.code() == example.status)
+    Ok(wrote && code == example.status)
+}
+
+fn code_of(outcome: Outcome) -> u8 {
+    outcome.status.code()
+}
+
+fn run(alloc: Global, words: &[Text], source: &mut MemorySource, sink: &mut MemorySink) -> u8 {
+    code_of(run_alias(alloc, words, source, sink))
 }

@@ -2,7 +2,7 @@
 #![tactic(auto)]
 
 use alias_base::Text;
-use alias_run::run_alias;
+use alias_run::{Outcome, run_alias};
 use alias_stream::{ReaderSource, WriterSink};
 use std::alloc::Global;
 use std::io;
@@ -18,6 +18,11 @@ fn words_of(rt: &(impl Env + AllocGlobal), alloc: Global) -> io::Result<Vec<Text
     Ok(words)
 }
 
+/// The code of the status that a run ended with.
+fn code_of(outcome: Outcome) -> u8 {
+    outcome.status.code()
+}
+
 fn main(rt: HostRuntime) -> ExitCode {
     let alloc = rt.alloc();
     let Ok(words) = words_of(&rt, alloc) else {
@@ -25,6 +30,5 @@ fn main(rt: HostRuntime) -> ExitCode {
     };
     let mut source = ReaderSource::new(rt.stdin());
     let mut sink = WriterSink::new(rt.stdout());
-    let outcome = run_alias(alloc, &words, &mut source, &mut sink);
-    ExitCode::from(outcome.status.code())
+    ExitCode::from(code_of(run_alias(alloc, &words, &mut source, &mut sink)))
 }
