@@ -9,7 +9,7 @@ use Rattle.alias_base.specs.declared.ids.EvaluationOrder.{EvaluationOrder}
 use Rattle.alias_base.specs.declared.ids.FunctionId.{FunctionId}
 use Rattle.alias_base.specs.declared.ids.InstructionId.{InstructionId}
 use Rattle.alias_base.specs.declared.ids.TypeId.{TypeId}
-use Rattle.alias_hir.specs.Effects.{effect_places, error_of}
+use Rattle.alias_hir.specs.Effects.{effect_places, error_of, function_of, signature_of}
 use Rattle.alias_hir.specs.Terminals.{terminal_places}
 use Rattle.alias_hir.specs.Values.{places_of, created}
 use Rattle.alias_hir.specs.declared.effect.AliasingEffect.{AliasingEffect}
@@ -22,7 +22,7 @@ use Rattle.alias_hir.specs.declared.place.Place.{Place}
 use Rattle.alias_hir.specs.declared.report.DiagnosticId.{DiagnosticId}
 use Rattle.alias_hir.specs.declared.terminal.Terminal.{Terminal}
 use Rattle.alias_hir.specs.declared.terminal.Terminal.TheVariants as terminal
-use Rattle.alias_rules.specs.Fitting.{place_within_tables, error_within_tables, function_of, function_within_tables, signature_of, type_within_tables, summary_within_tables, effect_within_tables}
+use Rattle.alias_rules.specs.Fitting.{place_within_tables, error_within_tables, function_within_tables, type_within_tables, summary_within_tables, effect_within_tables}
 use Rattle.alias_function_rules.specs.Rules.{place_fits, created_fits, instruction_fits}
 use Rattle.alias_function_rules.specs.declared.fault.UnitFault.{UnitFault}
 use Rattle.alias_lattice.specs.States.{State}
@@ -33,7 +33,7 @@ use Rattle.alias_effects.specs.declared.solved.InstructionEffects.{InstructionEf
 use Rattle.alias_effects.specs.declared.solved.TerminalEffects.{TerminalEffects}
 use Rattle.alias_effects.specs.declared.progress.StepProgress.{StepProgress}
 use Rattle.alias_signature.specs.Signatures.{compute_signature_for_instruction}
-use Rattle.alias_signature.specs.SignatureLaws.{Named, names_of, Speaks, signature_speaks}
+use Rattle.alias_signature.specs.SignatureLaws.{Named, Speaks, signature_speaks}
 use Rattle.alias_effects.specs.Contexts.{Context}
 use Rattle.alias_effects.specs.ApplyKeepsLaws.{PartsKeep, apply_effects_keep}
 use Rattle.alias_effects.specs.BlockKeepsLaws.{BlockPartsKeep, BlockKeeps, HasAt, infer_block_keeps}
@@ -90,27 +90,6 @@ all_within env (p ∷ ps) h = together (place_within_tables env p) (list_all (pl
 abbrev NamesNothing : Named → Type 0
 NamesNothing n = n ≡ (None, None)
 
--- what the signature of an instruction may name is what the tables are asked for
-names_as_asked : (e : AliasingEffect) → names_of e ≡ (function_of e, signature_of e)
-names_as_asked (effect.Apply receiver function mutates_function args into signature span) = refl
-names_as_asked (effect.CreateFrom a x) = refl
-names_as_asked (effect.ImmutableCapture a x) = refl
-names_as_asked (effect.Assign a x) = refl
-names_as_asked (effect.Alias a x) = refl
-names_as_asked (effect.Capture a x) = refl
-names_as_asked (effect.MaybeAlias a x) = refl
-names_as_asked (effect.Create x k r) = refl
-names_as_asked (effect.Freeze v r) = refl
-names_as_asked (effect.Impure v error) = refl
-names_as_asked (effect.MutateFrozen v error) = refl
-names_as_asked (effect.MutateGlobal v error) = refl
-names_as_asked (effect.Render v) = refl
-names_as_asked (effect.Mutate v r) = refl
-names_as_asked (effect.MutateConditionally v) = refl
-names_as_asked (effect.MutateTransitive v) = refl
-names_as_asked (effect.MutateTransitiveConditionally v) = refl
-names_as_asked (effect.CreateFunction x f captures) = refl
-
 -- where no function and no type is named, the places and the report decide
 places_decide : (env : Environment) (ps : Bool) (f : Option FunctionId) (t : Option TypeId) (error : Bool) → ps ≡ true → f ≡ None → t ≡ None → error ≡ true
     → ((((ps && function_within_tables env f) && type_within_tables env t) && error) && summary_within_tables env f) ≡ true
@@ -123,7 +102,7 @@ places_decide env false f t error a b c d = cc
 -- an effect that speaks of what is within the tables
 effect_within : (env : Environment) (e : AliasingEffect) → Speaks (PlaceWithin env) (ErrorWithin env) NamesNothing e → effect_within_tables env e ≡ true
 effect_within env e h =
-    let named : (function_of e, signature_of e) ≡ (None, None) = sym (names_as_asked e) ∙ h.1.1 in
+    let named : (function_of e, signature_of e) ≡ (None, None) = h.1.1 in
     places_decide env (list_all (place_within_tables env) (effect_places e)) (function_of e) (signature_of e) (error_within_tables env (error_of e))
     (all_within env (effect_places e) h.0) (ap (λ (n : Named). n.0) named) (ap (λ (n : Named). n.1) named) h.1.0
 

@@ -3,7 +3,7 @@ ghost use Rattle.std.specs.Prelude.{◌≡◌, ◌≤◌, length, option_map, On
 ghost use Rattle.alias_base.specs.Answer.{Gives};
 ghost use Rattle.alias_hir.specs.Errors.{is_hir_memory};
 ghost use Rattle.alias_hir.specs.Types.{function_shape};
-ghost use Rattle.alias_hir.specs.Tables.{next_identifier, next_identifier_where_known, with_identifier, fresh_identifier, shape_named, shape_of, function_signature, hook_kind, has_no_alias};
+ghost use Rattle.alias_hir.specs.Tables.{next_identifier, next_identifier_where_known, with_identifier, fresh_identifier, shape_of, function_signature, hook_kind, has_no_alias};
 
 use crate::env::{Environment, Identifier, MutableRange};
 use crate::error::{Counter, HirError};
@@ -23,22 +23,11 @@ fn function_shape(ty: &Ty) -> Option<&str>
     }
 }
 
-fn shape_named<'a>(shapes: &'a [Shape], name: &str) -> Option<&'a Shape>
-    ensures { option_map (λ s. s.now) result ≡ shape_named shapes.now name.now }
-{
-    for shape in shapes {
-        if shape.id.as_str() == name {
-            return Some(shape);
-        }
-    }
-    None
-}
-
 fn shape_of<'a>(env: &'a Environment, ty: &Ty) -> Option<&'a Shape>
     ensures { option_map (λ s. s.now) result ≡ shape_of env.now ty.now }
 {
     match function_shape(ty) {
-        Some(name) => shape_named(env.shapes.as_slice(), name),
+        Some(name) => env.shapes.named(name),
         None => None,
     }
 }

@@ -1,6 +1,5 @@
 //! Reads shapes, no two of one name.
 ghost use Rattle.std.specs.Prelude.{◌≡◌, [], Result, codes};
-ghost use Rattle.std.specs.BTreeSet.{contains_text};
 ghost use Rattle.serde_json.specs.View.{view, items_view};
 ghost use Rattle.alias_base.specs.Answer.{Gives};
 ghost use Rattle.alias_json.specs.Pointer.{pointer};
@@ -9,15 +8,15 @@ ghost use Rattle.alias_read.specs.Json.{given_or};
 ghost use Rattle.alias_read.specs.Shapes.{new_name, shape_named, shape_at, shape_items_at, shapes_at};
 
 use crate::json::{flag, optional, required};
-use alias_base::{List, Text};
+use alias_base::Text;
+use alias_hir::shapes::Shapes;
 use alias_hir::signature::Shape;
 use alias_json::{Path, TextRule, ValueFault, known_keys, object, refused};
 use serde_json::Value;
 use std::alloc::Global;
-use std::collections::BTreeSet;
 
 /// The shapes of the key `shapes`, which may be absent.
-pub fn shapes_of(alloc: Global, path: &Path, value: &Value) -> Result<List<Shape>, ValueFault>
+pub fn shapes_of(alloc: Global, path: &Path, value: &Value) -> Result<Shapes, ValueFault>
     ensures { Gives is_memory (given_or shapes_at [] (pointer path.now) (codes "shapes") (view value.now)) result }
 {
     let here = Path::Key {
@@ -25,7 +24,7 @@ pub fn shapes_of(alloc: Global, path: &Path, value: &Value) -> Result<List<Shape
         key: "shapes",
     };
     match value.get("shapes") {
-        None => Ok(List::new(alloc)),
+        None => Ok(Shapes::new(alloc)),
         Some(found) => match found.as_array() {
             Some(values) => shapes(alloc, &here, values.as_slice()),
             None => refused(alloc, &here, TextRule::Kind),
@@ -33,31 +32,29 @@ pub fn shapes_of(alloc: Global, path: &Path, value: &Value) -> Result<List<Shape
     }
 }
 
-fn shapes(alloc: Global, path: &Path, values: &[Value]) -> Result<List<Shape>, ValueFault>
+fn shapes(alloc: Global, path: &Path, values: &[Value]) -> Result<Shapes, ValueFault>
     ensures { Gives is_memory (shape_items_at (pointer path.now) 0 [] (items_view values.now)) result }
 {
-    let mut names = BTreeSet::new(alloc);
-    let mut found = List::new(alloc);
+    let mut found = Shapes::new(alloc);
     for (index, value) in values.iter().enumerate() {
         let here = Path::Index {
             above: &*path,
             index,
         };
-        let shape = shape_of(alloc, &names, &here, value)?;
-        names.insert(String::from_str(alloc, shape.id.as_str())?)?;
+        let shape = shape_of(alloc, &found, &here, value)?;
         found.push(shape)?;
     }
     Ok(found)
 }
 
-/// A shape whose name is none of these.
+/// A shape that has the name of none of these.
 fn shape_of(
     alloc: Global,
-    names: &BTreeSet<String>,
+    found: &Shapes,
     path: &Path,
     value: &Value,
 ) -> Result<Shape, ValueFault>
-    ensures { Gives is_memory (shape_at (contains_text names.now) (pointer path.now) (view value.now)) result }
+    ensures { Gives is_memory (shape_at found.now (pointer path.now) (view value.now)) result }
 {
     object(alloc, path, value)?;
     let id: Text = required(alloc, path, "id", value)?;
@@ -65,7 +62,7 @@ fn shape_of(
         above: path,
         key: "id",
     };
-    new_name(alloc, names, &here, id.as_str())?;
+    new_name(alloc, found, &here, id.as_str())?;
     shape_named(alloc, id, path, value)
 }
 
@@ -84,13 +81,13 @@ fn shape_named(alloc: Global, id: Text, path: &Path, value: &Value) -> Result<Sh
 
 fn new_name(
     alloc: Global,
-    names: &BTreeSet<String>,
+    found: &Shapes,
     path: &Path,
     name: &str,
 ) -> Result<(), ValueFault>
-    ensures { Gives is_memory (new_name (contains_text names.now) (pointer path.now) name.now) result }
+    ensures { Gives is_memory (new_name found.now (pointer path.now) name.now) result }
 {
-    if names.contains(name) {
+    if found.named(name).is_some() {
         return refused(alloc, path, TextRule::Twice);
     }
     Ok(())

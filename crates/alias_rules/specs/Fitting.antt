@@ -6,7 +6,7 @@ use Rattle.alias_base.specs.Answer.{◌>>=◌}
 use Rattle.alias_base.specs.declared.ids.FunctionId.{FunctionId}
 use Rattle.alias_base.specs.declared.ids.TypeId.{TypeId}
 use Rattle.alias_hir.specs.Diagnostics.{is_interned, reports_invariant, summary}
-use Rattle.alias_hir.specs.Effects.{effect_places, error_of}
+use Rattle.alias_hir.specs.Effects.{effect_places, error_of, function_of, signature_of}
 use Rattle.alias_hir.specs.Terminals.{terminal_effects}
 use Rattle.alias_hir.specs.declared.effect.AliasingEffect.{AliasingEffect}
 use Rattle.alias_hir.specs.declared.effect.AliasingEffect.TheVariants.{Apply, CreateFunction}
@@ -33,19 +33,9 @@ abbrev pub error_within_tables : Environment → Option DiagnosticId → Bool
 error_within_tables env None = true
 error_within_tables env (Some error) = is_interned env.interned error
 
--- the function that an effect creates
-abbrev pub function_of : AliasingEffect → Option FunctionId
-function_of (CreateFunction into f captures) = Some f
-function_of e = None
-
 abbrev pub function_within_tables : Environment → Option FunctionId → Bool
 function_within_tables env None = true
 function_within_tables env (Some f) = nat_lt f.0 (length env.functions)
-
--- the type that has the signature of a call
-abbrev pub signature_of : AliasingEffect → Option TypeId
-signature_of (Apply receiver function mutates args into signature span) = signature
-signature_of e = None
 
 abbrev pub type_within_tables : Environment → Option TypeId → Bool
 type_within_tables env None = true

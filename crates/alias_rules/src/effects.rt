@@ -2,10 +2,10 @@
 ghost use Rattle.std.specs.Prelude.{◌≡◌, IfOk, option_map};
 ghost use Rattle.std.specs.List.{list_all, list_any};
 ghost use Rattle.alias_hir.specs.Terminals.{terminal_effects};
-ghost use Rattle.alias_rules.specs.Fitting.{place_within_tables, error_within_tables, function_of, function_within_tables, signature_of, type_within_tables, named_within_tables, summary_within_tables, effect_within_tables, recorded_within_tables, effects_within_tables, is_apply, holds_no_call, effects_fit, effects_fit_at};
+ghost use Rattle.alias_rules.specs.Fitting.{place_within_tables, error_within_tables, function_within_tables, type_within_tables, named_within_tables, summary_within_tables, effect_within_tables, recorded_within_tables, effects_within_tables, is_apply, holds_no_call, effects_fit, effects_fit_at};
 
 use alias_base::{FunctionId, TypeId};
-use alias_hir::effect::{AliasingEffect, AliasingEffects, error_of};
+use alias_hir::effect::{AliasingEffect, AliasingEffects, error_of, function_of, signature_of};
 use alias_hir::env::Environment;
 use alias_hir::hir::{Hir, HirFunction, Instruction};
 use alias_hir::place::Place;
@@ -34,30 +34,12 @@ fn error_within_tables(env: &Environment, error: Option<DiagnosticId>) -> bool
     }
 }
 
-fn function_of(effect: &AliasingEffect) -> Option<FunctionId>
-    ensures { result ≡ function_of effect.now }
-{
-    match effect {
-        AliasingEffect::CreateFunction { function_id, .. } => Some(*function_id),
-        _ => None,
-    }
-}
-
 fn function_within_tables(env: &Environment, function: Option<FunctionId>) -> bool
     ensures { result ≡ function_within_tables env.now function }
 {
     match function {
         Some(function) => (function.0 as usize) < env.functions.len(),
         None => true,
-    }
-}
-
-fn signature_of(effect: &AliasingEffect) -> Option<TypeId>
-    ensures { result ≡ signature_of effect.now }
-{
-    match effect {
-        AliasingEffect::Apply { signature, .. } => *signature,
-        _ => None,
     }
 }
 

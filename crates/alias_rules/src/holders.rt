@@ -4,44 +4,17 @@ ghost use Rattle.std.specs.List.{list_any};
 ghost use Rattle.std.specs.Ordering.{nat_cmp};
 ghost use Rattle.std.specs.BTreeMap.{get};
 ghost use Rattle.std.specs.BTreeSet.{contains};
-ghost use Rattle.alias_hir.specs.Numbered.{numbers_at};
+ghost use Rattle.alias_base.specs.Find.{list_at};
 ghost use Rattle.alias_function_rules.specs.Rules.{is_among};
 ghost use Rattle.alias_rules.specs.Sharing.{identifiers_at};
 
 use crate::sharing::push_at;
 use crate::tree::take_fresh;
-use alias_base::List;
+use alias_base::{List, append_at, list_at};
 use alias_function_rules::listing::set_of;
 use alias_hir::env::Environment;
 use std::alloc::{AllocError, Global};
 use std::collections::{BTreeMap, BTreeSet};
-
-fn numbers_at(holders: &BTreeMap<u32, List<u32>>, identifier: u32) -> &[u32]
-    ensures { result.now ≡ numbers_at (get nat_cmp holders.now identifier) }
-{
-    match holders.get(&identifier) {
-        Some(numbers) => numbers.as_slice(),
-        None => &[],
-    }
-}
-
-fn add_holder(
-    alloc: Global,
-    holders: &mut BTreeMap<u32, List<u32>>,
-    identifier: u32,
-    function: u32,
-) -> Result<(), AllocError>
-    ensures { OnOk result ((q : ℕ) → numbers_at (get nat_cmp holders.new q) ≡ cond (identifier == q) (numbers_at (get nat_cmp holders.old q) ++ function ∷ []) (numbers_at (get nat_cmp holders.old q))) }
-{
-    if let Some(list) = holders.get_mut(&identifier) {
-        list.push(function)?;
-        return Ok(());
-    }
-    let mut list = List::new(alloc);
-    list.push(function)?;
-    holders.insert(identifier, list)?;
-    Ok(())
-}
 
 /// Notes that the identifiers are in the function.
 fn add_each(
@@ -50,10 +23,10 @@ fn add_each(
     identifiers: &[u32],
     function: u32,
 ) -> Result<(), AllocError>
-    ensures { OnOk result ((x : ℕ) (p : ℕ → Bool) → list_any p (numbers_at (get nat_cmp holders.new x)) ≡ (list_any p (numbers_at (get nat_cmp holders.old x)) || (is_among identifiers.now x && p function))) }
+    ensures { OnOk result ((x : ℕ) (p : ℕ → Bool) → list_any p (list_at (get nat_cmp holders.new x)) ≡ (list_any p (list_at (get nat_cmp holders.old x)) || (is_among identifiers.now x && p function))) }
 {
     for identifier in identifiers {
-        add_holder(alloc, holders, *identifier, function)?;
+        append_at(alloc, holders, *identifier, function)?;
     }
     Ok(())
 }
@@ -82,7 +55,7 @@ pub fn holders(
     env: &Environment,
     nested: &[u32],
 ) -> Result<BTreeMap<u32, List<u32>>, AllocError>
-    ensures { IfOk result (λ m. (x : ℕ) (p : ℕ → Bool) → list_any p (numbers_at (get nat_cmp m x)) ≡ list_any (λ k. is_among (identifiers_at env.now k) x && p k) nested.now) }
+    ensures { IfOk result (λ m. (x : ℕ) (p : ℕ → Bool) → list_any p (list_at (get nat_cmp m x)) ≡ list_any (λ k. is_among (identifiers_at env.now k) x && p k) nested.now) }
 {
     let mut holders = BTreeMap::new(alloc);
     for number in nested {
@@ -99,9 +72,9 @@ fn is_other(those: &BTreeSet<u32>, number: u32) -> bool
 }
 
 fn is_held(holders: &BTreeMap<u32, List<u32>>, those: &BTreeSet<u32>, identifier: u32) -> bool
-    ensures { result ≡ list_any (λ k. not (contains nat_cmp those.now k)) (numbers_at (get nat_cmp holders.now identifier)) }
+    ensures { result ≡ list_any (λ k. not (contains nat_cmp those.now k)) (list_at (get nat_cmp holders.now identifier)) }
 {
-    numbers_at(holders, identifier)
+    list_at(holders, identifier)
         .iter()
         .any(|number| is_other(those, *number))
 }
@@ -113,7 +86,7 @@ fn leaves(
     context: &BTreeSet<u32>,
     identifier: u32,
 ) -> bool
-    ensures { result ≡ (not (contains nat_cmp context.now identifier) && (contains nat_cmp roots.now identifier || list_any (λ k. not (contains nat_cmp those.now k)) (numbers_at (get nat_cmp holders.now identifier)))) }
+    ensures { result ≡ (not (contains nat_cmp context.now identifier) && (contains nat_cmp roots.now identifier || list_any (λ k. not (contains nat_cmp those.now k)) (list_at (get nat_cmp holders.now identifier)))) }
 {
     !context.contains(&identifier)
         && (roots.contains(&identifier) || is_held(holders, those, identifier))
@@ -129,7 +102,7 @@ pub fn any_leaves(
     context: &[u32],
     identifiers: &[u32],
 ) -> Result<bool, AllocError>
-    ensures { IfOk result (λ b. (x : ℕ) → b ≡ false → is_among identifiers.now x ≡ true → (not (is_among context.now x) && (contains nat_cmp roots.now x || list_any (λ k. not (is_among those.now k)) (numbers_at (get nat_cmp holders.now x)))) ≡ false) }
+    ensures { IfOk result (λ b. (x : ℕ) → b ≡ false → is_among identifiers.now x ≡ true → (not (is_among context.now x) && (contains nat_cmp roots.now x || list_any (λ k. not (is_among those.now k)) (list_at (get nat_cmp holders.now x)))) ≡ false) }
 {
     let those = set_of(alloc, those)?;
     let context = set_of(alloc, context)?;

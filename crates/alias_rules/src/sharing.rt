@@ -4,7 +4,7 @@ ghost use Rattle.std.specs.List.{flat_map, list_any};
 ghost use Rattle.std.specs.Ordering.{nat_cmp};
 ghost use Rattle.std.specs.BTreeMap.{get};
 ghost use Rattle.std.specs.BTreeSet.{contains};
-ghost use Rattle.alias_hir.specs.Numbered.{numbers_at};
+ghost use Rattle.alias_base.specs.Find.{list_at};
 ghost use Rattle.alias_function_rules.specs.Rules.{is_among};
 ghost use Rattle.alias_rules.specs.Nesting.{unless_there};
 ghost use Rattle.alias_hir.specs.declared.place.Place.{Place};
@@ -219,7 +219,7 @@ fn any_shared(
     holders: &BTreeMap<u32, List<u32>>,
     number: u32,
 ) -> Result<bool, AllocError>
-    ensures { IfOk result (λ b. (x : ℕ) → b ≡ false → is_among (inside env.now number) x ≡ true → (not (is_among (context_at env.now number) x) && (contains nat_cmp roots.now x || list_any (λ k. not (is_among (family env.now number) k)) (numbers_at (get nat_cmp holders.now x)))) ≡ false) }
+    ensures { IfOk result (λ b. (x : ℕ) → b ≡ false → is_among (inside env.now number) x ≡ true → (not (is_among (context_at env.now number) x) && (contains nat_cmp roots.now x || list_any (λ k. not (is_among (family env.now number) k)) (list_at (get nat_cmp holders.now x)))) ≡ false) }
 {
     let those = family(alloc, env, number)?;
     let inside = inside(alloc, env, &those)?;
@@ -241,7 +241,7 @@ fn nested_is_apart(
     number: u32,
 ) -> Result<(), UnitFault>
     requires roots { (x : ℕ) → contains nat_cmp roots.now x ≡ is_among (identifiers_in env.now func.now) x }
-    requires holders { (x : ℕ) (p : ℕ → Bool) → list_any p (numbers_at (get nat_cmp holders.now x)) ≡ list_any (λ k. is_among (identifiers_at env.now k) x && p k) nested.now }
+    requires holders { (x : ℕ) (p : ℕ → Bool) → list_any p (list_at (get nat_cmp holders.now x)) ≡ list_any (λ k. is_among (identifiers_at env.now k) x && p k) nested.now }
     ensures { Gives is_memory (nested_is_apart env.now func.now nested.now number) result }
 {
     let shared = any_shared(alloc, env, roots, holders, number)?;

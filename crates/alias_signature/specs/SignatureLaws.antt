@@ -3,7 +3,7 @@ use Rattle.std.specs.Prelude.{Bool, true, false, [], ◌∷◌, Option, None, So
 use Rattle.std.specs.List.{AllByRecursion}
 use Rattle.alias_base.specs.declared.ids.FunctionId.{FunctionId}
 use Rattle.alias_base.specs.declared.ids.TypeId.{TypeId}
-use Rattle.alias_hir.specs.Effects.{effect_places, error_of}
+use Rattle.alias_hir.specs.Effects.{effect_places, error_of, function_of, signature_of}
 use Rattle.alias_hir.specs.Types.{is_primitive_at}
 use Rattle.alias_hir.specs.Values.{places_of}
 use Rattle.alias_hir.specs.declared.effect.AliasingEffect.{AliasingEffect}
@@ -23,9 +23,7 @@ abbrev pub Named : Type 0
 Named = Option FunctionId × Option TypeId
 
 abbrev pub names_of : AliasingEffect → Named
-names_of (effect.Apply receiver function mutates_function args into signature span) = (None, signature)
-names_of (effect.CreateFunction into function_id captures) = (Some function_id, None)
-names_of e = (None, None)
+names_of e = (function_of e, signature_of e)
 
 -- the effect speaks of places with P alone, its report has Q, and what else it names has N
 abbrev pub Speaks : (Place → Type 0) → (Option DiagnosticId → Type 0) → (Named → Type 0) → AliasingEffect → Type 0

@@ -1,13 +1,8 @@
-use Rattle.std.proofs.Common.{◌≡◌, ℕ, List, [], drop}
-use Rattle.std.specs.BTreeSet.{contains_text}
+use Rattle.std.proofs.Common.{◌≡◌, [], drop}
 use Rattle.serde_json.specs.View.{items_view}
 use Rattle.alias_json.specs.Pointer.{pointer}
-use Rattle.alias_read.specs.Shapes.{is_taken, shape_items_at}
+use Rattle.alias_read.specs.Shapes.{shape_items_at}
 use Rattle.alias_read.proofs.shapes.shapes.Given as goal
 
 abbrev pub invariant-loop-index : goal.invariant-loop-index
-invariant-loop-index l =
-    record {
-      reads : shape_items_at (pointer l.path) 0 [] (items_view l.values) ≡ shape_items_at (pointer l.path) l.index l.found (items_view (drop l.index l.values));
-      taken : (n : List ℕ) → contains_text l.names n ≡ is_taken l.found n;
-    }
+invariant-loop-index l = shape_items_at (pointer l.path) 0 [] (items_view l.values) ≡ shape_items_at (pointer l.path) l.index l.found (items_view (drop l.index l.values))

@@ -6,7 +6,7 @@ use Rattle.std.specs.BTreeSet.{contains}
 use Rattle.std.specs.Ordering.{nat_cmp}
 use Rattle.std.proofs.lemmas.Grind.{common_steps}
 use Rattle.std.proofs.lemmas.List.{take_all}
-use Rattle.alias_hir.specs.Numbered.{numbers_at}
+use Rattle.alias_base.specs.Find.{list_at}
 use Rattle.alias_function_rules.specs.Rules.{is_among}
 use Rattle.alias_rules.proofs.Holding.{none_yet, same_leaves}
 use Rattle.alias_rules.proofs.holders.any_leaves.Goals as goal
@@ -14,7 +14,7 @@ use Rattle.alias_rules.proofs.holders.any_leaves.Goals as goal
 pub loop-identifier-preserved : goal.loop-identifier-preserved
 loop-identifier-preserved c =
     let no : c.leaves.result ≡ false = grind (arith, common_steps) in
-    none_yet (λ x. not (is_among c.args.context.now x) && (contains nat_cmp c.args.roots.now x || list_any (λ k. not (is_among c.args.those.now k)) (numbers_at (get nat_cmp c.args.holders.now x)))) c.args.identifiers.now c.loop-identifier.identifier-index c.loop-identifier-test.true c.loop-identifier.invariant
+    none_yet (λ x. not (is_among c.args.context.now x) && (contains nat_cmp c.args.roots.now x || list_any (λ k. not (is_among c.args.those.now k)) (list_at (get nat_cmp c.args.holders.now x)))) c.args.identifiers.now c.loop-identifier.identifier-index c.loop-identifier-test.true c.loop-identifier.invariant
     (same_leaves _ _ c.args.those.now c.args.context.now _ _ _ _ c.in_ok-those.ensures c.in_ok-context.ensures c.leaves.ensures no)
 
 pub returns : goal.returns
