@@ -1,0 +1,2 @@
+pub mod SameNodes
+pub mod TwoPhis

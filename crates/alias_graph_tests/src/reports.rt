@@ -1,0 +1,182 @@
+//! Reports of walks and renders.
+ghost use Rattle.std.specs.Prelude.{◌≡◌, ◌<◌, length, IfOk, OnOk};
+ghost use Rattle.alias_ranges.specs.Nodes.{Within};
+
+use alias_ranges::graph::AliasGraph;
+use alias_ranges::steps::Steps;
+use crate::walks::{environment, place};
+use alias_ranges::types::{MutationKind, NodeValue};
+use alias_base::{BlockId, BlockMap, FunctionId, IdentifierId, List, Text};
+use alias_hir::error::HirError;
+use alias_hir::effect::{AliasingEffect, AliasingEffects};
+use alias_hir::env::Environment;
+use alias_hir::hir::{FunctionType, Hir, HirFunction};
+use alias_hir::report::{DiagnosticId, ErrorCategory, Report};
+use std::alloc::{AllocError, Global};
+use std::marker::Brand;
+use std::sync::ledger::{Blank, Ledger};
+use std::test::Fail;
+
+const FUNCTION: NodeValue = NodeValue::Function {
+    function_id: FunctionId(0),
+};
+
+fn report(alloc: Global) -> Result<Report, AllocError> {
+    Ok(Report {
+        category: ErrorCategory::Purity,
+        message: Text::from_str(alloc, "Cannot call impure function during render")?,
+        help: None,
+        labels: List::new(alloc),
+    })
+}
+
+/// A function with this summary, and no block.
+fn function(alloc: Global, summary: AliasingEffects) -> HirFunction {
+    HirFunction {
+        fn_type: FunctionType::Other,
+        params: List::new(alloc),
+        context: List::new(alloc),
+        context_values: List::new(alloc),
+        returns: place(0),
+        body: Hir {
+            entry: BlockId(0),
+            blocks: BlockMap::new(alloc),
+        },
+        instructions: List::new(alloc),
+        is_async: false,
+        span: None,
+        aliasing_effects: Some(summary),
+    }
+}
+
+/// The report on identifier 0, interned.
+fn interned(env: &mut Environment, report: Report) -> Result<DiagnosticId, AllocError>
+    ensures { OnOk result (length env.new.identifiers ≡ length env.old.identifiers) }
+{
+    match env.intern_aliasing_diagnostic(IdentifierId(0), report) {
+        Ok(error) => Ok(error),
+        Err(HirError::Memory(e)) => Err(e),
+        Err(_) => Err(AllocError),
+    }
+}
+
+/// Four identifiers, and a function whose summary has an impure call.
+fn impure(alloc: Global) -> Result<Environment, AllocError>
+    ensures { IfOk result (λ env. length env.identifiers ≡ 4) }
+{
+    let mut env = environment(alloc)?;
+    let error = interned(&mut env, report(alloc)?)?;
+    let mut summary = List::new(alloc);
+    summary.push(AliasingEffect::Render { place: place(0) })?;
+    summary.push(AliasingEffect::Impure {
+        place: place(0),
+        error,
+    })?;
+    env.functions.push(function(alloc, summary))?;
+    Ok(env)
+}
+
+/// Two functions that the object 1 holds and is, and the object 3 that is made from a part of 1.
+fn graph(alloc: Global) -> Result<AliasGraph, AllocError>
+    ensures { IfOk result (λ graph. Within 4 graph) }
+{
+    let mut graph = AliasGraph::new(alloc);
+    graph.create(&place(0), FUNCTION)?;
+    graph.create(&place(1), NodeValue::Object)?;
+    graph.create(&place(2), FUNCTION)?;
+    graph.capture(0, &place(0), &place(1))?;
+    graph.assign(1, &place(2), &place(1))?;
+    graph.create_from(2, &place(1), &place(3))?;
+    Ok(graph)
+}
+
+#[tactic(auto, using(crate::proofs::SameNodes::within_same))]
+fn mutate<L: Ledger>(
+    blank: Blank,
+    graph: &mut AliasGraph,
+    env: &mut Environment,
+    index: u32,
+    start: u32,
+    should_record_errors: bool,
+) -> Result<(), AllocError>
+    requires name { blank.name ≡ L.name }
+    requires parts { blank.parts ≡ L.parts }
+    requires some { 0 < blank.parts }
+    requires within { Within 4 graph.old }
+    requires identifiers { length env.old.identifiers ≡ 4 }
+    ensures { OnOk result (Within 4 graph.new) }
+{
+    let mut steps = Steps::<L>::start(blank);
+    graph.mutate(
+        index,
+        IdentifierId(start),
+        None,
+        false,
+        MutationKind::Definite,
+        None,
+        None,
+        env,
+        should_record_errors,
+        &mut steps,
+    )?;
+    Ok(())
+}
+
+/// How many reports two walks from a function leave.
+fn told_by_walks(alloc: Global, should_record_errors: bool) -> Result<usize, AllocError> {
+    let mut env = impure(alloc)?;
+    let mut graph = graph(alloc)?;
+    mutate::<Brand>(
+        Blank::new(1),
+        &mut graph,
+        &mut env,
+        0,
+        0,
+        should_record_errors,
+    )?;
+    let once = env.errors.len();
+    let mut again = impure(alloc)?;
+    mutate::<Brand>(
+        Blank::new(1),
+        &mut graph,
+        &mut again,
+        0,
+        0,
+        should_record_errors,
+    )?;
+    Ok(once.saturating_add(again.errors.len()))
+}
+
+#[test]
+fn a_walk_tells_a_function_once(rt: HostRuntime) -> Result<(), Fail> {
+    assert_eq!(rt; told_by_walks(rt.alloc(), true)?, 1);
+    assert_eq!(rt; told_by_walks(rt.alloc(), false)?, 0);
+    Ok(())
+}
+
+/// How many reports a render leaves, after a walk at `marked` if that is given.
+fn told_by_render(
+    alloc: Global,
+    index: u32,
+    start: u32,
+    marked: Option<u32>,
+) -> Result<usize, AllocError> {
+    let mut env = impure(alloc)?;
+    let mut graph = graph(alloc)?;
+    if let Some(node) = marked {
+        mutate::<Brand>(Blank::new(1), &mut graph, &mut env, 0, node, false)?;
+    }
+    graph.render(index, IdentifierId(start), &mut env)?;
+    Ok(env.errors.len())
+}
+
+#[test]
+fn a_render_tells_functions(rt: HostRuntime) -> Result<(), Fail> {
+    let alloc = rt.alloc();
+    assert_eq!(rt; told_by_render(alloc, 3, 3, None)?, 2);
+    assert_eq!(rt; told_by_render(alloc, 1, 1, None)?, 1);
+    assert_eq!(rt; told_by_render(alloc, 3, 3, Some(1))?, 0);
+    assert_eq!(rt; told_by_render(alloc, 3, 3, Some(0))?, 1);
+    assert_eq!(rt; told_by_render(alloc, 3, 0, None)?, 1);
+    Ok(())
+}

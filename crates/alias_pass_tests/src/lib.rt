@@ -1,0 +1,12 @@
+//! Tests of the effects pass and of the passes of the caller, on functions built by hand. A crate of its own, so that
+//! the crates below are proved once.
+#![tactic(auto)]
+
+#[cfg(test)]
+mod functions;
+#[cfg(test)]
+mod inner_passes;
+#[cfg(test)]
+mod loops;
+#[cfg(test)]
+mod one_block;

@@ -1,0 +1,2 @@
+pub mod TestFlows
+pub mod TestFlowLaws

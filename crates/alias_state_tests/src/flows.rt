@@ -1,0 +1,312 @@
+//! A chain and a loop, whose visits are computed by hand.
+ghost use Rattle.std.specs.Prelude.{◌≡◌, ◌<◌, ℕ, List, [], ◌∷◌, Option, Some, slice_set, nat_le, refl};
+ghost use Rattle.alias_state_tests.specs.TestFlows.{higher, IsHeight, Extends, forward_rules, loop_rules};
+ghost use Rattle.alias_state_tests.specs.TestFlowLaws.{height_laws, forward_laws, loop_laws};
+
+use alias_flow::{Flow, StepFault, is_forward, solve, solve_forward};
+use alias_lattice::Lattice;
+use smallvec::SmallVec;
+use std::alloc::{AllocError, Global};
+use std::marker::Model;
+use std::test::Fail;
+
+/// A height that can't be copied: each try wants memory.
+#[derive(Drop)]
+struct Uncopied(u32);
+
+impl Model for Uncopied {
+    ghost Value = { ℕ };
+
+    ghost view = { λ a. a.0 };
+}
+
+impl Lattice for Uncopied {
+    ghost proper = { IsHeight };
+
+    ghost join = { higher };
+
+    ghost below = { nat_le };
+
+    ghost laws = { height_laws };
+
+    fn known(&self) {}
+
+    fn join_from(&mut self, other: &Self) -> Result<bool, AllocError> {
+        if other.0 <= self.0 {
+            return Ok(false);
+        }
+        self.0 = other.0;
+        Ok(true)
+    }
+
+    fn is_below(&self, other: &Self) -> bool {
+        self.0 <= other.0
+    }
+
+    fn try_clone(&self) -> Result<Self, AllocError> {
+        Err(AllocError)
+    }
+}
+
+/// A height.
+#[derive(Drop)]
+struct Height(u32);
+
+impl Model for Height {
+    ghost Value = { ℕ };
+
+    ghost view = { λ a. a.0 };
+}
+
+impl Lattice for Height {
+    ghost proper = { IsHeight };
+
+    ghost join = { higher };
+
+    ghost below = { nat_le };
+
+    ghost laws = { height_laws };
+
+    fn known(&self) {}
+
+    fn join_from(&mut self, other: &Self) -> Result<bool, AllocError> {
+        if other.0 <= self.0 {
+            return Ok(false);
+        }
+        self.0 = other.0;
+        Ok(true)
+    }
+
+    fn is_below(&self, other: &Self) -> bool {
+        self.0 <= other.0
+    }
+
+    fn try_clone(&self) -> Result<Self, AllocError> {
+        Ok(Height(self.0))
+    }
+}
+
+/// The heights that the last visit of each of four blocks began with.
+#[derive(Drop)]
+struct Notes {
+    first: Option<u32>,
+    second: Option<u32>,
+    third: Option<u32>,
+    fourth: Option<u32>,
+}
+
+impl Notes {
+    fn none() -> Notes {
+        Notes {
+            first: None,
+            second: None,
+            third: None,
+            fourth: None,
+        }
+    }
+
+    fn note(&mut self, block: u32, height: u32)
+        requires { block < 4 }
+        ensures { self.new.first ∷ self.new.second ∷ self.new.third ∷ self.new.fourth ∷ [] ≡ slice_set (self.old.first ∷ self.old.second ∷ self.old.third ∷ self.old.fourth ∷ []) block (Some height) }
+    {
+        match block {
+            0 => self.first = Some(height),
+            1 => self.second = Some(height),
+            2 => self.third = Some(height),
+            _ => self.fourth = Some(height),
+        }
+    }
+}
+
+/// Blocks 0 to 3, each with an edge to the next; each step climbs by one.
+#[derive(Drop)]
+struct ForwardPass {
+    alloc: Global,
+    notes: Notes,
+}
+
+impl Flow for ForwardPass {
+    type State = Uncopied;
+
+    type Fault = ();
+
+    ghost Tables = { Unit {0} };
+
+    ghost Recorded = { ℕ };
+
+    ghost Cause = { Unit {0} };
+
+    ghost cause = { λ u. u };
+
+    ghost rules = { λ l. forward_rules };
+
+    ghost tables = { λ l. tt };
+
+    ghost recorded = { λ l. l.notes.first ∷ l.notes.second ∷ l.notes.third ∷ l.notes.fourth ∷ [] };
+
+    ghost Borrows = { Unit {0} };
+
+    ghost borrows = { λ l. tt };
+
+    ghost extends = { Extends };
+
+    ghost laws = { λ l. forward_laws (l.notes.first ∷ l.notes.second ∷ l.notes.third ∷ l.notes.fourth ∷ []) refl };
+
+    fn blocks(&self) -> u32 {
+        4
+    }
+
+    fn entry(&self) -> u32 {
+        0
+    }
+
+    fn initial(&self) -> Result<Uncopied, AllocError> {
+        Ok(Uncopied(0))
+    }
+
+    fn edges(&self, block: u32) -> Result<SmallVec<u32, 2, Global>, AllocError> {
+        let mut edges = SmallVec::new(self.alloc);
+        if block < 3 {
+            edges.push(block + 1)?;
+        }
+        Ok(edges)
+    }
+
+    fn step(&mut self, block: u32, state: &mut Uncopied) -> Result<(), StepFault<()>> {
+        let begins = state.0;
+        if begins == u32::MAX {
+            return Err(StepFault::Refused(()));
+        }
+        self.notes.note(block, begins);
+        state.0 = begins + 1;
+        Ok(())
+    }
+}
+
+/// Block 0 goes to 1, and 1 to itself and to 2; each step climbs by one, up to 3.
+#[derive(Drop)]
+struct Loop {
+    alloc: Global,
+    notes: Notes,
+}
+
+impl Flow for Loop {
+    type State = Height;
+
+    type Fault = ();
+
+    ghost Tables = { Unit {0} };
+
+    ghost Recorded = { ℕ };
+
+    ghost Cause = { Unit {0} };
+
+    ghost cause = { λ u. u };
+
+    ghost rules = { λ l. loop_rules };
+
+    ghost tables = { λ l. tt };
+
+    ghost recorded = { λ l. l.notes.first ∷ l.notes.second ∷ l.notes.third ∷ l.notes.fourth ∷ [] };
+
+    ghost Borrows = { Unit {0} };
+
+    ghost borrows = { λ l. tt };
+
+    ghost extends = { Extends };
+
+    ghost laws = { λ l. loop_laws (l.notes.first ∷ l.notes.second ∷ l.notes.third ∷ l.notes.fourth ∷ []) refl };
+
+    fn blocks(&self) -> u32 {
+        4
+    }
+
+    fn entry(&self) -> u32 {
+        0
+    }
+
+    fn initial(&self) -> Result<Height, AllocError> {
+        Ok(Height(0))
+    }
+
+    fn edges(&self, block: u32) -> Result<SmallVec<u32, 2, Global>, AllocError> {
+        let mut edges = SmallVec::new(self.alloc);
+        if block == 0 {
+            edges.push(1)?;
+        } else if block == 1 {
+            edges.push(1)?;
+            edges.push(2)?;
+        }
+        Ok(edges)
+    }
+
+    fn step(&mut self, block: u32, state: &mut Height) -> Result<(), StepFault<()>> {
+        let begins = state.0;
+        self.notes.note(block, begins);
+        state.0 = if begins < 3 { begins + 1 } else { 3 };
+        Ok(())
+    }
+}
+
+fn heights_of(alloc: Global, entries: &[Option<Height>]) -> Result<Vec<Option<u32>>, AllocError> {
+    let mut heights = Vec::new(alloc);
+    for entry in entries {
+        let height = match entry {
+            Some(height) => Some(height.0),
+            None => None,
+        };
+        heights.push(height)?;
+    }
+    Ok(heights)
+}
+
+#[test]
+fn moves_states_along_a_line(rt: HostRuntime) {
+    let mut flow = ForwardPass {
+        alloc: rt.alloc(),
+        notes: Notes::none(),
+    };
+    assert!(rt; solve_forward(rt.alloc(), &mut flow).is_ok());
+    let notes = &flow.notes;
+    assert_eq!(rt; notes.first, Some(0));
+    assert_eq!(rt; notes.second, Some(1));
+    assert_eq!(rt; notes.third, Some(2));
+    assert_eq!(rt; notes.fourth, Some(3));
+}
+
+#[test]
+fn visits_a_loop_until_it_settles(rt: HostRuntime) -> Result<(), Fail> {
+    let mut flow = Loop {
+        alloc: rt.alloc(),
+        notes: Notes::none(),
+    };
+    let Ok(solution) = solve(rt.alloc(), &mut flow) else {
+        return Err(AllocError.into());
+    };
+    assert_eq!(rt; solution.visits.as_slice(), [0, 1, 2, 1, 2, 1].as_slice());
+    let heights = heights_of(rt.alloc(), solution.entries.as_slice())?;
+    assert_eq!(rt;
+        heights.as_slice(),
+        [Some(0), Some(3), Some(3), None].as_slice()
+    );
+    assert_eq!(rt; flow.notes.first, Some(0));
+    assert_eq!(rt; flow.notes.second, Some(3));
+    assert_eq!(rt; flow.notes.third, Some(3));
+    assert_eq!(rt; flow.notes.fourth, None);
+    Ok(())
+}
+
+#[test]
+fn tells_a_line_from_a_loop(rt: HostRuntime) -> Result<(), Fail> {
+    let forward_round = ForwardPass {
+        alloc: rt.alloc(),
+        notes: Notes::none(),
+    };
+    assert!(rt; is_forward(&forward_round)?);
+    let around = Loop {
+        alloc: rt.alloc(),
+        notes: Notes::none(),
+    };
+    assert!(rt; !is_forward(&around)?);
+    Ok(())
+}

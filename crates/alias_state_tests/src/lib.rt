@@ -1,0 +1,10 @@
+//! Tests of lattices, states and flows, each with values worked out by hand: what the clauses of `alias_lattice` and
+//! `alias_flow` come to on examples. A crate of its own, so that those two are proved once.
+#![tactic(auto)]
+
+#[cfg(test)]
+mod copies;
+#[cfg(test)]
+mod flows;
+#[cfg(test)]
+mod states;
