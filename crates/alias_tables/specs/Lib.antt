@@ -1,0 +1,11 @@
+pub mod Steps
+pub mod ReplayLaws
+pub mod Indexes
+pub mod CaptureOrder
+pub mod Keys
+pub mod FirstEffects
+pub mod NameOrder
+pub mod Temporaries
+pub mod Tables
+pub mod GrowingLaws
+pub mod ReportLaws

@@ -1,0 +1,20 @@
+//! The tables that grow while effects are stepped: the first effect of each key, temporaries, interned reports, and
+//! the context places that are only read; and the words that steps over them are made of.
+#![tactic(auto)]
+
+pub mod faults;
+pub mod first_effects;
+pub mod key;
+pub mod reads;
+mod reports;
+pub mod tables;
+pub mod temp_key;
+pub mod temporaries;
+
+pub use faults::{EffectFault, Refusal};
+pub use first_effects::FirstEffects;
+pub use key::{EffectKey, effect_key};
+pub use reads::ContextRead;
+pub use tables::{TableParts, Tables};
+pub use temp_key::TempKey;
+pub use temporaries::{Temporaries, Temporary};

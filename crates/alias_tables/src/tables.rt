@@ -1,0 +1,219 @@
+//! The tables of a pass.
+
+ghost use Rattle.std.specs.Prelude.{◌≡◌, ◌&&◌, nat_lt, ◌+◌, [], IfOk, OnOk};
+ghost use Rattle.alias_tables.specs.Tables.{TableLists, Leaves, same_read, is_noted, has_room, new_place, intern, temporary, intern_report, note_read};
+
+use crate::faults::{EffectFault, Refusal};
+use crate::first_effects::FirstEffects;
+use crate::key::{effect_key, with_error_of};
+use crate::reads::ContextRead;
+use crate::reports::keep_report;
+use crate::temp_key::TempKey;
+use crate::temporaries::{Temporaries, Temporary};
+use alias_base::{IdentifierId, List, TryClone};
+use alias_hir::effect::{AliasingEffect, AliasingEffects};
+use alias_hir::env::Environment;
+use alias_hir::error::Counter;
+use alias_hir::interned::InternedReports;
+use alias_hir::place::{Effect, Place, Span};
+use alias_hir::report::{DiagnosticId, Interned, Report};
+use std::alloc::{AllocError, Global};
+use std::marker::Model;
+
+/// What the steps of effects add to: the first effect of each key, temporaries, interned reports, and the context
+/// places that were found to be only read.
+#[derive(Drop)]
+pub struct Tables {
+    alloc: Global,
+    first: FirstEffects,
+    temporaries: Temporaries,
+    reports: InternedReports,
+    reads: List<ContextRead>,
+}
+
+/// What tables hold, each by value.
+#[derive(Drop)]
+pub struct TableParts {
+    pub first: AliasingEffects,
+    pub temporaries: Temporaries,
+    pub reports: InternedReports,
+    pub reads: List<ContextRead>,
+}
+
+impl Model for Tables {
+    ghost use Rattle.alias_tables.specs.Tables.{TableLists};
+
+    ghost Value = { TableLists };
+
+    ghost view = { λ t. record { first = t.first; temporaries = t.temporaries; reports = t.reports; reads = t.reads } };
+}
+
+fn same_read(a: ContextRead, b: ContextRead) -> bool
+    ensures { result ≡ same_read a b }
+{
+    a.function.0 == b.function.0 && a.place.0 == b.place.0
+}
+
+fn is_noted(read: ContextRead, reads: &[ContextRead]) -> bool
+    ensures { result ≡ is_noted read reads.now }
+{
+    reads.iter().any(|x| same_read(*x, read))
+}
+
+/// Whether two numbers have a sum that numbers something.
+fn has_sum(few: usize, more: usize) -> bool
+    ensures { result ≡ nat_lt (few + more) 4294967295 }
+{
+    few < 4294967295 && more < 4294967295 - few
+}
+
+fn has_room(identifiers: usize, types: usize, more: usize) -> bool
+    ensures { result ≡ has_room identifiers types more }
+{
+    has_sum(identifiers, more) && has_sum(types, more)
+}
+
+impl Tables {
+    /// Tables with these reports, and nothing else. Takes no memory.
+    pub fn new(alloc: Global, reports: InternedReports) -> Tables
+        ensures { result ≡ record { first = []; temporaries = []; reports = reports; reads = [] } }
+    {
+        Tables {
+            alloc,
+            first: FirstEffects::new(alloc),
+            temporaries: Temporaries::new(alloc),
+            reports,
+            reads: List::new(alloc),
+        }
+    }
+
+    /// The allocator of the tables.
+    pub fn alloc(&self) -> Global {
+        self.alloc
+    }
+
+    /// The first effects, in order.
+    pub fn first(&self) -> &[AliasingEffect]
+        ensures { result.now ≡ self.now.first }
+    {
+        self.first.as_slice()
+    }
+
+    /// The temporaries, in order.
+    pub fn temporaries(&self) -> &[Temporary]
+        ensures { result.now ≡ self.now.temporaries }
+    {
+        self.temporaries.as_slice()
+    }
+
+    /// The interned reports, in order.
+    pub fn reports(&self) -> &[Interned]
+        ensures { result.now ≡ self.now.reports }
+    {
+        self.reports.as_slice()
+    }
+
+    /// The context places that were found to be only read.
+    pub fn reads(&self) -> &[ContextRead]
+        ensures { result.now ≡ self.now.reads }
+    {
+        self.reads.as_slice()
+    }
+
+    /// What the tables hold, each by value.
+    pub fn into_parts(self) -> TableParts
+        ensures first { result.first ≡ self.first }
+        ensures temporaries { result.temporaries ≡ self.temporaries }
+        ensures reports { result.reports ≡ self.reports }
+        ensures reads { result.reads ≡ self.reads }
+    {
+        let Tables {
+            alloc: _,
+            first,
+            temporaries,
+            reports,
+            reads,
+        } = self;
+        TableParts {
+            first: first.into_effects(),
+            temporaries,
+            reports,
+            reads,
+        }
+    }
+
+    /// The first effect of the same key with the effect's own error. Where there is none the effect becomes it.
+    pub fn intern(&mut self, effect: AliasingEffect) -> Result<AliasingEffect, AllocError>
+        ensures { IfOk result (λ e. intern effect self.old ≡ Ok (e, self.new)) }
+    {
+        let alloc = self.alloc;
+        match effect_key(alloc, &effect)? {
+            Some(key) => match self.first.get(&key) {
+                Some(first) => Ok(with_error_of(first.try_clone(alloc)?, &effect)),
+                None => {
+                    self.first.push(key, effect.try_clone(alloc)?)?;
+                    Ok(effect)
+                }
+            },
+            None => Ok(effect),
+        }
+    }
+
+    /// The place of the key's temporary. Where there is none, it gets the next number and this span.
+    pub fn temporary(
+        &mut self,
+        env: &Environment,
+        key: TempKey,
+        span: Option<Span>,
+    ) -> Result<Place, EffectFault>
+        ensures { Leaves (temporary env.now key span self.old) result self.new }
+    {
+        if let Some(there) = self.temporaries.get(&key) {
+            return Ok(there.place);
+        }
+        let identifiers = env.identifiers.len();
+        let more = self.temporaries.as_slice().len();
+        if !has_room(identifiers, env.types.len(), more) {
+            return Err(EffectFault::Refused(Refusal::TooMany(Counter::Identifiers)));
+        }
+        let place = Place {
+            identifier: IdentifierId((identifiers + more) as u32),
+            effect: Effect::Unknown,
+            reactive: false,
+            span,
+        };
+        self.temporaries.push(self.alloc, key, place)?;
+        Ok(place)
+    }
+
+    /// The numbers of a report. A new one is kept, and takes the next number.
+    pub fn intern_report(
+        &mut self,
+        identifier: IdentifierId,
+        report: Report,
+    ) -> Result<DiagnosticId, EffectFault>
+        ensures { Leaves (intern_report identifier report self.old) result self.new }
+    {
+        let identity = self.reports.identity_of(identifier, &report);
+        let instance = self.reports.instance_of(identifier, &report);
+        if identity < 4294967295 && instance < 4294967295 {
+            keep_report(&mut self.reports, instance, identifier, report)?;
+            Ok(DiagnosticId {
+                identity: identity as u32,
+                instance: instance as u32,
+            })
+        } else {
+            Err(EffectFault::Refused(Refusal::TooMany(Counter::Diagnostics)))
+        }
+    }
+
+    /// Notes that the function only reads its context place.
+    pub fn note_read(&mut self, read: ContextRead) -> Result<(), AllocError>
+        ensures { OnOk result (self.new ≡ note_read read self.old) }
+    {
+        if !is_noted(read, self.reads.as_slice()) {
+            self.reads.push(read)?;
+        }
+        Ok(())
+    }
+}

@@ -1,0 +1,107 @@
+//! Identifiers that the expansion of calls adds.
+
+ghost use Rattle.std.specs.Prelude.{◌≡◌, ◌++◌, ◌∷◌, [], None, IfOk, OnOk, OnErr, option_map};
+ghost use Rattle.alias_tables.specs.Temporaries.{temp_like, temp_place_like, IsTempPlaces, temporary_of};
+
+use crate::temp_key::TempKey;
+use alias_base::{List, TryClone};
+use alias_hir::place::Place;
+use std::alloc::{AllocError, Global};
+use std::collections::BTreeMap;
+use std::marker::Model;
+
+/// A temporary: what it stands for, and its place.
+#[derive(Drop)]
+pub struct Temporary {
+    pub key: TempKey,
+    pub place: Place,
+}
+
+/// Temporaries in the order in which they came, no two of one key, and the place of each key among them.
+#[derive(Drop)]
+pub struct Temporaries {
+    items: List<Temporary>,
+    places: BTreeMap<TempKey, usize>,
+}
+
+impl Model for Temporaries {
+    ghost use Rattle.std.specs.Prelude.{List};
+    ghost use Rattle.alias_tables.specs.declared.temporaries.Temporary.{Temporary};
+
+    ghost Value = { List Temporary };
+
+    ghost use Rattle.alias_tables.specs.Temporaries.{IsTempPlaces};
+
+    ghost view = { λ t. t.items };
+
+    ghost invariant = { λ t. IsTempPlaces t.places t.items };
+}
+
+/// Appends a temporary of a new key. An `Err` leaves both as they are.
+fn push_temporary(
+    items: &mut List<Temporary>,
+    places: &mut BTreeMap<TempKey, usize>,
+    key: TempKey,
+    temporary: Temporary,
+) -> Result<(), AllocError>
+    requires index { IsTempPlaces places.old items.old }
+    requires of_key { temporary.key ≡ key }
+    requires new { temp_place_like key items.old ≡ None }
+    ensures ok { OnOk result (items.new ≡ items.old ++ temporary ∷ []) }
+    ensures err { OnErr result (items.new ≡ items.old) }
+    ensures index { IsTempPlaces places.new items.new }
+{
+    let place = items.len();
+    items.push(temporary)?;
+    match places.insert(key, place) {
+        Ok(_) => Ok(()),
+        Err(e) => {
+            let _temporary = items.pop();
+            Err(e.into())
+        }
+    }
+}
+
+impl Temporaries {
+    /// No temporaries. Takes no memory.
+    pub fn new(alloc: Global) -> Temporaries
+        ensures { result ≡ [] }
+    {
+        Temporaries {
+            items: List::new(alloc),
+            places: BTreeMap::new(alloc),
+        }
+    }
+
+    /// The temporaries, in order.
+    pub fn as_slice(&self) -> &[Temporary]
+        ensures { result.now ≡ self.now }
+    {
+        self.items.as_slice()
+    }
+
+    /// The temporary of the key, if it came.
+    pub fn get(&self, key: &TempKey) -> Option<&Temporary>
+        ensures { option_map (λ t. t.now) result ≡ temp_like key.now self.now }
+    {
+        match self.places.get(key) {
+            Some(place) => self.items.get(*place),
+            None => None,
+        }
+    }
+
+    /// Appends the temporary of a new key. An `Err` leaves the table as it is.
+    pub fn push(&mut self, alloc: Global, key: TempKey, place: Place) -> Result<(), AllocError>
+        requires { temp_like key self.old ≡ None }
+        ensures ok { OnOk result (self.new ≡ self.old ++ temporary_of key place ∷ []) }
+        ensures err { OnErr result (self.new ≡ self.old) }
+    {
+        let copy = key.try_clone(alloc)?;
+        push_temporary(
+            &mut self.items,
+            &mut self.places,
+            copy,
+            Temporary { key, place },
+        )
+    }
+}
