@@ -1,6 +1,7 @@
 -- Tables grow at their ends, and what was found or added in them is found again.
 use Rattle.std.specs.Prelude.{◌≡◌, Bool, true, false, List, [], ◌∷◌, ◌++◌, length, Option, Some, None, Ok, Err, refl, if◌then◌else◌}
 use Rattle.std.proofs.Common.{ap, sym, ◌∙◌, subst, append_assoc, append-nil}
+use Rattle.alias_base.specs.Indexes.{first_new, first_still}
 use Rattle.alias_hir.specs.declared.error.Counter.TheVariants.{Identifiers}
 use Rattle.alias_hir.specs.declared.place.Place.{Place}
 use Rattle.alias_hir.specs.declared.place.Span.{Span}
@@ -15,9 +16,8 @@ use Rattle.alias_tables.specs.declared.temp_key.TempKey.{TempKey}
 use Rattle.alias_tables.specs.declared.temporaries.Temporary.{Temporary}
 use Rattle.alias_tables.specs.Steps.{gives, refuses, ◌>>=◌, each}
 use Rattle.alias_tables.specs.ReplayLaws.{Replays, tables_are, first_is, not_given, replays_gives as any_gives, replays_refuses as any_refuses, replays_then as any_then, replays_if as any_if, replays_each as any_each}
-use Rattle.alias_tables.specs.Indexes.{first_new, first_still}
-use Rattle.alias_tables.specs.FirstEffects.{key_cmp, keys_total, first_like}
-use Rattle.alias_tables.specs.Temporaries.{temp_cmp, temps_total, key_in, temp_like, temporary_of}
+use Rattle.alias_tables.specs.FirstEffects.{same_key, keys_are_told_apart, first_like}
+use Rattle.alias_tables.specs.Temporaries.{same_temp, temps_are_told_apart, key_in, temp_like, temporary_of}
 use Rattle.alias_tables.specs.Tables.{TableLists, Step, intern, intern_by, intern_after, has_room, new_place, temporary, temporary_after}
 
 -- the second list is the first, with more behind its end
@@ -105,7 +105,7 @@ effect_added : (t : TableLists) (e : AliasingEffect) → Extends t (with_effect 
 effect_added t e = record { first = grows_by t.first (e ∷ []); temporaries = grows_self t.temporaries; reports = grows_self t.reports; reads = grows_self t.reads }
 
 still_there : (k : EffectKey) (u v : TableLists) (e : AliasingEffect) → first_like k u.first ≡ Some e → Extends u v → first_like k v.first ≡ Some e
-still_there k u v e h x = ap (first_like k) (sym x.first.is) ∙ first_still key_cmp key_of k u.first x.first.more e h
+still_there k u v e h x = ap (first_like k) (sym x.first.is) ∙ first_still same_key key_of k u.first x.first.more e h
 
 interned_grows : (o : Option AliasingEffect) (e : AliasingEffect) (t u : TableLists) (y : AliasingEffect) → intern_after o e t ≡ Ok (y, u) → Extends t u
 interned_grows None e t u y h = subst (Extends t) (tables_are e y (with_effect t e) u h) (effect_added t e)
@@ -114,7 +114,7 @@ interned_grows (Some z) e t u y h = subst (Extends t) (tables_are (with_error_of
 interned_again : (k : EffectKey) (o : Option AliasingEffect) (e : AliasingEffect) (t u v : TableLists) (y : AliasingEffect) → key_of e ≡ Some k → first_like k t.first ≡ o → intern_after o e t ≡ Ok (y, u) → Extends u v → intern_after (first_like k v.first) e v ≡ Ok (y, v)
 interned_again k None e t u v y is none h x =
     let tables : with_effect t e ≡ u = tables_are e y (with_effect t e) u h in
-    let there : first_like k u.first ≡ Some e = ap (λ (w : TableLists). first_like k w.first) (sym tables) ∙ first_new key_cmp key_of keys_total k t.first e is none in
+    let there : first_like k u.first ≡ Some e = ap (λ (w : TableLists). first_like k w.first) (sym tables) ∙ first_new same_key key_of keys_are_told_apart k t.first e is none in
     ap (λ o. intern_after o e v) (still_there k u v e there x) ∙ ap (λ z. Ok (z, v)) (error_kept e ∙ first_is e y (with_effect t e) u h)
 interned_again k (Some z) e t u v y is found h x =
     let tables : t ≡ u = tables_are (with_error_of z e) y t u h in
@@ -141,7 +141,7 @@ temporary_added : (t : TableLists) (x : Temporary) → Extends t (with_temporary
 temporary_added t x = record { first = grows_self t.first; temporaries = grows_by t.temporaries (x ∷ []); reports = grows_self t.reports; reads = grows_self t.reads }
 
 still_temporary : (k : TempKey) (u v : TableLists) (x : Temporary) → temp_like k u.temporaries ≡ Some x → Extends u v → temp_like k v.temporaries ≡ Some x
-still_temporary k u v x h e = ap (temp_like k) (sym e.temporaries.is) ∙ first_still temp_cmp key_in k u.temporaries e.temporaries.more x h
+still_temporary k u v x h e = ap (temp_like k) (sym e.temporaries.is) ∙ first_still same_temp key_in k u.temporaries e.temporaries.more x h
 
 module _ (env : Environment) (key : TempKey) (span : Option Span) where
   abbrev place_in : TableLists → Place
@@ -167,7 +167,7 @@ module _ (env : Environment) (key : TempKey) (span : Option Span) where
       new_again true none h =
           let x = temporary_of key (place_in t) in
           let tables : with_temporary t x ≡ u = tables_are (place_in t) y (with_temporary t x) u h in
-          let there : temp_like key u.temporaries ≡ Some x = ap (λ (w : TableLists). temp_like key w.temporaries) (sym tables) ∙ first_new temp_cmp key_in temps_total key t.temporaries x refl none in
+          let there : temp_like key u.temporaries ≡ Some x = ap (λ (w : TableLists). temp_like key w.temporaries) (sym tables) ∙ first_new same_temp key_in temps_are_told_apart key t.temporaries x refl none in
           ap (λ o. temporary_after o env key span v) (still_temporary key u v x there e) ∙ ap (λ p. Ok (p, v)) (first_is (place_in t) y (with_temporary t x) u h)
       new_again false none h = not_given _ y u h
 

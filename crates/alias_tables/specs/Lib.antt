@@ -1,6 +1,5 @@
 pub mod Steps
 pub mod ReplayLaws
-pub mod Indexes
 pub mod CaptureOrder
 pub mod Keys
 pub mod FirstEffects

@@ -2,7 +2,7 @@
 
 ghost use Rattle.std.specs.Prelude.{◌≡◌, ◌++◌, ◌∷◌, [], None, OnOk, OnErr, option_map};
 ghost use Rattle.alias_tables.specs.Keys.{key_of};
-ghost use Rattle.alias_tables.specs.FirstEffects.{first_like, place_like, IsPlaces};
+ghost use Rattle.alias_tables.specs.FirstEffects.{first_like, slot_like, AreSlots};
 
 use crate::key::EffectKey;
 use alias_base::List;
@@ -11,11 +11,11 @@ use std::alloc::{AllocError, Global};
 use std::collections::BTreeMap;
 use std::marker::Model;
 
-/// Effects in the order in which they came, no two of one key, and the place of each key among them.
+/// Effects in the order in which they came, no two of one key, and the slot of each key among them.
 #[derive(Drop)]
 pub struct FirstEffects {
     effects: AliasingEffects,
-    places: BTreeMap<EffectKey, usize>,
+    slots: BTreeMap<EffectKey, usize>,
 }
 
 impl Model for FirstEffects {
@@ -24,30 +24,30 @@ impl Model for FirstEffects {
 
     ghost Value = { List AliasingEffect };
 
-    ghost use Rattle.alias_tables.specs.FirstEffects.{IsPlaces};
+    ghost use Rattle.alias_tables.specs.FirstEffects.{AreSlots};
 
     ghost view = { λ f. f.effects };
 
-    ghost invariant = { λ f. IsPlaces f.places f.effects };
+    ghost invariant = { λ f. AreSlots f.slots f.effects };
 }
 
 /// Appends an effect of a new key. An `Err` leaves both as they are.
 fn push_both(
     effects: &mut AliasingEffects,
-    places: &mut BTreeMap<EffectKey, usize>,
+    slots: &mut BTreeMap<EffectKey, usize>,
     key: EffectKey,
     effect: AliasingEffect,
 ) -> Result<(), AllocError>
-    requires index { IsPlaces places.old effects.old }
+    requires index { AreSlots slots.old effects.old }
     requires of_key { key_of effect ≡ Some key }
-    requires new { place_like key effects.old ≡ None }
+    requires new { slot_like key effects.old ≡ None }
     ensures ok { OnOk result (effects.new ≡ effects.old ++ effect ∷ []) }
     ensures err { OnErr result (effects.new ≡ effects.old) }
-    ensures index { IsPlaces places.new effects.new }
+    ensures index { AreSlots slots.new effects.new }
 {
-    let place = effects.len();
+    let slot = effects.len();
     effects.push(effect)?;
-    match places.insert(key, place) {
+    match slots.insert(key, slot) {
         Ok(_) => Ok(()),
         Err(e) => {
             let _effect = effects.pop();
@@ -56,8 +56,8 @@ fn push_both(
     }
 }
 
-fn drop_places(places: BTreeMap<EffectKey, usize>) {
-    let _places = places;
+fn drop_slots(slots: BTreeMap<EffectKey, usize>) {
+    let _slots = slots;
 }
 
 impl FirstEffects {
@@ -67,7 +67,7 @@ impl FirstEffects {
     {
         FirstEffects {
             effects: List::new(alloc),
-            places: BTreeMap::new(alloc),
+            slots: BTreeMap::new(alloc),
         }
     }
 
@@ -82,8 +82,8 @@ impl FirstEffects {
     pub fn into_effects(self) -> AliasingEffects
         ensures { result ≡ self }
     {
-        let FirstEffects { effects, places } = self;
-        drop_places(places);
+        let FirstEffects { effects, slots } = self;
+        drop_slots(slots);
         effects
     }
 
@@ -91,8 +91,8 @@ impl FirstEffects {
     pub fn get(&self, key: &EffectKey) -> Option<&AliasingEffect>
         ensures { option_map (λ e. e.now) result ≡ first_like key.now self.now }
     {
-        match self.places.get(key) {
-            Some(place) => self.effects.get(*place),
+        match self.slots.get(key) {
+            Some(slot) => self.effects.get(*slot),
             None => None,
         }
     }
@@ -104,6 +104,6 @@ impl FirstEffects {
         ensures ok { OnOk result (self.new ≡ self.old ++ effect ∷ []) }
         ensures err { OnErr result (self.new ≡ self.old) }
     {
-        push_both(&mut self.effects, &mut self.places, key, effect)
+        push_both(&mut self.effects, &mut self.slots, key, effect)
     }
 }

@@ -1,7 +1,7 @@
 //! Identifiers that the expansion of calls adds.
 
 ghost use Rattle.std.specs.Prelude.{◌≡◌, ◌++◌, ◌∷◌, [], None, IfOk, OnOk, OnErr, option_map};
-ghost use Rattle.alias_tables.specs.Temporaries.{temp_like, temp_place_like, IsTempPlaces, temporary_of};
+ghost use Rattle.alias_tables.specs.Temporaries.{temp_like, temp_slot_like, AreTempSlots, temporary_of};
 
 use crate::temp_key::TempKey;
 use alias_base::{List, TryClone};
@@ -17,11 +17,11 @@ pub struct Temporary {
     pub place: Place,
 }
 
-/// Temporaries in the order in which they came, no two of one key, and the place of each key among them.
+/// Temporaries in the order in which they came, no two of one key, and the slot of each key among them.
 #[derive(Drop)]
 pub struct Temporaries {
     items: List<Temporary>,
-    places: BTreeMap<TempKey, usize>,
+    slots: BTreeMap<TempKey, usize>,
 }
 
 impl Model for Temporaries {
@@ -30,30 +30,30 @@ impl Model for Temporaries {
 
     ghost Value = { List Temporary };
 
-    ghost use Rattle.alias_tables.specs.Temporaries.{IsTempPlaces};
+    ghost use Rattle.alias_tables.specs.Temporaries.{AreTempSlots};
 
     ghost view = { λ t. t.items };
 
-    ghost invariant = { λ t. IsTempPlaces t.places t.items };
+    ghost invariant = { λ t. AreTempSlots t.slots t.items };
 }
 
 /// Appends a temporary of a new key. An `Err` leaves both as they are.
 fn push_temporary(
     items: &mut List<Temporary>,
-    places: &mut BTreeMap<TempKey, usize>,
+    slots: &mut BTreeMap<TempKey, usize>,
     key: TempKey,
     temporary: Temporary,
 ) -> Result<(), AllocError>
-    requires index { IsTempPlaces places.old items.old }
+    requires index { AreTempSlots slots.old items.old }
     requires of_key { temporary.key ≡ key }
-    requires new { temp_place_like key items.old ≡ None }
+    requires new { temp_slot_like key items.old ≡ None }
     ensures ok { OnOk result (items.new ≡ items.old ++ temporary ∷ []) }
     ensures err { OnErr result (items.new ≡ items.old) }
-    ensures index { IsTempPlaces places.new items.new }
+    ensures index { AreTempSlots slots.new items.new }
 {
-    let place = items.len();
+    let slot = items.len();
     items.push(temporary)?;
-    match places.insert(key, place) {
+    match slots.insert(key, slot) {
         Ok(_) => Ok(()),
         Err(e) => {
             let _temporary = items.pop();
@@ -69,7 +69,7 @@ impl Temporaries {
     {
         Temporaries {
             items: List::new(alloc),
-            places: BTreeMap::new(alloc),
+            slots: BTreeMap::new(alloc),
         }
     }
 
@@ -84,8 +84,8 @@ impl Temporaries {
     pub fn get(&self, key: &TempKey) -> Option<&Temporary>
         ensures { option_map (λ t. t.now) result ≡ temp_like key.now self.now }
     {
-        match self.places.get(key) {
-            Some(place) => self.items.get(*place),
+        match self.slots.get(key) {
+            Some(slot) => self.items.get(*slot),
             None => None,
         }
     }
@@ -99,7 +99,7 @@ impl Temporaries {
         let copy = key.try_clone(alloc)?;
         push_temporary(
             &mut self.items,
-            &mut self.places,
+            &mut self.slots,
             copy,
             Temporary { key, place },
         )
