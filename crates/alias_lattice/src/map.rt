@@ -217,7 +217,7 @@ impl<K: PlainKey, V: Lattice + Drop> LatticeMap<K, V> {
 }
 
 /// Sets a value in each of two maps. The one error is want of memory, which leaves both unchanged.
-pub fn set_both<K: PlainKey, V: Lattice + Drop, L: PlainKey, W: Lattice + Drop>(
+pub(crate) fn set_both<K: PlainKey, V: Lattice + Drop, L: PlainKey, W: Lattice + Drop>(
     first: &mut LatticeMap<K, V>,
     key: K,
     value: V,

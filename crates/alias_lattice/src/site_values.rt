@@ -165,6 +165,13 @@ fn freezes_value(value: Option<AbstractValue>) -> bool
     }
 }
 
+/// Whether the joined kind of the sites is Context, Mutable or MaybeFrozen.
+pub(crate) fn freezes_sites(values: &LatticeMap<Site, AbstractValue>, sites: &SiteSet) -> bool
+    ensures { result ≡ does_freeze_at values.now (Some sites.now) }
+{
+    freezes_value(value_over(values, sites))
+}
+
 /// Sets the value of each of the sites.
 fn set_each(
     values: &mut LatticeMap<Site, AbstractValue>,
@@ -211,7 +218,7 @@ pub(crate) fn freeze_sites(
     ensures ok { OnOk result (values.new ≡ frozen_at value.now (does_freeze_at values.old (Some sites.now)) (Some sites.now) values.old) }
     ensures err { OnErr result (values.new ≡ values.old) }
 {
-    let acts = freezes_value(value_over(values, sites));
+    let acts = freezes_sites(values, sites);
     if acts {
         set_all(values, sites, value)?;
     }

@@ -13,7 +13,7 @@ use crate::map::{LatticeMap, set_both};
 use crate::reasons::ReasonSet;
 use crate::site::Site;
 use crate::site_set::{SiteSet, one_site, union_over};
-use crate::site_values::{freeze_sites, mutable_other, value_of_sites};
+use crate::site_values::{freeze_sites, freezes_sites, mutable_other, value_of_sites};
 use crate::value::AbstractValue;
 use alias_base::{BlockMap, IdentifierId};
 use alias_hir::effect::{ValueKind, ValueReason};
@@ -196,6 +196,16 @@ impl InferenceState {
                     span,
                 }),
             },
+        }
+    }
+
+    /// Whether a freeze of the place changes its sites: whether its kind is Context, Mutable or MaybeFrozen.
+    pub fn does_freeze(&self, place: IdentifierId) -> bool
+        ensures { result ≡ does_freeze self.now place }
+    {
+        match self.variables.get(place) {
+            Some(sites) => freezes_sites(&self.values, sites),
+            None => false,
         }
     }
 

@@ -1,7 +1,7 @@
 //! A worked example, and whether a run comes out as it says.
 
 use alias_base::{List, Text};
-use alias_run::{Outcome, run_alias};
+use alias_run::run_alias;
 use alias_stream::{MemorySink, MemorySource};
 use std::alloc::{AllocError, Global};
 
@@ -61,10 +61,6 @@ pub fn passes(alloc: Global, example: &Example) -> Result<bool, AllocError> {
     Ok(wrote && code == example.status)
 }
 
-fn code_of(outcome: Outcome) -> u8 {
-    outcome.status.code()
-}
-
 fn run(alloc: Global, words: &[Text], source: &mut MemorySource, sink: &mut MemorySink) -> u8 {
-    code_of(run_alias(alloc, words, source, sink))
+    run_alias(alloc, words, source, sink).into_code()
 }

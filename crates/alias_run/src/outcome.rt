@@ -1,5 +1,6 @@
 //! How a run ends.
 ghost use Rattle.std.specs.Prelude.{◌≡◌};
+ghost use Rattle.alias_run.specs.Statuses.{status_code};
 
 use crate::inferred::Inferred;
 use crate::status::Status;
@@ -10,6 +11,15 @@ pub struct Outcome {
     pub status: Status,
     /// There exactly where the status is `Done`.
     pub inferred: Option<Inferred>,
+}
+
+impl Outcome {
+    /// The exit status of the program. It takes the outcome, so that the caller has none to drop.
+    pub fn into_code(self) -> u8
+        ensures { result ≡ status_code self.status }
+    {
+        self.status.code()
+    }
 }
 
 /// An outcome with nothing inferred.

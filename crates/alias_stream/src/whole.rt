@@ -1,5 +1,5 @@
 //! Reading to the end, and writing all.
-ghost use Rattle.std.specs.Prelude.{ℕ, ◌≡◌, ◌<◌, ◌≤◌, Err, vec_len, length, take, IfOk, OnOk, OnErr};
+ghost use Rattle.std.specs.Prelude.{ℕ, ◌≡◌, ◌+◌, ◌<◌, ◌≤◌, ◌==◌, nat_lt, Err, vec_len, length, take, IfOk, OnOk, OnErr};
 ghost use Rattle.alias_stream.specs.Streams.{Adds, HasFailed, IsAllOf, IsAtEnd, IfKnown};
 ghost use Rattle.alias_stream.specs.declared.whole.ReadStop.{ReadStop};
 ghost use Rattle.alias_stream.specs.declared.sink.SinkStop.{SinkStop};
@@ -49,6 +49,21 @@ fn new_chunk(alloc: Global) -> Result<Vec<u8>, AllocError>
     vec![in alloc; 0; CHUNK]
 }
 
+/// Whether a read of so many bytes, where there was room for some, came to the end.
+fn is_at_end(count: usize) -> bool
+    ensures { result ≡ (count == 0) }
+{
+    count == 0
+}
+
+/// Whether so many bytes are too many, where `before` have been read.
+fn is_too_long(before: usize, count: usize) -> bool
+    requires { before ≤ LIMIT }
+    ensures { result ≡ nat_lt LIMIT (before + count) }
+{
+    count > LIMIT - before
+}
+
 /// Reads to the end, and gives all the bytes; the source has none left then. An `Err` says that a read failed,
 /// that there are more than `LIMIT` bytes, or that memory is out; what was read before it is lost.
 pub fn read_whole<S: Source>(alloc: Global, source: &mut S) -> Result<List<u8>, ReadStop>
@@ -63,10 +78,10 @@ pub fn read_whole<S: Source>(alloc: Global, source: &mut S) -> Result<List<u8>, 
     loop {
         let buf = chunk.as_mut_slice();
         let count = source.read(buf)?;
-        if count == 0 {
+        if is_at_end(count) {
             return Ok(List::from_vec(bytes));
         }
-        if count > LIMIT - bytes.len() {
+        if is_too_long(bytes.len(), count) {
             return Err(ReadStop::TooLong);
         }
         bytes.extend_from_slice(&buf[..count])?;
