@@ -2,16 +2,16 @@
 ghost use Rattle.std.specs.Prelude.{◌≡◌, ◌<◌, length, IfOk, OnOk};
 ghost use Rattle.alias_ranges.specs.Nodes.{Within};
 
-use alias_ranges::graph::AliasGraph;
-use alias_ranges::steps::Steps;
 use crate::walks::{environment, place};
-use alias_ranges::types::{MutationKind, NodeValue};
 use alias_base::{BlockId, BlockMap, FunctionId, IdentifierId, List, Text};
-use alias_hir::error::HirError;
 use alias_hir::effect::{AliasingEffect, AliasingEffects};
 use alias_hir::env::Environment;
+use alias_hir::error::HirError;
 use alias_hir::hir::{FunctionType, Hir, HirFunction};
 use alias_hir::report::{DiagnosticId, ErrorCategory, Report};
+use alias_ranges::graph::AliasGraph;
+use alias_ranges::steps::Steps;
+use alias_ranges::types::{MutationKind, NodeValue};
 use std::alloc::{AllocError, Global};
 use std::marker::Brand;
 use std::sync::ledger::{Blank, Ledger};

@@ -1,14 +1,14 @@
 ghost use Rattle.std.specs.Prelude.{◌≡◌, ◌+◌, ◌<◌, length, IfOk, OnOk, ◌≤◌};
 ghost use Rattle.alias_ranges.specs.Nodes.{Within};
 
-use alias_ranges::events::{GraphEvent, build};
-use alias_ranges::graph::AliasGraph;
-use alias_ranges::steps::Steps;
-use alias_ranges::types::{EdgeKind, Link, LinkList, MutationInfo, MutationKind, NodeValue};
 use alias_base::{DeclarationId, EvaluationOrder, FunctionId, IdentifierId, List, TypeId};
 use alias_hir::effect::MutationReason;
 use alias_hir::env::{Environment, Identifier, MutableRange};
 use alias_hir::place::{Effect, Place, Span};
+use alias_ranges::events::{GraphEvent, build};
+use alias_ranges::graph::AliasGraph;
+use alias_ranges::steps::Steps;
+use alias_ranges::types::{EdgeKind, Link, LinkList, MutationInfo, MutationKind, NodeValue};
 use std::alloc::{AllocError, Global};
 use std::marker::Brand;
 use std::process::Abort;

@@ -53,7 +53,11 @@ pub(crate) fn store(into: u32, from: u32) -> InstructionValue {
 }
 
 /// `object.a = value`.
-pub(crate) fn write(alloc: Global, object: u32, value: u32) -> Result<InstructionValue, AllocError> {
+pub(crate) fn write(
+    alloc: Global,
+    object: u32,
+    value: u32,
+) -> Result<InstructionValue, AllocError> {
     Ok(InstructionValue::PropertyStore {
         object: place(object),
         property: PropertyLiteral::String(Text::from_str(alloc, "a")?),
@@ -170,4 +174,3 @@ pub(crate) fn recorded_count(instruction: &Instruction) -> usize {
         None => 0,
     }
 }
-

@@ -121,7 +121,11 @@ fn while_loop(alloc: Global) -> Result<HirFunction, AllocError> {
         (2, 2, 4, 7, End::Goto(1)),
         (3, 0, 0, 8, End::Return(2)),
     ];
-    Ok(function_of(alloc, blocks_of(alloc, &blocks)?, instructions_of(alloc, &list)?))
+    Ok(function_of(
+        alloc,
+        blocks_of(alloc, &blocks)?,
+        instructions_of(alloc, &list)?,
+    ))
 }
 
 /// An object that one way copies and the other reads, and that is written after both.
@@ -139,7 +143,11 @@ fn two_ways(alloc: Global) -> Result<HirFunction, AllocError> {
         (2, 3, 4, 7, End::Goto(3)),
         (3, 4, 5, 9, End::Return(1)),
     ];
-    Ok(function_of(alloc, blocks_of(alloc, &blocks)?, instructions_of(alloc, &list)?))
+    Ok(function_of(
+        alloc,
+        blocks_of(alloc, &blocks)?,
+        instructions_of(alloc, &list)?,
+    ))
 }
 
 /// The phi with its operands from blocks 0 and 2.

@@ -48,12 +48,7 @@ fn shapes(alloc: Global, path: &Path, values: &[Value]) -> Result<Shapes, ValueF
 }
 
 /// A shape that has the name of none of these.
-fn shape_of(
-    alloc: Global,
-    found: &Shapes,
-    path: &Path,
-    value: &Value,
-) -> Result<Shape, ValueFault>
+fn shape_of(alloc: Global, found: &Shapes, path: &Path, value: &Value) -> Result<Shape, ValueFault>
     ensures { Gives is_memory (shape_at found.now (pointer path.now) (view value.now)) result }
 {
     object(alloc, path, value)?;
@@ -79,12 +74,7 @@ fn shape_named(alloc: Global, id: Text, path: &Path, value: &Value) -> Result<Sh
     })
 }
 
-fn new_name(
-    alloc: Global,
-    found: &Shapes,
-    path: &Path,
-    name: &str,
-) -> Result<(), ValueFault>
+fn new_name(alloc: Global, found: &Shapes, path: &Path, name: &str) -> Result<(), ValueFault>
     ensures { Gives is_memory (new_name found.now (pointer path.now) name.now) result }
 {
     if found.named(name).is_some() {

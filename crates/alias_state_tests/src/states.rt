@@ -1,5 +1,8 @@
 //! What the clauses are to mean, on examples.
 
+use alias_base::{BlockId, BlockMap, FunctionId, IdentifierId};
+use alias_hir::effect::{ValueKind, ValueReason};
+use alias_hir::place::Place;
 use alias_lattice::kinds::merge_value_kinds;
 use alias_lattice::lattice::Lattice;
 use alias_lattice::look::MissingLook;
@@ -9,9 +12,6 @@ use alias_lattice::site::Site;
 use alias_lattice::site_set::SiteSet;
 use alias_lattice::state::InferenceState;
 use alias_lattice::value::AbstractValue;
-use alias_base::{BlockId, BlockMap, FunctionId, IdentifierId};
-use alias_hir::effect::{ValueKind, ValueReason};
-use alias_hir::place::Place;
 use std::alloc::Global;
 use std::test::Fail;
 
