@@ -32,8 +32,8 @@ use Rattle.alias_effects.specs.declared.context.Tables.{Tables}
 use Rattle.alias_effects.specs.declared.solved.InstructionEffects.{InstructionEffects}
 use Rattle.alias_effects.specs.declared.solved.TerminalEffects.{TerminalEffects}
 use Rattle.alias_effects.specs.declared.progress.StepProgress.{StepProgress}
-use Rattle.alias_signature.specs.Signatures.{compute_signature_for_instruction}
-use Rattle.alias_signature.specs.SignatureLaws.{Named, Speaks, signature_speaks}
+use Rattle.alias_signature.specs.Signatures.{compute_built_signature}
+use Rattle.alias_signature.specs.SignatureLaws.{Named, Speaks, built_signature_speaks}
 use Rattle.alias_effects.specs.Contexts.{Context}
 use Rattle.alias_effects.specs.ApplyKeepsLaws.{PartsKeep, apply_effects_keep}
 use Rattle.alias_effects.specs.BlockKeepsLaws.{BlockPartsKeep, BlockKeeps, HasAt, infer_block_keeps}
@@ -138,11 +138,11 @@ fits_at env [] n h = tt
 fits_at env (x ∷ xs) zero h = (both_pass (instruction_fits env x) (all_pass (instruction_fits env) xs) h).0
 fits_at env (x ∷ xs) (suc n) h = fits_at env xs n (both_pass (instruction_fits env x) (all_pass (instruction_fits env) xs) h).1
 
-signature_within : (env : Environment) (i : Instruction) → InstructionFits env i → AllByRecursion (Speaks (PlaceWithin env) (ErrorWithin env) NamesNothing) (compute_signature_for_instruction env i)
+signature_within : (env : Environment) (i : Instruction) → InstructionFits env i → AllByRecursion (Speaks (PlaceWithin env) (ErrorWithin env) NamesNothing) (compute_built_signature env i)
 signature_within env i h =
     let b = both_pass (place_fits env i.lvalue) _ h in
     let c = both_pass (created_fits env (created i.value)) (all_pass (place_fits env) (places_of i.value)) b.1 in
-    signature_speaks (PlaceWithin env) (ErrorWithin env) refl NamesNothing refl env i.lvalue i.value (place_within env i.lvalue b.0) (places_within env (places_of i.value) c.1)
+    built_signature_speaks (PlaceWithin env) (ErrorWithin env) refl NamesNothing refl env i.lvalue i.value (place_within env i.lvalue b.0) (places_within env (places_of i.value) c.1)
 
 recorded_within : (env : Environment) (i : InstructionId) (es : List AliasingEffect) → list_all (effect_within_tables env) es ≡ true → list_all (λ (i : InstructionEffects). list_all (effect_within_tables env) i.effects) (recorded_as i es) ≡ true
 recorded_within env i [] h = refl
@@ -153,7 +153,7 @@ parts_within c = record {
   phis = λ p x h. tt;
   starts = λ t x h. (refl, refl);
   opens = λ s h. refl;
-  effects = λ i s p h. apply_effects_keep (effects_within c.env) (compute_signature_for_instruction c.env i) s (signature_within c.env i p) h;
+  effects = λ i s p h. apply_effects_keep (effects_within c.env) (compute_built_signature c.env i) s (signature_within c.env i p) h;
   closes = λ i result s u h g. (appended (λ (i : InstructionEffects). list_all (effect_within_tables c.env) i.effects) s.effects.instructions (recorded_as i u.recorded) h.0 (recorded_within c.env i u.recorded g), h.1);
 }
 

@@ -16,7 +16,7 @@ use Rattle.alias_effects.specs.declared.context.Tables.{Tables}
 use Rattle.alias_effects.specs.declared.faults.BlockFault.{BlockFault}
 use Rattle.alias_effects.specs.declared.faults.EffectFault.{EffectFault}
 use Rattle.alias_effects.specs.declared.progress.StepProgress.{StepProgress}
-use Rattle.alias_signature.specs.Signatures.{compute_signature_for_instruction}
+use Rattle.alias_signature.specs.Signatures.{compute_built_signature}
 use Rattle.alias_effects.specs.Apply.{apply_effects}
 use Rattle.alias_effects.specs.ApplyKeepsLaws.{StepKeeps}
 use Rattle.alias_effects.specs.Contexts.{Context}
@@ -27,7 +27,7 @@ pub record BlockPartsKeep (c : Context) (E : State → Type 0) (L : StepProgress
   pub phis : (p : Phi) (x : State) → E x → E (phied p.place.identifier p.operands x)
   pub starts : (t : Tables) (x : State) → E x → K (block_start t x)
   pub opens : (s : BlockProgress) → K s → L (step_start s)
-  pub effects : (i : Instruction) (s : StepProgress) → I i → L s → StepKeeps L (apply_effects (compute_signature_for_instruction c.env i) s)
+  pub effects : (i : Instruction) (s : StepProgress) → I i → L s → StepKeeps L (apply_effects (compute_built_signature c.env i) s)
   pub closes : (i : InstructionId) (result : IdentifierId) (s : BlockProgress) (u : StepProgress) → K s → L u → K (after_signature i result s.effects u)
 
 -- where the steps of instructions are taken, what is after them has K
@@ -56,7 +56,7 @@ module _ {c : Context} {E : State → Type 0} {L : StepProgress → Type 0} {K :
 
   apply_signature_keeps : (i : InstructionId) (x : Instruction) (s : BlockProgress) → I x → K s → SignatureKeeps K (apply_signature c i x s)
   apply_signature_keeps i x s p h =
-      after_signature_keeps i x.lvalue.identifier s (apply_effects (compute_signature_for_instruction c.env x) (step_start s)) h (parts.effects x (step_start s) p (parts.opens s h))
+      after_signature_keeps i x.lvalue.identifier s (apply_effects (compute_built_signature c.env x) (step_start s)) h (parts.effects x (step_start s) p (parts.opens s h))
 
   apply_signature_at_keeps : (i : InstructionId) (o : Option Instruction) (s : BlockProgress) → HasAt I o → K s → SignatureKeeps K (apply_signature_at c i o s)
   apply_signature_at_keeps i None s p h = h

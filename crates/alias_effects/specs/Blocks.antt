@@ -30,7 +30,7 @@ use Rattle.alias_effects.specs.declared.solved.TerminalEffects.{TerminalEffects}
 use Rattle.alias_effects.specs.declared.progress.StepProgress.{StepProgress}
 use Rattle.alias_effects.specs.declared.block.BlockProgress.{BlockProgress}
 use Rattle.alias_effects.specs.declared.block.BlockEffects.{BlockEffects}
-use Rattle.alias_signature.specs.Signatures.{compute_signature_for_instruction}
+use Rattle.alias_signature.specs.Signatures.{compute_built_signature}
 use Rattle.alias_effects.specs.Apply.{apply_effects}
 use Rattle.alias_effects.specs.Contexts.{Context}
 
@@ -69,7 +69,7 @@ in_block i (Err e) = Err (fault_at i e)
 -- the step of an instruction: its signature, and then a value for its result
 abbrev pub apply_signature : Context → InstructionId → Instruction → BlockProgress → Result BlockProgress BlockFault
 apply_signature c i x s = do
-  u ← in_block i (apply_effects (compute_signature_for_instruction c.env x) (step_start s))
+  u ← in_block i (apply_effects (compute_built_signature c.env x) (step_start s))
   Ok (after_signature i x.lvalue.identifier s.effects u)
 
 -- by the instruction's number in its function; nothing is done where there is none

@@ -22,7 +22,7 @@ use Rattle.alias_effects.specs.declared.block.BlockProgress.{BlockProgress}
 use Rattle.alias_effects.specs.declared.context.Tables.{Tables}
 use Rattle.alias_effects.specs.declared.faults.BlockFault.{BlockFault}
 use Rattle.alias_effects.specs.declared.progress.StepProgress.{StepProgress}
-use Rattle.alias_signature.specs.Signatures.{compute_signature_for_instruction}
+use Rattle.alias_signature.specs.Signatures.{compute_built_signature}
 use Rattle.alias_effects.specs.ApplyKeepsLaws.{PartsKeep, apply_effects_keep}
 use Rattle.alias_signature.specs.SignatureLaws.{Named, Speaks}
 use Rattle.alias_effects.specs.BlockKeepsLaws.{BlockPartsKeep, BlockKeeps, HasAt, infer_block_keeps}
@@ -83,7 +83,7 @@ parts_proper c = record {
   phis = λ p x h. proper-phied p.place.identifier p.operands x h;
   starts = λ t x h. h;
   opens = λ s h. h;
-  effects = λ i s p h. let es = compute_signature_for_instruction c.env i in apply_effects_keep effects_proper es s (any_effects es) h;
+  effects = λ i s p h. let es = compute_built_signature c.env i in apply_effects_keep effects_proper es s (any_effects es) h;
   closes = λ i result s u h g. default_proper (is_some (sites_of u.state result)) result u.state g;
 }
 

@@ -18,7 +18,7 @@ use alias_hir::hir::{BasicBlock, Instruction, Phi};
 use alias_hir::place::Place;
 use alias_hir::terminal::Terminal;
 use alias_lattice::{InferenceState, MissingLook, Site};
-use alias_signature::compute_signature_for_instruction;
+use alias_signature::compute_built_signature;
 use std::alloc::{AllocError, Global};
 
 /// What is recorded of a block.
@@ -92,7 +92,7 @@ fn apply_signature(
 ) -> Result<BlockProgress, BlockFault>
     ensures { Gives is_block_memory (apply_signature (held context.now) id instruction.now progress) result }
 {
-    let signature = compute_signature_for_instruction(alloc, context.env, instruction)?;
+    let signature = compute_built_signature(alloc, context.env, instruction)?;
     let BlockProgress {
         state,
         tables,

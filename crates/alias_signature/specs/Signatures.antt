@@ -1,25 +1,117 @@
 -- The signature of an instruction: the effects that it has before the state is looked at, in order.
-use Rattle.std.specs.Prelude.{List, []}
+use Rattle.std.specs.Prelude.{Bool, true, false, List, [], ◌∷◌, ◌++◌, Option, None, Some, Result, Ok, Err}
+use Rattle.alias_base.specs.Answer.{◌>>=◌}
+use Rattle.alias_base.specs.declared.ids.IdentifierId.{IdentifierId}
+use Rattle.alias_facts.specs.declared.facts.FunctionFacts.{FunctionFacts}
+use Rattle.alias_hir.specs.Diagnostics.{diagnostic_of, with_interned}
 use Rattle.alias_hir.specs.declared.effect.AliasingEffect.{AliasingEffect}
 use Rattle.alias_hir.specs.declared.env.Environment.{Environment}
+use Rattle.alias_hir.specs.declared.error.HirError.{HirError}
 use Rattle.alias_hir.specs.declared.hir.Instruction.{Instruction}
 use Rattle.alias_hir.specs.declared.place.Place.{Place}
+use Rattle.alias_hir.specs.declared.place.Span.{Span}
+use Rattle.alias_hir.specs.declared.report.DiagnosticId.{DiagnosticId}
+use Rattle.alias_hir.specs.declared.report.Interned.{Interned}
+use Rattle.alias_hir.specs.declared.report.Report.{Report}
 use Rattle.alias_hir.specs.declared.value.InstructionValue.{InstructionValue}
-use Rattle.alias_hir.specs.declared.value.InstructionValue.TheVariants.{ObjectExpression, PropertyLoad, PropertyStore, LoadLocal, StoreLocal, Primitive}
+use Rattle.alias_hir.specs.declared.value.InstructionValue.TheVariants.{ArrayExpression, ObjectExpression, Await, NewExpression, CallExpression, MethodCall, PropertyDelete, ComputedDelete, PropertyLoad, ComputedLoad, PropertyStore, ComputedStore, FunctionExpression, ObjectMethod, GetIterator, IteratorNext, NextPropertyOf, JsxExpression, JsxFragment, DeclareLocal, Destructure, LoadContext, DeclareContext, StoreContext, LoadLocal, StoreLocal, PostfixUpdate, PrefixUpdate, StoreGlobal, TypeCastExpression, LoadGlobal, StartMemoize, FinishMemoize, TaggedTemplateExpression, BinaryExpression, TemplateLiteral, UnaryExpression, Debugger, JSXText, MetaProperty, Primitive, RegExpLiteral}
+use Rattle.alias_visit.specs.Operands.{operands_of}
+use Rattle.alias_signature.specs.Known.{Known, known}
 use Rattle.alias_signature.specs.Literals.{primitive_effects}
 use Rattle.alias_signature.specs.Objects.{object_expression_effects}
+use Rattle.alias_signature.specs.Arrays.{array_expression_effects}
+use Rattle.alias_signature.specs.Calls.{call_effects, await_effects}
 use Rattle.alias_signature.specs.Loads.{load_local_effects, property_load_effects}
-use Rattle.alias_signature.specs.Stores.{store_local_effects, property_store_effects}
+use Rattle.alias_signature.specs.Stores.{store_local_effects, declare_local_effects, update_effects, store_reason, property_store_effects, delete_effects}
+use Rattle.alias_signature.specs.Functions.{function_effects}
+use Rattle.alias_signature.specs.Iterators.{get_iterator_effects, iterator_next_effects}
+use Rattle.alias_signature.specs.Jsx.{jsx_effects, render_effects}
+use Rattle.alias_signature.specs.Patterns.{destructure_effects}
+use Rattle.alias_signature.specs.Contexts.{load_context_effects, declare_context_effects, store_context_effects}
+use Rattle.alias_signature.specs.Memoization.{memoize_effects}
+use Rattle.alias_signature.specs.Globals.{load_global_effects, store_global_effects, told_of}
+
+-- by the kind of the instruction whose result is l
+abbrev pub signature_of_value : Known → Place → Option Span → InstructionValue → List AliasingEffect
+signature_of_value k l span (ArrayExpression elements) = array_expression_effects k.env l elements
+signature_of_value k l span (ObjectExpression properties) = object_expression_effects l properties
+signature_of_value k l span (Await v) = await_effects l v
+signature_of_value k l span (NewExpression callee args) = call_effects k.env callee callee false args l span
+signature_of_value k l span (CallExpression callee args) = call_effects k.env callee callee true args l span
+signature_of_value k l span (MethodCall receiver property args) = call_effects k.env receiver property false args l span
+signature_of_value k l span (PropertyDelete object) = delete_effects l object
+signature_of_value k l span (ComputedDelete object property) = delete_effects l object
+signature_of_value k l span (PropertyLoad object) = property_load_effects k.env l object
+signature_of_value k l span (ComputedLoad object property) = property_load_effects k.env l object
+signature_of_value k l span (PropertyStore object property v) = property_store_effects l object v (store_reason k.env object property)
+signature_of_value k l span (ComputedStore object property v) = property_store_effects l object v None
+signature_of_value k l span (FunctionExpression lowered) = function_effects k.env l lowered.func
+signature_of_value k l span (ObjectMethod lowered) = function_effects k.env l lowered.func
+signature_of_value k l span (GetIterator collection) = get_iterator_effects k.env l collection
+signature_of_value k l span (IteratorNext iterator collection) = iterator_next_effects l iterator collection
+signature_of_value k l span (NextPropertyOf v) = primitive_effects l
+signature_of_value k l span (JsxExpression tag props children) =
+    jsx_effects l (operands_of k.env (JsxExpression tag props children)) ++ render_effects k.env tag props children
+signature_of_value k l span (JsxFragment children) = jsx_effects l (operands_of k.env (JsxFragment children))
+signature_of_value k l span (DeclareLocal variable) = declare_local_effects l variable
+signature_of_value k l span (Destructure variables v) = destructure_effects k.env k.facts.spreads l variables.pattern v
+signature_of_value k l span (LoadContext place) = load_context_effects l place
+signature_of_value k l span (DeclareContext variable) = declare_context_effects k.env k.facts.hoisted l variable
+signature_of_value k l span (StoreContext variable v) = store_context_effects k.env k.facts.hoisted l variable v
+signature_of_value k l span (LoadLocal place) = load_local_effects l place
+signature_of_value k l span (StoreLocal variable v) = store_local_effects l variable v
+signature_of_value k l span (PostfixUpdate variable v) = update_effects l variable
+signature_of_value k l span (PrefixUpdate variable v) = update_effects l variable
+signature_of_value k l span (StoreGlobal name v) = store_global_effects k.error l v
+signature_of_value k l span (TypeCastExpression v) = load_local_effects l v
+signature_of_value k l span LoadGlobal = load_global_effects l
+signature_of_value k l span (StartMemoize deps) = memoize_effects k.env l (operands_of k.env (StartMemoize deps))
+signature_of_value k l span (FinishMemoize decl) = memoize_effects k.env l (operands_of k.env (FinishMemoize decl))
+signature_of_value k l span (TaggedTemplateExpression tag) = primitive_effects l
+signature_of_value k l span (BinaryExpression left right) = primitive_effects l
+signature_of_value k l span (TemplateLiteral subexprs) = primitive_effects l
+signature_of_value k l span (UnaryExpression v) = primitive_effects l
+signature_of_value k l span Debugger = primitive_effects l
+signature_of_value k l span JSXText = primitive_effects l
+signature_of_value k l span MetaProperty = primitive_effects l
+signature_of_value k l span Primitive = primitive_effects l
+signature_of_value k l span RegExpLiteral = primitive_effects l
+
+abbrev pub signature_of : Known → Instruction → List AliasingEffect
+signature_of k i = signature_of_value k i.lvalue i.span i.value
+
+-- ---- with the report of the instruction
+
+-- what is told is interned
+abbrev pub error_of_told : List Interned → Option (IdentifierId × Report) → Result (Option DiagnosticId) HirError
+error_of_told es None = Ok None
+error_of_told es (Some told) = diagnostic_of es told.0 told.1 >>= (λ (d : DiagnosticId). Ok (Some d))
+
+-- the environment with it
+abbrev pub with_told : Environment → Option (IdentifierId × Report) → Environment
+with_told env None = env
+with_told env (Some told) = record env { interned = with_interned env.interned told.0 told.1 }
+
+-- the environment after the instruction's signature
+abbrev pub env_after_signature : Environment → Instruction → Environment
+env_after_signature env i = with_told env (told_of i.value i.span)
+
+-- the report first, and then the effects, one of which has it
+abbrev pub compute_signature_for_instruction : Environment → FunctionFacts → Instruction → Result (List AliasingEffect) HirError
+compute_signature_for_instruction env facts i =
+    error_of_told env.interned (told_of i.value i.span) >>= (λ (error : Option DiagnosticId). Ok (signature_of (known (env_after_signature env i) facts error) i))
+
+-- ---- the six kinds that the steps know by now
 
 -- by the kind of the instruction whose result is l; a kind that isn't built has no effects yet
-abbrev pub signature_of_value : Environment → Place → InstructionValue → List AliasingEffect
-signature_of_value env l (ObjectExpression properties) = object_expression_effects l
-signature_of_value env l (PropertyLoad object) = property_load_effects env l object
-signature_of_value env l (PropertyStore object property v) = property_store_effects l object v
-signature_of_value env l (LoadLocal place) = load_local_effects l place
-signature_of_value env l (StoreLocal variable v) = store_local_effects l variable v
-signature_of_value env l Primitive = primitive_effects l
-signature_of_value env l v = []
+abbrev pub built_signature_of_value : Environment → Place → InstructionValue → List AliasingEffect
+built_signature_of_value env l (ObjectExpression properties) = object_expression_effects l properties
+built_signature_of_value env l (PropertyLoad object) = property_load_effects env l object
+built_signature_of_value env l (PropertyStore object property v) = property_store_effects l object v None
+built_signature_of_value env l (LoadLocal place) = load_local_effects l place
+built_signature_of_value env l (StoreLocal variable v) = store_local_effects l variable v
+built_signature_of_value env l Primitive = primitive_effects l
+built_signature_of_value env l v = []
 
-abbrev pub compute_signature_for_instruction : Environment → Instruction → List AliasingEffect
-compute_signature_for_instruction env i = signature_of_value env i.lvalue i.value
+abbrev pub compute_built_signature : Environment → Instruction → List AliasingEffect
+compute_built_signature env i = built_signature_of_value env i.lvalue i.value

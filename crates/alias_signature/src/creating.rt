@@ -1,7 +1,6 @@
 //! The effect that makes a value.
 ghost use Rattle.std.specs.Prelude.{◌≡◌, ◌++◌, ◌∷◌, [], OnOk};
-ghost use Rattle.alias_hir.specs.declared.effect.AliasingEffect.TheVariants.{Create};
-ghost use Rattle.alias_hir.specs.declared.effect.ValueReason.TheVariants.{Other};
+ghost use Rattle.alias_signature.specs.Created.{created};
 
 use alias_hir::effect::{AliasingEffect, AliasingEffects, ValueKind, ValueReason};
 use alias_hir::place::Place;
@@ -13,7 +12,7 @@ pub(crate) fn push_create(
     into: &Place,
     value: ValueKind,
 ) -> Result<(), AllocError>
-    ensures { OnOk result (effects.new ≡ effects.old ++ Create into.now value Other ∷ []) }
+    ensures { OnOk result (effects.new ≡ effects.old ++ created into.now value ∷ []) }
 {
     effects.push(AliasingEffect::Create {
         into: *into,

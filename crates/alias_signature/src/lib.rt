@@ -2,16 +2,25 @@
 //! family of kinds, and one that chooses among them.
 #![tactic(auto)]
 
+mod arrays;
 mod built;
+mod calls;
+mod contexts;
 mod creating;
+mod functions;
+mod globals;
+mod iterators;
+mod jsx;
+mod known;
 mod literals;
 mod loads;
+mod memoization;
 mod objects;
+mod patterns;
 mod signatures;
 mod stores;
 
-pub use built::unit_is_built;
-pub use signatures::compute_signature_for_instruction;
-
-#[cfg(test)]
-mod tests;
+pub use built::{compute_built_signature, unit_is_built};
+pub use globals::{globals_report, told_of};
+pub use known::Known;
+pub use signatures::{compute_signature_for_instruction, signature_of};

@@ -1,0 +1,11 @@
+//! Tests of the facts of functions and of the signatures of instructions. Each wanted list is the row of docs/MODEL.md.
+#![tactic(auto)]
+
+#[cfg(test)]
+mod described;
+#[cfg(test)]
+mod facts_tests;
+#[cfg(test)]
+mod making;
+#[cfg(test)]
+mod signature_tests;
