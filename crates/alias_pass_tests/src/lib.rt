@@ -1,7 +1,9 @@
-//! Tests of the effects pass and of the passes of the caller, on functions built by hand. A crate of its own, so that
+//! Tests of `check_unit`, of the effects pass and of the passes of the caller, on functions built by hand. A crate of its own, so that
 //! the crates below are proved once.
 #![tactic(auto)]
 
+#[cfg(test)]
+mod checking;
 #[cfg(test)]
 mod functions;
 #[cfg(test)]
