@@ -5,24 +5,24 @@ use Rattle.alias_lattice.specs.Laws.{LatticeLaws}
 use Rattle.alias_flow.specs.declared.flow.SolveFault.{SolveFault}
 use Rattle.alias_flow.specs.declared.flow.SolveFault.TheVariants.{Step, NotSettled as Unsettled, Memory}
 use Rattle.alias_flow.specs.declared.flow.Solution.{Solution}
-use Rattle.alias_flow.specs.Machine.{Rules, SolverState, Run, End, Solved, ending, solution, FlowLaws}
+use Rattle.alias_flow.specs.Machine.{Rules, SolverState, Run, Stopped, End, Solved, Fault, ending, solution, FlowLaws}
 use Rattle.alias_flow.specs.WorkLists.{WorkList, work_list_rounds, work_list_solution}
-use Rattle.alias_flow.specs.Runs.{settled, RunGives, RoundsGive, EndGives}
+use Rattle.alias_flow.specs.Runs.{settled, MatchFault, RoundsGive, EndGives}
 use Rattle.alias_flow.proofs.DirtyFlags.{solved_by_work_list, fault_by_work_list, unsettled_by_work_list}
 use Rattle.alias_flow.proofs.Rounds.{rounds_settled, rounds_over}
 
--- a refusal of a round is one of the rounds
+-- a fault of a round is one of the rounds
 rounds_refused : {D T K C E : Type 0} (cause : E → C) (run : Run D T K C) (g : SolverState D T K → End D T K C) (whole : End D T K C) → whole ≡ ending run g
-    → (e : SolveFault E) (u : SolverState D T K) → RunGives cause run (Err e) u → (left : End D T K C) → RoundsGive cause whole (Err e) left
-rounds_refused cause run g whole is (Step b x) u gives left = is ∙ ap (λ r. ending r g) gives
-rounds_refused cause run g whole is (Unsettled n) u gives left = absurd gives
-rounds_refused cause run g whole is (Memory e) u gives left = tt
+    → (e : SolveFault E) → MatchFault cause e (λ b c. run ≡ Stopped b c) (λ n. ⊥) → MatchFault cause e (λ b c. whole ≡ Fault b c) (λ n. ⊥)
+rounds_refused cause run g whole is (Step b x) gives = is ∙ ap (λ r. ending r g) gives
+rounds_refused cause run g whole is (Unsettled n) gives = absurd gives
+rounds_refused cause run g whole is (Memory e) gives = tt
 
 -- the same of an error that was passed on
 pub rounds_stopped : {D T K C E : Type 0} (cause : E → C) (run : Run D T K C) (g : SolverState D T K → End D T K C) (whole : End D T K C) → whole ≡ ending run g
-    → (e : SolveFault E) (u : SolverState D T K) → RunGives cause run (Err e) u → (r : Result (Unit {0}) (SolveFault E)) → IsErrAnd r (λ x. x ≡ e) → (left : End D T K C) → RoundsGive cause whole r left
-rounds_stopped cause run g whole is e u gives (Ok s) h left = absurd h
-rounds_stopped cause run g whole is e u gives (Err x) h left = rounds_refused cause run g whole is x u (subst (λ i. RunGives cause run (Err i) u) (sym h) gives) left
+    → (e : SolveFault E) → MatchFault cause e (λ b c. run ≡ Stopped b c) (λ n. ⊥) → (r : Result (Unit {0}) (SolveFault E)) → IsErrAnd r (λ x. x ≡ e) → (left : End D T K C) → RoundsGive cause whole r left
+rounds_stopped cause run g whole is e gives (Ok s) h left = absurd h
+rounds_stopped cause run g whole is e gives (Err x) h left = rounds_refused cause run g whole is x (subst (λ i. MatchFault cause i (λ b c. run ≡ Stopped b c) (λ n. ⊥)) (sym h) gives)
 
 -- the last round leaves a solution or a dirty block
 either_settled : {P E : Type 0} (w : WorkList P) (b : Bool) → list_any (λ x. x) w.dirty ≡ b → (r : Result (Solution P) (SolveFault E))
@@ -49,18 +49,18 @@ module _ {P T K C E : Type 0} {proper : P → Type 0} {join : P → P → P} {be
         ap (λ (w : SolverState (WorkList P) T K). w.recorded) (sym it.2),
       )
 
-  fault_ends : (whole left : End (WorkList P) T K C) → work_list_solution join below rules tables recorded₀ ≡ whole → (e : SolveFault E)
-      → RoundsGive cause whole (Err e) left → (t : T) (k : List (Option K)) → EndGives cause (solution join below rules tables recorded₀) (Err e) t k
-  fault_ends whole left is (Step b x) gives t k = fault_by_work_list l f tables b (cause x) (is ∙ gives)
-  fault_ends whole left is (Unsettled n) gives t k = absurd gives
-  fault_ends whole left is (Memory e) gives t k = tt
+  fault_ends : (whole : End (WorkList P) T K C) → work_list_solution join below rules tables recorded₀ ≡ whole → (e : SolveFault E)
+      → MatchFault cause e (λ b c. whole ≡ Fault b c) (λ n. ⊥) → (t : T) (k : List (Option K)) → EndGives cause (solution join below rules tables recorded₀) (Err e) t k
+  fault_ends whole is (Step b x) gives t k = fault_by_work_list l f tables b (cause x) (is ∙ gives)
+  fault_ends whole is (Unsettled n) gives t k = absurd gives
+  fault_ends whole is (Memory e) gives t k = tt
 
   -- an error of the rounds that was passed on is how the sequence ends
-  pub passed_on : (whole left : End (WorkList P) T K C) → work_list_solution join below rules tables recorded₀ ≡ whole → (e : SolveFault E)
-      → RoundsGive cause whole (Err e) left → (r : Result (Solution P) (SolveFault E)) → IsErrAnd r (λ x. x ≡ e) → (t : T) (k : List (Option K))
+  pub passed_on : (whole : End (WorkList P) T K C) → work_list_solution join below rules tables recorded₀ ≡ whole → (e : SolveFault E)
+      → MatchFault cause e (λ b c. whole ≡ Fault b c) (λ n. ⊥) → (r : Result (Solution P) (SolveFault E)) → IsErrAnd r (λ x. x ≡ e) → (t : T) (k : List (Option K))
       → EndGives cause (solution join below rules tables recorded₀) r t k
-  passed_on whole left is e gives (Ok s) h t k = absurd h
-  passed_on whole left is e gives (Err x) h t k = fault_ends whole left is x (subst (λ i. RoundsGive cause whole (Err i) left) (sym h) gives) t k
+  passed_on whole is e gives (Ok s) h t k = absurd h
+  passed_on whole is e gives (Err x) h t k = fault_ends whole is x (subst (λ i. MatchFault cause i (λ b c. whole ≡ Fault b c) (λ n. ⊥)) (sym h) gives) t k
 
   -- what the last round leaves is how the sequence ends
   pub settled_ends : (v : SolverState (WorkList P) T K) → work_list_solution join below rules tables recorded₀ ≡ work_list_rounds join below rules 0 v

@@ -41,6 +41,6 @@ module _ {P T K C E : Type 0} {proper : P → Type 0} {join : P → P → P} {be
           (λ clean. length_found l f tables v (whole ∙ rounds_settled join below rules 0 v clean) _ refl) (λ dirty. tt);
       joins = λ forward. settled_case v.progress r is (λ x. IfOk x (λ s. AreJoins below rules.flow proper v.tables (entry_at s.entries)))
           (λ clean. forward_joins l f forward tables v (whole ∙ rounds_settled join below rules 0 v clean) _ refl) (λ dirty. tt);
-      settles = λ forward. settled_case v.progress r is IsSettled (λ clean. tt)
-          (λ dirty. forward_settles l f forward tables _ (whole ∙ rounds_over join below rules v dirty));
+      settles = λ forward. settled_case v.progress r is IsSettled (λ clean n h. cc)
+          (λ dirty n h. forward_settles l f forward tables _ (whole ∙ rounds_over join below rules v dirty));
     }

@@ -25,4 +25,4 @@ returns-in_err-round-clause-run g c =
     rounds_stopped g.F.Flow.cause _ rest _
     (sym c.rounds.invariant.4 ∙ rounds_more l.join l.below (g.F.Flow.rules f) c.rounds.counter w (omega arith) (sym c.if-not-any_dirty.ensures)
     ∙ ap (λ n. ending (work_list_round l.join l.below (g.F.Flow.rules f) w (up 0 n)) rest) (sym c.rounds.invariant.1))
-    c.in_err-round.field-0.0 _ c.in_err-round.ensures.run _ c.from_residual.ensures.1 _
+    c.in_err-round.field-0.0 c.in_err-round.ensures.run _ c.from_residual.ensures.1 _

@@ -41,5 +41,5 @@ returns-in_err-rounds-clause-end g c =
     let whole =
     solution_is l.join l.below (g.F.Flow.rules start) tables (g.F.Flow.recorded start)
     ∙ sym (ap (λ d. work_list_rounds l.join l.below (g.F.Flow.rules start) 100 (solver_state d tables (g.F.Flow.recorded start))) begun) in
-    passed_on g.met.F.State.Lattice.laws (g.met.F.Flow.laws start) tables g.F.Flow.cause _ _ whole
+    passed_on g.met.F.State.Lattice.laws (g.met.F.Flow.laws start) tables g.F.Flow.cause _ whole
     c.in_err-rounds.field-0.0 c.in_err-rounds.ensures.run _ c.from_residual-in_err-rounds.ensures.1 _ _
