@@ -124,7 +124,13 @@ fn push_signature_of_value(
             children,
         } => {
             push_jsx(alloc, effects, known.env, lvalue, value)?;
-            push_renders(effects, known.env, tag, props.as_slice(), children.as_slice())
+            push_renders(
+                effects,
+                known.env,
+                tag,
+                props.as_slice(),
+                children.as_slice(),
+            )
         }
         InstructionValue::JsxFragment { .. } => push_jsx(alloc, effects, known.env, lvalue, value),
         InstructionValue::DeclareLocal { lvalue: variable } => {
