@@ -18,10 +18,7 @@ pub struct Candidates {
 }
 
 /// Notes that the value is frozen.
-pub fn note_frozen(
-    candidates: &mut Candidates,
-    identifier: IdentifierId,
-) -> Result<(), AllocError>
+pub fn note_frozen(candidates: &mut Candidates, identifier: IdentifierId) -> Result<(), AllocError>
     ensures { OnOk result (candidates.new ≡ with_frozen candidates.old identifier) }
 {
     candidates.frozen.insert(identifier.0)
@@ -108,7 +105,10 @@ pub fn first_candidates(alloc: Global, func: &HirFunction) -> Result<Candidates,
         frozen: NumberSet::new(alloc),
         spreads: NumberMap::new(alloc),
     };
-    note_params(&mut candidates, frozen_params(func.fn_type, func.params.as_slice()))?;
+    note_params(
+        &mut candidates,
+        frozen_params(func.fn_type, func.params.as_slice()),
+    )?;
     Ok(candidates)
 }
 

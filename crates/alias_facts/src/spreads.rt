@@ -173,10 +173,9 @@ fn visit_value(
     ensures { OnOk result (candidates.new ≡ after_value env.now candidates.old target value.now) }
 {
     match value {
-        InstructionValue::Destructure {
-            lvalue,
-            value,
-        } => visit_destructure(candidates, lvalue, value),
+        InstructionValue::Destructure { lvalue, value } => visit_destructure(
+            candidates, lvalue, value,
+        ),
         InstructionValue::LoadLocal { place } => {
             let spread = spread_of(candidates, place.identifier);
             visit_load(candidates, target, spread)

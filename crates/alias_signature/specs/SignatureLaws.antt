@@ -1,5 +1,6 @@
 -- The effects of a signature speak of the places of its instruction and of the function that it creates alone, and name what its kind names.
-use Rattle.std.specs.Prelude.{ℕ, Bool, true, false, not, ◌&&◌, ◌||◌, List, [], ◌∷◌, ◌++◌, Option, None, Some, map, if◌then◌else◌}
+use Rattle.std.specs.Prelude.{◌≡◌, refl, ◌⊎◌, ℕ, Bool, true, false, not, ◌&&◌, ◌||◌, List, [], ◌∷◌, ◌++◌, Option, None, Some, map, if◌then◌else◌}
+use Rattle.std.proofs.Common.{inl, inr}
 use Rattle.std.specs.List.{AllByRecursion, flat_map}
 use Rattle.alias_base.specs.declared.ids.FunctionId.{FunctionId}
 use Rattle.alias_base.specs.declared.ids.TypeId.{TypeId}
@@ -14,6 +15,7 @@ use Rattle.alias_hir.specs.declared.effect.AliasingEffect.TheVariants as effect
 use Rattle.alias_hir.specs.declared.effect.AliasingEffect.TheVariants.{CreateFrom, Capture, Alias, Render, MutateTransitiveConditionally, Assign}
 use Rattle.alias_hir.specs.declared.effect.ValueKind.TheVariants as kind
 use Rattle.alias_hir.specs.declared.env.Environment.{Environment}
+use Rattle.alias_hir.specs.declared.hir.Instruction.{Instruction}
 use Rattle.alias_hir.specs.declared.place.Effect.{Effect}
 use Rattle.alias_hir.specs.declared.place.Effect.TheVariants as operand
 use Rattle.alias_hir.specs.declared.place.Place.{Place}
@@ -49,7 +51,7 @@ use Rattle.alias_signature.specs.Contexts.{is_hoisted_at, is_reassigning, bindin
 use Rattle.alias_signature.specs.Memoization.{frozen}
 use Rattle.alias_signature.specs.Globals.{global_effects}
 use Rattle.alias_signature.specs.Known.{Known}
-use Rattle.alias_signature.specs.Signatures.{signature_of_value, built_signature_of_value}
+use Rattle.alias_signature.specs.Signatures.{signature_of_value, signature_of, built_signature_of_value}
 
 -- the function that the effect creates, and the type that has the signature of a call
 abbrev pub Named : Type 0
@@ -306,3 +308,42 @@ module _ (P : Place → Type 0) (Q : Option DiagnosticId → Type 0) (none : Q N
   built_signature_speaks env l value.JSXText p ps = tt
   built_signature_speaks env l value.MetaProperty p ps = tt
   built_signature_speaks env l value.RegExpLiteral p ps = tt
+
+-- ---- what the clause of `signature_of` says
+
+-- x is one of the list
+abbrev pub IsOneOf : {X : Type 0} → List X → X → Type 0
+IsOneOf [] x = ⊥
+IsOneOf (y ∷ ys) x = (x ≡ y) ⊎ IsOneOf ys x
+
+-- the places that the signature may speak of: the result, those of the value, and the context places of the function that it creates
+abbrev pub places_spoken_of : Environment → Instruction → List Place
+places_spoken_of env i = i.lvalue ∷ (places_of i.value ++ created_places env (created_function i.value))
+
+-- the effect speaks of these places alone; it has the report of the instruction or none; and it names what the instruction's kind names, or nothing
+abbrev pub SpeaksOf : Known → Instruction → AliasingEffect → Type 0
+SpeaksOf k i =
+    Speaks (IsOneOf (places_spoken_of k.env i)) (λ (error : Option DiagnosticId). (error ≡ None) ⊎ (error ≡ k.error)) (λ (n : Named). (n ≡ (None, None)) ⊎ (n ≡ names_by_kind k.env i.value))
+
+in_front : {X : Type 0} (xs ys : List X) (x : X) → IsOneOf xs x → IsOneOf (xs ++ ys) x
+in_front [] ys x h = absurd h
+in_front (y ∷ xs) ys x (inl e) = inl e
+in_front (y ∷ xs) ys x (inr h) = inr (in_front xs ys x h)
+
+in_rest : {X : Type 0} (xs ys : List X) (x : X) → IsOneOf ys x → IsOneOf (xs ++ ys) x
+in_rest [] ys x h = h
+in_rest (y ∷ xs) ys x h = inr (in_rest xs ys x h)
+
+each_is : {X : Type 0} (xs zs : List X) → ((x : X) → IsOneOf xs x → IsOneOf zs x) → AllByRecursion (IsOneOf zs) xs
+each_is [] zs h = tt
+each_is (x ∷ xs) zs h = (h x (inl refl), each_is xs zs (λ y k. h y (inr k)))
+
+pub signature_speaks_of : (k : Known) (i : Instruction) → AllByRecursion (SpeaksOf k i) (signature_of k i)
+signature_speaks_of k i =
+    let ps = places_of i.value in
+    let cs = created_places k.env (created_function i.value) in
+    signature_speaks (IsOneOf (places_spoken_of k.env i)) (λ (error : Option DiagnosticId). (error ≡ None) ⊎ (error ≡ k.error)) (inl refl) (λ (n : Named). (n ≡ (None, None)) ⊎ (n ≡ names_by_kind k.env i.value)) (inl refl)
+    k i.lvalue i.span i.value (inl refl)
+    (each_is ps (places_spoken_of k.env i) (λ x h. inr (in_front ps cs x h)))
+    (each_is cs (places_spoken_of k.env i) (λ x h. inr (in_rest ps cs x h)))
+    (inr refl) (inr refl)

@@ -28,10 +28,7 @@ fn argument(arg: &PlaceOrSpread) -> PlaceOrSpreadOrHole
     }
 }
 
-fn arguments(
-    alloc: Global,
-    args: &[PlaceOrSpread],
-) -> Result<List<PlaceOrSpreadOrHole>, AllocError>
+fn arguments(alloc: Global, args: &[PlaceOrSpread]) -> Result<List<PlaceOrSpreadOrHole>, AllocError>
     ensures { IfOk result (λ l. l ≡ map argument args.now) }
 {
     let mut list = List::new(alloc);

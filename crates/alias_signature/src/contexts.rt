@@ -68,8 +68,8 @@ pub(crate) fn push_declare_context(
 ) -> Result<(), AllocError>
     ensures { OnOk result (effects.new ≡ effects.old ++ declare_context_effects env.now hoisted.now lvalue.now variable.now) }
 {
-    let is_there =
-        !is_hoisting(variable.kind) && is_hoisted_at(env, hoisted, variable.place.identifier);
+    let is_there = !is_hoisting(variable.kind)
+        && is_hoisted_at(env, hoisted, variable.place.identifier);
     push_binding(effects, is_there, &variable.place)?;
     push_create(effects, lvalue, ValueKind::Primitive)
 }
@@ -85,8 +85,8 @@ pub(crate) fn push_store_context(
 ) -> Result<(), AllocError>
     ensures { OnOk result (effects.new ≡ effects.old ++ store_context_effects env.now hoisted.now lvalue.now variable.now value.now) }
 {
-    let is_there =
-        is_reassigning(variable.kind) || is_hoisted_at(env, hoisted, variable.place.identifier);
+    let is_there = is_reassigning(variable.kind)
+        || is_hoisted_at(env, hoisted, variable.place.identifier);
     push_binding(effects, is_there, &variable.place)?;
     effects.push(AliasingEffect::Capture {
         from: *value,

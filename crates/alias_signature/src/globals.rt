@@ -59,12 +59,7 @@ pub(crate) fn push_store_global(
 }
 
 /// A text with the name between two others.
-fn text_around(
-    alloc: Global,
-    before: &str,
-    name: &str,
-    after: &str,
-) -> Result<Text, AllocError>
+fn text_around(alloc: Global, before: &str, name: &str, after: &str) -> Result<Text, AllocError>
     ensures { IfOk result (λ t. t ≡ before.now ++ name.now ++ after.now) }
 {
     let mut text = Text::from_str(alloc, before)?;
@@ -73,11 +68,7 @@ fn text_around(
     Ok(text)
 }
 
-fn globals_labels(
-    alloc: Global,
-    name: &str,
-    span: Option<Span>,
-) -> Result<List<Label>, AllocError>
+fn globals_labels(alloc: Global, name: &str, span: Option<Span>) -> Result<List<Label>, AllocError>
     ensures { IfOk result (λ l. l ≡ globals_labels name.now span) }
 {
     let mut labels = List::new(alloc);
@@ -89,11 +80,7 @@ fn globals_labels(
 }
 
 /// What is told of a write of a global variable of that name. The one error is want of memory.
-pub fn globals_report(
-    alloc: Global,
-    name: &str,
-    span: Option<Span>,
-) -> Result<Report, AllocError>
+pub fn globals_report(alloc: Global, name: &str, span: Option<Span>) -> Result<Report, AllocError>
     ensures { IfOk result (λ r. r ≡ globals_report name.now span) }
 {
     let help = text_around(

@@ -4,6 +4,8 @@ ghost use Rattle.alias_base.specs.Answer.{Gives};
 ghost use Rattle.alias_hir.specs.Errors.{is_hir_memory};
 ghost use Rattle.alias_signature.specs.Globals.{told_of};
 ghost use Rattle.alias_signature.specs.Known.{known, held};
+ghost use Rattle.std.specs.List.{AllByRecursion};
+ghost use Rattle.alias_signature.specs.SignatureLaws.{SpeaksOf};
 ghost use Rattle.alias_signature.specs.Signatures.{signature_of_value, signature_of, error_of_told, with_told, env_after_signature, compute_signature_for_instruction};
 
 use crate::arrays::push_array_expression;
@@ -124,7 +126,13 @@ fn push_signature_of_value(
             children,
         } => {
             push_jsx(alloc, effects, known.env, lvalue, value)?;
-            push_renders(effects, known.env, tag, props.as_slice(), children.as_slice())
+            push_renders(
+                effects,
+                known.env,
+                tag,
+                props.as_slice(),
+                children.as_slice(),
+            )
         }
         InstructionValue::JsxFragment { .. } => push_jsx(alloc, effects, known.env, lvalue, value),
         InstructionValue::DeclareLocal { lvalue: variable } => {
@@ -194,13 +202,16 @@ fn push_signature_of_value(
 }
 
 /// The signature of an instruction whose report is interned, if it has one: the effects that it has whatever the state
-/// is, in order. The one error is want of memory.
+/// is, in order. They speak of the places of the instruction, and of the context of the function that it creates, alone.
+/// The one error is want of memory.
+#[tactic(auto, using(crate::specs::SignatureLaws::signature_speaks_of))]
 pub fn signature_of(
     alloc: Global,
     known: &Known<'_>,
     instruction: &Instruction,
 ) -> Result<AliasingEffects, AllocError>
-    ensures { IfOk result (λ effects. effects ≡ signature_of (held known.now) instruction.now) }
+    ensures exact { IfOk result (λ effects. effects ≡ signature_of (held known.now) instruction.now) }
+    ensures speaks { IfOk result (λ effects. AllByRecursion (SpeaksOf (held known.now) instruction.now) effects) }
 {
     let mut effects = List::new(alloc);
     push_signature_of_value(

@@ -86,9 +86,11 @@ pub fn described(effect: &AliasingEffect) -> Described {
             function,
             ..
         } => ("Apply", receiver.identifier.0, function.identifier.0),
-        AliasingEffect::CreateFunction {
-            into, captures, ..
-        } => ("CreateFunction", into.identifier.0, captures.len() as u32),
+        AliasingEffect::CreateFunction { into, captures, .. } => (
+            "CreateFunction",
+            into.identifier.0,
+            captures.len() as u32,
+        ),
         _ => ("else", 0, 0),
     }
 }

@@ -94,10 +94,7 @@ fn component(
     let mut func = function(alloc, fn_type);
     func.params.push(ParamPattern::Place(place(0)))?;
     let mut list = List::new(alloc);
-    list.push(instruction(
-        3,
-        taken_apart(alloc, InstructionKind::Const, 1, 2, 0)?,
-    ))?;
+    list.push(instruction(3, taken_apart(alloc, InstructionKind::Const, 1, 2, 0)?))?;
     list.push(then)?;
     add_block(alloc, &mut func, 0, list, returning(4))?;
     Ok(func)
@@ -137,7 +134,10 @@ fn spreads(rt: HostRuntime) -> Result<(), Fail> {
         property: place(5),
         value: place(6),
     };
-    assert!(rt; !is_kept(alloc, &env, instruction(4, stored))?, "it is written");
+    assert!(rt;
+        !is_kept(alloc, &env, instruction(4, stored))?,
+        "it is written"
+    );
     Ok(())
 }
 
@@ -151,7 +151,10 @@ fn spread_under_another_name(rt: HostRuntime) -> Result<(), Fail> {
     list.push(instruction(6, call_with(alloc, 5, 4)?))?;
     add_block(alloc, &mut func, 1, list, returning(6))?;
     let spreads = find_non_mutated_destructure_spreads(alloc, &func, &env)?;
-    assert!(rt; !spreads.contains(&place(2)), "a function takes what was read of it");
+    assert!(rt;
+        !spreads.contains(&place(2)),
+        "a function takes what was read of it"
+    );
     Ok(())
 }
 
@@ -163,21 +166,24 @@ fn spread_of_unknown(rt: HostRuntime) -> Result<(), Fail> {
     func.params.push(ParamPattern::Place(place(5)))?;
     func.params.push(ParamPattern::Place(place(0)))?;
     let mut list = List::new(alloc);
-    list.push(instruction(
-        3,
-        taken_apart(alloc, InstructionKind::Const, 1, 2, 0)?,
-    ))?;
-    list.push(instruction(
-        3,
-        taken_apart(alloc, InstructionKind::Reassign, 1, 4, 5)?,
-    ))?;
+    list.push(instruction(3, taken_apart(alloc, InstructionKind::Const, 1, 2, 0)?))?;
+    list.push(instruction(3, taken_apart(alloc, InstructionKind::Reassign, 1, 4, 5)?))?;
     add_block(alloc, &mut func, 0, list, returning(3))?;
     let spreads = find_non_mutated_destructure_spreads(alloc, &func, &env)?;
-    assert!(rt; !spreads.contains(&place(2)), "a ref is not known to be frozen");
-    assert!(rt; !spreads.contains(&place(4)), "the variables were there before");
+    assert!(rt;
+        !spreads.contains(&place(2)),
+        "a ref is not known to be frozen"
+    );
+    assert!(rt;
+        !spreads.contains(&place(4)),
+        "the variables were there before"
+    );
     func.fn_type = FunctionType::Hook;
     let spreads = find_non_mutated_destructure_spreads(alloc, &func, &env)?;
-    assert!(rt; spreads.contains(&place(2)), "all arguments of a hook are frozen");
+    assert!(rt;
+        spreads.contains(&place(2)),
+        "all arguments of a hook are frozen"
+    );
     Ok(())
 }
 

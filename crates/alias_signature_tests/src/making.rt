@@ -1,8 +1,8 @@
 //! Small functions and their tables.
 
 use alias_base::{
-    BlockId, BlockMap, Boxed, DeclarationId, EvaluationOrder, IdentifierId,
-    InstructionId, List, Text, TypeId,
+    BlockId, BlockMap, Boxed, DeclarationId, EvaluationOrder, IdentifierId, InstructionId, List,
+    Text, TypeId,
 };
 use alias_facts::{FunctionFacts, Handlers, Hoisted, Spreads};
 use alias_hir::env::{Environment, Identifier, MutableRange};
@@ -102,10 +102,10 @@ pub fn environment(alloc: Global) -> Result<Environment, AllocError> {
 }
 
 /// An instruction with that result.
-pub fn instruction(result: u32, value: InstructionValue) -> Instruction {
+pub fn instruction(target: u32, value: InstructionValue) -> Instruction {
     Instruction {
         id: EvaluationOrder(1),
-        lvalue: place(result),
+        lvalue: place(target),
         value,
         span: Some(Span { start: 5, end: 6 }),
         effects: None,
@@ -175,9 +175,7 @@ pub fn taken_apart(
         computed: Some(place(7)),
         place: place(part),
     }))?;
-    properties.push(ObjectPropertyOrSpread::Spread(SpreadPattern {
-        place: place(rest),
-    }))?;
+    properties.push(ObjectPropertyOrSpread::Spread(SpreadPattern { place: place(rest) }))?;
     Ok(InstructionValue::Destructure {
         lvalue: LValuePattern {
             pattern: Pattern::Object(ObjectPattern { properties }),

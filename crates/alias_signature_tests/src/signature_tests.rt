@@ -22,12 +22,17 @@ use std::test::Fail;
 fn gives(
     alloc: Global,
     env: &mut Environment,
-    result: u32,
+    target: u32,
     value: InstructionValue,
     want: &[Described],
 ) -> Result<bool, Fail> {
     let facts = no_facts(alloc);
-    let effects = compute_signature_for_instruction(alloc, env, &instruction(result, value), &facts)?;
+    let effects = compute_signature_for_instruction(
+        alloc,
+        env,
+        &instruction(target, value),
+        &facts,
+    )?;
     Ok(are_described(&effects, want))
 }
 
@@ -38,7 +43,15 @@ fn literals_and_loads(rt: HostRuntime) -> Result<(), Fail> {
     let literal = InstructionValue::RegExpLiteral;
     assert!(rt; gives(alloc, &mut env, 0, literal, &[("Create Primitive", 0, 0)])?);
     let global = InstructionValue::LoadGlobal;
-    assert!(rt; gives(alloc, &mut env, 0, global, &[("Create Global Global", 0, 0)])?);
+    assert!(rt;
+        gives(
+            alloc,
+            &mut env,
+            0,
+            global,
+            &[("Create Global Global", 0, 0)]
+        )?
+    );
     let load = InstructionValue::LoadLocal { place: place(1) };
     assert!(rt; gives(alloc, &mut env, 0, load, &[("Assign", 1, 0)])?);
     let cast = InstructionValue::TypeCastExpression { value: place(1) };
@@ -72,15 +85,21 @@ fn arrays_and_objects(rt: HostRuntime) -> Result<(), Fail> {
         ("MutateTransitiveConditionally", 2, 2),
         ("Capture", 2, 0),
     ];
-    assert!(rt; gives(alloc, &mut env, 0, InstructionValue::ArrayExpression { elements }, &want)?);
+    assert!(rt;
+        gives(
+            alloc,
+            &mut env,
+            0,
+            InstructionValue::ArrayExpression { elements },
+            &want
+        )?
+    );
     let mut properties = List::new(alloc);
     properties.push(ObjectPropertyOrSpread::Property(ObjectProperty {
         computed: Some(place(3)),
         place: place(1),
     }))?;
-    properties.push(ObjectPropertyOrSpread::Spread(SpreadPattern {
-        place: place(2),
-    }))?;
+    properties.push(ObjectPropertyOrSpread::Spread(SpreadPattern { place: place(2) }))?;
     let want = [
         ("Create Mutable", 0, 0),
         ("Capture", 1, 0),
@@ -139,7 +158,15 @@ fn stores(rt: HostRuntime) -> Result<(), Fail> {
         lvalue: variable(2, InstructionKind::Const),
         value: place(1),
     };
-    assert!(rt; gives(alloc, &mut env, 0, store, &[("Assign", 1, 2), ("Assign", 1, 0)])?);
+    assert!(rt;
+        gives(
+            alloc,
+            &mut env,
+            0,
+            store,
+            &[("Assign", 1, 2), ("Assign", 1, 0)]
+        )?
+    );
     let declared = InstructionValue::DeclareLocal {
         lvalue: variable(2, InstructionKind::Let),
     };
@@ -161,7 +188,10 @@ fn stores(rt: HostRuntime) -> Result<(), Fail> {
 fn property_stores(rt: HostRuntime) -> Result<(), Fail> {
     let alloc = rt.alloc();
     let mut env = environment(alloc)?;
-    let current = property_store(PropertyLiteral::String(Text::from_str(alloc, "current")?), 1);
+    let current = property_store(
+        PropertyLiteral::String(Text::from_str(alloc, "current")?),
+        1,
+    );
     let want = [
         ("Mutate current", 1, 1),
         ("Capture", 2, 1),
@@ -175,7 +205,10 @@ fn property_stores(rt: HostRuntime) -> Result<(), Fail> {
         ("Create Primitive", 0, 0),
     ];
     assert!(rt; gives(alloc, &mut env, 0, other, &want)?);
-    let known = property_store(PropertyLiteral::String(Text::from_str(alloc, "current")?), 8);
+    let known = property_store(
+        PropertyLiteral::String(Text::from_str(alloc, "current")?),
+        8,
+    );
     let want = [
         ("Mutate", 8, 8),
         ("Capture", 2, 8),
@@ -270,7 +303,15 @@ fn elements(rt: HostRuntime) -> Result<(), Fail> {
         ("Freeze JsxCaptured", 3, 3),
         ("Capture", 3, 0),
     ];
-    assert!(rt; gives(alloc, &mut env, 0, InstructionValue::JsxFragment { children }, &want)?);
+    assert!(rt;
+        gives(
+            alloc,
+            &mut env,
+            0,
+            InstructionValue::JsxFragment { children },
+            &want
+        )?
+    );
     Ok(())
 }
 
@@ -289,10 +330,7 @@ fn patterns(rt: HostRuntime) -> Result<(), Fail> {
     let mut func = function(alloc, FunctionType::Component);
     func.params.push(ParamPattern::Place(place(1)))?;
     let mut list = List::new(alloc);
-    list.push(instruction(
-        0,
-        taken_apart(alloc, InstructionKind::Const, 3, 2, 1)?,
-    ))?;
+    list.push(instruction(0, taken_apart(alloc, InstructionKind::Const, 3, 2, 1)?))?;
     add_block(alloc, &mut func, 0, list, returning(3))?;
     let facts = function_facts(alloc, &func, &env)?;
     let pattern = instruction(0, taken_apart(alloc, InstructionKind::Const, 3, 2, 1)?);
@@ -347,10 +385,7 @@ fn hoisted_variables(rt: HostRuntime) -> Result<(), Fail> {
     let mut env = environment(alloc)?;
     let mut func = function(alloc, FunctionType::Other);
     let mut list = List::new(alloc);
-    list.push(instruction(
-        0,
-        declaration(1, InstructionKind::HoistedLet),
-    ))?;
+    list.push(instruction(0, declaration(1, InstructionKind::HoistedLet)))?;
     add_block(alloc, &mut func, 0, list, returning(3))?;
     let facts = function_facts(alloc, &func, &env)?;
     assert!(rt; facts.hoisted.contains(DeclarationId(1)));
@@ -393,9 +428,16 @@ fn globals(rt: HostRuntime) -> Result<(), Fail> {
     assert_eq!(rt; env.interned.len(), 1);
     let interned = env.interned.get(0).ok_or("interned")?;
     assert_eq!(rt; interned.identifier, IdentifierId(2));
-    assert_eq!(rt; interned.report.message.as_str(), "Cannot reassign variables declared outside of the component/hook");
+    assert_eq!(rt;
+        interned.report.message.as_str(),
+        "Cannot reassign variables declared outside of the component/hook"
+    );
     let help = interned.report.help.as_ref().ok_or("help")?;
-    assert!(rt; help.as_str().starts_with("Variable `counter` is declared outside of the component/hook. Reassigning"));
+    assert!(rt;
+        help.as_str().starts_with(
+            "Variable `counter` is declared outside of the component/hook. Reassigning"
+        )
+    );
     let label = interned.report.labels.get(0).ok_or("label")?;
     assert_eq!(rt; label.span, Span { start: 5, end: 6 });
     let text = label.text.as_ref().ok_or("text")?;
