@@ -14,7 +14,7 @@ use Rattle.alias_tables.specs.declared.faults.Refusal.{Refusal}
 use Rattle.alias_tables.specs.declared.faults.Refusal.TheVariants.{TooMany}
 use Rattle.alias_tables.specs.declared.temp_key.TempKey.{TempKey}
 use Rattle.alias_tables.specs.declared.temporaries.Temporary.{Temporary}
-use Rattle.alias_tables.specs.Steps.{gives, refuses, ◌>>=◌, each}
+use Rattle.alias_tables.specs.Steps.{gives, refuses, ◌>>=◌, each, if_some, collect}
 use Rattle.alias_tables.specs.ReplayLaws.{Replays, tables_are, first_is, not_given, replays_gives as any_gives, replays_refuses as any_refuses, replays_then as any_then, replays_if as any_if, replays_each as any_each}
 use Rattle.alias_tables.specs.FirstEffects.{same_key, keys_are_told_apart, first_like}
 use Rattle.alias_tables.specs.Temporaries.{same_temp, temps_are_told_apart, key_in, temp_like, temporary_of}
@@ -75,6 +75,14 @@ again_if b f g = any_if extends_self extends_through b f g
 
 pub again_each : {X A : Type 0} (f : X → A → Step A) → ((x : X) (a : A) → Again (f x a)) → (xs : List X) (a : A) → Again (each f xs a)
 again_each f = any_each extends_self extends_through f
+
+again_if_some : {A B : Type 0} (o : Option A) (f : A → Step (Option B)) → ((x : A) → Again (f x)) → Again (if_some o f)
+again_if_some None f h = again_gives None
+again_if_some (Some x) f h = h x
+
+pub again_collect : {X A : Type 0} (f : X → A → Step (Option A)) → ((x : X) (a : A) → Again (f x a)) → (xs : List X) (a : A) → Again (collect f xs a)
+again_collect f h [] a = again_gives (Some a)
+again_collect f h (x ∷ xs) a = again_then (f x a) (λ o. if_some o (collect f xs)) (h x a) (λ o. again_if_some o (collect f xs) (again_collect f h xs))
 
 -- ---- effects
 

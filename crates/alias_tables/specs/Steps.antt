@@ -1,5 +1,5 @@
 -- Steps that read tables and extend them, and the words that they are made of.
-use Rattle.std.specs.Prelude.{List, [], ◌∷◌, Result, Ok, Err}
+use Rattle.std.specs.Prelude.{List, [], ◌∷◌, Option, None, Some, Result, Ok, Err}
 
 module _ {T C : Type 0} where
   abbrev pub and_then : {A B : Type 0} → Result (A × T) C → (A → T → Result (B × T) C) → Result (B × T) C
@@ -22,3 +22,13 @@ module _ {T C : Type 0} where
   abbrev pub each : {X A : Type 0} → (X → A → T → Result (A × T) C) → List X → A → T → Result (A × T) C
   each f [] a t = Ok (a, t)
   each f (x ∷ xs) a t = and_then (f x a t) (each f xs)
+
+  -- the next step, unless what is made was given up
+  abbrev pub if_some : {A B : Type 0} → Option A → (A → T → Result (Option B × T) C) → T → Result (Option B × T) C
+  if_some None f t = Ok (None, t)
+  if_some (Some x) f t = f x t
+
+  -- a step for each of a list, in order, until one gives up
+  abbrev pub collect : {X A : Type 0} → (X → A → T → Result (Option A × T) C) → List X → A → T → Result (Option A × T) C
+  collect f [] a t = Ok (Some a, t)
+  collect f (x ∷ xs) a t = and_then (f x a t) (λ o. if_some o (collect f xs))

@@ -1,0 +1,10 @@
+pub mod Kinds
+pub mod Progress
+pub mod Contexts
+pub mod Reports
+pub mod Leaves
+pub mod Values
+pub mod Mutation
+pub mod Apply
+pub mod ReplayLaws
+pub mod ProperLaws

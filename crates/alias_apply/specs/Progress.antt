@@ -1,0 +1,58 @@
+-- What the parts of a step do to its progress.
+use Rattle.std.specs.Prelude.{◌≡◌, Bool, ◌==◌, List, [], ◌∷◌, ◌++◌, Option, Some, None, Result, Ok, Err, ⊤, if◌then◌else◌}
+use Rattle.std.specs.List.{list_any}
+use Rattle.alias_base.specs.declared.ids.IdentifierId.{IdentifierId}
+use Rattle.alias_hir.specs.declared.effect.ValueKind.{ValueKind}
+use Rattle.alias_hir.specs.declared.place.Place.{Place}
+use Rattle.alias_hir.specs.declared.place.Span.{Span}
+use Rattle.alias_lattice.specs.declared.look.MissingLook.{MissingLook}
+use Rattle.alias_lattice.specs.States.{State, look, missing_look}
+use Rattle.alias_hir.specs.declared.effect.AliasingEffect.{AliasingEffect}
+use Rattle.alias_tables.specs.declared.faults.Refusal.{Refusal}
+use Rattle.alias_tables.specs.declared.faults.Refusal.TheVariants.{Reinitialized}
+use Rattle.alias_tables.specs.declared.faults.EffectFault.{EffectFault}
+use Rattle.alias_tables.specs.declared.faults.EffectFault.TheVariants.{Refused, Memory}
+use Rattle.alias_tables.specs.Tables.{TableLists, Step}
+use Rattle.alias_tables.specs.Steps.{gives, refuses}
+use Rattle.alias_apply.specs.declared.progress.StepProgress.{StepProgress}
+
+-- the effect is recorded
+abbrev pub record_of : AliasingEffect → StepProgress → StepProgress
+record_of e s = record s { recorded = s.recorded ++ e ∷ [] }
+
+-- the state is another
+abbrev pub with_state : State → StepProgress → StepProgress
+with_state u s = record s { state = u }
+
+-- the first of two looks that may be missing
+abbrev pub first_missing : Option MissingLook → Option MissingLook → Option MissingLook
+first_missing None m = m
+first_missing (Some l) m = Some l
+
+-- a look at the identifier, which is noted where it is the first without a value
+abbrev pub looked : IdentifierId → Option Span → StepProgress → StepProgress
+looked x span s = record s { missing = first_missing s.missing (missing_look s.state x span) }
+
+-- a look at a place without its span, and with it
+abbrev pub looked_at : Place → StepProgress → StepProgress
+looked_at p s = looked p.identifier None s
+
+abbrev pub looked_with_span : Place → StepProgress → StepProgress
+looked_with_span p s = looked p.identifier p.span s
+
+-- the kind of the place's value as the step has come
+abbrev pub kind_at : Place → StepProgress → ValueKind
+kind_at p s = (look s.state p.identifier).kind
+
+abbrev pub is_made : IdentifierId → List IdentifierId → Bool
+is_made x made = list_any (λ (y : IdentifierId). y.0 == x.0) made
+
+-- the identifier is made, once in an instruction
+abbrev pub made : IdentifierId → StepProgress → Step StepProgress
+made x s = if is_made x s.made then refuses (Reinitialized x) else gives (record s { made = s.made ++ x ∷ [] })
+
+-- After Ok the progress and the tables are those that are stated, and so is a refusal. Memory may fail at any time.
+abbrev pub Follows : Result (StepProgress × TableLists) Refusal → Result ⊤ EffectFault → StepProgress → TableLists → Type 0
+Follows stated (Ok u) s t = stated ≡ Ok (s, t)
+Follows stated (Err (Refused c)) s t = stated ≡ Err c
+Follows stated (Err (Memory e)) s t = ⊤

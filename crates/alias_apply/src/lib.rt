@@ -1,0 +1,16 @@
+//! The step of each effect but calls, a function for each.
+#![tactic(auto)]
+
+pub mod apply;
+pub mod context;
+pub mod kinds;
+pub mod laws;
+pub mod leaves;
+pub mod mutation;
+pub mod progress;
+pub mod reports;
+pub mod values;
+
+pub use apply::{raise_all_plain, raise_plain, raise_simple};
+pub use context::{Hoisted, StepContext};
+pub use progress::StepProgress;

@@ -1,0 +1,190 @@
+//! The steps of writes, and of freezes.
+
+ghost use Rattle.std.specs.Prelude.{◌≡◌, OnOk};
+ghost use Rattle.alias_apply.specs.Contexts.{held};
+ghost use Rattle.alias_apply.specs.Progress.{Follows};
+ghost use Rattle.alias_apply.specs.Mutation.{raise_mutate_frozen, raise_mutate_global, report_write, report_hoisted_write, record_mutation, apply_mutate, apply_mutate_conditionally, freezes_on, apply_freeze};
+
+use crate::context::{StepContext, hoisted_access};
+use crate::kinds::{is_frozen, is_writable};
+use crate::leaves::raise_leaf;
+use crate::progress::{StepProgress, look, record};
+use crate::reports::{hoisting_report, write_report};
+use alias_freezing::go_into_place;
+use alias_hir::effect::{AliasingEffect, ValueKind, ValueReason};
+use alias_hir::env::Config;
+use alias_hir::place::Place;
+use alias_hir::report::Report;
+use alias_hir::types::is_ref_at;
+use alias_lattice::AbstractValue;
+use alias_tables::{EffectFault, Tables};
+use std::alloc::AllocError;
+
+fn raise_mutate_frozen(
+    step: &mut StepProgress,
+    tables: &mut Tables,
+    report: Report,
+    place: Place,
+) -> Result<(), EffectFault>
+    ensures { Follows (raise_mutate_frozen report place step.old tables.old) result step.new tables.new }
+{
+    let error = tables.intern_report(place.identifier, report)?;
+    raise_leaf(step, tables, AliasingEffect::MutateFrozen { place, error })
+}
+
+fn raise_mutate_global(
+    step: &mut StepProgress,
+    tables: &mut Tables,
+    report: Report,
+    place: Place,
+) -> Result<(), EffectFault>
+    ensures { Follows (raise_mutate_global report place step.old tables.old) result step.new tables.new }
+{
+    let error = tables.intern_report(place.identifier, report)?;
+    raise_leaf(step, tables, AliasingEffect::MutateGlobal { place, error })
+}
+
+/// A write of a value that isn't to be written.
+fn report_write(
+    context: &StepContext<'_>,
+    step: &mut StepProgress,
+    tables: &mut Tables,
+    there: AbstractValue,
+    place: Place,
+) -> Result<(), EffectFault>
+    ensures { Follows (report_write (held context.now) there place step.old tables.old) result step.new tables.new }
+{
+    let report = write_report(
+        tables.alloc(),
+        context.env,
+        place.identifier,
+        place.span,
+        &there.reason,
+    )?;
+    if is_frozen(there.kind) {
+        raise_mutate_frozen(step, tables, report, place)
+    } else {
+        raise_mutate_global(step, tables, report, place)
+    }
+}
+
+/// A write of a value that may be frozen: of a variable that is hoisted, it comes before the declaration.
+fn report_hoisted_write(
+    context: &StepContext<'_>,
+    step: &mut StepProgress,
+    tables: &mut Tables,
+    hoisted: Option<Option<Place>>,
+    there: AbstractValue,
+    place: Place,
+) -> Result<(), EffectFault>
+    ensures { Follows (report_hoisted_write (held context.now) hoisted there place step.old tables.old) result step.new tables.new }
+{
+    match hoisted {
+        Some(access) => {
+            let report = hoisting_report(
+                tables.alloc(),
+                context.env,
+                place.identifier,
+                place.span,
+                access,
+            )?;
+            raise_mutate_frozen(step, tables, report, place)
+        }
+        None => report_write(context, step, tables, there, place),
+    }
+}
+
+/// What a definite write does, by the kind of what it writes.
+fn record_mutation(
+    context: &StepContext<'_>,
+    step: &mut StepProgress,
+    tables: &mut Tables,
+    kind: ValueKind,
+    there: AbstractValue,
+    effect: AliasingEffect,
+    place: Place,
+) -> Result<(), EffectFault>
+    ensures { Follows (record_mutation (held context.now) kind there effect place step.old tables.old) result step.new tables.new }
+{
+    match kind {
+        ValueKind::Mutable | ValueKind::Context => {
+            record(step, effect)?;
+            Ok(())
+        }
+        ValueKind::Primitive => Ok(()),
+        ValueKind::Frozen | ValueKind::MaybeFrozen => {
+            let hoisted = hoisted_access(context, place.identifier);
+            report_hoisted_write(context, step, tables, hoisted, there, place)
+        }
+        ValueKind::Global => report_write(context, step, tables, there, place),
+    }
+}
+
+/// Mutate and MutateTransitive: a ref may be written.
+pub fn apply_mutate(
+    context: &StepContext<'_>,
+    step: &mut StepProgress,
+    tables: &mut Tables,
+    effect: AliasingEffect,
+    place: Place,
+) -> Result<(), EffectFault>
+    ensures { Follows (apply_mutate (held context.now) effect place step.old tables.old) result step.new tables.new }
+{
+    if is_ref_at(context.env, place.identifier) {
+        return Ok(());
+    }
+    let there = look(step, place.identifier, place.span);
+    record_mutation(context, step, tables, there.kind, there, effect, place)
+}
+
+/// The conditional writes: recorded where the value is writable.
+pub fn apply_mutate_conditionally(
+    context: &StepContext<'_>,
+    step: &mut StepProgress,
+    effect: AliasingEffect,
+    place: Place,
+) -> Result<(), AllocError>
+    ensures { OnOk result (step.new ≡ apply_mutate_conditionally (held context.now) effect place step.old) }
+{
+    if is_ref_at(context.env, place.identifier) {
+        return Ok(());
+    }
+    let there = look(step, place.identifier, place.span);
+    if is_writable(there.kind) {
+        return record(step, effect);
+    }
+    Ok(())
+}
+
+fn freezes_on(config: Config) -> bool
+    ensures { result ≡ freezes_on config }
+{
+    config.enable_preserve_existing_memoization_guarantees
+        || config.enable_transitively_freeze_function_expressions
+}
+
+/// Freeze: recorded where it acts, and gone on with where that is asked.
+pub fn apply_freeze(
+    context: &StepContext<'_>,
+    step: &mut StepProgress,
+    tables: &Tables,
+    value: Place,
+    reason: ValueReason,
+) -> Result<(), AllocError>
+    ensures { OnOk result (step.new ≡ apply_freeze (held context.now) value reason step.old) }
+{
+    if !step.state.freeze(value.identifier, reason)? {
+        return Ok(());
+    }
+    record(step, AliasingEffect::Freeze { value, reason })?;
+    if freezes_on(context.env.config) {
+        go_into_place(
+            tables.alloc(),
+            &mut step.state,
+            context.env,
+            value.identifier,
+            reason,
+        )?;
+    }
+    Ok(())
+}

@@ -1,0 +1,79 @@
+//! How far the step of an instruction has come.
+
+ghost use Rattle.std.specs.Prelude.{◌≡◌, OnOk};
+ghost use Rattle.alias_lattice.specs.States.{look as look_of, given};
+ghost use Rattle.alias_apply.specs.Progress.{with_state, record_of, looked, is_made, made, Follows};
+
+use alias_base::{IdentifierId, List};
+use alias_hir::effect::{AliasingEffect, AliasingEffects};
+use alias_hir::place::{Place, Span};
+use alias_lattice::{AbstractValue, InferenceState, MissingLook, Site};
+use alias_tables::{EffectFault, Refusal, Tables};
+use std::alloc::AllocError;
+
+/// How far the steps of an instruction's effects have come. What they add to are tables beside it.
+#[derive(Drop)]
+pub struct StepProgress {
+    pub state: InferenceState,
+    /// The identifiers that the instruction has made.
+    pub made: List<IdentifierId>,
+    /// What was recorded of the instruction.
+    pub recorded: AliasingEffects,
+    /// The first look of the block at an identifier without a value.
+    pub missing: Option<MissingLook>,
+}
+
+/// Appends the effect to what was recorded.
+pub fn record(step: &mut StepProgress, effect: AliasingEffect) -> Result<(), AllocError>
+    ensures { OnOk result (step.new ≡ record_of effect step.old) }
+{
+    step.recorded.push(effect)?;
+    Ok(())
+}
+
+/// Whether the instruction has made the identifier.
+pub fn is_made(made: &[IdentifierId], identifier: IdentifierId) -> bool
+    ensures { result ≡ is_made identifier made.now }
+{
+    made.contains(&identifier)
+}
+
+/// Notes that the instruction makes the identifier, which it may do once.
+pub fn make(
+    step: &mut StepProgress,
+    tables: &Tables,
+    identifier: IdentifierId,
+) -> Result<(), EffectFault>
+    ensures { Follows (made identifier step.old tables.now) result step.new tables.now }
+{
+    let _tables = tables;
+    if is_made(step.made.as_slice(), identifier) {
+        return Err(EffectFault::Refused(Refusal::Reinitialized { identifier }));
+    }
+    step.made.push(identifier)?;
+    Ok(())
+}
+
+/// The value of the identifier. A look at one without a value is noted, if it is the first.
+pub fn look(step: &mut StepProgress, identifier: IdentifierId, span: Option<Span>) -> AbstractValue
+    ensures value { result ≡ look_of step.old.state identifier }
+    ensures noted { step.new ≡ looked identifier span step.old }
+{
+    let look = step.state.kind_with_span(identifier, span);
+    if step.missing.is_none() {
+        step.missing = look.missing;
+    }
+    look.value
+}
+
+/// The place's one site is this one, with this value.
+pub fn give(
+    step: &mut StepProgress,
+    place: &Place,
+    site: Site,
+    value: AbstractValue,
+) -> Result<(), AllocError>
+    ensures { OnOk result (step.new ≡ with_state (given place.now.identifier site value step.old.state) step.old) }
+{
+    step.state.give(place.identifier, site, value)
+}

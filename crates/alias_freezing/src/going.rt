@@ -1,0 +1,110 @@
+//! Going into sites, by a stack of what is left to do.
+
+ghost use Rattle.std.specs.Prelude.{◌≡◌, ◌++◌, OnOk, IfOk};
+ghost use Rattle.alias_lattice.specs.States.{frozen};
+ghost use Rattle.alias_freezing.specs.Contexts.{context_of};
+ghost use Rattle.alias_freezing.specs.Sites.{sites_at};
+ghost use Rattle.alias_freezing.specs.Going.{at_sites, gone_into, gone_into_place};
+ghost use Rattle.alias_freezing.specs.GoingLaws.{Sorted};
+ghost use Rattle.alias_freezing.specs.Tasks.{NextIs, stacked_sites};
+
+use crate::sites::{does_freeze, sites_at};
+use crate::tasks::{Task, push_context, push_sites_of};
+use alias_base::IdentifierId;
+use alias_hir::effect::ValueReason;
+use alias_hir::env::Environment;
+use alias_lattice::{InferenceState, Lattice, Site};
+use std::alloc::{AllocError, Global};
+
+/// Freezes a place, and puts its sites on the stack.
+fn freeze_top(
+    alloc: Global,
+    state: &mut InferenceState,
+    stack: &mut Vec<Task>,
+    place: IdentifierId,
+    reason: ValueReason,
+) -> Result<(), AllocError>
+    ensures state { OnOk result (state.new ≡ frozen place reason state.old) }
+    ensures stack { OnOk result (stack.new.items ≡ stack.old.items ++ stacked_sites (sites_at state.old place)) }
+{
+    push_sites_of(alloc, stack, state, place)?;
+    let _acts = state.freeze(place, reason)?;
+    Ok(())
+}
+
+/// Takes tasks off the stack up to a place that freezes. `reason` is why it will be.
+fn next_freezing(
+    stack: &mut Vec<Task>,
+    state: &InferenceState,
+    env: &Environment,
+    reason: ValueReason,
+) -> Result<Option<IdentifierId>, AllocError>
+    requires { Sorted state.now }
+    ensures { IfOk result (λ next. NextIs (context_of env.now) reason stack.old.items state.now next stack.new.items) }
+{
+    let _reason = reason;
+    'tasks: while let Some(task) = stack.pop() {
+        match task {
+            Task::AtPlace(place) => {
+                if does_freeze(state, place) {
+                    return Ok(Some(place));
+                }
+            }
+            Task::AtSite(site) => push_context(stack, env, site)?,
+        }
+    }
+    Ok(None)
+}
+
+/// Goes into the site: each context place of its function is frozen, and what these lead to. The one error is
+/// want of memory, after which some of it may be.
+pub fn go_into(
+    alloc: Global,
+    state: &mut InferenceState,
+    env: &Environment,
+    site: Site,
+    reason: ValueReason,
+) -> Result<(), AllocError>
+    ensures { OnOk result (state.new ≡ gone_into reason (context_of env.now) site state.old) }
+{
+    let mut stack = Vec::new(alloc);
+    stack.push(Task::AtSite(site))?;
+    state.known();
+    'freezings: loop {
+        match next_freezing(&mut stack, state, env, reason)? {
+            Some(place) => freeze_top(alloc, state, &mut stack, place, reason)?,
+            None => return Ok(()),
+        }
+    }
+}
+
+/// Goes into each of the sites, in order.
+fn go_into_all(
+    alloc: Global,
+    state: &mut InferenceState,
+    env: &Environment,
+    sites: &[Site],
+    reason: ValueReason,
+) -> Result<(), AllocError>
+    ensures { OnOk result (state.new ≡ at_sites (gone_into reason (context_of env.now)) sites.now state.old) }
+{
+    for site in sites {
+        go_into(alloc, state, env, *site, reason)?;
+    }
+    Ok(())
+}
+
+/// Goes into each site of the place, in ascending order. The one error is want of memory, after which some of them
+/// may be gone into.
+pub fn go_into_place(
+    alloc: Global,
+    state: &mut InferenceState,
+    env: &Environment,
+    place: IdentifierId,
+    reason: ValueReason,
+) -> Result<(), AllocError>
+    ensures { OnOk result (state.new ≡ gone_into_place reason (context_of env.now) place state.old) }
+{
+    let sites = sites_at(alloc, state, place)?;
+    go_into_all(alloc, state, env, sites.as_slice(), reason)
+}
