@@ -6,7 +6,7 @@ use Rattle.alias_base.specs.declared.ids.FunctionId.{FunctionId}
 use Rattle.alias_base.specs.declared.ids.TypeId.{TypeId}
 use Rattle.alias_facts.specs.Hoisted.{Accesses, is_hoisting}
 use Rattle.alias_facts.specs.Spreads.{is_spread}
-use Rattle.alias_hir.specs.Effects.{effect_places, error_of, function_of, signature_of}
+use Rattle.alias_hir.specs.Effects.{effect_places, error_of, function_of, signature_of as type_of_call}
 use Rattle.alias_hir.specs.Parts.{optional_place, arg_places, apply_arg_places, element_places, property_places, item_places, places_in_pattern, tag_places, attribute_places}
 use Rattle.alias_hir.specs.Types.{is_primitive_at, is_builtin_collection_at, returns_jsx_at}
 use Rattle.alias_hir.specs.Values.{places_of, created as created_function}
@@ -58,7 +58,7 @@ abbrev pub Named : Type 0
 Named = Option FunctionId × Option TypeId
 
 abbrev pub names_of : AliasingEffect → Named
-names_of e = (function_of e, signature_of e)
+names_of e = (function_of e, type_of_call e)
 
 -- what an instruction names by its kind
 abbrev pub names_by_kind : Environment → InstructionValue → Named
