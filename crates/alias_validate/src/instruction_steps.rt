@@ -100,7 +100,7 @@ pub fn at_terminal(
     Ok(ended(first_mark(marks, places.as_slice())))
 }
 
-/// The function that the instruction created.
+/// The nested function that the instruction creates.
 pub fn created(value: &InstructionValue) -> Option<FunctionId>
     ensures { result ≡ created value.now }
 {
@@ -111,7 +111,7 @@ pub fn created(value: &InstructionValue) -> Option<FunctionId>
     }
 }
 
-/// An instruction that created no function.
+/// An instruction that creates no function.
 pub fn plain_step(
     alloc: Global,
     env: &Environment,
@@ -128,26 +128,20 @@ pub fn plain_step(
             marks.load(place.identifier, lvalue)?;
             Ok(WalkOutcome::Continue)
         }
-        InstructionValue::StoreLocal {
-            lvalue: target,
-            value,
-        } => {
-            marks.store(value.identifier, lvalue, target.place.identifier)?;
+        InstructionValue::StoreLocal { lvalue: to, value } => {
+            marks.store(value.identifier, lvalue, to.place.identifier)?;
             Ok(WalkOutcome::Continue)
         }
-        InstructionValue::DeclareContext { lvalue: target } => {
-            declare(is_function_expression, shared, target.place.identifier)?;
+        InstructionValue::DeclareContext { lvalue: to } => {
+            declare(is_function_expression, shared, to.place.identifier)?;
             Ok(WalkOutcome::Continue)
         }
-        InstructionValue::StoreContext {
-            lvalue: target,
-            value,
-        } => Ok(store_context(
+        InstructionValue::StoreContext { lvalue: to, value } => Ok(store_context(
             is_function_expression,
             lvalue,
             marks,
             shared,
-            target.place,
+            to.place,
             *value,
         )?),
         _ => other_step(alloc, env, instruction, marks, shared),

@@ -2,11 +2,14 @@
 //! which functions that mutate locals are frozen.
 #![tactic(auto)]
 
-pub mod freezing;
+mod freezing;
 mod instruction_steps;
 mod marks;
 mod mutation;
 mod operand_marks;
 mod outcome;
-pub mod reassigning;
+mod reassigning;
 mod reports;
+
+pub use freezing::validate_no_freezing_known_mutable_functions;
+pub use reassigning::validate_locals_not_reassigned_after_render;

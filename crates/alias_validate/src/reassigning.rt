@@ -1,5 +1,5 @@
 //! Locals that are reassigned after rendering.
-ghost use Rattle.std.specs.Prelude.{◌≡◌, ℕ, ◌+◌, take, length, true, Ok, option_map, IfOk};
+ghost use Rattle.std.specs.Prelude.{◌≡◌, ℕ, ◌+◌, take, length, true, false, Ok, option_map, IfOk, IfErr};
 ghost use Rattle.alias_base.specs.Answer.{Gives};
 ghost use Rattle.alias_hir.specs.Errors.{is_memory};
 ghost use Rattle.alias_validate.specs.Levels.{is_within};
@@ -176,7 +176,7 @@ fn walk_blocks(
     Ok(WalkOutcome::Continue)
 }
 
-/// The walk of a function, and of those that it created, within so many levels: the place that it ends with.
+/// The walk of a function, and of those that it creates, within so many levels: the place that it ends with.
 #[cycle(reassigned)]
 fn get_context_reassignment(
     alloc: Global,
@@ -238,9 +238,9 @@ fn reassigned_reports(
 }
 
 /// Reports each local that an async function reassigns, and then the place that some function reassigns once
-/// rendering is over. `EffectsNotInferred` names the first operand of the walk that has no effect yet; the
-/// other error is want of memory, and some reports may be recorded then. Where functions are nested in at most 64
-/// levels, as in each function that fits, the reports are those of a walk with no such bound.
+/// rendering is over. `EffectsNotInferred` names the first operand of the walk that has no effect yet; nothing
+/// is recorded then. The other error is want of memory, where some reports may be recorded. Where functions are nested
+/// in at most 64 levels, the reports are those of a walk with no such bound.
 pub fn validate_locals_not_reassigned_after_render(
     alloc: Global,
     func: &HirFunction,
@@ -248,6 +248,7 @@ pub fn validate_locals_not_reassigned_after_render(
 ) -> Result<(), InferError>
     ensures reports { Gives is_memory (with_reassigned env.old (reassigned_reports env.old func.now)) (answered (λ _. env.new) result) }
     ensures levels { is_within 64 env.old func.now ≡ true → (k : ℕ) → reassigned_within (64 + k) env.old func.now ≡ reassigned_reports env.old func.now }
+    ensures refused { IfErr result (λ e. is_memory e ≡ false → env.new ≡ env.old) }
     ensures before { take (length env.old.errors) env.new.errors ≡ env.old.errors }
     ensures others { env.new ≡ with_errors env.old env.new.errors }
 {

@@ -1,6 +1,6 @@
 //! The reports of the validations. The one error is want of memory.
 ghost use Rattle.std.specs.Prelude.{◌≡◌, ◌++◌, take, length, IfOk, OnOk};
-ghost use Rattle.alias_validate.specs.Reports.{quoted_or, variable_or, label, async_report, reassigned_report, frozen_report};
+ghost use Rattle.alias_validate.specs.Reports.{quoted_or, variable_or, label, async_report, reassigned_report, frozen_labels, frozen_report};
 
 use crate::mutation::ContextMutation;
 use alias_base::{IdentifierId, List, Text};
@@ -137,23 +137,14 @@ pub fn reassigned_report(
     })
 }
 
-/// What is told where an operand is frozen whose function mutates an identifier.
-pub fn frozen_report(
+fn frozen_labels(
     alloc: Global,
     env: &Environment,
     operand: Place,
     mutation: ContextMutation,
-) -> Result<Report, AllocError>
-    ensures { IfOk result (λ r. r ≡ frozen_report env.now operand mutation) }
+) -> Result<List<Label>, AllocError>
+    ensures { IfOk result (λ l. l ≡ frozen_labels env.now operand mutation) }
 {
-    let help = around(
-        alloc,
-        "This argument is a function which may reassign or mutate ",
-        env,
-        mutation.identifier,
-        "a local variable",
-        " after render, which can cause inconsistent behavior on subsequent renders. Consider using state instead",
-    )?;
     let here = around(
         alloc,
         "This function may (indirectly) reassign or modify ",
@@ -172,14 +163,34 @@ pub fn frozen_report(
     let mut labels = List::new(alloc);
     push_label(&mut labels, operand.span, here)?;
     push_label(&mut labels, mutation.span, there)?;
+    Ok(labels)
+}
+
+/// What is told where an operand is frozen whose function mutates an identifier.
+pub fn frozen_report(
+    alloc: Global,
+    env: &Environment,
+    operand: Place,
+    mutation: ContextMutation,
+) -> Result<Report, AllocError>
+    ensures { IfOk result (λ r. r ≡ frozen_report env.now operand mutation) }
+{
+    let help = around(
+        alloc,
+        "This argument is a function which may reassign or mutate ",
+        env,
+        mutation.identifier,
+        "a local variable",
+        " after render, which can cause inconsistent behavior on subsequent renders. Consider using state instead",
+    )?;
     Ok(Report {
         category: ErrorCategory::Immutability,
         message: Text::from_str(
             alloc,
-            "Cannot modify local context_variables after render completes",
+            "Cannot modify local variables after render completes",
         )?,
         help: Some(help),
-        labels,
+        labels: frozen_labels(alloc, env, operand, mutation)?,
     })
 }
 
