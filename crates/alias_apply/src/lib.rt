@@ -12,5 +12,5 @@ pub mod reports;
 pub mod values;
 
 pub use apply::{raise_all_plain, raise_plain, raise_simple};
-pub use context::{Hoisted, StepContext};
+pub use context::StepContext;
 pub use progress::StepProgress;

@@ -3,6 +3,8 @@ pub mod ReplayLaws
 pub mod CaptureOrder
 pub mod Keys
 pub mod FirstEffects
+pub mod Reads
+pub mod ReadLaws
 pub mod NameOrder
 pub mod Temporaries
 pub mod Tables

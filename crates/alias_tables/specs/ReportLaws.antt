@@ -16,8 +16,9 @@ use Rattle.alias_hir.specs.declared.report.Report.{Report}
 use Rattle.alias_hir.specs.Diagnostics.{same_category, same_text, same_span, same_label, same_words, same_report, same_identity, same_instance, number_of, interned, with_interned}
 use Rattle.alias_tables.specs.declared.reads.ContextRead.{ContextRead}
 use Rattle.alias_tables.specs.declared.faults.Refusal.TheVariants.{TooMany}
+use Rattle.alias_tables.specs.Reads.{same_read, is_noted}
 use Rattle.alias_tables.specs.ReplayLaws.{tables_are, first_is, not_given}
-use Rattle.alias_tables.specs.Tables.{TableLists, Step, with_reports, intern_report, same_read, is_noted, note_read, noted}
+use Rattle.alias_tables.specs.Tables.{TableLists, Step, with_reports, intern_report, note_read, noted}
 use Rattle.alias_tables.specs.GrowingLaws.{Grows, Extends, Again, grows_self, grows_by}
 
 -- ---- equal reports

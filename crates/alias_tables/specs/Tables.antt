@@ -1,6 +1,5 @@
 -- The tables, and what is found and added in them.
-use Rattle.std.specs.Prelude.{◌≡◌, ℕ, ◌+◌, Bool, false, ◌&&◌, ◌==◌, nat_lt, List, [], ◌∷◌, ◌++◌, length, Option, Some, None, Result, Ok, Err, ⊤, if◌then◌else◌}
-use Rattle.std.specs.List.{list_any}
+use Rattle.std.specs.Prelude.{◌≡◌, ℕ, ◌+◌, Bool, false, ◌&&◌, nat_lt, List, [], ◌∷◌, ◌++◌, length, Option, Some, None, Result, Ok, Err, ⊤, if◌then◌else◌}
 use Rattle.alias_base.specs.declared.ids.IdentifierId.{IdentifierId}
 use Rattle.alias_hir.specs.declared.error.Counter.TheVariants.{Diagnostics, Identifiers}
 use Rattle.alias_hir.specs.declared.place.Effect.TheVariants.{Unknown}
@@ -22,6 +21,7 @@ use Rattle.alias_tables.specs.declared.faults.EffectFault.TheVariants.{Refused, 
 use Rattle.alias_tables.specs.declared.temp_key.TempKey.{TempKey}
 use Rattle.alias_tables.specs.declared.temporaries.Temporary.{Temporary}
 use Rattle.alias_tables.specs.FirstEffects.{first_like}
+use Rattle.alias_tables.specs.Reads.{is_noted}
 use Rattle.alias_tables.specs.Temporaries.{temp_like, temporary_of}
 
 pub record TableLists : Type 0 where
@@ -94,12 +94,6 @@ intern_report id r t =
     else Err (TooMany Diagnostics)
 
 -- ---- context places
-
-abbrev pub same_read : ContextRead → ContextRead → Bool
-same_read a b = (a.function.0 == b.function.0) && (a.place.0 == b.place.0)
-
-abbrev pub is_noted : ContextRead → List ContextRead → Bool
-is_noted r reads = list_any (λ x. same_read x r) reads
 
 -- the function only reads the context place
 abbrev pub note_read : ContextRead → TableLists → TableLists

@@ -14,7 +14,7 @@ pub mod temporaries;
 pub use faults::{EffectFault, Refusal};
 pub use first_effects::FirstEffects;
 pub use key::{EffectKey, effect_key};
-pub use reads::ContextRead;
+pub use reads::{ContextRead, ContextReads};
 pub use tables::{TableParts, Tables};
 pub use temp_key::TempKey;
 pub use temporaries::{Temporaries, Temporary};

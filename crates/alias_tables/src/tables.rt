@@ -1,12 +1,12 @@
 //! The tables of a pass.
 
 ghost use Rattle.std.specs.Prelude.{◌≡◌, ◌&&◌, nat_lt, ◌+◌, [], IfOk, OnOk};
-ghost use Rattle.alias_tables.specs.Tables.{TableLists, Leaves, same_read, is_noted, has_room, new_place, intern, temporary, intern_report, note_read};
+ghost use Rattle.alias_tables.specs.Tables.{TableLists, Leaves, has_room, new_place, intern, temporary, intern_report, note_read};
 
 use crate::faults::{EffectFault, Refusal};
 use crate::first_effects::FirstEffects;
 use crate::key::{effect_key, with_error_of};
-use crate::reads::ContextRead;
+use crate::reads::{ContextRead, ContextReads};
 use crate::reports::keep_report;
 use crate::temp_key::TempKey;
 use crate::temporaries::{Temporaries, Temporary};
@@ -28,7 +28,7 @@ pub struct Tables {
     first: FirstEffects,
     temporaries: Temporaries,
     reports: InternedReports,
-    reads: List<ContextRead>,
+    reads: ContextReads,
 }
 
 /// What tables hold, each by value.
@@ -46,18 +46,6 @@ impl Model for Tables {
     ghost Value = { TableLists };
 
     ghost view = { λ t. record { first = t.first; temporaries = t.temporaries; reports = t.reports; reads = t.reads } };
-}
-
-fn same_read(a: ContextRead, b: ContextRead) -> bool
-    ensures { result ≡ same_read a b }
-{
-    a.function.0 == b.function.0 && a.place.0 == b.place.0
-}
-
-fn is_noted(read: ContextRead, reads: &[ContextRead]) -> bool
-    ensures { result ≡ is_noted read reads.now }
-{
-    reads.iter().any(|x| same_read(*x, read))
 }
 
 /// Whether two numbers have a sum that numbers something.
@@ -83,7 +71,7 @@ impl Tables {
             first: FirstEffects::new(alloc),
             temporaries: Temporaries::new(alloc),
             reports,
-            reads: List::new(alloc),
+            reads: ContextReads::new(alloc),
         }
     }
 
@@ -138,7 +126,7 @@ impl Tables {
             first: first.into_effects(),
             temporaries,
             reports,
-            reads,
+            reads: reads.into_reads(),
         }
     }
 
@@ -211,7 +199,7 @@ impl Tables {
     pub fn note_read(&mut self, read: ContextRead) -> Result<(), AllocError>
         ensures { OnOk result (self.new ≡ note_read read self.old) }
     {
-        if !is_noted(read, self.reads.as_slice()) {
+        if !self.reads.contains(read) {
             self.reads.push(read)?;
         }
         Ok(())

@@ -1,7 +1,8 @@
-use alias_apply::{Hoisted, StepContext, StepProgress, raise_plain};
+use alias_apply::{StepContext, StepProgress, raise_plain};
 use alias_base::{
     BlockId, BlockMap, DeclarationId, EvaluationOrder, FunctionId, IdentifierId, List, Text, TypeId,
 };
+use alias_facts::Hoisted;
 use alias_hir::effect::{AliasingEffect, ValueKind, ValueReason};
 use alias_hir::env::{Environment, Identifier, MutableRange};
 use alias_hir::hir::{FunctionType, Hir, HirFunction};
