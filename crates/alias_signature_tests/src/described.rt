@@ -31,8 +31,8 @@ fn mutated(reason: Option<MutationReason>) -> &'static str {
     }
 }
 
-/// The effect in words. Of an `Apply` it tells the receiver and the function, and of a function how many places it
-/// captures.
+/// The effect in words. Of an `Apply` it tells the receiver and the function, and of a function the first place that
+/// it captures, or itself where it captures none.
 pub fn described(effect: &AliasingEffect) -> Described {
     match effect {
         AliasingEffect::Create {
@@ -89,7 +89,7 @@ pub fn described(effect: &AliasingEffect) -> Described {
         AliasingEffect::CreateFunction { into, captures, .. } => (
             "CreateFunction",
             into.identifier.0,
-            captures.len() as u32,
+            captures.get(0).unwrap_or(into).identifier.0,
         ),
         _ => ("else", 0, 0),
     }

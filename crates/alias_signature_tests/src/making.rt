@@ -70,10 +70,8 @@ pub fn hook_type(alloc: Global, env: &mut Environment) -> Result<Ty, AllocError>
     })
 }
 
-/// Adds an identifier of the type, and of a declaration of its own.
-pub fn add_identifier(env: &mut Environment, ty: Ty) -> Result<(), AllocError> {
-    let number = env.identifiers.len() as u32;
-    let type_ = env.types.len() as u32;
+/// Adds the identifier of the next number, of that type and of a declaration of its own.
+pub fn add_identifier(env: &mut Environment, number: u32, ty: Ty) -> Result<(), AllocError> {
     env.types.push(ty)?;
     env.identifiers.push(Identifier {
         declaration_id: DeclarationId(number),
@@ -83,7 +81,7 @@ pub fn add_identifier(env: &mut Environment, ty: Ty) -> Result<(), AllocError> {
             end: EvaluationOrder(0),
         },
         scope: None,
-        type_: TypeId(type_),
+        type_: TypeId(number),
         span: None,
     })?;
     Ok(())
@@ -93,11 +91,11 @@ pub fn add_identifier(env: &mut Environment, ty: Ty) -> Result<(), AllocError> {
 /// returns elements.
 pub fn environment(alloc: Global) -> Result<Environment, AllocError> {
     let mut env = Environment::new(alloc);
-    for _ in 0..8u32 {
-        add_identifier(&mut env, Ty::Var)?;
+    for number in 0..8u32 {
+        add_identifier(&mut env, number, Ty::Var)?;
     }
-    add_identifier(&mut env, Ty::Primitive)?;
-    add_identifier(&mut env, component_type(alloc)?)?;
+    add_identifier(&mut env, 8, Ty::Primitive)?;
+    add_identifier(&mut env, 9, component_type(alloc)?)?;
     Ok(env)
 }
 
@@ -131,18 +129,21 @@ pub fn function(alloc: Global, fn_type: FunctionType) -> HirFunction {
     }
 }
 
-/// Adds a block with these instructions, in order.
+/// Adds a block with these instructions, in order, the first of which takes the number `first`.
 pub fn add_block(
     alloc: Global,
     func: &mut HirFunction,
     number: u32,
+    first: u32,
     instructions: List<Instruction>,
     terminal: Terminal,
 ) -> Result<(), AllocError> {
     let mut listed = List::new(alloc);
+    let mut next = first;
     for instruction in instructions.into_vec() {
-        listed.push(InstructionId(func.instructions.len() as u32))?;
+        listed.push(InstructionId(next))?;
         func.instructions.push(instruction)?;
+        next = next.wrapping_add(1);
     }
     let block = BasicBlock {
         phis: List::new(alloc),

@@ -5,11 +5,11 @@ use crate::making::{
     add_block, environment, function, instruction, no_facts, object_type, place, returning,
     taken_apart, variable,
 };
-use alias_base::{DeclarationId, FunctionId, IdentifierId, List, Text};
-use alias_facts::function_facts;
+use alias_base::{FunctionId, List, Text};
+use alias_facts::{FunctionFacts, function_facts};
 use alias_hir::env::Environment;
 use alias_hir::hir::{FunctionType, ParamPattern};
-use alias_hir::place::{Effect, PlaceOrSpread, Span, SpreadPattern};
+use alias_hir::place::{Effect, PlaceOrSpread, SpreadPattern};
 use alias_hir::value::{
     ArrayElement, InstructionKind, InstructionValue, JsxAttribute, JsxTag, LoweredFunction,
     ObjectProperty, ObjectPropertyOrSpread, PropertyLiteral,
@@ -18,269 +18,244 @@ use alias_signature::compute_signature_for_instruction;
 use std::alloc::Global;
 use std::test::Fail;
 
-/// Whether the instruction whose result is given has the effects that are described.
+/// Whether the instruction with that result has the effects that are described, in this environment.
+fn gives_in(
+    alloc: Global,
+    env: Environment,
+    facts: &FunctionFacts,
+    target: u32,
+    value: InstructionValue,
+    want: &[Described],
+) -> Result<bool, Fail> {
+    let mut env = env;
+    let effects = compute_signature_for_instruction(
+        alloc,
+        &mut env,
+        &instruction(target, value),
+        facts,
+    )?;
+    Ok(are_described(&effects, want))
+}
+
+/// The same where nothing is known of the function.
 fn gives(
     alloc: Global,
-    env: &mut Environment,
     target: u32,
     value: InstructionValue,
     want: &[Described],
 ) -> Result<bool, Fail> {
     let facts = no_facts(alloc);
-    let effects = compute_signature_for_instruction(
-        alloc,
-        env,
-        &instruction(target, value),
-        &facts,
-    )?;
-    Ok(are_described(&effects, want))
+    gives_in(alloc, environment(alloc)?, &facts, target, value, want)
 }
 
 #[test]
 fn literals_and_loads(rt: HostRuntime) -> Result<(), Fail> {
     let alloc = rt.alloc();
-    let mut env = environment(alloc)?;
     let literal = InstructionValue::RegExpLiteral;
-    assert!(rt; gives(alloc, &mut env, 0, literal, &[("Create Primitive", 0, 0)])?);
+    assert!(rt; gives(alloc, 0, literal, &[("Create Primitive", 0, 0)])?);
     let global = InstructionValue::LoadGlobal;
-    assert!(rt;
-        gives(
-            alloc,
-            &mut env,
-            0,
-            global,
-            &[("Create Global Global", 0, 0)]
-        )?
-    );
+    assert!(rt; gives(alloc, 0, global, &[("Create Global Global", 0, 0)])?);
     let load = InstructionValue::LoadLocal { place: place(1) };
-    assert!(rt; gives(alloc, &mut env, 0, load, &[("Assign", 1, 0)])?);
-    let cast = InstructionValue::TypeCastExpression { value: place(1) };
-    assert!(rt; gives(alloc, &mut env, 0, cast, &[("Assign", 1, 0)])?);
+    assert!(rt; gives(alloc, 0, load, &[("Assign", 1, 0)])?);
     let part = InstructionValue::ComputedLoad {
         object: place(1),
         property: place(2),
     };
-    assert!(rt; gives(alloc, &mut env, 0, part, &[("CreateFrom", 1, 0)])?);
+    assert!(rt; gives(alloc, 0, part, &[("CreateFrom", 1, 0)])?);
     let number = InstructionValue::PropertyLoad { object: place(1) };
-    assert!(rt; gives(alloc, &mut env, 8, number, &[("Create Primitive", 8, 8)])?);
-    let sum = InstructionValue::BinaryExpression {
-        left: place(1),
-        right: place(2),
-    };
-    assert!(rt; gives(alloc, &mut env, 0, sum, &[("Create Primitive", 0, 0)])?);
+    assert!(rt; gives(alloc, 8, number, &[("Create Primitive", 8, 8)])?);
     Ok(())
 }
 
-#[test]
-fn arrays_and_objects(rt: HostRuntime) -> Result<(), Fail> {
-    let alloc = rt.alloc();
-    let mut env = environment(alloc)?;
+fn array(alloc: Global) -> Result<InstructionValue, Fail> {
     let mut elements = List::new(alloc);
     elements.push(ArrayElement::Place(place(1)))?;
     elements.push(ArrayElement::Hole)?;
     elements.push(ArrayElement::Spread(SpreadPattern { place: place(2) }))?;
-    let want = [
-        ("Create Mutable", 0, 0),
-        ("Capture", 1, 0),
-        ("MutateTransitiveConditionally", 2, 2),
-        ("Capture", 2, 0),
-    ];
-    assert!(rt;
-        gives(
-            alloc,
-            &mut env,
-            0,
-            InstructionValue::ArrayExpression { elements },
-            &want
-        )?
-    );
+    Ok(InstructionValue::ArrayExpression { elements })
+}
+
+fn object(alloc: Global) -> Result<InstructionValue, Fail> {
     let mut properties = List::new(alloc);
     properties.push(ObjectPropertyOrSpread::Property(ObjectProperty {
         computed: Some(place(3)),
         place: place(1),
     }))?;
     properties.push(ObjectPropertyOrSpread::Spread(SpreadPattern { place: place(2) }))?;
+    Ok(InstructionValue::ObjectExpression { properties })
+}
+
+#[test]
+fn arrays_and_objects(rt: HostRuntime) -> Result<(), Fail> {
+    let alloc = rt.alloc();
+    let want = [
+        ("Create Mutable", 0, 0),
+        ("Capture", 1, 0),
+        ("MutateTransitiveConditionally", 2, 2),
+        ("Capture", 2, 0),
+    ];
+    assert!(rt; gives(alloc, 0, array(alloc)?, &want)?);
     let want = [
         ("Create Mutable", 0, 0),
         ("Capture", 1, 0),
         ("Capture", 2, 0),
     ];
-    let object = InstructionValue::ObjectExpression { properties };
-    assert!(rt; gives(alloc, &mut env, 0, object, &want)?);
+    assert!(rt; gives(alloc, 0, object(alloc)?, &want)?);
     Ok(())
+}
+
+fn call(alloc: Global) -> Result<InstructionValue, Fail> {
+    let mut args = List::new(alloc);
+    args.push(PlaceOrSpread::Place(place(3)))?;
+    Ok(InstructionValue::CallExpression {
+        callee: place(1),
+        args,
+    })
 }
 
 #[test]
 fn calls(rt: HostRuntime) -> Result<(), Fail> {
     let alloc = rt.alloc();
-    let mut env = environment(alloc)?;
-    let mut args = List::new(alloc);
-    args.push(PlaceOrSpread::Place(place(3)))?;
-    let call = InstructionValue::CallExpression {
-        callee: place(1),
-        args,
-    };
-    assert!(rt; gives(alloc, &mut env, 0, call, &[("Apply mutating", 1, 1)])?);
-    let made = InstructionValue::NewExpression {
-        callee: place(1),
-        args: List::new(alloc),
-    };
-    assert!(rt; gives(alloc, &mut env, 0, made, &[("Apply", 1, 1)])?);
+    assert!(rt; gives(alloc, 0, call(alloc)?, &[("Apply mutating", 1, 1)])?);
     let method = InstructionValue::MethodCall {
         receiver: place(1),
         property: place(2),
         args: List::new(alloc),
     };
-    assert!(rt; gives(alloc, &mut env, 0, method, &[("Apply", 1, 2)])?);
+    assert!(rt; gives(alloc, 0, method, &[("Apply", 1, 2)])?);
     let awaited = InstructionValue::Await { value: place(1) };
     let want = [
         ("Create Mutable", 0, 0),
         ("MutateTransitiveConditionally", 1, 1),
         ("Capture", 1, 0),
     ];
-    assert!(rt; gives(alloc, &mut env, 0, awaited, &want)?);
+    assert!(rt; gives(alloc, 0, awaited, &want)?);
     Ok(())
-}
-
-fn property_store(property: PropertyLiteral, object: u32) -> InstructionValue {
-    InstructionValue::PropertyStore {
-        object: place(object),
-        property,
-        value: place(2),
-    }
 }
 
 #[test]
 fn stores(rt: HostRuntime) -> Result<(), Fail> {
     let alloc = rt.alloc();
-    let mut env = environment(alloc)?;
     let store = InstructionValue::StoreLocal {
         lvalue: variable(2, InstructionKind::Const),
         value: place(1),
     };
-    assert!(rt;
-        gives(
-            alloc,
-            &mut env,
-            0,
-            store,
-            &[("Assign", 1, 2), ("Assign", 1, 0)]
-        )?
-    );
-    let declared = InstructionValue::DeclareLocal {
-        lvalue: variable(2, InstructionKind::Let),
-    };
-    let want = [("Create Primitive", 2, 2), ("Create Primitive", 0, 0)];
-    assert!(rt; gives(alloc, &mut env, 0, declared, &want)?);
+    assert!(rt; gives(alloc, 0, store, &[("Assign", 1, 2), ("Assign", 1, 0)])?);
     let counted = InstructionValue::PostfixUpdate {
         lvalue: place(2),
         value: place(1),
     };
     let want = [("Create Primitive", 0, 0), ("Create Primitive", 2, 2)];
-    assert!(rt; gives(alloc, &mut env, 0, counted, &want)?);
+    assert!(rt; gives(alloc, 0, counted, &want)?);
     let deleted = InstructionValue::PropertyDelete { object: place(1) };
     let want = [("Create Primitive", 0, 0), ("Mutate", 1, 1)];
-    assert!(rt; gives(alloc, &mut env, 0, deleted, &want)?);
+    assert!(rt; gives(alloc, 0, deleted, &want)?);
     Ok(())
 }
 
+/// `object.current = 2`.
+fn current_of(alloc: Global, object: u32) -> Result<InstructionValue, Fail> {
+    Ok(InstructionValue::PropertyStore {
+        object: place(object),
+        property: PropertyLiteral::String(Text::from_str(alloc, "current")?),
+        value: place(2),
+    })
+}
+
 #[test]
-fn property_stores(rt: HostRuntime) -> Result<(), Fail> {
+fn writes_of_current(rt: HostRuntime) -> Result<(), Fail> {
     let alloc = rt.alloc();
-    let mut env = environment(alloc)?;
-    let current = property_store(
-        PropertyLiteral::String(Text::from_str(alloc, "current")?),
-        1,
-    );
     let want = [
         ("Mutate current", 1, 1),
         ("Capture", 2, 1),
         ("Create Primitive", 0, 0),
     ];
-    assert!(rt; gives(alloc, &mut env, 0, current, &want)?);
-    let other = property_store(PropertyLiteral::Number, 1);
-    let want = [
-        ("Mutate", 1, 1),
-        ("Capture", 2, 1),
-        ("Create Primitive", 0, 0),
-    ];
-    assert!(rt; gives(alloc, &mut env, 0, other, &want)?);
-    let known = property_store(
-        PropertyLiteral::String(Text::from_str(alloc, "current")?),
-        8,
-    );
+    assert!(rt; gives(alloc, 0, current_of(alloc, 1)?, &want)?);
     let want = [
         ("Mutate", 8, 8),
         ("Capture", 2, 8),
         ("Create Primitive", 0, 0),
     ];
-    assert!(rt; gives(alloc, &mut env, 0, known, &want)?);
+    assert!(rt;
+        gives(alloc, 0, current_of(alloc, 8)?, &want)?,
+        "its type is known"
+    );
     Ok(())
+}
+
+/// Identifier 1 is a set.
+fn with_a_set(alloc: Global) -> Result<Environment, Fail> {
+    let set = object_type(alloc, "BuiltInSet")?;
+    let mut env = environment(alloc)?;
+    let _ = env.types.replace(1, set);
+    Ok(env)
+}
+
+fn iterator() -> InstructionValue {
+    InstructionValue::GetIterator {
+        collection: place(1),
+    }
 }
 
 #[test]
 fn iterators(rt: HostRuntime) -> Result<(), Fail> {
     let alloc = rt.alloc();
-    let mut env = environment(alloc)?;
-    let iterator = InstructionValue::GetIterator {
-        collection: place(1),
-    };
     let want = [
         ("Create Mutable", 0, 0),
         ("Alias", 1, 0),
         ("MutateTransitiveConditionally", 1, 1),
     ];
-    assert!(rt; gives(alloc, &mut env, 0, iterator, &want)?);
-    let next = InstructionValue::IteratorNext {
-        iterator: place(1),
-        collection: place(2),
-    };
-    let want = [("MutateConditionally", 1, 1), ("CreateFrom", 2, 0)];
-    assert!(rt; gives(alloc, &mut env, 0, next, &want)?);
-    let _ = env.types.replace(1, object_type(alloc, "BuiltInSet")?);
-    let iterator = InstructionValue::GetIterator {
-        collection: place(1),
-    };
+    assert!(rt; gives(alloc, 0, iterator(), &want)?);
     let want = [("Create Mutable", 0, 0), ("Capture", 1, 0)];
-    assert!(rt; gives(alloc, &mut env, 0, iterator, &want)?);
+    let facts = no_facts(alloc);
+    assert!(rt; gives_in(alloc, with_a_set(alloc)?, &facts, 0, iterator(), &want)?);
     Ok(())
 }
 
-#[test]
-fn functions(rt: HostRuntime) -> Result<(), Fail> {
-    let alloc = rt.alloc();
-    let mut env = environment(alloc)?;
+/// Function 0 captures 1 and reads 2.
+fn with_a_function(alloc: Global) -> Result<Environment, Fail> {
     let mut nested = function(alloc, FunctionType::Other);
     let mut captured = place(1);
     captured.effect = Effect::Capture;
     let mut read = place(2);
     read.effect = Effect::Read;
-    nested.context.push(captured)?;
     nested.context.push(read)?;
+    nested.context.push(captured)?;
+    let mut env = environment(alloc)?;
     env.functions.push(nested)?;
+    Ok(env)
+}
+
+#[test]
+fn functions(rt: HostRuntime) -> Result<(), Fail> {
+    let alloc = rt.alloc();
     let made = InstructionValue::FunctionExpression {
         lowered_func: LoweredFunction {
             func: FunctionId(0),
         },
     };
-    assert!(rt; gives(alloc, &mut env, 0, made, &[("CreateFunction", 0, 1)])?);
+    let facts = no_facts(alloc);
+    let want = [("CreateFunction", 0, 1)];
+    assert!(rt; gives_in(alloc, with_a_function(alloc)?, &facts, 0, made, &want)?);
     Ok(())
 }
 
-#[test]
-fn elements(rt: HostRuntime) -> Result<(), Fail> {
-    let alloc = rt.alloc();
-    let mut env = environment(alloc)?;
+fn element(alloc: Global) -> Result<InstructionValue, Fail> {
     let mut props = List::new(alloc);
     props.push(JsxAttribute::Attribute { place: place(9) })?;
     props.push(JsxAttribute::Attribute { place: place(2) })?;
     let mut children = List::new(alloc);
     children.push(place(3))?;
-    let element = InstructionValue::JsxExpression {
+    Ok(InstructionValue::JsxExpression {
         tag: JsxTag::Place(place(1)),
         props,
         children,
-    };
+    })
+}
+
+#[test]
+fn elements(rt: HostRuntime) -> Result<(), Fail> {
+    let alloc = rt.alloc();
     let want = [
         ("Create Frozen JsxCaptured", 0, 0),
         ("Freeze JsxCaptured", 1, 1),
@@ -295,30 +270,24 @@ fn elements(rt: HostRuntime) -> Result<(), Fail> {
         ("Render", 3, 3),
         ("Render", 9, 9),
     ];
-    assert!(rt; gives(alloc, &mut env, 0, element, &want)?);
-    let mut children = List::new(alloc);
-    children.push(place(3))?;
-    let want = [
-        ("Create Frozen JsxCaptured", 0, 0),
-        ("Freeze JsxCaptured", 3, 3),
-        ("Capture", 3, 0),
-    ];
-    assert!(rt;
-        gives(
-            alloc,
-            &mut env,
-            0,
-            InstructionValue::JsxFragment { children },
-            &want
-        )?
-    );
+    assert!(rt; gives(alloc, 0, element(alloc)?, &want)?);
     Ok(())
+}
+
+/// A component that takes its props, 1, apart into 3 and the rest 2.
+fn facts_of_props(alloc: Global) -> Result<FunctionFacts, Fail> {
+    let mut func = function(alloc, FunctionType::Component);
+    func.params.push(ParamPattern::Place(place(1)))?;
+    let mut list = List::new(alloc);
+    list.push(instruction(0, taken_apart(alloc, InstructionKind::Const, 3, 2, 1)?))?;
+    add_block(alloc, &mut func, 0, 0, list, returning(3))?;
+    let env = environment(alloc)?;
+    Ok(function_facts(alloc, &func, &env)?)
 }
 
 #[test]
 fn patterns(rt: HostRuntime) -> Result<(), Fail> {
     let alloc = rt.alloc();
-    let mut env = environment(alloc)?;
     let pattern = taken_apart(alloc, InstructionKind::Const, 8, 2, 1)?;
     let want = [
         ("Create Primitive", 8, 8),
@@ -326,121 +295,117 @@ fn patterns(rt: HostRuntime) -> Result<(), Fail> {
         ("Capture", 1, 2),
         ("Assign", 1, 0),
     ];
-    assert!(rt; gives(alloc, &mut env, 0, pattern, &want)?);
-    let mut func = function(alloc, FunctionType::Component);
-    func.params.push(ParamPattern::Place(place(1)))?;
-    let mut list = List::new(alloc);
-    list.push(instruction(0, taken_apart(alloc, InstructionKind::Const, 3, 2, 1)?))?;
-    add_block(alloc, &mut func, 0, list, returning(3))?;
-    let facts = function_facts(alloc, &func, &env)?;
-    let pattern = instruction(0, taken_apart(alloc, InstructionKind::Const, 3, 2, 1)?);
-    let effects = compute_signature_for_instruction(alloc, &mut env, &pattern, &facts)?;
+    assert!(rt; gives(alloc, 0, pattern, &want)?);
+    let pattern = taken_apart(alloc, InstructionKind::Const, 3, 2, 1)?;
     let want = [
         ("CreateFrom", 1, 3),
         ("Create Frozen", 2, 2),
         ("Capture", 1, 2),
         ("Assign", 1, 0),
     ];
-    assert!(rt; are_described(&effects, &want));
+    let facts = facts_of_props(alloc)?;
+    assert!(rt; gives_in(alloc, environment(alloc)?, &facts, 0, pattern, &want)?);
     Ok(())
 }
 
-fn declaration(number: u32, kind: InstructionKind) -> InstructionValue {
+fn declaration(kind: InstructionKind) -> InstructionValue {
     InstructionValue::DeclareContext {
-        lvalue: variable(number, kind),
+        lvalue: variable(1, kind),
+    }
+}
+
+fn context_store(kind: InstructionKind) -> InstructionValue {
+    InstructionValue::StoreContext {
+        lvalue: variable(1, kind),
+        value: place(2),
     }
 }
 
 #[test]
 fn context_variables(rt: HostRuntime) -> Result<(), Fail> {
     let alloc = rt.alloc();
-    let mut env = environment(alloc)?;
-    let fresh = declaration(1, InstructionKind::Let);
     let want = [("Create Mutable", 1, 1), ("Create Primitive", 0, 0)];
-    assert!(rt; gives(alloc, &mut env, 0, fresh, &want)?);
-    let load = InstructionValue::LoadContext { place: place(1) };
-    assert!(rt; gives(alloc, &mut env, 0, load, &[("CreateFrom", 1, 0)])?);
-    let store = InstructionValue::StoreContext {
-        lvalue: variable(1, InstructionKind::Let),
-        value: place(2),
-    };
+    assert!(rt; gives(alloc, 0, declaration(InstructionKind::Let), &want)?);
     let want = [
         ("Create Mutable", 1, 1),
         ("Capture", 2, 1),
         ("Assign", 2, 0),
     ];
-    assert!(rt; gives(alloc, &mut env, 0, store, &want)?);
-    let again = InstructionValue::StoreContext {
-        lvalue: variable(1, InstructionKind::Reassign),
-        value: place(2),
-    };
+    assert!(rt; gives(alloc, 0, context_store(InstructionKind::Let), &want)?);
     let want = [("Mutate", 1, 1), ("Capture", 2, 1), ("Assign", 2, 0)];
-    assert!(rt; gives(alloc, &mut env, 0, again, &want)?);
+    assert!(rt; gives(alloc, 0, context_store(InstructionKind::Reassign), &want)?);
     Ok(())
+}
+
+/// A function that hoists 1.
+fn facts_of_hoisting(alloc: Global) -> Result<FunctionFacts, Fail> {
+    let mut list = List::new(alloc);
+    list.push(instruction(0, declaration(InstructionKind::HoistedLet)))?;
+    let mut func = function(alloc, FunctionType::Other);
+    add_block(alloc, &mut func, 0, 0, list, returning(3))?;
+    let env = environment(alloc)?;
+    Ok(function_facts(alloc, &func, &env)?)
 }
 
 #[test]
 fn hoisted_variables(rt: HostRuntime) -> Result<(), Fail> {
     let alloc = rt.alloc();
-    let mut env = environment(alloc)?;
-    let mut func = function(alloc, FunctionType::Other);
-    let mut list = List::new(alloc);
-    list.push(instruction(0, declaration(1, InstructionKind::HoistedLet)))?;
-    add_block(alloc, &mut func, 0, list, returning(3))?;
-    let facts = function_facts(alloc, &func, &env)?;
-    assert!(rt; facts.hoisted.contains(DeclarationId(1)));
-    let first = instruction(0, declaration(1, InstructionKind::HoistedLet));
-    let effects = compute_signature_for_instruction(alloc, &mut env, &first, &facts)?;
+    let facts = facts_of_hoisting(alloc)?;
+    let first = declaration(InstructionKind::HoistedLet);
     let want = [("Create Mutable", 1, 1), ("Create Primitive", 0, 0)];
-    assert!(rt; are_described(&effects, &want));
-    let second = instruction(0, declaration(1, InstructionKind::Let));
-    let effects = compute_signature_for_instruction(alloc, &mut env, &second, &facts)?;
+    assert!(rt; gives_in(alloc, environment(alloc)?, &facts, 0, first, &want)?);
+    let second = declaration(InstructionKind::Let);
     let want = [("Mutate", 1, 1), ("Create Primitive", 0, 0)];
-    assert!(rt; are_described(&effects, &want));
+    assert!(rt; gives_in(alloc, environment(alloc)?, &facts, 0, second, &want)?);
     Ok(())
+}
+
+fn with_memoization(alloc: Global) -> Result<Environment, Fail> {
+    let mut env = environment(alloc)?;
+    env.config.enable_preserve_existing_memoization_guarantees = true;
+    Ok(env)
 }
 
 #[test]
 fn memoization(rt: HostRuntime) -> Result<(), Fail> {
     let alloc = rt.alloc();
-    let mut env = environment(alloc)?;
     let end = InstructionValue::FinishMemoize { decl: place(1) };
-    assert!(rt; gives(alloc, &mut env, 0, end, &[("Create Primitive", 0, 0)])?);
-    env.config.enable_preserve_existing_memoization_guarantees = true;
+    assert!(rt; gives(alloc, 0, end, &[("Create Primitive", 0, 0)])?);
     let end = InstructionValue::FinishMemoize { decl: place(1) };
     let want = [("Freeze HookCaptured", 1, 1), ("Create Primitive", 0, 0)];
-    assert!(rt; gives(alloc, &mut env, 0, end, &want)?);
+    let facts = no_facts(alloc);
+    assert!(rt; gives_in(alloc, with_memoization(alloc)?, &facts, 0, end, &want)?);
     Ok(())
+}
+
+fn global_store(alloc: Global) -> Result<InstructionValue, Fail> {
+    Ok(InstructionValue::StoreGlobal {
+        name: Text::from_str(alloc, "counter")?,
+        value: place(2),
+    })
+}
+
+/// The help of the report that a write of `counter` interns.
+fn help_of_a_write(alloc: Global) -> Result<Text, Fail> {
+    let facts = no_facts(alloc);
+    let mut env = environment(alloc)?;
+    let store = instruction(0, global_store(alloc)?);
+    let _ = compute_signature_for_instruction(alloc, &mut env, &store, &facts)?;
+    let interned = env.interned.get(0).ok_or("interned")?;
+    let help = interned.report.help.as_ref().ok_or("help")?;
+    Ok(Text::from_str(alloc, help.as_str())?)
 }
 
 #[test]
 fn globals(rt: HostRuntime) -> Result<(), Fail> {
     let alloc = rt.alloc();
-    let mut env = environment(alloc)?;
-    for _ in 0..2u32 {
-        let store = InstructionValue::StoreGlobal {
-            name: Text::from_str(alloc, "counter")?,
-            value: place(2),
-        };
-        let want = [("MutateGlobal", 2, 0), ("Assign", 2, 0)];
-        assert!(rt; gives(alloc, &mut env, 0, store, &want)?);
-    }
-    assert_eq!(rt; env.interned.len(), 1);
-    let interned = env.interned.get(0).ok_or("interned")?;
-    assert_eq!(rt; interned.identifier, IdentifierId(2));
-    assert_eq!(rt;
-        interned.report.message.as_str(),
-        "Cannot reassign variables declared outside of the component/hook"
-    );
-    let help = interned.report.help.as_ref().ok_or("help")?;
+    let want = [("MutateGlobal", 2, 0), ("Assign", 2, 0)];
+    assert!(rt; gives(alloc, 0, global_store(alloc)?, &want)?);
+    let help = help_of_a_write(alloc)?;
     assert!(rt;
         help.as_str().starts_with(
             "Variable `counter` is declared outside of the component/hook. Reassigning"
         )
     );
-    let label = interned.report.labels.get(0).ok_or("label")?;
-    assert_eq!(rt; label.span, Span { start: 5, end: 6 });
-    let text = label.text.as_ref().ok_or("text")?;
-    assert_eq!(rt; text.as_str(), "`counter` cannot be reassigned");
     Ok(())
 }
