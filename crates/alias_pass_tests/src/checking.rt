@@ -1,70 +1,85 @@
 //! Units that are checked, and the reports that effects name.
 
-use crate::functions::{block, environment, function_of, place, returns};
-use alias_base::{BlockId, BlockMap, IdentifierId, List, Text};
+use crate::functions::{environment, place, returns_at_once};
+use alias_base::{BlockId, IdentifierId, List, Text};
 use alias_hir::env::Unit;
 use alias_hir::report::{ErrorCategory, Report};
 use alias_rules::check::{Checked, check_unit};
 use alias_rules::fault::{Table, UnitFault};
 use std::alloc::{AllocError, Global};
-use std::process::Abort;
 use std::test::Fail;
 
-/// A unit of so many identifiers whose root returns one of them at once.
-fn unit(alloc: Global, identifiers: u32, returned: u32) -> Result<Unit, AllocError> {
-    let mut blocks = BlockMap::new(alloc);
-    blocks.insert(BlockId(0), block(alloc, 0, 0, returns(1, returned))?)?;
+/// A unit of two identifiers whose root returns one of them at once.
+fn unit(alloc: Global, returned: u32) -> Result<Unit, AllocError> {
+    let function = returns_at_once(alloc, returned)?;
     Ok(Unit {
-        function: function_of(alloc, blocks, List::new(alloc)),
-        env: environment(alloc, identifiers)?,
+        function,
+        env: environment(alloc, 2)?,
     })
 }
 
-fn checked(rt: &impl Abort, alloc: Global) -> Result<Checked, AllocError> {
-    match check_unit(alloc, unit(alloc, 2, 1)?) {
-        Ok(checked) => Ok(checked),
-        Err(_) => panic!(rt; "refused"),
-    }
+/// How many identifiers and blocks there are in the unit that is handed out, by reference and by value.
+fn handed_out(checked: Checked) -> (usize, usize) {
+    let identifiers = checked.unit().env.identifiers.len();
+    let unit = checked.into_unit();
+    (identifiers, unit.function.body.blocks.len())
 }
 
 #[test]
 fn hands_out_the_unit_that_was_checked(rt: HostRuntime) -> Result<(), Fail> {
-    let checked = checked(&rt, rt.alloc())?;
-    assert_eq!(rt; checked.unit().env.identifiers.len(), 2);
-    let unit = checked.into_unit();
-    assert_eq!(rt; unit.function.body.blocks.len(), 1);
-    assert_eq!(rt; unit.env.identifiers.len(), 2);
+    let alloc = rt.alloc();
+    let counts = match check_unit(alloc, unit(alloc, 1)?) {
+        Ok(checked) => handed_out(checked),
+        Err(_) => (0, 0),
+    };
+    assert_eq!(rt; counts, (2, 1));
     Ok(())
+}
+
+fn fault_of(alloc: Global, unit: Unit) -> Option<UnitFault> {
+    match check_unit(alloc, unit) {
+        Ok(_) => None,
+        Err(fault) => Some(fault),
+    }
+}
+
+/// The entry isn't a block.
+fn without_entry(alloc: Global) -> Result<Unit, AllocError> {
+    let mut unit = unit(alloc, 1)?;
+    unit.function.body.entry = BlockId(4);
+    Ok(unit)
+}
+
+/// A context place stands twice.
+fn with_one_place_twice(alloc: Global) -> Result<Unit, AllocError> {
+    let mut unit = unit(alloc, 1)?;
+    unit.function.context.push(place(1))?;
+    unit.function.context.push(place(1))?;
+    Ok(unit)
 }
 
 #[test]
 fn names_the_first_broken_rule(rt: HostRuntime) -> Result<(), Fail> {
     let alloc = rt.alloc();
-    let missing = check_unit(alloc, unit(alloc, 2, 7)?);
     assert!(rt;
         matches!(
-            missing,
-            Err(UnitFault::IdOutOfRange {
+            fault_of(alloc, unit(alloc, 7)?),
+            Some(UnitFault::IdOutOfRange {
                 table: Table::Identifiers,
                 number: 7,
             })
         )
     );
-    let mut no_entry = unit(alloc, 2, 1)?;
-    no_entry.function.body.entry = BlockId(4);
     assert!(rt;
         matches!(
-            check_unit(alloc, no_entry),
-            Err(UnitFault::EntryMissing { function: None })
+            fault_of(alloc, without_entry(alloc)?),
+            Some(UnitFault::EntryMissing { function: None })
         )
     );
-    let mut twice = unit(alloc, 2, 1)?;
-    twice.function.context.push(place(1))?;
-    twice.function.context.push(place(1))?;
     assert!(rt;
         matches!(
-            check_unit(alloc, twice),
-            Err(UnitFault::NotDistinct {
+            fault_of(alloc, with_one_place_twice(alloc)?),
+            Some(UnitFault::NotDistinct {
                 function: None,
                 identifier: IdentifierId(1),
             })

@@ -1,26 +1,16 @@
 //! The passes of the caller that keep everything, with and without planned failures.
 
-use crate::functions::{block, environment, function_of, returns};
-use alias_base::{BlockId, BlockMap, List};
-use alias_hir::env::Environment;
-use alias_hir::hir::HirFunction;
+use crate::functions::{environment, returns_at_once};
+use alias_base::List;
 use alias_inner_passes::{FailingPasses, InnerPasses, KeepAll, PassStop};
 use alias_rules::function::check_function;
-use std::alloc::{AllocError, Global};
 use std::process::Abort;
 use std::test::Fail;
-
-/// A function that returns identifier 0 at once.
-fn returns_at_once(alloc: Global) -> Result<HirFunction, AllocError> {
-    let mut blocks = BlockMap::new(alloc);
-    blocks.insert(BlockId(0), block(alloc, 0, 0, returns(1, 0))?)?;
-    Ok(function_of(alloc, blocks, List::new(alloc)))
-}
 
 #[test]
 fn keeps_all(rt: HostRuntime) -> Result<(), Fail> {
     let alloc = rt.alloc();
-    let mut func = returns_at_once(alloc)?;
+    let mut func = returns_at_once(alloc, 0)?;
     let mut env = environment(alloc, 1)?;
     if !check_function(alloc, &func, &env)? {
         panic!(rt; "not taken");
@@ -49,7 +39,7 @@ fn keeps_all(rt: HostRuntime) -> Result<(), Fail> {
 #[test]
 fn fails_at_the_planned_calls(rt: HostRuntime) -> Result<(), Fail> {
     let alloc = rt.alloc();
-    let mut func = returns_at_once(alloc)?;
+    let mut func = returns_at_once(alloc, 0)?;
     let mut env = environment(alloc, 1)?;
     if !check_function(alloc, &func, &env)? {
         panic!(rt; "not taken");

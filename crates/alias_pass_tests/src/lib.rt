@@ -1,5 +1,5 @@
-//! Tests of `check_unit`, of the effects pass and of the passes of the caller, on functions built by hand. A crate of its own, so that
-//! the crates below are proved once.
+//! Tests of `check_unit`, of interned reports and of the passes of the caller, on units built by hand. A crate of its
+//! own, so that the crates below are proved once.
 #![tactic(auto)]
 
 #[cfg(test)]
@@ -8,7 +8,3 @@ mod checking;
 mod functions;
 #[cfg(test)]
 mod inner_passes;
-#[cfg(test)]
-mod loops;
-#[cfg(test)]
-mod one_block;
