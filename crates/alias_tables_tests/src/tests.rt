@@ -91,11 +91,11 @@ fn reports_have_numbers(rt: HostRuntime) -> Result<(), Fail> {
     let mut tables = tables(alloc);
     let one = match tables.intern_report(IdentifierId(1), report(alloc, "one")?) {
         Ok(id) => id,
-        Err(_) => return Ok(()),
+        Err(_) => panic!(rt; "refused"),
     };
     let two = match tables.intern_report(IdentifierId(2), report(alloc, "one")?) {
         Ok(id) => id,
-        Err(_) => return Ok(()),
+        Err(_) => panic!(rt; "refused"),
     };
     assert!(rt;
         one == DiagnosticId {
@@ -133,15 +133,15 @@ fn temporaries_are_found_again(rt: HostRuntime) -> Result<(), Fail> {
     let env = environment(alloc)?;
     let one = match tables.temporary(&env, TempKey::Rest(FunctionId(0)), NO_SPAN) {
         Ok(place) => place,
-        Err(_) => return Ok(()),
+        Err(_) => panic!(rt; "refused"),
     };
     let two = match tables.temporary(&env, TempKey::Rest(FunctionId(1)), NO_SPAN) {
         Ok(place) => place,
-        Err(_) => return Ok(()),
+        Err(_) => panic!(rt; "refused"),
     };
     let again = match tables.temporary(&env, TempKey::Rest(FunctionId(0)), NO_SPAN) {
         Ok(place) => place,
-        Err(_) => return Ok(()),
+        Err(_) => panic!(rt; "refused"),
     };
     assert!(rt; one.identifier == IdentifierId(4));
     assert!(rt; two.identifier == IdentifierId(5));
