@@ -1,0 +1,10 @@
+pub mod Arguments
+pub mod ArgumentLaws
+pub mod Calls
+pub mod Copies
+pub mod Configs
+pub mod Summaries
+pub mod Immutable
+pub mod Visits
+pub mod Legacy
+pub mod ReplayLaws
