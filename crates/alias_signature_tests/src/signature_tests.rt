@@ -2,8 +2,8 @@
 
 use crate::described::{Described, are_described};
 use crate::making::{
-    add_block, environment, function, instruction, no_facts, object_type, place, returning,
-    taken_apart, variable,
+    add_block, add_identifier, environment, function, instruction, no_facts, object_type, place,
+    returning, taken_apart, variable,
 };
 use alias_base::{FunctionId, List, Text};
 use alias_facts::{FunctionFacts, function_facts};
@@ -183,17 +183,17 @@ fn writes_of_current(rt: HostRuntime) -> Result<(), Fail> {
     Ok(())
 }
 
-/// Identifier 1 is a set.
+/// Ten identifiers, and a set, 10.
 fn with_a_set(alloc: Global) -> Result<Environment, Fail> {
     let set = object_type(alloc, "BuiltInSet")?;
     let mut env = environment(alloc)?;
-    let _ = env.types.replace(1, set);
+    add_identifier(&mut env, 10, set)?;
     Ok(env)
 }
 
-fn iterator() -> InstructionValue {
+fn iterator(collection: u32) -> InstructionValue {
     InstructionValue::GetIterator {
-        collection: place(1),
+        collection: place(collection),
     }
 }
 
@@ -205,10 +205,10 @@ fn iterators(rt: HostRuntime) -> Result<(), Fail> {
         ("Alias", 1, 0),
         ("MutateTransitiveConditionally", 1, 1),
     ];
-    assert!(rt; gives(alloc, 0, iterator(), &want)?);
-    let want = [("Create Mutable", 0, 0), ("Capture", 1, 0)];
+    assert!(rt; gives(alloc, 0, iterator(1), &want)?);
+    let want = [("Create Mutable", 0, 0), ("Capture", 10, 0)];
     let facts = no_facts(alloc);
-    assert!(rt; gives_in(alloc, with_a_set(alloc)?, &facts, 0, iterator(), &want)?);
+    assert!(rt; gives_in(alloc, with_a_set(alloc)?, &facts, 0, iterator(10), &want)?);
     Ok(())
 }
 
