@@ -1,0 +1,155 @@
+//! Functions of one block, with their tables.
+
+use alias_base::{
+    BlockId, BlockMap, DeclarationId, EvaluationOrder, FunctionId, IdentifierId, InstructionId,
+    List, Text, TypeId,
+};
+use alias_hir::effect::AliasingEffect;
+use alias_hir::env::{Environment, Identifier, IdentifierName, MutableRange};
+use alias_hir::hir::{BasicBlock, FunctionType, Hir, HirFunction, Instruction};
+use alias_hir::place::{Effect, Place, PlaceOrSpread, Span};
+use alias_hir::terminal::Terminal;
+use alias_hir::types::Ty;
+use alias_hir::value::{InstructionValue, LoweredFunction};
+use std::alloc::{AllocError, Global};
+
+/// A place of the identifier, with no span.
+pub fn place(number: u32, effect: Effect) -> Place {
+    Place {
+        identifier: IdentifierId(number),
+        effect,
+        reactive: false,
+        span: None,
+    }
+}
+
+/// A place that is read.
+pub fn read(number: u32) -> Place {
+    place(number, Effect::Read)
+}
+
+/// A place at a point of the source text.
+pub fn at(number: u32, effect: Effect, start: u32) -> Place {
+    let mut place = place(number, effect);
+    place.span = Some(Span { start, end: start });
+    place
+}
+
+fn identifier(number: u32, name: Option<IdentifierName>) -> Identifier {
+    Identifier {
+        declaration_id: DeclarationId(number),
+        name,
+        mutable_range: MutableRange {
+            start: EvaluationOrder(0),
+            end: EvaluationOrder(0),
+        },
+        scope: None,
+        type_: TypeId(number),
+        span: None,
+    }
+}
+
+/// Identifiers below the number, of which 1 is named `x`.
+pub fn tables(alloc: Global, count: u32) -> Result<Environment, AllocError> {
+    let mut env = Environment::new(alloc);
+    for number in 0..count {
+        env.types.push(Ty::Var)?;
+        let name = if number == 1 {
+            Some(IdentifierName::Named(Text::from_str(alloc, "x")?))
+        } else {
+            None
+        };
+        env.identifiers.push(identifier(number, name))?;
+    }
+    Ok(env)
+}
+
+/// Appends an instruction, whose result is the identifier of that number.
+pub fn add(
+    instructions: &mut List<Instruction>,
+    number: u32,
+    value: InstructionValue,
+) -> Result<(), AllocError> {
+    instructions.push(Instruction {
+        id: EvaluationOrder(number),
+        lvalue: place(number, Effect::ConditionallyMutate),
+        value,
+        span: None,
+        effects: None,
+    })?;
+    Ok(())
+}
+
+/// A block of all instructions that returns the value.
+fn block(
+    alloc: Global,
+    instructions: &List<Instruction>,
+    value: Place,
+) -> Result<BasicBlock, AllocError> {
+    let mut numbers = List::new(alloc);
+    let mut next = 0u32;
+    for _instruction in instructions.as_slice() {
+        numbers.push(InstructionId(next))?;
+        next = next.wrapping_add(1);
+    }
+    Ok(BasicBlock {
+        phis: List::new(alloc),
+        instructions: numbers,
+        terminal: Terminal::Return {
+            id: EvaluationOrder(9),
+            value,
+            effects: None,
+        },
+    })
+}
+
+/// A function of one block, whose summary is given.
+pub fn function(
+    alloc: Global,
+    context: List<Place>,
+    instructions: List<Instruction>,
+    value: Place,
+    summary: List<AliasingEffect>,
+) -> Result<HirFunction, AllocError> {
+    let mut blocks = BlockMap::new(alloc);
+    blocks.insert(BlockId(0), block(alloc, &instructions, value)?)?;
+    Ok(HirFunction {
+        fn_type: FunctionType::Other,
+        params: List::new(alloc),
+        context,
+        context_values: List::new(alloc),
+        returns: read(7),
+        body: Hir {
+            entry: BlockId(0),
+            blocks,
+        },
+        instructions,
+        is_async: false,
+        span: None,
+        aliasing_effects: Some(summary),
+    })
+}
+
+/// The creation of a nested function.
+pub fn created(number: u32) -> InstructionValue {
+    InstructionValue::FunctionExpression {
+        lowered_func: LoweredFunction {
+            func: FunctionId(number),
+        },
+    }
+}
+
+/// A call of one argument.
+pub fn call(alloc: Global, callee: u32, argument: u32) -> Result<InstructionValue, AllocError> {
+    Ok(InstructionValue::CallExpression {
+        callee: read(callee),
+        args: one(alloc, read(argument))?,
+    })
+}
+
+/// One argument.
+pub fn one(alloc: Global, argument: Place) -> Result<List<PlaceOrSpread>, AllocError> {
+    let mut args = List::new(alloc);
+    args.push(PlaceOrSpread::Place(argument))?;
+    Ok(args)
+}
