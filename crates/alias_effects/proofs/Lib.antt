@@ -1,5 +1,4 @@
 pub mod Entering
-pub mod EffectsWithinTables
 pub mod Moving
 pub mod Recordings
 pub mod RecordedDiffers

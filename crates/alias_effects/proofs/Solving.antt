@@ -15,14 +15,14 @@ use Rattle.alias_hir.specs.declared.hir.HirFunction.{HirFunction}
 use Rattle.alias_hir.specs.Terminals.{successors}
 use Rattle.alias_lattice.specs.States.{State, state_below}
 use Rattle.alias_lattice.specs.ProperStates.{StateProper}
-use Rattle.alias_effects.specs.declared.block.BlockEffects.{BlockEffects}
-use Rattle.alias_effects.specs.declared.context.Tables.{Tables}
-use Rattle.alias_effects.specs.declared.faults.BlockFault.{BlockFault}
+use Rattle.alias_block.specs.declared.recorded.BlockEffects.{BlockEffects}
+use Rattle.alias_tables.specs.Tables.{TableLists}
+use Rattle.alias_block.specs.declared.faults.BlockRefusal.{BlockRefusal}
 use Rattle.alias_lattice.specs.Flows.{Flow, IsOneOf, IsReached, at_entry, by_edge, IsAbove, IsSolution, AreJoins}
 use Rattle.alias_flow.specs.Machine.{SolverState, VisitLog}
 use Rattle.alias_flow.specs.Solutions.{entry_at, RecordsSteps, KeepsOthers, IsForward}
-use Rattle.alias_effects.specs.Blocks.{flow_of, successors_at, outcome_at}
-use Rattle.alias_effects.specs.Contexts.{context_of}
+use Rattle.alias_effects.specs.FunctionFlow.{flow_of, successors_at, outcome_at}
+use Rattle.alias_block.specs.Contexts.{context_of}
 use Rattle.alias_effects.specs.Numbered.{Blocks, numbered, position_of, with_position, positions_of, edges_at, entry_position, step_at, tables_left}
 use Rattle.alias_effects.specs.Inference.{entries_of, solved_of, instructions_recorded, terminal_recorded}
 use Rattle.alias_effects.specs.Solutions.{entry_state, IsSolved, effects_recorded, recorded_from, IsForwardFrom}
@@ -150,15 +150,15 @@ module _ (env : Environment) (func : HirFunction) (is_function_expression : Bool
   es = func.body.blocks
 
   -- over blocks
-  abbrev over : Flow BlockId State Tables BlockEffects BlockFault
+  abbrev over : Flow BlockId State TableLists BlockEffects BlockRefusal
   over = flow_of (context_of env func is_function_expression)
 
   -- over positions
-  abbrev under : Flow ℕ State Tables BlockEffects BlockFault
+  abbrev under : Flow ℕ State TableLists BlockEffects BlockRefusal
   under = (numbered (context_of env func is_function_expression)).flow
 
   -- the tables that the visits leave
-  abbrev left : Tables
+  abbrev left : TableLists
   left = tables_left (context_of env func is_function_expression)
 
   edges_over : (n : ℕ) (b : BlockId) (x : BasicBlock) → slice_get es n ≡ Some (b, x) → over.edges b ≡ successors x.terminal
@@ -310,7 +310,7 @@ module _ (env : Environment) (func : HirFunction) (is_function_expression : Bool
         recorded_case recorded n e.0 e.1 (entry_at xs n) h' refl k (λ i. z n i ∙ get_or-replicate (length es) n None None (slice_get_within es n e h))
 
   -- what the solver leaves of the flow over positions solves the function's flow over blocks
-  pub solved_over : (w : SolverState (VisitLog State) Tables BlockEffects) → length w.progress.joined_input ≡ length es → length w.recorded ≡ length es
+  pub solved_over : (w : SolverState (VisitLog State) TableLists BlockEffects) → length w.progress.joined_input ≡ length es → length w.recorded ≡ length es
       → IsSolution state_below under left (entry_at w.progress.joined_input) → RecordsSteps under left (entry_at w.progress.joined_input) w.recorded → KeepsOthers (entry_at w.progress.joined_input) (replicate (length es) None) w.recorded
       → (IsForward (numbered (context_of env func is_function_expression)) → AreJoins state_below under StateProper left (entry_at w.progress.joined_input))
       → IsSolved env func is_function_expression (solved_of func w)

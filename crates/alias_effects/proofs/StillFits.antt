@@ -1,15 +1,13 @@
--- The inference takes the function again, with what it recorded.
-use Rattle.std.specs.Prelude.{◌≡◌, ℕ, Bool, true, false, List, [], ◌∷◌, length, Option, Some, None, Result, Ok, Err, is_ok, replicate, slice_get, slice_set}
-use Rattle.std.specs.List.{list_all, flat_map}
+-- The inference takes the function again, with what it recorded, in the environment that took over what the pass added.
+use Rattle.std.specs.Prelude.{◌≡◌, ℕ, Bool, true, false, not, ◌&&◌, is_ok, List, [], ◌∷◌, length, Option, Some, None, Result, Ok, Err, replicate, slice_get, slice_set}
+use Rattle.std.specs.List.{list_all, flat_map, AllByRecursion}
 use Rattle.std.specs.Option.{option_map_or}
-use Rattle.std.proofs.Common.{zero, suc, subst, ap, refl, ◌∙◌}
-use Rattle.std.proofs.lemmas.List.Folds.{list_all-append}
+use Rattle.std.proofs.Common.{zero, suc, subst, ap, sym, refl, ◌∙◌}
 use Rattle.indexmap.specs.IndexMap.{set_value_at}
-use Rattle.alias_base.specs.Answer.{◌>>=◌, all_pass}
-use Rattle.alias_base.specs.AnswerLaws.{both_true, both_pass}
+use Rattle.alias_base.specs.Answer.{◌>>=◌}
+use Rattle.alias_base.specs.AnswerLaws.{both_true}
 use Rattle.alias_base.specs.declared.ids.BlockId.{BlockId}
-use Rattle.alias_hir.specs.Parts.{param_place}
-use Rattle.alias_hir.specs.Terminals.{terminal_places, terminal_effects, with_terminal_effects}
+use Rattle.alias_hir.specs.Terminals.{terminal_effects, with_terminal_effects}
 use Rattle.alias_hir.specs.declared.effect.AliasingEffect.{AliasingEffect}
 use Rattle.alias_hir.specs.declared.env.Environment.{Environment}
 use Rattle.alias_hir.specs.declared.error.InferError.{InferError}
@@ -18,30 +16,43 @@ use Rattle.alias_hir.specs.declared.hir.HirFunction.{HirFunction}
 use Rattle.alias_hir.specs.declared.hir.Instruction.{Instruction}
 use Rattle.alias_hir.specs.declared.terminal.Terminal.{Terminal}
 use Rattle.alias_hir.specs.declared.terminal.Terminal.TheVariants as terminal
-use Rattle.alias_lattice.specs.States.{State, state_join, state_below}
 use Rattle.alias_lattice.specs.Flows.{Stepped}
+use Rattle.alias_lattice.specs.JoinLaws.{state_laws}
+use Rattle.alias_lattice.specs.States.{State, state_join, state_below}
 use Rattle.alias_flow.specs.Machine.{SolverState, VisitLog, End}
 use Rattle.alias_flow.specs.Machine as end
+use Rattle.alias_flow.specs.RecordingLaws.{AllHold}
 use Rattle.alias_rules.specs.Fitting.{effect_within_tables, recorded_within_tables, effects_within_tables, holds_no_call, effects_fit, effects_fit_at, reports_no_invariant, function_rules, function_fits}
-use Rattle.alias_rules.specs.Functions.{each_function}
-use Rattle.alias_rules.specs.declared.rules.Rule.TheVariants.{Numbers}
-use Rattle.alias_rules.specs.RuleLaws.{fitting_rules, fitting_tree, passes_at}
-use Rattle.alias_function_rules.specs.Rules.{place_fits, tables_fit, numbers_fit, instruction_fits, block_fits}
-use Rattle.alias_effects.specs.declared.block.BlockEffects.{BlockEffects}
-use Rattle.alias_effects.specs.declared.context.Tables.{Tables}
-use Rattle.alias_effects.specs.declared.faults.BlockFault.{BlockFault}
-use Rattle.alias_effects.specs.declared.solved.InstructionEffects.{InstructionEffects}
-use Rattle.alias_effects.specs.declared.solved.Solved.{Solved}
-use Rattle.alias_effects.specs.declared.solved.TerminalEffects.{TerminalEffects}
-use Rattle.alias_effects.specs.Blocks.{infer_block, outcome_of, no_effects}
-use Rattle.alias_effects.specs.Contexts.{context_of, no_tables}
-use Rattle.alias_effects.specs.Output.{last_effects}
-use Rattle.alias_effects.specs.Inference.{instructions_recorded, terminal_recorded, solved_of, answer_of, inferred}
-use Rattle.alias_effects.specs.Numbered.{Blocks, position_of, step_at, numbered, visits_end}
-use Rattle.alias_effects.specs.Recording.{recorded_instructions, block_with, with_terminal_at, recorded_terminals, with_effects_of}
-use Rattle.alias_effects.proofs.EffectsWithinTables.{BlockWithinTables, block_within_tables, together}
-use Rattle.alias_flow.specs.RecordingLaws.{AllHold, solution_keeps}
 use Rattle.alias_rules.specs.RecordedLaws.{fits_with_other_effects}
+use Rattle.alias_rules.specs.RuleLaws.{fitting_tree}
+use Rattle.alias_tables.specs.GrowingLaws.{grows_self}
+use Rattle.alias_tables.specs.Tables.{TableLists}
+use Rattle.alias_write_back.specs.WriteBack.{tables_of, with_tables}
+use Rattle.alias_block.specs.declared.faults.BlockRefusal.{BlockRefusal}
+use Rattle.alias_block.specs.declared.recorded.BlockEffects.{BlockEffects}
+use Rattle.alias_block.specs.declared.recorded.InstructionEffects.{InstructionEffects}
+use Rattle.alias_block.specs.declared.recorded.TerminalEffects.{TerminalEffects}
+use Rattle.alias_block.specs.Blocks.{infer_block}
+use Rattle.alias_block.specs.Contexts.{BlockContext, context_of}
+use Rattle.alias_block.specs.Initial.{initial_state}
+use Rattle.alias_block.specs.Recorded.{no_effects}
+use Rattle.alias_block.specs.ProperLaws.{proper_initial_state}
+use Rattle.alias_step_laws.specs.Within.{EffectsWithin, FunctionWithin, TablesWithin}
+use Rattle.alias_step_laws.specs.FunctionSiteLaws.{has_join}
+use Rattle.alias_step_laws.specs.TableLaws.{all_appended}
+use Rattle.alias_block_laws.specs.BlockLaws.{BlockEffectsWithin, StateWithin, block_effects_grow, block_inferred}
+use Rattle.alias_block_laws.specs.FitLaws.{together}
+use Rattle.alias_block_laws.specs.EntryLaws.{context_within, return_within, has_initial_state}
+use Rattle.alias_block_laws.specs.SolutionLaws.{StepKeeps, solution_stands}
+use Rattle.alias_block_laws.specs.WrittenLaws.{fits_with_tables, all_effects_written}
+use Rattle.alias_effects.specs.declared.output.LastVisits.{LastVisits}
+use Rattle.alias_effects.specs.declared.output.PassEnd.{PassEnd}
+use Rattle.alias_effects.specs.declared.solved.Solved.{Solved}
+use Rattle.alias_effects.specs.Inference.{instructions_recorded, terminal_recorded, end_of, answer_of, pass_end, env_after, env_inferred, effects_inferred}
+use Rattle.alias_effects.specs.Numbered.{Blocks, position_of, step_at, numbered, visits_end}
+use Rattle.alias_effects.specs.Output.{last_of, last_visits}
+use Rattle.alias_effects.specs.PassLaws.{outcome_is}
+use Rattle.alias_effects.specs.Recording.{recorded_instructions, block_with, with_terminal_at, recorded_terminals, with_effects_of}
 use Rattle.alias_effects.proofs.RecordedDiffers.{recorded_differs}
 
 -- ---- lists of which one item is another
@@ -137,108 +148,145 @@ terminals_put env (e ∷ es) bs h a =
 
 -- ---- what is recorded is within the tables
 
--- the instructions of a function that the inference takes, and the places of a terminal, are within the tables
-numbers : (func : HirFunction) (env : Environment) → function_fits func env ≡ true → numbers_fit env func ≡ Ok tt
-numbers func env h =
-    let t = fitting_tree func env h in
-    let a = both_pass (tables_fit env) _ (fitting_rules func env t.0 t.2) in
-    let each : each_function Numbers env func t.0 ≡ Ok tt = (both_pass (each_function Numbers env func t.0) _ a.1).0 in
-    (both_pass (numbers_fit env func) _ each).0
-
--- those behind the parameters and the context places
-numbers_inside : (func : HirFunction) (env : Environment) → function_fits func env ≡ true → (all_pass (instruction_fits env) func.instructions ≡ Ok tt) × (all_pass (λ (e : BlockId × BasicBlock). block_fits env func e.1) func.body.blocks ≡ Ok tt)
-numbers_inside func env h =
-    let a = both_pass (all_pass (λ p. place_fits env (param_place p)) func.params) _ (numbers func env h) in
-    let b = both_pass (all_pass (place_fits env) func.context) _ a.1 in
-    let c = both_pass (place_fits env func.returns) _ b.1 in
-    both_pass (all_pass (instruction_fits env) func.instructions) _ c.1
-
-instructions_fit : (func : HirFunction) (env : Environment) → function_fits func env ≡ true → all_pass (instruction_fits env) func.instructions ≡ Ok tt
-instructions_fit func env h = (numbers_inside func env h).0
-
-terminal_fits : (func : HirFunction) (env : Environment) (n : ℕ) (b : BlockId × BasicBlock) → function_fits func env ≡ true → slice_get func.body.blocks n ≡ Some b → all_pass (place_fits env) (terminal_places b.1.terminal) ≡ Ok tt
-terminal_fits func env n b h e =
-    let d : block_fits env func b.1 ≡ Ok tt = passes_at (λ (e : BlockId × BasicBlock). block_fits env func e.1) func.body.blocks n b (numbers_inside func env h).1 e in
-    let f = both_pass _ _ d in
-    (both_pass _ _ f.1).1
-
-outcome_stands : (env : Environment) (r : Result (State × Tables × BlockEffects) BlockFault) (y : State) (u : Tables) (k : BlockEffects) → ((z : State × Tables × BlockEffects) → r ≡ Ok z → BlockWithinTables env z.2) → outcome_of r ≡ Stepped y u k → BlockWithinTables env k
-outcome_stands env (Ok z) y u k g e = let same : z.2 ≡ k = cc in subst (BlockWithinTables env) same (g z refl)
-outcome_stands env (Err f) y u k g e = cc
-
-step_stands : (func : HirFunction) (env : Environment) (f : Bool) (n : ℕ) (o : Option (BlockId × BasicBlock)) (t : Tables) (x y : State) (u : Tables) (k : BlockEffects) → function_fits func env ≡ true → slice_get func.body.blocks n ≡ o
-    → step_at (context_of env func f) o t x ≡ Stepped y u k → BlockWithinTables env k
-step_stands func env f n None t x y u k h o e = let same : no_effects ≡ k = cc in subst (BlockWithinTables env) same (refl, refl)
-step_stands func env f n (Some b) t x y u k h o e =
-    outcome_stands env (infer_block (context_of env func f) b.0 b.1 t x) y u k
-    (λ z s. block_within_tables (context_of env func f) b.0 b.1 t z.1 x z.0 z.2 (instructions_fit func env h) (terminal_fits func env n b h o) s) e
-
 none_hold : {K : Type 0} (q : K → Type 0) (n : ℕ) → AllHold q (replicate n None)
 none_hold q zero = tt
 none_hold q (suc n) = (tt, none_hold q n)
 
-recorded_exists : (func : HirFunction) (env : Environment) (f : Bool) (w : SolverState (VisitLog State) Tables BlockEffects) → function_fits func env ≡ true → visits_end (context_of env func f) ≡ end.Solved w → AllHold (BlockWithinTables env) w.recorded
-recorded_exists func env f w h e =
-    solution_keeps state_join state_below (numbered (context_of env func f)) (BlockWithinTables env)
-    (λ t n x y u k s. step_stands func env f n (slice_get func.body.blocks n) t x y u k h refl s)
-    no_tables (replicate (length func.body.blocks) None) w (none_hold (BlockWithinTables env) (length func.body.blocks)) e
+none_said : (a b : Bool) → (not a && not b) ≡ true → b ≡ false
+none_said true b h = cc
+none_said false true h = cc
+none_said false false h = refl
 
-all_instructions : (env : Environment) (recorded : List (Option BlockEffects)) → AllHold (BlockWithinTables env) recorded → OfInstructions env (flat_map instructions_recorded recorded)
-all_instructions env [] a = refl
-all_instructions env (None ∷ ks) a = all_instructions env ks a.1
-all_instructions env (Some r ∷ ks) a = list_all-append _ r.instructions (flat_map instructions_recorded ks) ∙ rw (a.0.0) (all_instructions env ks a.1)
+module _ (func : HirFunction) (env : Environment) (f : Bool) (h : function_fits func env ≡ true) where
+  abbrev c : BlockContext
+  c = context_of env func f
 
-all_terminals : (env : Environment) (recorded : List (Option BlockEffects)) → AllHold (BlockWithinTables env) recorded → OfTerminals env (flat_map terminal_recorded recorded)
-all_terminals env [] a = refl
-all_terminals env (None ∷ ks) a = all_terminals env ks a.1
-all_terminals env (Some r ∷ ks) a = list_all-append _ r.terminal (flat_map terminal_recorded ks) ∙ rw (a.0.1) (all_terminals env ks a.1)
+  -- a pass begins within the tables
+  begun_within : TablesWithin env (tables_of env)
+  begun_within = record {
+    first = tt;
+    temporaries = tt;
+    reports = grows_self env.interned;
+    no_invariant = none_said _ _ (both_true _ (reports_no_invariant env) (fitting_tree func env h).2).1;
+  }
 
-abbrev SolvedWithinTables : Environment → Solved → Type 0
-SolvedWithinTables env s = OfInstructions env s.effects × OfTerminals env s.terminal_effects
+  initial_within : StateWithin env (initial_state c)
+  initial_within = (proper_initial_state c, has_initial_state (FunctionWithin env) c)
 
-answer_stands : (func : HirFunction) (env : Environment) (f : Bool) (s : Solved) (r : End (VisitLog State) Tables BlockEffects BlockFault) → function_fits func env ≡ true → visits_end (context_of env func f) ≡ r → answer_of env func r ≡ Ok s → SolvedWithinTables env s
-answer_stands func env f s (end.Solved w) h v e =
-    let recorded = recorded_exists func env f w h v in
-    let same : solved_of func w ≡ s = cc in
-    subst (SolvedWithinTables env) same (all_instructions env w.recorded recorded, all_terminals env w.recorded recorded)
-answer_stands func env f s (end.Fault n c) h v e = cc
-answer_stands func env f s (end.NotSettled n) h v e = cc
+  joins_within : (x y : State) → StateWithin env x → StateWithin env y → StateWithin env (state_join x y)
+  joins_within x y p q = (state_laws.closed x y p.0 q.0, has_join (FunctionWithin env) x y p.0 q.0 p.1 q.1)
 
--- the effects are on the function with what was recorded
-effects_put : (func : HirFunction) (env : Environment) (s : Solved) → effects_within_tables env func ≡ true → SolvedWithinTables env s → effects_within_tables env (with_effects_of s func) ≡ true
-effects_put func env s h a =
-    let b = both_true _ (recorded_within_tables env func.aliasing_effects) h in
-    let c : InstructionsWithinTables env func.instructions × TerminalsWithinTables env func.body.blocks = both_true _ _ b.0 in
-    let i : InstructionsWithinTables env (recorded_instructions s.effects func.instructions) = instructions_put env s.effects func.instructions a.0 c.0 in
-    let t : TerminalsWithinTables env (recorded_terminals s.terminal_effects func.body.blocks) = terminals_put env s.terminal_effects func.body.blocks a.1 c.1 in
-    rw (i, t) (b.1)
+  abbrev Kept : TableLists → TableLists → State → BlockEffects → Type 0
+  Kept = StepKeeps (TablesWithin env) (StateWithin env) (BlockEffectsWithin env)
 
--- the inference takes the function with what it recorded
-pub recorded_fits : (func : HirFunction) (env : Environment) (f : Bool) (s : Solved) → function_fits func env ≡ true → inferred env func f ≡ Ok s → function_fits (with_effects_of s func) env ≡ true
-recorded_fits func env f s h e =
-    let t = fitting_tree func env h in
-    let a = both_true _ (reports_no_invariant env) t.2 in
-    let b = both_true _ (list_all (effects_fit_at env) t.0) a.0 in
-    let c : (is_ok (function_rules env func t.0) ≡ true) × (effects_fit env func ≡ true) = both_true _ _ b.0 in
-    let d : (effects_within_tables env func ≡ true) × (holds_no_call func.aliasing_effects ≡ true) = both_true _ _ c.1 in
-    let g : HirFunction = with_effects_of s func in
-    let w : effects_within_tables env g ≡ true = effects_put func env s d.0 (answer_stands func env f s (visits_end (context_of env func f)) h refl e) in
-    fits_with_other_effects func g env (recorded_differs s func) h (together (effects_within_tables env g) (holds_no_call g.aliasing_effects) w d.1)
+  step_within : (n : ℕ) (o : Option (BlockId × BasicBlock)) (t : TableLists) (x y : State) (u : TableLists) (k : BlockEffects) → slice_get func.body.blocks n ≡ o → TablesWithin env t → StateWithin env x
+      → step_at c o t x ≡ Stepped y u k → Kept t u y k
+  step_within n None t x y u k o i g e =
+      let tables : t ≡ u = cc in
+      let state : x ≡ y = cc in
+      let said : no_effects ≡ k = cc in
+      record {
+        tables = subst (TablesWithin env) tables i;
+        state = subst (StateWithin env) state g;
+        said = subst (BlockEffectsWithin env u) said (tt, tt);
+        still = λ j q. subst (λ v. BlockEffectsWithin env v j) tables q;
+      }
+  step_within n (Some b) t x y u k o i g e =
+      let r = (block_inferred c (context_within func env f h) b.0 b.1 x t i (return_within func env n b h o) g).leads u (y, k) (outcome_is (infer_block c b.0 b.1 x t) y u k e) in
+      record { tables = r.tables; state = r.value.0; said = r.value.1; still = λ j q. block_effects_grow env t u r.grown j q }
 
--- the function with these effects on its instructions and terminals
-abbrev pub with_effects : List InstructionEffects → List TerminalEffects → HirFunction → HirFunction
-with_effects instructions terminals func = record func {
-  instructions = recorded_instructions instructions func.instructions;
-  body = record func.body { blocks = recorded_terminals terminals func.body.blocks };
+  -- where nothing is dirty any more, tables and what is recorded are within
+  end_within : (w : SolverState (VisitLog State) TableLists BlockEffects) → visits_end c ≡ end.Solved w → TablesWithin env w.tables × AllHold (BlockEffectsWithin env w.tables) w.recorded
+  end_within w e =
+      solution_stands state_join state_below (numbered c) (TablesWithin env) (StateWithin env) (BlockEffectsWithin env) joins_within
+      (λ t n x y u k i g s. step_within n (slice_get func.body.blocks n) t x y u k refl i g s)
+      (tables_of env) (replicate (length func.body.blocks) None) w begun_within initial_within (none_hold (BlockEffectsWithin env (tables_of env)) (length func.body.blocks)) e
+
+  all_instructions : (t : TableLists) (recorded : List (Option BlockEffects)) → AllHold (BlockEffectsWithin env t) recorded → AllByRecursion (λ (i : InstructionEffects). EffectsWithin env t i.effects) (flat_map instructions_recorded recorded)
+  all_instructions t [] a = tt
+  all_instructions t (None ∷ ks) a = all_instructions t ks a.1
+  all_instructions t (Some r ∷ ks) a = all_appended (λ (i : InstructionEffects). EffectsWithin env t i.effects) r.instructions (flat_map instructions_recorded ks) a.0.0 (all_instructions t ks a.1)
+
+  all_terminals : (t : TableLists) (recorded : List (Option BlockEffects)) → AllHold (BlockEffectsWithin env t) recorded → AllByRecursion (λ (i : TerminalEffects). EffectsWithin env t i.effects) (flat_map terminal_recorded recorded)
+  all_terminals t [] a = tt
+  all_terminals t (None ∷ ks) a = all_terminals t ks a.1
+  all_terminals t (Some r ∷ ks) a = all_appended (λ (i : TerminalEffects). EffectsWithin env t i.effects) r.terminal (flat_map terminal_recorded ks) a.0.1 (all_terminals t ks a.1)
+
+  -- the function with these effects fits in an environment where it fits without them, and where they are within the tables
+  put_fits : (more : Environment) (s : Solved) → function_fits func more ≡ true → OfInstructions more s.effects → OfTerminals more s.terminal_effects → function_fits (with_effects_of s func) more ≡ true
+  put_fits more s k i t =
+      let a = both_true _ (reports_no_invariant more) (fitting_tree func more k).2 in
+      let b = both_true _ (list_all (effects_fit_at more) (fitting_tree func more k).0) a.0 in
+      let d : (is_ok (function_rules more func (fitting_tree func more k).0) ≡ true) × (effects_fit more func ≡ true) = both_true _ _ b.0 in
+      let e : (effects_within_tables more func ≡ true) × (holds_no_call func.aliasing_effects ≡ true) = both_true _ _ d.1 in
+      let g : HirFunction = with_effects_of s func in
+      let l = both_true _ (recorded_within_tables more func.aliasing_effects) e.0 in
+      let m : InstructionsWithinTables more func.instructions × TerminalsWithinTables more func.body.blocks = both_true _ _ l.0 in
+      let n : InstructionsWithinTables more g.instructions = instructions_put more s.effects func.instructions i m.0 in
+      let o : TerminalsWithinTables more g.body.blocks = terminals_put more s.terminal_effects func.body.blocks t m.1 in
+      let w : effects_within_tables more g ≡ true = rw (n, o) (l.1) in
+      fits_with_other_effects func g more (recorded_differs s func) k (together (effects_within_tables more g) (holds_no_call g.aliasing_effects) w e.1)
+
+  solved_fits : (w : SolverState (VisitLog State) TableLists BlockEffects) → visits_end c ≡ end.Solved w → function_fits (with_effects_of (end_of func w).solved func) (env_after env (end_of func w)) ≡ true
+  solved_fits w e =
+      let a = end_within w e in
+      put_fits (with_tables w.tables env) (end_of func w).solved (fits_with_tables env w.tables a.0 func h)
+      (all_effects_written env w.tables a.0 (λ (i : InstructionEffects). i.effects) (flat_map instructions_recorded w.recorded) (all_instructions w.tables w.recorded a.1))
+      (all_effects_written env w.tables a.0 (λ (i : TerminalEffects). i.effects) (flat_map terminal_recorded w.recorded) (all_terminals w.tables w.recorded a.1))
+
+  answer_fits : (r : End (VisitLog State) TableLists BlockEffects BlockRefusal) (e : PassEnd) → visits_end c ≡ r → answer_of env func r ≡ Ok e → function_fits (with_effects_of e.solved func) (env_after env e) ≡ true
+  answer_fits (end.Solved w) e v i = let same : end_of func w ≡ e = cc in subst (λ (z : PassEnd). function_fits (with_effects_of z.solved func) (env_after env z) ≡ true) same (solved_fits w v)
+  answer_fits (end.Fault n k) e v i = cc
+  answer_fits (end.NotSettled n) e v i = cc
+
+-- the inference takes the function with what it recorded, in the environment that took over what it added
+pub pass_end_fits : (func : HirFunction) (env : Environment) (f : Bool) (e : PassEnd) → function_fits func env ≡ true → pass_end env func f ≡ Ok e → function_fits (with_effects_of e.solved func) (env_after env e) ≡ true
+pass_end_fits func env f e h i = answer_fits func env f h (visits_end (context_of env func f)) e refl i
+
+-- ---- where nothing is handed out
+
+-- the function with what last visits recorded, and the environment with the tables that they left
+abbrev pub with_last : LastVisits → HirFunction → HirFunction
+with_last l func = record func {
+  instructions = recorded_instructions l.effects.instructions func.instructions;
+  body = record func.body { blocks = recorded_terminals l.effects.terminal func.body.blocks };
 }
 
-last_from : (func : HirFunction) (env : Environment) (f : Bool) (r : BlockEffects) (a : Result Solved InferError) → function_fits func env ≡ true → inferred env func f ≡ a
-    → ◌≡◌ {A = Result BlockEffects InferError} (a >>= (λ s. Ok (record { instructions = s.effects; terminal = s.terminal_effects }))) (Ok r) → function_fits (with_effects r.instructions r.terminal func) env ≡ true
-last_from func env f r (Ok s) h i e =
-    let same : ◌≡◌ {A = BlockEffects} (record { instructions = s.effects; terminal = s.terminal_effects }) r = cc in
-    subst (λ (z : BlockEffects). function_fits (with_effects z.instructions z.terminal func) env ≡ true) same (recorded_fits func env f s h i)
-last_from func env f r (Err x) h i e = cc
+abbrev pub env_after_last : LastVisits → Environment → Environment
+env_after_last l env = with_tables (record { first = []; temporaries = l.tables.temporaries; reports = l.tables.reports; reads = l.tables.reads }) env
 
--- the inference takes the function with what the last visits recorded
-pub last_fits : (func : HirFunction) (env : Environment) (f : Bool) (r : BlockEffects) → function_fits func env ≡ true → last_effects env func f ≡ Ok r → function_fits (with_effects r.instructions r.terminal func) env ≡ true
-last_fits func env f r h e = last_from func env f r (inferred env func f) h refl e
+last_at : (func : HirFunction) (env : Environment) (f : Bool) (l : LastVisits) (r : Result PassEnd InferError) → function_fits func env ≡ true → pass_end env func f ≡ r → ◌≡◌ {A = Result LastVisits InferError} (r >>= (λ e. Ok (last_of e))) (Ok l) → function_fits (with_last l func) (env_after_last l env) ≡ true
+last_at func env f l (Ok e) k i h =
+    let same : last_of e ≡ l = cc in
+    subst (λ (z : LastVisits). function_fits (with_last z func) (env_after_last z env) ≡ true) same (pass_end_fits func env f e k i)
+last_at func env f l (Err z) k i h = cc
+
+pub last_fits : (func : HirFunction) (env : Environment) (f : Bool) (l : LastVisits) → function_fits func env ≡ true → last_visits env func f ≡ Ok l → function_fits (with_last l func) (env_after_last l env) ≡ true
+last_fits func env f l k h = last_at func env f l (pass_end env func f) k refl h
+
+-- what is made of an end is what is made of its effects and tables
+last_gives : {X : Type 0} (r : Result PassEnd InferError) (f : PassEnd → X) (g : LastVisits → X) (l : LastVisits) → ((e : PassEnd) → f e ≡ g (last_of e)) → ◌≡◌ {A = Result LastVisits InferError} (r >>= (λ e. Ok (last_of e))) (Ok l) → ◌≡◌ {A = Result X InferError} (r >>= (λ e. Ok (f e))) (Ok (g l))
+last_gives (Ok e) f g l same h =
+    let is : last_of e ≡ l = cc in
+    ap Ok (same e ∙ ap g is)
+last_gives (Err z) f g l same h = cc
+
+pub last_recorded : (func : HirFunction) (env : Environment) (f : Bool) (l : LastVisits) → last_visits env func f ≡ Ok l → effects_inferred env func f ≡ Ok (with_last l func)
+last_recorded func env f l h = last_gives (pass_end env func f) (λ e. with_effects_of e.solved func) (λ z. with_last z func) l (λ e. refl) h
+
+pub last_written : (func : HirFunction) (env : Environment) (f : Bool) (l : LastVisits) → last_visits env func f ≡ Ok l → env_inferred env func f ≡ Ok (env_after_last l env)
+last_written func env f l h = last_gives (pass_end env func f) (env_after env) (λ z. env_after_last z env) l (λ e. refl) h
+
+-- ---- the same, of what is equal
+
+pub written_by : (env after : Environment) (t u : TableLists) → after ≡ with_tables t env → t ≡ u → with_tables u env ≡ after
+written_by env after t u h same = ap (λ (z : TableLists). with_tables z env) (sym same) ∙ sym h
+
+pub fits_as : (g h : HirFunction) (u v : Environment) → function_fits g u ≡ true → g ≡ h → u ≡ v → function_fits h v ≡ true
+fits_as g h u v k p q = subst (λ (z : Environment). function_fits h z ≡ true) q (subst (λ (z : HirFunction). function_fits z u ≡ true) p k)
+
+pub recorded_as : (func : HirFunction) (s : Solved) (effects : List InstructionEffects) (terminal : List TerminalEffects) (xs : List Instruction) (bs : Blocks) → xs ≡ recorded_instructions effects func.instructions → effects ≡ s.effects → bs ≡ recorded_terminals terminal func.body.blocks → terminal ≡ s.terminal_effects
+    → with_effects_of s func ≡ record func { instructions = xs; body = record func.body { blocks = bs } }
+recorded_as func s effects terminal xs bs p q r t =
+    ap (λ (ys : List Instruction). record func { instructions = ys; body = record func.body { blocks = recorded_terminals s.terminal_effects func.body.blocks } }) (sym (p ∙ ap (λ es. recorded_instructions es func.instructions) q))
+    ∙ ap (λ (cs : Blocks). record func { instructions = xs; body = record func.body { blocks = cs } }) (sym (r ∙ ap (λ es. recorded_terminals es func.body.blocks) t))

@@ -1,25 +1,14 @@
--- Which faults are want of memory, how a block's faults are a flow's, and what a call that changes what it is given says of its answer.
-use Rattle.std.specs.Prelude.{◌≡◌, Bool, true, false, Result, Ok, Err, ⊤}
+-- How a block's faults are a flow's, and what a call that changes what it is given says of its answer.
+use Rattle.std.specs.Prelude.{◌≡◌, Bool, false, Result, Ok, Err, ⊤}
+use Rattle.alias_block.specs.declared.faults.BlockFault.{BlockFault}
+use Rattle.alias_block.specs.declared.faults.BlockFault.TheVariants as block
+use Rattle.alias_block.specs.declared.faults.BlockRefusal.{BlockRefusal}
 use Rattle.alias_flow.specs.declared.flow.StepFault.{StepFault}
 use Rattle.alias_flow.specs.declared.flow.StepFault.TheVariants as flow
-use Rattle.alias_effects.specs.declared.faults.EffectFault.{EffectFault}
-use Rattle.alias_effects.specs.declared.faults.EffectFault.TheVariants as step
-use Rattle.alias_effects.specs.declared.faults.BlockFault.{BlockFault}
-use Rattle.alias_effects.specs.declared.faults.BlockFault.TheVariants as block
-
-abbrev pub is_effect_memory : EffectFault → Bool
-is_effect_memory (step.Reinitialized x) = false
-is_effect_memory (step.Memory e) = true
-
-abbrev pub is_block_memory : BlockFault → Bool
-is_block_memory (block.Reinitialized i x) = false
-is_block_memory (block.Uninitialized m) = false
-is_block_memory (block.Memory e) = true
 
 -- a fault of a block's step, as one of the flow's
-abbrev pub step_fault : BlockFault → StepFault BlockFault
-step_fault (block.Reinitialized i x) = flow.Refused (block.Reinitialized i x)
-step_fault (block.Uninitialized m) = flow.Refused (block.Uninitialized m)
+abbrev pub step_fault : BlockFault → StepFault BlockRefusal
+step_fault (block.Refused c) = flow.Refused c
 step_fault (block.Memory e) = flow.Memory e
 
 -- at Ok what was given has become what is stated, and an error is the one stated. Want of memory is free: it can come in the place of any answer

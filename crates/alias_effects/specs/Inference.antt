@@ -4,6 +4,7 @@ use Rattle.std.specs.List.{flat_map}
 use Rattle.std.specs.Option.{option_map_or}
 use Rattle.alias_base.specs.Answer.{◌>>=◌}
 use Rattle.alias_base.specs.declared.ids.BlockId.{BlockId}
+use Rattle.alias_base.specs.declared.ids.InstructionId.{InstructionId}
 use Rattle.alias_hir.specs.declared.env.Environment.{Environment}
 use Rattle.alias_hir.specs.declared.hir.BasicBlock.{BasicBlock}
 use Rattle.alias_hir.specs.declared.hir.HirFunction.{HirFunction}
@@ -13,23 +14,34 @@ use Rattle.alias_hir.specs.Reports.{uninitialized_report, not_settled_report}
 use Rattle.alias_lattice.specs.States.{State}
 use Rattle.alias_flow.specs.Machine.{SolverState, VisitLog, End}
 use Rattle.alias_flow.specs.Machine as end
-use Rattle.alias_effects.specs.declared.faults.BlockFault.{BlockFault}
-use Rattle.alias_effects.specs.declared.faults.BlockFault.TheVariants.{Reinitialized, Uninitialized, Memory}
-use Rattle.alias_effects.specs.declared.block.BlockEffects.{BlockEffects}
-use Rattle.alias_effects.specs.declared.context.Tables.{Tables}
+use Rattle.alias_block.specs.declared.faults.BlockRefusal.{BlockRefusal}
+use Rattle.alias_block.specs.declared.faults.BlockRefusal.TheVariants as block
+use Rattle.alias_block.specs.declared.recorded.BlockEffects.{BlockEffects}
+use Rattle.alias_tables.specs.Tables.{TableLists}
 use Rattle.alias_effects.specs.declared.solved.BlockEntry.{BlockEntry}
-use Rattle.alias_effects.specs.declared.solved.InstructionEffects.{InstructionEffects}
+use Rattle.alias_block.specs.declared.recorded.InstructionEffects.{InstructionEffects}
 use Rattle.alias_effects.specs.declared.solved.Solved.{Solved}
-use Rattle.alias_effects.specs.declared.solved.TerminalEffects.{TerminalEffects}
-use Rattle.alias_effects.specs.Contexts.{context_of}
+use Rattle.alias_block.specs.declared.recorded.TerminalEffects.{TerminalEffects}
+use Rattle.alias_block.specs.Contexts.{context_of}
+use Rattle.alias_tables.specs.declared.faults.Refusal.{Refusal}
+use Rattle.alias_tables.specs.declared.faults.Refusal.TheVariants as refused
+use Rattle.alias_write_back.specs.WriteBack.{with_tables}
+use Rattle.alias_effects.specs.declared.output.PassEnd.{PassEnd}
 use Rattle.alias_effects.specs.Numbered.{Blocks, visits_end}
 use Rattle.alias_effects.specs.Recording.{with_effects_of}
 
--- the fault of a block's step, as a refusal of the root function
-abbrev pub refusal : Environment → BlockId → BlockFault → InferError
-refusal env b (Reinitialized i x) = error.Reinitialized None i x
-refusal env b (Uninitialized m) = error.Uninitialized None b m.identifier m.span (uninitialized_report env m.identifier m.span)
-refusal env b (Memory e) = error.Memory e
+-- the refusal of an instruction's step, of the root function
+abbrev pub instruction_refusal : InstructionId → Refusal → InferError
+instruction_refusal i (refused.Reinitialized x) = error.Reinitialized None i x
+instruction_refusal i (refused.AliasBeforeCreate x) = error.AliasBeforeCreate None i x
+instruction_refusal i (refused.IncompatibleLibrary report) = error.IncompatibleLibrary None i report
+instruction_refusal i (refused.SpreadArgument span report) = error.SpreadArgument None i span report
+instruction_refusal i (refused.TooMany which) = error.TooMany which
+
+-- the refusal of a block's step, of the root function
+abbrev pub refusal : Environment → BlockId → BlockRefusal → InferError
+refusal env b (block.Instruction i c) = instruction_refusal i c
+refusal env b (block.Uninitialized m) = error.Uninitialized None b m.identifier m.span (uninitialized_report env m.identifier m.span)
 
 -- the name of the block at a position
 abbrev pub block_at : Blocks → ℕ → BlockId
@@ -52,27 +64,49 @@ abbrev pub terminal_recorded : Option BlockEffects → List TerminalEffects
 terminal_recorded None = []
 terminal_recorded (Some r) = r.terminal
 
--- what is handed out where nothing is dirty any more: entry states are the joins of what was sent, and effects those of last visits
-abbrev pub solved_of : HirFunction → SolverState (VisitLog State) Tables BlockEffects → Solved
+-- what is handed out where nothing is dirty any more: entry states are the joins of what was sent, effects those of last visits, and first effects and temporaries those of the tables
+abbrev pub solved_of : HirFunction → SolverState (VisitLog State) TableLists BlockEffects → Solved
 solved_of func w = record {
   function = None;
   visits = map (block_at func.body.blocks) w.progress.visits;
   entries = entries_of func.body.blocks w.progress.joined_input;
+  first = w.tables.first;
+  temporaries = w.tables.temporaries;
   effects = flat_map instructions_recorded w.recorded;
   terminal_effects = flat_map terminal_recorded w.recorded;
 }
 
-abbrev pub answer_of : Environment → HirFunction → End (VisitLog State) Tables BlockEffects BlockFault → Result Solved InferError
-answer_of env func (end.Solved w) = Ok (solved_of func w)
-answer_of env func (end.Fault n fault) = Err (refusal env (block_at func.body.blocks n) fault)
+-- with what else the tables have
+abbrev pub end_of : HirFunction → SolverState (VisitLog State) TableLists BlockEffects → PassEnd
+end_of func w = record { solved = solved_of func w; reports = w.tables.reports; reads = w.tables.reads }
+
+abbrev pub answer_of : Environment → HirFunction → End (VisitLog State) TableLists BlockEffects BlockRefusal → Result PassEnd InferError
+answer_of env func (end.Solved w) = Ok (end_of func w)
+answer_of env func (end.Fault n c) = Err (refusal env (block_at func.body.blocks n) c)
 answer_of env func (end.NotSettled visits) = Err (error.NotSettled None visits not_settled_report)
+
+-- how the sequence of visits ends, or its refusal
+abbrev pub pass_end : Environment → HirFunction → Bool → Result PassEnd InferError
+pass_end env func is_function_expression = answer_of env func (visits_end (context_of env func is_function_expression))
 
 -- the solution that the sequence of visits ends with, or its refusal
 abbrev pub inferred : Environment → HirFunction → Bool → Result Solved InferError
-inferred env func is_function_expression = answer_of env func (visits_end (context_of env func is_function_expression))
+inferred env func is_function_expression = do
+  e ← pass_end env func is_function_expression
+  Ok e.solved
+
+-- the environment with what the pass added to it
+abbrev pub env_after : Environment → PassEnd → Environment
+env_after env e = with_tables (record { first = e.solved.first; temporaries = e.solved.temporaries; reports = e.reports; reads = e.reads }) env
+
+-- the environment after the pass, or the refusal
+abbrev pub env_inferred : Environment → HirFunction → Bool → Result Environment InferError
+env_inferred env func is_function_expression = do
+  e ← pass_end env func is_function_expression
+  Ok (env_after env e)
 
 -- the function with its effects on its instructions and terminals, or the refusal
 abbrev pub effects_inferred : Environment → HirFunction → Bool → Result HirFunction InferError
 effects_inferred env func is_function_expression = do
-  s ← inferred env func is_function_expression
-  Ok (with_effects_of s func)
+  e ← pass_end env func is_function_expression
+  Ok (with_effects_of e.solved func)

@@ -1,11 +1,5 @@
-pub mod Contexts
-pub mod Progress
-pub mod Apply
-pub mod Blocks
+pub mod FunctionFlow
 pub mod Faults
-pub mod ApplyKeepsLaws
-pub mod BlockKeepsLaws
-pub mod ProperLaws
 pub mod Solutions
 pub mod Positions
 pub mod PositionLaws

@@ -11,11 +11,15 @@ use Rattle.alias_lattice.specs.Flows.{Outcome, Stepped}
 use Rattle.alias_lattice.specs.States.{State, state_below, state_join}
 use Rattle.alias_flow.specs.Machine.{Rules, VisitLog, End, solution}
 use Rattle.alias_flow.specs.Machine as end
-use Rattle.alias_effects.specs.Blocks.{infer_block, outcome_of, no_effects, initial_state}
-use Rattle.alias_effects.specs.Contexts.{Context, no_tables}
-use Rattle.alias_effects.specs.declared.block.BlockEffects.{BlockEffects}
-use Rattle.alias_effects.specs.declared.context.Tables.{Tables}
-use Rattle.alias_effects.specs.declared.faults.BlockFault.{BlockFault}
+use Rattle.alias_block.specs.Blocks.{infer_block}
+use Rattle.alias_block.specs.Contexts.{BlockContext}
+use Rattle.alias_block.specs.Initial.{initial_state}
+use Rattle.alias_block.specs.Recorded.{no_effects}
+use Rattle.alias_write_back.specs.WriteBack.{tables_of}
+use Rattle.alias_effects.specs.FunctionFlow.{outcome_of}
+use Rattle.alias_block.specs.declared.recorded.BlockEffects.{BlockEffects}
+use Rattle.alias_tables.specs.Tables.{TableLists}
+use Rattle.alias_block.specs.declared.faults.BlockRefusal.{BlockRefusal}
 
 -- the blocks of a function in stored order, with their names
 abbrev pub Blocks : Type 0
@@ -40,16 +44,16 @@ edges_at blocks None = []
 edges_at blocks (Some b) = positions_of blocks (successors b.1.terminal)
 
 -- a position past the end does nothing
-abbrev pub step_at : Context → Option (BlockId × BasicBlock) → Tables → State → Outcome State Tables BlockEffects BlockFault
+abbrev pub step_at : BlockContext → Option (BlockId × BasicBlock) → TableLists → State → Outcome State TableLists BlockEffects BlockRefusal
 step_at c None tables x = Stepped x tables no_effects
-step_at c (Some b) tables x = outcome_of (infer_block c b.0 b.1 tables x)
+step_at c (Some b) tables x = outcome_of (infer_block c b.0 b.1 x tables)
 
 -- the position of the entry; a function that keeps the rules has one
 abbrev pub entry_position : HirFunction → ℕ
 entry_position func = option_map_or (λ n. n) (position_of func.body.blocks func.body.entry) 0
 
 -- a function as a flow over the positions of its blocks
-abbrev pub numbered : Context → Rules State Tables BlockEffects BlockFault
+abbrev pub numbered : BlockContext → Rules State TableLists BlockEffects BlockRefusal
 numbered c = record {
   blocks = length c.func.body.blocks;
   flow = record {
@@ -61,13 +65,13 @@ numbered c = record {
 }
 
 -- how the sequence of visits of the function ends
-abbrev pub visits_end : Context → End (VisitLog State) Tables BlockEffects BlockFault
-visits_end c = solution state_join state_below (numbered c) no_tables (replicate (length c.func.body.blocks) None)
+abbrev pub visits_end : BlockContext → End (VisitLog State) TableLists BlockEffects BlockRefusal
+visits_end c = solution state_join state_below (numbered c) (tables_of c.env) (replicate (length c.func.body.blocks) None)
 
--- the tables that the visits leave
-abbrev pub tables_at : End (VisitLog State) Tables BlockEffects BlockFault → Tables
-tables_at (end.Solved w) = w.tables
-tables_at e = no_tables
+-- the tables that the visits leave; where they are refused, those that they begin with
+abbrev pub tables_at : TableLists → End (VisitLog State) TableLists BlockEffects BlockRefusal → TableLists
+tables_at begun (end.Solved w) = w.tables
+tables_at begun e = begun
 
-abbrev pub tables_left : Context → Tables
-tables_left c = tables_at (visits_end c)
+abbrev pub tables_left : BlockContext → TableLists
+tables_left c = tables_at (tables_of c.env) (visits_end c)

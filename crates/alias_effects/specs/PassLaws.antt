@@ -1,6 +1,6 @@
 -- The laws of the effects pass as a flow over positions.
-use Rattle.std.specs.Prelude.{◌≡◌, ℕ, ◌<◌, true, List, [], ◌∷◌, length, Option, Some, None, is_some, slice_get, refl}
-use Rattle.std.proofs.Common.{subst}
+use Rattle.std.specs.Prelude.{◌≡◌, ℕ, ◌<◌, true, List, [], ◌∷◌, length, Option, Some, None, Result, Ok, Err, is_some, slice_get, refl}
+use Rattle.std.proofs.Common.{ap, subst}
 use Rattle.std.specs.Map.{keys_of}
 use Rattle.std.specs.Option.{option_map_or}
 use Rattle.std.specs.List.{AllByRecursion}
@@ -12,12 +12,19 @@ use Rattle.alias_hir.specs.declared.hir.BasicBlock.{BasicBlock}
 use Rattle.alias_hir.specs.Terminals.{successors}
 use Rattle.alias_flow.specs.Machine.{FlowLaws}
 use Rattle.alias_lattice.specs.ProperStates.{StateProper}
-use Rattle.alias_lattice.specs.ProperLaws.{proper-empty_state}
-use Rattle.alias_effects.specs.declared.block.BlockEffects.{BlockEffects}
-use Rattle.alias_effects.specs.Contexts.{Context, Extends}
-use Rattle.alias_effects.specs.ProperLaws.{step_at_proper}
+use Rattle.alias_lattice.specs.Flows.{Stepped}
+use Rattle.alias_lattice.specs.States.{State}
+use Rattle.alias_block.specs.declared.recorded.BlockEffects.{BlockEffects}
+use Rattle.alias_block.specs.declared.faults.BlockRefusal.{BlockRefusal}
+use Rattle.alias_block.specs.Blocks.{infer_block}
+use Rattle.alias_block.specs.Contexts.{BlockContext}
+use Rattle.alias_block.specs.ProperLaws.{proper_initial_state, proper_infer_block}
+use Rattle.alias_block.specs.ReplayLaws.{again_infer_block}
+use Rattle.alias_tables.specs.GrowingLaws.{Extends, extends_self, extends_through}
+use Rattle.alias_tables.specs.Tables.{TableLists}
+use Rattle.alias_effects.specs.FunctionFlow.{outcome_of}
 use Rattle.alias_effects.specs.PositionLaws.{found_has_position}
-use Rattle.alias_effects.specs.Numbered.{Blocks, position_of, with_position, positions_of, edges_at, numbered}
+use Rattle.alias_effects.specs.Numbered.{Blocks, position_of, with_position, positions_of, edges_at, step_at, numbered}
 
 -- a position is below the number of blocks
 pub position_below : (blocks : Blocks) (b : BlockId) (n : ℕ) → position_of blocks b ≡ Some n → n < length blocks
@@ -39,20 +46,37 @@ entry_below : (o : Option ℕ) (m : ℕ) → is_some o ≡ true → ((n : ℕ) �
 entry_below None m h f = cc
 entry_below (Some n) m h f = f n refl
 
+pub outcome_is : (r : Result ((State × BlockEffects) × TableLists) BlockRefusal) (y : State) (u : TableLists) (k : BlockEffects) → outcome_of r ≡ Stepped y u k → r ≡ Ok ((y, k), u)
+outcome_is (Ok ((x, l), t)) y u k e = cc
+outcome_is (Err c) y u k e = cc
+
+module _ (c : BlockContext) where
+  step_proper : (o : Option (BlockId × BasicBlock)) (t u : TableLists) (x y : State) (k : BlockEffects) → StateProper x → step_at c o t x ≡ Stepped y u k → StateProper y
+  step_proper None t u x y k p e = let same : x ≡ y = cc in subst StateProper same p
+  step_proper (Some b) t u x y k p e = proper_infer_block c b.0 b.1 x p t u (y, k) (outcome_is (infer_block c b.0 b.1 x t) y u k e)
+
+  step_grows : (o : Option (BlockId × BasicBlock)) (t u : TableLists) (x y : State) (k : BlockEffects) → step_at c o t x ≡ Stepped y u k → Extends t u
+  step_grows None t u x y k e = let same : t ≡ u = cc in subst (Extends t) same (extends_self t)
+  step_grows (Some b) t u x y k e = (again_infer_block c b.0 b.1 x).grows t u (y, k) (outcome_is (infer_block c b.0 b.1 x t) y u k e)
+
+  step_again : (o : Option (BlockId × BasicBlock)) (t u v : TableLists) (x y : State) (k : BlockEffects) → step_at c o t x ≡ Stepped y u k → Extends u v → step_at c o v x ≡ Stepped y v k
+  step_again None t u v x y k e g = cc
+  step_again (Some b) t u v x y k e g = ap outcome_of ((again_infer_block c b.0 b.1 x).again t u v (y, k) (outcome_is (infer_block c b.0 b.1 x t) y u k e) g)
+
 -- where the entry is a block, the pass is a flow over the positions of blocks
-pub pass_laws : (c : Context) → is_some (value_at c.func.body.blocks c.func.body.entry) ≡ true → (recorded : List (Option BlockEffects)) → length recorded ≡ length c.func.body.blocks
+pub pass_laws : (c : BlockContext) → is_some (value_at c.func.body.blocks c.func.body.entry) ≡ true → (recorded : List (Option BlockEffects)) → length recorded ≡ length c.func.body.blocks
     → FlowLaws StateProper Extends (numbered c) recorded
 pass_laws c at_index recorded long =
     let blocks = c.func.body.blocks in
     let entry = c.func.body.entry in
     record {
       recorded_length = long;
-      initial_proper = proper-empty_state;
-      step_proper = λ t n x y u k p e. step_at_proper c (slice_get blocks n) t x y u k p e;
+      initial_proper = proper_initial_state c;
+      step_proper = λ t n x y u k p e. step_proper c (slice_get blocks n) t u x y k p e;
       entry_below = entry_below (position_of blocks entry) (length blocks) (found_has_position blocks entry at_index) (position_below blocks entry);
       edges_below = λ n h. edges_below blocks (slice_get blocks n);
-      reflexive = λ t. tt;
-      transitive = λ t u v g h. tt;
-      grow = λ t n x y u k e. tt;
-      replay = λ t n x y u v k e g. e;
+      reflexive = extends_self;
+      transitive = extends_through;
+      grow = λ t n x y u k e. step_grows c (slice_get blocks n) t u x y k e;
+      replay = λ t n x y u v k e g. step_again c (slice_get blocks n) t u v x y k e g;
     }

@@ -9,13 +9,14 @@ use Rattle.alias_hir.specs.declared.hir.HirFunction.{HirFunction}
 use Rattle.alias_lattice.specs.States.{State, state_below}
 use Rattle.alias_lattice.specs.ProperStates.{StateProper}
 use Rattle.alias_lattice.specs.Flows.{Flow, Outcome, Stepped, Refused, IsOneOf, IsSolution, AreJoins}
-use Rattle.alias_effects.specs.declared.faults.BlockFault.{BlockFault}
-use Rattle.alias_effects.specs.declared.block.BlockEffects.{BlockEffects}
-use Rattle.alias_effects.specs.declared.context.Tables.{Tables}
+use Rattle.alias_block.specs.declared.faults.BlockRefusal.{BlockRefusal}
+use Rattle.alias_block.specs.declared.recorded.BlockEffects.{BlockEffects}
+use Rattle.alias_tables.specs.Tables.{TableLists}
 use Rattle.alias_effects.specs.declared.solved.BlockEntry.{BlockEntry}
 use Rattle.alias_effects.specs.declared.solved.Solved.{Solved}
-use Rattle.alias_effects.specs.Blocks.{flow_of, no_effects}
-use Rattle.alias_effects.specs.Contexts.{context_of}
+use Rattle.alias_block.specs.Recorded.{no_effects}
+use Rattle.alias_effects.specs.FunctionFlow.{flow_of}
+use Rattle.alias_block.specs.Contexts.{context_of}
 use Rattle.alias_effects.specs.Numbered.{tables_left}
 
 -- the entry state of a block, among those handed out
@@ -30,7 +31,7 @@ IsSubsequence (x ∷ xs) [] = ⊥
 IsSubsequence (x ∷ xs) (y ∷ ys) = ((x ≡ y) × IsSubsequence xs ys) ⊎ IsSubsequence (x ∷ xs) ys
 
 -- what a step records, where it isn't refused
-abbrev pub effects_recorded : Outcome State Tables BlockEffects BlockFault → BlockEffects
+abbrev pub effects_recorded : Outcome State TableLists BlockEffects BlockRefusal → BlockEffects
 effects_recorded (Stepped y tables recorded) = recorded
 effects_recorded (Refused fault) = no_effects
 
@@ -43,11 +44,11 @@ abbrev pub IsForward : HirFunction → (BlockId → List BlockId) → Type 0
 IsForward func edges = IsForwardFrom edges (keys_of func.body.blocks)
 
 module _ (env : Environment) (func : HirFunction) (is_function_expression : Bool) where
-  abbrev pub flow : Flow BlockId State Tables BlockEffects BlockFault
+  abbrev pub flow : Flow BlockId State TableLists BlockEffects BlockRefusal
   flow = flow_of (context_of env func is_function_expression)
 
   -- the tables that the visits leave
-  abbrev pub tables : Tables
+  abbrev pub tables : TableLists
   tables = tables_left (context_of env func is_function_expression)
 
   -- what the block of an entry records from its state

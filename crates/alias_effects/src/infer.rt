@@ -5,98 +5,47 @@ ghost use Rattle.std.specs.Prelude.{◌≡◌, true, None, IfOk, OnErr, length, 
 ghost use Rattle.alias_base.specs.Answer.{Gives};
 ghost use Rattle.alias_base.specs.Find.{same_block};
 ghost use Rattle.alias_hir.specs.Errors.{is_memory};
+ghost use Rattle.alias_facts.specs.Facts.{function_facts as facts_of};
 ghost use Rattle.alias_lattice.specs.States.{state_join, state_below};
 ghost use Rattle.alias_flow.specs.Machine.{solution};
 ghost use Rattle.alias_rules.specs.Fitting.{function_fits};
-ghost use Rattle.alias_effects.specs.Contexts.{context_of, held, no_tables, with_tables};
+ghost use Rattle.alias_write_back.specs.WriteBack.{tables_of as tables_begun};
+ghost use Rattle.alias_block.specs.Contexts.{context_of, held};
 ghost use Rattle.alias_effects.specs.Faults.{GivesInto};
-ghost use Rattle.alias_effects.specs.Output.{unsettled, unsolved, last_effects, VisitsEnd};
-ghost use Rattle.alias_effects.specs.Inference.{refusal, inferred, effects_inferred};
-ghost use Rattle.alias_effects.specs.Numbered.{numbered, tables_left};
+ghost use Rattle.alias_effects.specs.Output.{last_visits, VisitsEnd};
+ghost use Rattle.alias_effects.specs.Inference.{pass_end, inferred, env_inferred, effects_inferred};
+ghost use Rattle.alias_effects.specs.Numbered.{numbered};
 ghost use Rattle.alias_effects.specs.Recording.{with_effects_of};
 ghost use Rattle.alias_effects.specs.Solutions.{IsSolved};
 
-use crate::block::BlockEffects;
-use crate::context::{Context, Tables};
-use crate::faults::BlockFault;
-use crate::output::{all_recorded, block_at, solved_of};
+use crate::output::{LastVisits, PassEnd, all_recorded, end_of};
 use crate::pass::EffectsPass;
 use crate::recording::{record_instructions, record_terminals};
+use crate::refused::unsolved;
 use crate::solved::Solved;
-use alias_base::{BlockId, TryClone};
+use alias_base::TryClone;
+use alias_block::{BlockContext, BlockRefusal};
+use alias_facts::{FunctionFacts, function_facts};
 use alias_flow::{SolveFault, is_forward, nothing_yet, solve, solve_forward};
 use alias_hir::env::Environment;
 use alias_hir::error::InferError;
 use alias_hir::hir::HirFunction;
-use alias_hir::report::{not_settled_report, uninitialized_report};
+use alias_tables::TableParts;
+use alias_write_back::write_back::{tables_of, write_back};
 use std::alloc::{AllocError, Global};
-
-fn refusal(
-    alloc: Global,
-    env: &Environment,
-    block: BlockId,
-    fault: BlockFault,
-) -> Result<InferError, AllocError>
-    ensures { IfOk result (λ e. e ≡ refusal env.now block fault) }
-{
-    match fault {
-        BlockFault::Reinitialized {
-            instruction,
-            identifier,
-        } => Ok(InferError::Reinitialized {
-            function: None,
-            instruction,
-            identifier,
-        }),
-        BlockFault::Uninitialized(look) => Ok(InferError::Uninitialized {
-            function: None,
-            block,
-            identifier: look.identifier,
-            span: look.span,
-            report: uninitialized_report(alloc, env, look.identifier, look.span)?,
-        }),
-        BlockFault::Memory(e) => Ok(InferError::Memory(e)),
-    }
-}
-
-fn not_settled(alloc: Global, visits: u64) -> Result<InferError, AllocError>
-    ensures { IfOk result (λ e. e ≡ unsettled visits) }
-{
-    Ok(InferError::NotSettled {
-        function: None,
-        visits,
-        report: not_settled_report(alloc)?,
-    })
-}
-
-fn unsolved(
-    alloc: Global,
-    env: &Environment,
-    func: &HirFunction,
-    fault: SolveFault<BlockFault>,
-) -> Result<InferError, AllocError>
-    ensures { IfOk result (λ e. e ≡ unsolved env.now func.now fault) }
-{
-    match fault {
-        SolveFault::Step { block, fault } => {
-            let name = block_at(&func.body.blocks, block as usize);
-            refusal(alloc, env, name, fault)
-        }
-        SolveFault::NotSettled { visits } => not_settled(alloc, visits),
-        SolveFault::Memory(e) => Ok(InferError::Memory(e)),
-    }
-}
 
 /// The pass over the function, of which nothing is visited yet.
 fn pass_over<'a>(
     alloc: Global,
     func: &'a HirFunction,
     env: &'a Environment,
+    facts: &'a FunctionFacts,
     is_function_expression: bool,
 ) -> Result<EffectsPass<'a>, AllocError>
-    requires { function_fits func.now env.now ≡ true }
+    requires fits { function_fits func.now env.now ≡ true }
+    requires facts { facts.now ≡ facts_of func.now env.now }
     ensures rules { IfOk result (λ pass. numbered (held pass.context) ≡ numbered (context_of env.now func.now is_function_expression)) }
-    ensures tables { IfOk result (λ pass. pass.tables ≡ no_tables) }
+    ensures tables { IfOk result (λ pass. pass.tables ≡ tables_begun env.now) }
     ensures recorded { IfOk result (λ pass. pass.recorded.items ≡ replicate (length func.now.body.blocks) None) }
     ensures distinct { IfOk result (λ _. IsDistinct same_block (keys_of func.now.body.blocks)) }
 {
@@ -106,14 +55,41 @@ fn pass_over<'a>(
     }
     Ok(EffectsPass {
         alloc,
-        context: Context {
+        context: BlockContext {
             env,
             func,
+            facts,
             is_function_expression,
         },
-        tables: Tables {},
+        tables: tables_of(alloc, env)?,
         recorded: nothing_yet(alloc, count as u32)?,
     })
+}
+
+/// The solution of the function of which these facts are known.
+fn solved_with(
+    alloc: Global,
+    func: &HirFunction,
+    env: &Environment,
+    facts: &FunctionFacts,
+    is_function_expression: bool,
+) -> Result<PassEnd, InferError>
+    requires fits { function_fits func.now env.now ≡ true }
+    requires facts { facts.now ≡ facts_of func.now env.now }
+    ensures answer { Gives is_memory (pass_end env.now func.now is_function_expression) result }
+    ensures solves { IfOk result (λ e. IsSolved env.now func.now is_function_expression e.solved) }
+{
+    let mut pass = pass_over(alloc, func, env, facts, is_function_expression)?;
+    let answer = solve(alloc, &mut pass);
+    let EffectsPass {
+        tables,
+        recorded,
+        ..
+    } = pass;
+    match answer {
+        Ok(solution) => Ok(end_of(alloc, func, solution, tables, recorded)?),
+        Err(fault) => Err(unsolved(alloc, env, func, fault)?),
+    }
 }
 
 /// The solution of the function.
@@ -122,23 +98,18 @@ fn solved(
     func: &HirFunction,
     env: &Environment,
     is_function_expression: bool,
-) -> Result<Solved, InferError>
+) -> Result<PassEnd, InferError>
     requires { function_fits func.now env.now ≡ true }
-    ensures answer { Gives is_memory (inferred env.now func.now is_function_expression) result }
-    ensures solves { IfOk result (λ s. IsSolved env.now func.now is_function_expression s) }
+    ensures answer { Gives is_memory (pass_end env.now func.now is_function_expression) result }
+    ensures solves { IfOk result (λ e. IsSolved env.now func.now is_function_expression e.solved) }
 {
-    let mut pass = pass_over(alloc, func, env, is_function_expression)?;
-    let answer = solve(alloc, &mut pass);
-    let EffectsPass { recorded, .. } = pass;
-    match answer {
-        Ok(solution) => Ok(solved_of(alloc, func, solution, recorded)?),
-        Err(fault) => Err(unsolved(alloc, env, func, fault)?),
-    }
+    let facts = function_facts(alloc, func, env)?;
+    solved_with(alloc, func, env, &facts, is_function_expression)
 }
 
 /// Visits the blocks until nothing is dirty, with no entry state kept where all edges go forward.
-fn visit_all(alloc: Global, pass: &mut EffectsPass<'_>) -> Result<(), SolveFault<BlockFault>>
-    ensures { VisitsEnd (solution state_join state_below (numbered (held pass.old.context)) pass.old.tables pass.old.recorded.items) result pass.new.recorded.items }
+fn visit_all(alloc: Global, pass: &mut EffectsPass<'_>) -> Result<(), SolveFault<BlockRefusal>>
+    ensures { VisitsEnd (solution state_join state_below (numbered (held pass.old.context)) pass.old.tables pass.old.recorded.items) result pass.new.tables pass.new.recorded.items }
 {
     if is_forward(&*pass)? {
         return solve_forward(alloc, pass);
@@ -147,35 +118,63 @@ fn visit_all(alloc: Global, pass: &mut EffectsPass<'_>) -> Result<(), SolveFault
     Ok(())
 }
 
-/// What the last visits of the function's blocks record.
-fn last_effects(
+/// What the last visits record of the function of which these facts are known.
+fn last_visits_with(
+    alloc: Global,
+    func: &HirFunction,
+    env: &Environment,
+    facts: &FunctionFacts,
+    is_function_expression: bool,
+) -> Result<LastVisits, InferError>
+    requires fits { function_fits func.now env.now ≡ true }
+    requires facts { facts.now ≡ facts_of func.now env.now }
+    ensures { Gives is_memory (last_visits env.now func.now is_function_expression) result }
+{
+    let mut pass = pass_over(alloc, func, env, facts, is_function_expression)?;
+    let answer = visit_all(alloc, &mut pass);
+    let EffectsPass {
+        tables,
+        recorded,
+        ..
+    } = pass;
+    match answer {
+        Ok(()) => Ok(LastVisits {
+            effects: all_recorded(alloc, recorded)?,
+            tables: tables.into_parts(),
+        }),
+        Err(fault) => Err(unsolved(alloc, env, func, fault)?),
+    }
+}
+
+/// What the last visits of the function's blocks record, and the tables that they leave.
+fn last_visits(
     alloc: Global,
     func: &HirFunction,
     env: &Environment,
     is_function_expression: bool,
-) -> Result<BlockEffects, InferError>
+) -> Result<LastVisits, InferError>
     requires { function_fits func.now env.now ≡ true }
-    ensures { Gives is_memory (last_effects env.now func.now is_function_expression) result }
+    ensures { Gives is_memory (last_visits env.now func.now is_function_expression) result }
 {
-    let mut pass = pass_over(alloc, func, env, is_function_expression)?;
-    let answer = visit_all(alloc, &mut pass);
-    let EffectsPass { recorded, .. } = pass;
-    match answer {
-        Ok(()) => Ok(all_recorded(alloc, recorded)?),
-        Err(fault) => Err(unsolved(alloc, env, func, fault)?),
-    }
+    let facts = function_facts(alloc, func, env)?;
+    last_visits_with(alloc, func, env, &facts, is_function_expression)
 }
 
 /// Infers what each instruction of the function creates, aliases, freezes and mutates.
 ///
 /// At `Ok` the effects are on the instructions and terminals, and what is handed out has them too, with
-/// entry states that solve the function's flow. An `Err` leaves the function unchanged. The environment
-/// gets what the tables of the pass hold, which is nothing yet, and on every answer `check_function` still holds. `Uninitialized` comes exactly where the
-/// step of a visited block looks at an identifier without a value, `Reinitialized` exactly where an
-/// instruction's effects make an identifier twice, and `NotSettled` exactly where a block is still dirty
-/// after 100 rounds. `Memory` can come at any growth, and comes where the function has 2^32 blocks or more.
-/// Writes of the property `current` aren't told apart from other writes yet. docs/MODEL.md has the rules.
-#[tactic(auto, using(crate::proofs::StillFits::recorded_fits))]
+/// entry states that solve the function's flow under the first effects and temporaries that are handed out with them. The
+/// environment has got an identifier for each temporary, the reports that effects name, and the effect `Read` at the
+/// context places of nested functions that are only read. An `Err` leaves function and environment unchanged. On every
+/// answer `check_function` still holds.
+///
+/// The errors, each exactly where the sequence of visits meets it first: `Uninitialized`, where the step of a visited block
+/// looks at an identifier without a value; `Reinitialized`, where an instruction's effects make an identifier twice;
+/// `AliasBeforeCreate`, where an alias goes into what its instruction hasn't made; `IncompatibleLibrary`, where a function is
+/// called that can't be memoized, with validations asked for; `SpreadArgument`, where a spread would be frozen;
+/// `TooMany`, where no number is left for an identifier or a report; and `NotSettled`, where a block is still dirty
+/// after 100 rounds. `Memory` can come at any growth, and comes where the function has 2^32 blocks or more. docs/MODEL.md
+/// has the rules.
 pub fn infer_effects_certified(
     alloc: Global,
     func: &mut HirFunction,
@@ -186,13 +185,19 @@ pub fn infer_effects_certified(
     ensures answer { Gives is_memory (inferred env.old func.old is_function_expression) result }
     ensures solves { IfOk result (λ s. IsSolved env.old func.old is_function_expression s) }
     ensures recorded { IfOk result (λ s. func.new ≡ with_effects_of s func.old) }
-    ensures err { OnErr result (func.new ≡ func.old) }
-    ensures env { env.new ≡ with_tables (tables_left (context_of env.old func.old is_function_expression)) env.old }
+    ensures env { IfOk result (λ _. env_inferred env.old func.old is_function_expression ≡ Ok env.new) }
+    ensures err { OnErr result ((func.new ≡ func.old) × (env.new ≡ env.old)) }
     ensures fits { function_fits func.new env.new ≡ true }
 {
-    let solved = solved(alloc, func, env, is_function_expression)?;
+    let PassEnd {
+        solved,
+        reports,
+        reads,
+    } = solved(alloc, func, env, is_function_expression)?;
     let instructions = solved.effects.try_clone(alloc)?;
     let terminal = solved.terminal_effects.try_clone(alloc)?;
+    let temporaries = solved.temporaries.as_slice();
+    write_back(alloc, env, temporaries, reports, reads.as_slice())?;
     record_instructions(&mut func.instructions, instructions);
     record_terminals(&mut func.body.blocks, terminal);
     Ok(solved)
@@ -201,10 +206,9 @@ pub fn infer_effects_certified(
 /// Infers what each instruction of the function creates, aliases, freezes and mutates, and hands nothing
 /// out. Where each block's successors stand after it, no entry state is kept.
 ///
-/// At `Ok` the effects are on the instructions and terminals: those that `infer_effects_certified` hands
-/// out. An `Err` comes exactly where that comes there, and leaves the function unchanged; want of memory can
-/// come at any growth. The environment gets what the tables hold, nothing yet, and on every answer `check_function` still holds.
-/// Writes of the property `current` aren't told apart from other writes yet.
+/// At `Ok` function and environment are as `infer_effects_certified` leaves them. An `Err` comes exactly where that
+/// comes there, and leaves both unchanged; want of memory can come at any growth. On every answer `check_function` still
+/// holds.
 pub fn infer_mutation_aliasing_effects(
     alloc: Global,
     func: &mut HirFunction,
@@ -213,12 +217,25 @@ pub fn infer_mutation_aliasing_effects(
 ) -> Result<(), InferError>
     requires { function_fits func.old env.old ≡ true }
     ensures answer { GivesInto is_memory (effects_inferred env.old func.old is_function_expression) result func.new }
-    ensures err { OnErr result (func.new ≡ func.old) }
-    ensures env { env.new ≡ with_tables (tables_left (context_of env.old func.old is_function_expression)) env.old }
+    ensures env { GivesInto is_memory (env_inferred env.old func.old is_function_expression) result env.new }
+    ensures err { OnErr result ((func.new ≡ func.old) × (env.new ≡ env.old)) }
     ensures fits { function_fits func.new env.new ≡ true }
 {
-    let recorded = last_effects(alloc, func, env, is_function_expression)?;
-    record_instructions(&mut func.instructions, recorded.instructions);
-    record_terminals(&mut func.body.blocks, recorded.terminal);
+    let LastVisits { effects, tables } = last_visits(alloc, func, env, is_function_expression)?;
+    let TableParts {
+        temporaries,
+        reports,
+        reads,
+        ..
+    } = tables;
+    write_back(
+        alloc,
+        env,
+        temporaries.as_slice(),
+        reports,
+        reads.as_slice(),
+    )?;
+    record_instructions(&mut func.instructions, effects.instructions);
+    record_terminals(&mut func.body.blocks, effects.terminal);
     Ok(())
 }

@@ -2,16 +2,13 @@
 //! states that anybody can check.
 #![tactic(auto)]
 
-mod apply;
-mod block;
-pub mod context;
-pub mod faults;
 mod infer;
-mod output;
+pub mod output;
 mod pass;
-pub mod progress;
 mod recording;
+mod refused;
 pub mod solved;
 
+pub use alias_block::{InstructionEffects, TerminalEffects};
 pub use infer::{infer_effects_certified, infer_mutation_aliasing_effects};
-pub use solved::{BlockEntry, InstructionEffects, Solved, TerminalEffects};
+pub use solved::{BlockEntry, Solved};

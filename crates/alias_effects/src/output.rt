@@ -1,16 +1,35 @@
 //! Making what is handed out of what solved the flow over positions.
 ghost use Rattle.std.specs.Prelude.{◌≡◌, ◌++◌, IfOk, OnOk, length, map};
-ghost use Rattle.alias_effects.specs.Contexts.{no_tables};
-ghost use Rattle.alias_effects.specs.Inference.{block_at, entries_of, instructions_recorded, terminal_recorded, solved_of};
+ghost use Rattle.alias_effects.specs.Inference.{block_at, entries_of, instructions_recorded, terminal_recorded, end_of};
 ghost use Rattle.alias_effects.specs.Output.{entry_as, all_recorded, solver_state_with};
 
-use crate::block::BlockEffects;
-use crate::solved::{BlockEntry, InstructionEffects, Solved, TerminalEffects};
+use crate::solved::{BlockEntry, Solved};
 use alias_base::{BlockId, BlockMap, List};
+use alias_block::{BlockEffects, InstructionEffects, TerminalEffects};
 use alias_flow::Solution;
 use alias_hir::hir::{BasicBlock, HirFunction};
+use alias_hir::interned::InternedReports;
 use alias_lattice::InferenceState;
+use alias_tables::{ContextRead, TableParts, Tables};
 use std::alloc::{AllocError, Global};
+
+/// How a pass ends where it hands a solution out: the solution, and what else the tables have.
+#[derive(Drop)]
+pub(crate) struct PassEnd {
+    pub(crate) solved: Solved,
+    /// All reports that are interned.
+    pub(crate) reports: InternedReports,
+    /// The context places that are only read.
+    pub(crate) reads: List<ContextRead>,
+}
+
+/// How a pass ends where it hands nothing out.
+#[derive(Drop)]
+pub(crate) struct LastVisits {
+    /// What the last visits recorded.
+    pub(crate) effects: BlockEffects,
+    pub(crate) tables: TableParts,
+}
 
 /// The name of the block at a position.
 pub(crate) fn block_at(blocks: &BlockMap<BasicBlock>, position: usize) -> BlockId
@@ -113,25 +132,38 @@ pub(crate) fn all_recorded(
     })
 }
 
-/// What is handed out of what solved the function's flow over positions.
-pub(crate) fn solved_of(
+/// The end of a pass, of what solved the function's flow over positions.
+pub(crate) fn end_of(
     alloc: Global,
     func: &HirFunction,
     solution: Solution<InferenceState>,
+    tables: Tables,
     recorded: Vec<Option<BlockEffects>>,
-) -> Result<Solved, AllocError>
+) -> Result<PassEnd, AllocError>
     requires { length solution.entries ≡ length func.now.body.blocks }
-    ensures { IfOk result (λ s. s ≡ solved_of func.now (solver_state_with solution no_tables recorded.items)) }
+    ensures { IfOk result (λ e. e ≡ end_of func.now (solver_state_with solution tables recorded.items)) }
 {
     let blocks = &func.body.blocks;
     let visits = names_of(alloc, blocks, solution.visits.as_slice())?;
     let entries = entries_of(alloc, blocks, solution.entries)?;
     let recorded = all_recorded(alloc, recorded)?;
-    Ok(Solved {
-        function: None,
-        visits,
-        entries,
-        effects: recorded.instructions,
-        terminal_effects: recorded.terminal,
+    let TableParts {
+        first,
+        temporaries,
+        reports,
+        reads,
+    } = tables.into_parts();
+    Ok(PassEnd {
+        solved: Solved {
+            function: None,
+            visits,
+            entries,
+            first,
+            temporaries,
+            effects: recorded.instructions,
+            terminal_effects: recorded.terminal,
+        },
+        reports,
+        reads,
     })
 }

@@ -5,23 +5,25 @@ ghost use Rattle.std.specs.Borrow.{Bor};
 ghost use Rattle.alias_base.specs.Find.{value_at};
 ghost use Rattle.alias_hir.specs.declared.env.Environment.{Environment};
 ghost use Rattle.alias_hir.specs.declared.hir.HirFunction.{HirFunction};
-ghost use Rattle.alias_effects.specs.declared.block.BlockEffects.{BlockEffects};
-ghost use Rattle.alias_effects.specs.declared.context.Tables.{Tables};
-ghost use Rattle.alias_effects.specs.declared.faults.BlockFault.{BlockFault};
-ghost use Rattle.alias_effects.specs.Blocks.{initial_state};
-ghost use Rattle.alias_effects.specs.Contexts.{Extends, held};
+ghost use Rattle.alias_facts.specs.declared.facts.FunctionFacts.{FunctionFacts};
+ghost use Rattle.alias_tables.specs.GrowingLaws.{Extends};
+ghost use Rattle.alias_tables.specs.Tables.{TableLists};
+ghost use Rattle.alias_block.specs.declared.faults.BlockRefusal.{BlockRefusal};
+ghost use Rattle.alias_block.specs.declared.recorded.BlockEffects.{BlockEffects};
+ghost use Rattle.alias_block.specs.Contexts.{held};
 ghost use Rattle.alias_effects.specs.Numbered.{positions_of, entry_position, numbered};
 ghost use Rattle.alias_effects.specs.Faults.{step_fault};
 ghost use Rattle.alias_effects.specs.PassLaws.{pass_laws};
 
-use crate::block::{BlockEffects, infer_block};
-use crate::context::{Context, Tables};
-use crate::faults::BlockFault;
-use alias_base::{BlockId, BlockMap, List};
+use alias_base::{BlockId, BlockMap};
+use alias_block::{
+    BlockContext, BlockEffects, BlockFault, BlockRefusal, infer_block, initial_state,
+};
 use alias_flow::{Flow, StepFault};
 use alias_hir::hir::{BasicBlock, HirFunction};
 use alias_hir::successors::terminal_successors;
 use alias_lattice::InferenceState;
+use alias_tables::Tables;
 use smallvec::SmallVec;
 use std::alloc::{AllocError, Global};
 use std::mem;
@@ -30,19 +32,12 @@ use std::mem;
 #[derive(Drop)]
 pub(crate) struct EffectsPass<'a> {
     pub(crate) alloc: Global,
-    pub(crate) context: Context<'a>,
+    pub(crate) context: BlockContext<'a>,
     pub(crate) tables: Tables,
     pub(crate) recorded: Vec<Option<BlockEffects>>,
     ghost entry_exists: { is_some (value_at context.func.now.body.blocks context.func.now.body.entry) ≡ true },
     ghost few: { length context.func.now.body.blocks < 2 ^ 32 },
     ghost recorded_long: { vec_len recorded ≡ length context.func.now.body.blocks },
-}
-
-/// What the entry begins with.
-fn initial_state(alloc: Global, _context: &Context<'_>) -> Result<InferenceState, AllocError>
-    ensures { IfOk result (λ state. state ≡ initial_state (held _context.now)) }
-{
-    Ok(InferenceState::empty(alloc))
 }
 
 /// The position of the entry.
@@ -74,25 +69,25 @@ fn positions_of(
     Ok(positions)
 }
 
-fn step_fault(fault: BlockFault) -> StepFault<BlockFault>
+fn step_fault(fault: BlockFault) -> StepFault<BlockRefusal>
     ensures { result ≡ step_fault fault }
 {
     match fault {
+        BlockFault::Refused(refusal) => StepFault::Refused(refusal),
         BlockFault::Memory(e) => StepFault::Memory(e),
-        refusal => StepFault::Refused(refusal),
     }
 }
 
 impl<'a> Flow for EffectsPass<'a> {
     type State = InferenceState;
 
-    type Fault = BlockFault;
+    type Fault = BlockRefusal;
 
-    ghost Tables = { Tables };
+    ghost Tables = { TableLists };
 
     ghost Recorded = { BlockEffects };
 
-    ghost Cause = { BlockFault };
+    ghost Cause = { BlockRefusal };
 
     ghost cause = { λ e. e };
 
@@ -102,9 +97,9 @@ impl<'a> Flow for EffectsPass<'a> {
 
     ghost recorded = { λ p. p.recorded.items };
 
-    ghost Borrows = { Bor Environment × Bor HirFunction };
+    ghost Borrows = { Bor Environment × Bor HirFunction × Bor FunctionFacts };
 
-    ghost borrows = { λ p. (p.context.env, p.context.func) };
+    ghost borrows = { λ p. (p.context.env, p.context.func, p.context.facts) };
 
     ghost extends = { Extends };
 
@@ -135,16 +130,21 @@ impl<'a> Flow for EffectsPass<'a> {
         &mut self,
         block: u32,
         state: &mut InferenceState,
-    ) -> Result<(), StepFault<BlockFault>> {
+    ) -> Result<(), StepFault<BlockRefusal>> {
         let Some((name, at)) = self.context.func.body.blocks.get_index(block as usize) else {
             unreachable!()
         };
         let entered = mem::replace(state, InferenceState::empty(self.alloc));
-        let tables = mem::replace(&mut self.tables, Tables {});
-        match infer_block(self.alloc, &self.context, *name, at, tables, entered) {
-            Ok((after, tables, effects)) => {
+        match infer_block(
+            self.alloc,
+            &self.context,
+            *name,
+            at,
+            &mut self.tables,
+            entered,
+        ) {
+            Ok((after, effects)) => {
                 *state = after;
-                self.tables = tables;
                 self.recorded[block as usize] = Some(effects);
                 Ok(())
             }

@@ -2,8 +2,8 @@
 ghost use Rattle.std.specs.Prelude.{◌≡◌};
 ghost use Rattle.alias_effects.specs.Recording.{with_recorded, recorded_instructions, with_terminal_at, with_terminal, recorded_terminals};
 
-use crate::solved::{InstructionEffects, TerminalEffects};
 use alias_base::{BlockMap, List};
+use alias_block::{InstructionEffects, TerminalEffects};
 use alias_hir::effect::AliasingEffects;
 use alias_hir::hir::{BasicBlock, Instruction};
 

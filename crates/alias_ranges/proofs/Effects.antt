@@ -90,7 +90,7 @@ range_up : (end : Option EvaluationOrder) (id : IdentifierId) (rs : List Identif
 range_up None id rs j = omega arith
 range_up (Some v) id rs j = subst (λ z. end_at rs j ≤ end_at z j) (sym (lifts rs id.0 v)) (lift_up rs id.0 v j)
 
-ranges_up : (end : Option EvaluationOrder) (rs : List Identifier) (done : List Entry) (j : ℕ) → end_at rs j ≤ end_at (ranges_after end rs done) j
+pub ranges_up : (end : Option EvaluationOrder) (rs : List Identifier) (done : List Entry) (j : ℕ) → end_at rs j ≤ end_at (ranges_after end rs done) j
 ranges_up end rs [] j = omega arith
 ranges_up end rs (e ∷ done) j = let a = ranges_up end rs done j in let b = range_up end e.id (ranges_after end rs done) j in omega arith
 
@@ -98,7 +98,7 @@ range_rest : (end : Option EvaluationOrder) (id : IdentifierId) (rs : List Ident
 range_rest None id rs j = refl
 range_rest (Some v) id rs j = ap (λ z. option_map but_end (slice_get z j)) (lifts rs id.0 v) ∙ lift_rest rs id.0 v j
 
-ranges_rest : (end : Option EvaluationOrder) (rs : List Identifier) (done : List Entry) (j : ℕ) → option_map but_end (slice_get (ranges_after end rs done) j) ≡ option_map but_end (slice_get rs j)
+pub ranges_rest : (end : Option EvaluationOrder) (rs : List Identifier) (done : List Entry) (j : ℕ) → option_map but_end (slice_get (ranges_after end rs done) j) ≡ option_map but_end (slice_get rs j)
 ranges_rest end rs [] j = refl
 ranges_rest end rs (e ∷ done) j = range_rest end e.id (ranges_after end rs done) j ∙ ranges_rest end rs done j
 
@@ -110,7 +110,7 @@ range_there : (end : Option EvaluationOrder) (id : IdentifierId) (rs : List Iden
 range_there None id rs h = tt
 range_there (Some v) id rs h = subst (λ z. v.0 ≤ end_at z id.0) (sym (lifts rs id.0 v)) (lift_there rs id.0 v h)
 
-ranges_there : (end : Option EvaluationOrder) (rs : List Identifier) (done : List Entry) (e : Entry) → IsOneOf e done → e.id.0 < length rs → AtLeast end (end_at (ranges_after end rs done) e.id.0)
+pub ranges_there : (end : Option EvaluationOrder) (rs : List Identifier) (done : List Entry) (e : Entry) → IsOneOf e done → e.id.0 < length rs → AtLeast end (end_at (ranges_after end rs done) e.id.0)
 ranges_there end rs [] e i lt = absurd i
 ranges_there end rs (d ∷ done) e (inl same) lt =
     subst (λ (z : Entry). AtLeast end (end_at (range_visited end z.id (ranges_after end rs done)) e.id.0)) same
@@ -128,7 +128,7 @@ range_cause (Some v) id rs j =
     subst (λ z. (slice_get z j ≡ slice_get rs j) ⊎ ((id.0 ≡ j) × HasEnd (Some v) (end_at z j))) (sym (lifts rs id.0 v))
     (⊎_elim (λ h. inl h) (λ h. inr (h.0, (v, refl, h.1))) (lift_cause rs id.0 v j))
 
-ranges_cause : (end : Option EvaluationOrder) (rs : List Identifier) (done : List Entry) (j : ℕ)
+pub ranges_cause : (end : Option EvaluationOrder) (rs : List Identifier) (done : List Entry) (j : ℕ)
     → (slice_get (ranges_after end rs done) j ≡ slice_get rs j) ⊎ (HasEnd end (end_at (ranges_after end rs done) j) × (e : Entry) × (e.id.0 ≡ j) × IsOneOf e done)
 ranges_cause end rs [] j = inl refl
 ranges_cause end rs (d ∷ done) j = ⊎_elim
@@ -176,13 +176,13 @@ module _ (m : ℕ) (origin : Origin) (g : Nodes) where
 
   -- a property of the node that visits keep, and that a visit by e brings
   module _ (P : Node → Type 0) (keeps : (d : Entry) (n : Node) → P n → P (visited m origin d n)) where
-    abbrev Holds : Option Node → Type 0
+    abbrev pub Holds : Option Node → Type 0
     Holds o = (n : Node) × (o ≡ Some n) × P n
 
     keep : (d : Entry) (o : Option Node) → Holds o → Holds (option_map (visited m origin d) o)
     keep d o h = (visited m origin d h.0, ap (option_map (visited m origin d)) h.1, keeps d h.0 h.2)
 
-    stored_one : (done : List Entry) (d : Entry) (q : IdentifierId) → Holds (node_at (marked m origin g done) q) → Holds (node_at (marked m origin g (d ∷ done)) q)
+    pub stored_one : (done : List Entry) (d : Entry) (q : IdentifierId) → Holds (node_at (marked m origin g done) q) → Holds (node_at (marked m origin g (d ∷ done)) q)
     stored_one done d q h = ⊎_elim
         (λ same. subst Holds (sym (ap (λ z. node_at (changed (marked m origin g done) z (visited m origin d)) q) (id_is d.id q same) ∙ changed_here (marked m origin g done) q (visited m origin d)))
         (keep d (node_at (marked m origin g done) q) h))
@@ -218,10 +218,10 @@ definite_comes i (Some old) h = comes i.kind old.kind h refl
     comes Definite Definite e f = (old, refl, f)
     comes Conditional k e f = cc
 
-abbrev EitherDefinite : Node → Type 0
+abbrev pub EitherDefinite : Node → Type 0
 EitherDefinite n = IsDefiniteMark n.transitive ⊎ IsDefiniteMark n.local
 
-marks_stay : (b : Bool) (i : MutationInfo) (n : Node) → EitherDefinite n → EitherDefinite (marked_by b i n)
+pub marks_stay : (b : Bool) (i : MutationInfo) (n : Node) → EitherDefinite n → EitherDefinite (marked_by b i n)
 marks_stay true i n (inl h) = inl (definite_stays i n.transitive h)
 marks_stay true i n (inr h) = inr h
 marks_stay false i n (inl h) = inl h

@@ -19,5 +19,6 @@ mod walk;
 
 pub use events::{GraphEvent, build};
 pub use graph::AliasGraph;
+pub use reports::push_reports;
 pub use steps::Steps;
 pub use types::{EdgeKind, Link, LinkList, MutationInfo, MutationKind, Node, NodeValue};

@@ -32,8 +32,8 @@ fn push_report(
     Ok(())
 }
 
-/// Appends the reports of the effects that have one.
-fn push_reports(
+/// Appends the reports of the effects that have one. After an `Err` some of them may be there.
+pub fn push_reports(
     alloc: Global,
     errors: &mut List<Report>,
     interned: &InternedReports,

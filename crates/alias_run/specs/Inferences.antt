@@ -1,12 +1,12 @@
 -- The inference of a unit.
-use Rattle.std.specs.Prelude.{◌≡◌, Bool, false, List, [], ◌∷◌, Result, Ok, Err, ⊤}
+use Rattle.std.specs.Prelude.{Bool, false, List, [], ◌∷◌, Result, Ok, ⊤}
 use Rattle.alias_base.specs.Answer.{◌>>=◌}
 use Rattle.alias_hir.specs.declared.env.Environment.{Environment}
 use Rattle.alias_hir.specs.declared.env.Unit.{Unit as HirUnit}
 use Rattle.alias_hir.specs.declared.error.InferError.{InferError}
 use Rattle.alias_hir.specs.declared.hir.HirFunction.{HirFunction}
 use Rattle.alias_effects.specs.declared.solved.Solved.{Solved}
-use Rattle.alias_effects.specs.Inference.{inferred}
+use Rattle.alias_effects.specs.Inference.{pass_end, env_after}
 use Rattle.alias_effects.specs.Recording.{with_effects_of}
 use Rattle.alias_effects.specs.Solutions.{IsSolved}
 use Rattle.alias_run.specs.declared.inferred.Inferred.{Inferred}
@@ -14,8 +14,8 @@ use Rattle.alias_run.specs.declared.inferred.Inferred.{Inferred}
 -- what is inferred of a unit, or the refusal of its root
 abbrev pub inferred_unit : HirUnit → Result Inferred InferError
 inferred_unit u = do
-  s ← inferred u.env u.function false
-  Ok (record { unit = record { function = with_effects_of s u.function; env = u.env }; solved = s ∷ []; summary = []; reports = [] })
+  e ← pass_end u.env u.function false
+  Ok (record { unit = record { function = with_effects_of e.solved u.function; env = env_after u.env e }; solved = e.solved ∷ []; summary = []; reports = [] })
 
 -- the functions of a unit in the order of their analysis, each with whether it is a function expression: the root alone, so far
 abbrev pub functions_of : HirUnit → List (HirFunction × Bool)

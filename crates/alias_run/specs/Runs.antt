@@ -7,7 +7,7 @@ use Rattle.alias_read.specs.Units.{UnitReading}
 use Rattle.alias_text.specs.Results.{result_text}
 use Rattle.alias_run.specs.declared.command.Command.{Command}
 use Rattle.alias_run.specs.declared.status.Status.{Status}
-use Rattle.alias_run.specs.declared.status.Status.TheVariants.{Done, Words, Unfit, Refused, ReadFault, WriteFault, TooLong, Memory, NotBuilt}
+use Rattle.alias_run.specs.declared.status.Status.TheVariants.{Done, WriteFault, Memory}
 use Rattle.alias_run.specs.declared.inferred.Inferred.{Inferred}
 use Rattle.alias_run.specs.Findings.{IsFound}
 use Rattle.alias_run.specs.Inferences.{inferred_unit, AreSolved, functions_of}

@@ -4,6 +4,7 @@ ghost use Rattle.alias_stream.specs.Streams.{HasFailed};
 ghost use Rattle.alias_run.specs.Commands.{command_of};
 ghost use Rattle.alias_run.specs.Findings.{IsFound, IsRead, IsJudged, IsChecked, IsInferred, Leaves};
 
+use crate::built::unit_is_built;
 use crate::command::Command;
 use crate::inferred::infer_unit;
 use crate::outcome::{Outcome, done, ended};
@@ -12,7 +13,6 @@ use alias_base::Text;
 use alias_hir::env::Unit;
 use alias_read::read_unit;
 use alias_rules::check::{Checked, check_unit};
-use alias_signature::unit_is_built;
 use alias_stream::{Source, read_whole};
 use std::alloc::Global;
 

@@ -1,6 +1,7 @@
 //! A whole run: words and a source in, a status and a text out.
 #![tactic(auto)]
 
+pub mod built;
 pub mod command;
 mod finding;
 pub mod inferred;

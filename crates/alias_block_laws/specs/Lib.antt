@@ -1,0 +1,9 @@
+pub mod SolutionLaws
+pub mod BlockLaws
+pub mod ClosureLaws
+pub mod ContextLaws
+pub mod FitLaws
+pub mod WiderLaws
+pub mod IdentifierLaws
+pub mod WrittenLaws
+pub mod EntryLaws

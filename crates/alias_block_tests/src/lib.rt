@@ -1,0 +1,9 @@
+//! Tests of the initial state of a function, and of the step of a block.
+#![tactic(auto)]
+
+#[cfg(test)]
+mod block_tests;
+#[cfg(test)]
+mod initial_tests;
+#[cfg(test)]
+mod making;

@@ -1,0 +1,132 @@
+//! Small functions, what is known of them, and states.
+
+use alias_base::{
+    BlockId, BlockMap, DeclarationId, EvaluationOrder, IdentifierId, InstructionId, List, TypeId,
+};
+use alias_block::{BlockContext, initial_state};
+use alias_facts::function_facts;
+use alias_hir::effect::{ValueKind, ValueReason};
+use alias_hir::env::{Environment, Identifier, MutableRange};
+use alias_hir::hir::{BasicBlock, FunctionType, Hir, HirFunction, Instruction};
+use alias_hir::place::{Effect, Place};
+use alias_hir::terminal::Terminal;
+use alias_hir::types::Ty;
+use alias_hir::value::InstructionValue;
+use alias_lattice::{AbstractValue, InferenceState, ReasonSet};
+use std::alloc::{AllocError, Global};
+
+/// A place of the identifier.
+pub fn place(number: u32) -> Place {
+    Place {
+        identifier: IdentifierId(number),
+        effect: Effect::Unknown,
+        reactive: false,
+        span: None,
+    }
+}
+
+/// Ten identifiers of unknown types.
+pub fn environment(alloc: Global) -> Result<Environment, AllocError> {
+    let mut env = Environment::new(alloc);
+    env.types.push(Ty::Var)?;
+    for number in 0..10u32 {
+        env.identifiers.push(Identifier {
+            declaration_id: DeclarationId(number),
+            name: None,
+            mutable_range: MutableRange {
+                start: EvaluationOrder(0),
+                end: EvaluationOrder(0),
+            },
+            scope: None,
+            type_: TypeId(0),
+            span: None,
+        })?;
+    }
+    Ok(env)
+}
+
+/// A function with no parameters and no blocks.
+pub fn function(alloc: Global, fn_type: FunctionType) -> HirFunction {
+    HirFunction {
+        fn_type,
+        params: List::new(alloc),
+        context: List::new(alloc),
+        context_values: List::new(alloc),
+        returns: place(0),
+        body: Hir {
+            entry: BlockId(0),
+            blocks: BlockMap::new(alloc),
+        },
+        instructions: List::new(alloc),
+        aliasing_effects: None,
+        is_async: false,
+        span: None,
+    }
+}
+
+/// Adds the instruction of the next number, with that result.
+pub fn add_instruction(
+    func: &mut HirFunction,
+    target: u32,
+    value: InstructionValue,
+) -> Result<(), AllocError> {
+    func.instructions.push(Instruction {
+        id: EvaluationOrder(1),
+        lvalue: place(target),
+        value,
+        span: None,
+        effects: None,
+    })?;
+    Ok(())
+}
+
+/// A block of the first so many instructions.
+pub fn block_of(
+    alloc: Global,
+    instructions: u32,
+    terminal: Terminal,
+) -> Result<BasicBlock, AllocError> {
+    let mut listed = List::new(alloc);
+    for number in 0..instructions {
+        listed.push(InstructionId(number))?;
+    }
+    Ok(BasicBlock {
+        phis: List::new(alloc),
+        instructions: listed,
+        terminal,
+    })
+}
+
+/// A kind with one reason.
+pub fn value(kind: ValueKind, reason: ValueReason) -> AbstractValue {
+    AbstractValue {
+        kind,
+        reason: ReasonSet::single(reason),
+    }
+}
+
+/// What the identifier has in the state, if it is defined.
+pub fn found(state: &InferenceState, number: u32) -> Option<AbstractValue> {
+    let look = state.kind_with_span(IdentifierId(number), None);
+    match look.missing {
+        Some(_) => None,
+        None => Some(look.value),
+    }
+}
+
+/// The state that the function begins with.
+pub fn initial(
+    alloc: Global,
+    func: &HirFunction,
+    is_function_expression: bool,
+) -> Result<InferenceState, AllocError> {
+    let env = environment(alloc)?;
+    let facts = function_facts(alloc, func, &env)?;
+    let context = BlockContext {
+        env: &env,
+        func,
+        facts: &facts,
+        is_function_expression,
+    };
+    initial_state(alloc, &context)
+}

@@ -1,0 +1,7 @@
+pub mod Each
+pub mod IdSets
+pub mod Listings
+pub mod BlockListings
+pub mod Recording
+pub mod Fitting
+pub mod FitLaws

@@ -1,0 +1,10 @@
+pub mod InternLaws
+pub mod FunctionSites
+pub mod FunctionSiteLaws
+pub mod FreezingLaws
+pub mod Within
+pub mod TableLaws
+pub mod EffectLaws
+pub mod StandingLaws
+pub mod ListLaws
+pub mod StepLaws

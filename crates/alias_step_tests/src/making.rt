@@ -1,0 +1,190 @@
+//! Small environments, and how far steps have come in them.
+
+use alias_apply::StepProgress;
+use alias_base::{
+    BlockId, BlockMap, Boxed, DeclarationId, EvaluationOrder, FunctionId, IdentifierId, List, Text,
+    TypeId,
+};
+use alias_hir::effect::{AliasingEffect, AliasingEffects, ValueKind, ValueReason};
+use alias_hir::env::{Environment, Identifier, MutableRange};
+use alias_hir::hir::{FunctionType, Hir, HirFunction, ParamPattern};
+use alias_hir::interned::InternedReports;
+use alias_hir::place::{Effect, Place, PlaceOrSpreadOrHole};
+use alias_hir::signature::{AliasingSignatureConfig, FunctionSignature, Shape};
+use alias_hir::types::Ty;
+use alias_lattice::{AbstractValue, InferenceState, ReasonSet, Site};
+use alias_tables::Tables;
+use std::alloc::{AllocError, Global};
+
+/// A place of the identifier.
+pub fn place(number: u32) -> Place {
+    Place {
+        identifier: IdentifierId(number),
+        effect: Effect::Unknown,
+        reactive: false,
+        span: None,
+    }
+}
+
+fn identifier(number: u32) -> Identifier {
+    Identifier {
+        declaration_id: DeclarationId(number),
+        name: None,
+        mutable_range: MutableRange {
+            start: EvaluationOrder(0),
+            end: EvaluationOrder(0),
+        },
+        scope: None,
+        type_: TypeId(0),
+        span: None,
+    }
+}
+
+/// A function with the parameter 8 and the context place 6, which it captures. It returns 9, and its summary
+/// writes both.
+fn function(alloc: Global) -> Result<HirFunction, AllocError> {
+    let mut params = List::new(alloc);
+    params.push(ParamPattern::Place(place(8)))?;
+    let mut context = List::new(alloc);
+    let captured = place(6);
+    context.push(Place {
+        effect: Effect::Capture,
+        ..captured
+    })?;
+    let mut summary: AliasingEffects = List::new(alloc);
+    summary.push(AliasingEffect::Mutate {
+        value: place(8),
+        reason: None,
+    })?;
+    summary.push(AliasingEffect::Mutate {
+        value: place(6),
+        reason: None,
+    })?;
+    Ok(HirFunction {
+        fn_type: FunctionType::Other,
+        params,
+        context,
+        context_values: List::new(alloc),
+        returns: place(9),
+        body: Hir {
+            entry: BlockId(0),
+            blocks: BlockMap::new(alloc),
+        },
+        instructions: List::new(alloc),
+        is_async: false,
+        span: None,
+        aliasing_effects: Some(summary),
+    })
+}
+
+/// Ten identifiers of which nothing is known, and a function: its parameter is 8, its context place 6, and it
+/// writes both and returns 9.
+pub fn environment(alloc: Global) -> Result<Environment, AllocError> {
+    let mut env = Environment::new(alloc);
+    env.types.push(Ty::Var)?;
+    for number in 0..10u32 {
+        env.identifiers.push(identifier(number))?;
+    }
+    env.functions.push(function(alloc)?)?;
+    Ok(env)
+}
+
+/// A signature that reads each argument and gives something mutable, with this aliasing part.
+pub fn signature(
+    alloc: Global,
+    known_incompatible: Option<Text>,
+    aliasing: Option<AliasingSignatureConfig>,
+) -> FunctionSignature {
+    FunctionSignature {
+        positional_params: List::new(alloc),
+        rest_param: Some(Effect::Read),
+        return_value_kind: ValueKind::Mutable,
+        return_value_reason: None,
+        callee_effect: Effect::Read,
+        no_alias: false,
+        mutable_only_if_operands_are_mutable: false,
+        impure: false,
+        known_incompatible,
+        canonical_name: None,
+        aliasing,
+    }
+}
+
+/// Adds a type of functions with that signature, and gives its number, which is 1.
+pub fn add_signature(
+    alloc: Global,
+    env: &mut Environment,
+    signature: FunctionSignature,
+) -> Result<Option<TypeId>, AllocError> {
+    env.shapes.push(Shape {
+        id: Text::from_str(alloc, "callee")?,
+        hook: false,
+        signature: Some(signature),
+    })?;
+    env.types.push(Ty::Function {
+        shape_id: Some(Text::from_str(alloc, "callee")?),
+        return_type: Boxed::new(alloc, Ty::Poly)?,
+    })?;
+    Ok(Some(TypeId(1)))
+}
+
+/// A call of 1 with the argument 2, spread or not, whose result is 3.
+pub fn call(
+    alloc: Global,
+    argument: PlaceOrSpreadOrHole,
+    signature: Option<TypeId>,
+) -> Result<AliasingEffect, AllocError> {
+    let mut args = List::new(alloc);
+    args.push(argument)?;
+    Ok(AliasingEffect::Apply {
+        receiver: place(1),
+        function: place(1),
+        mutates_function: true,
+        args,
+        into: place(3),
+        signature,
+        span: None,
+    })
+}
+
+/// Tables that hold nothing.
+pub fn tables(alloc: Global) -> Tables {
+    Tables::new(alloc, InternedReports::new(alloc))
+}
+
+fn value(kind: ValueKind) -> AbstractValue {
+    AbstractValue {
+        kind,
+        reason: ReasonSet::single(ValueReason::Other),
+    }
+}
+
+/// Nothing is stepped yet, 1 has the site, and 2 is mutable.
+pub fn begun(alloc: Global, site: Site) -> Result<StepProgress, AllocError> {
+    let mut state = InferenceState::empty(alloc);
+    state.give(IdentifierId(1), site, value(ValueKind::Mutable))?;
+    let argument = Site::Parameter(IdentifierId(2));
+    state.give(IdentifierId(2), argument, value(ValueKind::Mutable))?;
+    Ok(StepProgress {
+        state,
+        made: List::new(alloc),
+        recorded: List::new(alloc),
+        missing: None,
+    })
+}
+
+/// The site of something of which nothing is known.
+pub fn unknown() -> Site {
+    Site::Parameter(IdentifierId(1))
+}
+
+/// The site of the environment's function.
+pub fn known() -> Site {
+    Site::Function(FunctionId(0))
+}
+
+/// Gives the identifier a value of the kind.
+pub fn give(step: &mut StepProgress, number: u32, kind: ValueKind) -> Result<(), AllocError> {
+    let site = Site::Parameter(IdentifierId(number));
+    step.state.give(IdentifierId(number), site, value(kind))
+}

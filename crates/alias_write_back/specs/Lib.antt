@@ -1,0 +1,2 @@
+pub mod WriteBack
+pub mod WriteBackLaws
