@@ -26,7 +26,7 @@ use Rattle.alias_run.specs.declared.status.Status.TheVariants.{Done, Words, NotJ
 use Rattle.alias_run.specs.declared.inferred.Inferred.{Inferred}
 use Rattle.alias_run.specs.declared.outcome.Outcome.{Outcome}
 use Rattle.alias_run.specs.Findings.{IsJudged, IsRead, IsFound, Leaves, greatest_input}
-use Rattle.alias_run.specs.Inferences.{inferred_unit}
+use Rattle.alias_run.specs.Inferences.{inferred_unit, functions_of, solved_tell}
 use Rattle.alias_run.specs.Runs.{IsRun, IsHeadline}
 use Rattle.alias_run.specs.Statuses.{text_status, write_status}
 use Rattle.alias_run.specs.Texts.{text_with, text_of}
@@ -173,7 +173,7 @@ module _ (known : Option (List ℕ)) (read_failed write_failed : Type 0) (held h
   ran_infer : (status : Status) (i : Option Inferred) → IsRead known read_failed status i → Adds held (text_with status i) held' → Ran (Some Infer) status i
   unfolding IsFound IsHeadline
   ran_infer Done None f a = absurd f.3.2.2
-  ran_infer Done (Some x) f a = let j = f.3 in ((f, a), (j.0, known_unit known f.0 j.0 f.1 j.1, j.2.0, j.2.2.0, j.2.2.1, a))
+  ran_infer Done (Some x) f a = let j = f.3 in ((f, a), (j.0, known_unit known f.0 j.0 f.1 j.1, j.2.0, j.2.2.0, j.2.2.1, solved_tell j.0.env (functions_of j.0) x.solved j.2.2.1, a))
   ran_infer Words i f a = absurd f.3.2.2
   ran_infer NotJson i f a = ((f, a), tt)
   ran_infer (NotUnit pointer rule) i f a = ((f, a), tt)

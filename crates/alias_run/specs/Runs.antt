@@ -10,7 +10,7 @@ use Rattle.alias_run.specs.declared.status.Status.{Status}
 use Rattle.alias_run.specs.declared.status.Status.TheVariants.{Done, WriteFault, Memory}
 use Rattle.alias_run.specs.declared.inferred.Inferred.{Inferred}
 use Rattle.alias_run.specs.Findings.{IsFound}
-use Rattle.alias_run.specs.Inferences.{inferred_unit, AreSolved, functions_of}
+use Rattle.alias_run.specs.Inferences.{inferred_unit, AreSolved, TellAll, functions_of}
 use Rattle.alias_run.specs.Texts.{text_with}
 
 module _ (asked : Option Command) (known : Option (List ℕ)) (read_failed write_failed : Type 0) (held held' : Option (List ℕ)) where
@@ -25,12 +25,12 @@ module _ (asked : Option Command) (known : Option (List ℕ)) (read_failed write
   IsRun status i = IsFound asked known read_failed status i × Adds held (text_with status i) held'
 
 -- Where the status is Done: the bytes that the source had, where that is known, are the JSON of one unit, and no others; the unit keeps
--- the rules; what is handed out is its inference, and for each of its functions the entry states solve its flow; and the sink got the text
--- of what was recorded.
+-- the rules; what is handed out is its inference, and for each of its functions the entry states solve its flow, and what is written for certain
+-- and isn't to be written stands as an error effect; and the sink got the text of what was recorded.
 abbrev pub IsHeadlineOf : Option (List ℕ) → Option (List ℕ) → Option (List ℕ) → Option Inferred → Type 0
 IsHeadlineOf known held held' None = ⊥
 IsHeadlineOf known held held' (Some i) =
-    (u : HirUnit) × IfKnown known (λ bytes. UnitReading bytes u) × (rules_hold u ≡ Ok tt) × (inferred_unit u ≡ Ok i) × AreSolved u.env (functions_of u) i.solved × Adds held (result_text i.unit i.solved) held'
+    (u : HirUnit) × IfKnown known (λ bytes. UnitReading bytes u) × (rules_hold u ≡ Ok tt) × (inferred_unit u ≡ Ok i) × AreSolved u.env (functions_of u) i.solved × TellAll u.env (functions_of u) i.solved × Adds held (result_text i.unit i.solved) held'
 
 unfoldable pub IsHeadline : Option (List ℕ) → Option (List ℕ) → Option (List ℕ) → Status → Option Inferred → Type 0
 IsHeadline known held held' Done i = IsHeadlineOf known held held' i

@@ -1,0 +1,6 @@
+pub mod Writes
+pub mod Telling
+pub mod KeepingLaws
+pub mod WriteLaws
+pub mod BlockWrites
+pub mod Solutions
