@@ -1,12 +1,12 @@
 -- Each range end that is another by default has a cause.
-use Rattle.std.specs.Prelude.{◌≡◌, ℕ, ◌+◌, ◌⊎◌, inl, inr, ◌==◌, Bool, true, false, if◌then◌else◌, List, [], ◌∷◌, ◌++◌, Option, Some, None, map, option_map, length, slice_get, slice_set, refl, zero, suc}
-use Rattle.std.proofs.Common.{⊎_elim, ap, sym, ◌∙◌, subst, arith}
+use Rattle.std.specs.Prelude.{◌≡◌, ℕ, ◌+◌, ◌⊎◌, ◌==◌, Bool, true, false, if◌then◌else◌, List, [], ◌∷◌, ◌++◌, Option, Some, None, map, option_map, length, slice_get, slice_set, refl, zero, suc}
+use Rattle.std.proofs.Common.{inl, inr, ⊎_elim, ap, sym, ◌∙◌, subst, arith}
 use Rattle.alias_base.specs.declared.ids.BlockId.{BlockId}
 use Rattle.alias_base.specs.declared.ids.EvaluationOrder.{EvaluationOrder}
 use Rattle.alias_base.specs.declared.ids.IdentifierId.{IdentifierId}
 use Rattle.alias_base.specs.declared.ids.InstructionId.{InstructionId}
-use Rattle.alias_range_places.specs.Fitting.{AllOf}
-use Rattle.alias_range_places.specs.Fitting.{all_at, all_set}
+use Rattle.alias_events.specs.Fitting.{AllOf}
+use Rattle.alias_events.specs.FitLaws.{all_at, all_set}
 use Rattle.alias_hir.specs.Parts.{pattern_places}
 use Rattle.alias_hir.specs.declared.effect.AliasingEffect.{AliasingEffect}
 use Rattle.alias_hir.specs.declared.env.Environment.{Environment}

@@ -1,7 +1,7 @@
 -- What the effects of places and the ranges by default leave as it is.
 use Rattle.std.specs.Prelude.{◌≡◌, ℕ, ◌≤◌, List, map}
 use Rattle.alias_base.specs.declared.ids.BlockId.{BlockId}
-use Rattle.alias_range_places.specs.Fitting.{AllOf, OrderHasNext}
+use Rattle.alias_events.specs.Fitting.{AllOf, OrderHasNext}
 use Rattle.alias_hir.specs.declared.env.Environment.{Environment}
 use Rattle.alias_hir.specs.declared.env.Identifier.{Identifier}
 use Rattle.alias_hir.specs.declared.hir.BasicBlock.{BasicBlock}

@@ -154,7 +154,6 @@ fn place_blocks(
 /// unset. What is returned is frozen, but not in function expressions. Of the environment the identifiers' ranges and the
 /// context places of the functions that are created change, and no end falls; one that rises has its cause. After an
 /// `Err` a part is done.
-#[tactic(auto, using(crate::specs::CauseLaws::function_causes))]
 pub fn place_function(
     alloc: Global,
     func: &mut HirFunction,
@@ -167,5 +166,6 @@ pub fn place_function(
     ensures kept { EnvKept env.old env.new }
     ensures cause { OnOk result (EndsCaused func.old.instructions env.old.identifiers env.new.identifiers) }
 {
-    place_blocks(alloc, is_function_expression, func, env)
+    place_blocks(alloc, is_function_expression, func, env)?;
+    Ok(())
 }

@@ -1,6 +1,6 @@
 //! The effects of instructions' places, and what instructions do to ranges and to the functions that they create.
 ghost use Rattle.std.specs.Prelude.{◌≡◌, Some, map, OnOk, OnErr};
-ghost use Rattle.alias_range_places.specs.Fitting.{OrderHasNext};
+ghost use Rattle.alias_events.specs.Fitting.{OrderHasNext};
 ghost use Rattle.alias_hir.specs.Values.{created};
 ghost use Rattle.alias_hir.specs.declared.place.Effect.TheVariants.{Read, ConditionallyMutate};
 ghost use Rattle.alias_range_places.specs.Instructions.{value_placed, places_placed, context_placed, created_placed, surroundings, surrounded, instruction_placed, instruction_at, instructions_placed};

@@ -1,6 +1,6 @@
 //! Parts of mutable ranges that are unset so far, by what instructions and phis do with the identifiers.
 ghost use Rattle.std.specs.Prelude.{◌≡◌, OnOk, OnErr};
-ghost use Rattle.alias_range_places.specs.Fitting.{OrderHasNext};
+ghost use Rattle.alias_events.specs.Fitting.{OrderHasNext};
 ghost use Rattle.alias_range_places.specs.Ranges.{begun, started, stored, merged, ranged, all_ranged, assigned, value_stored, phis_merged};
 
 use alias_base::{EvaluationOrder, IdentifierId, List};
