@@ -1,5 +1,5 @@
 -- One block more of a function.
-use Rattle.std.proofs.Common.{◌≡◌, ℕ, ◌+◌, ◌-◌, ◌<◌, ◌≤◌, Bool, ap, sym, ◌∙◌, arith, suc}
+use Rattle.std.proofs.Common.{◌≡◌, ℕ, ◌+◌, ◌-◌, ◌<◌, Bool, ap, sym, ◌∙◌, arith, suc}
 use Rattle.alias_range_places.specs.Blocks.{Placed, block_placed, blocks_placed}
 
 pub block_step : (is_function_expression : Bool) (n k : ℕ) (s t : Placed) → k < n → t ≡ block_placed is_function_expression k s
@@ -7,6 +7,3 @@ pub block_step : (is_function_expression : Bool) (n k : ℕ) (s t : Placed) → 
 block_step b n k s t h is =
     let e : n - k ≡ suc (n - (k + 1)) = omega arith in
     ap (λ z. blocks_placed b (n - (k + 1)) (k + 1) z) is ∙ ap (λ m. blocks_placed b m k s) (sym e)
-
-pub blocks_end : (is_function_expression : Bool) (n k : ℕ) (s : Placed) → n ≤ k → blocks_placed is_function_expression (n - k) k s ≡ s
-blocks_end b n k s h = let e : n - k ≡ 0 = omega arith in ap (λ m. blocks_placed b m k s) e

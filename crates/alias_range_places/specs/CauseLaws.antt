@@ -1,5 +1,5 @@
 -- Each range end that is another by default has a cause.
-use Rattle.std.specs.Prelude.{◌≡◌, ℕ, ◌+◌, ◌⊎◌, ◌==◌, Bool, true, false, if◌then◌else◌, List, [], ◌∷◌, ◌++◌, Option, Some, None, map, option_map, length, slice_get, slice_set, refl, zero, suc}
+use Rattle.std.specs.Prelude.{◌≡◌, ℕ, ◌+◌, ◌⊎◌, ◌==◌, Bool, true, false, if◌then◌else◌, List, [], ◌∷◌, ◌++◌, Option, Some, None, map, option_map, length, slice_get, refl, zero, suc}
 use Rattle.std.proofs.Common.{inl, inr, ⊎_elim, ap, sym, ◌∙◌, subst, arith}
 use Rattle.alias_base.specs.declared.ids.BlockId.{BlockId}
 use Rattle.alias_base.specs.declared.ids.EvaluationOrder.{EvaluationOrder}
@@ -28,7 +28,7 @@ use Rattle.alias_range_places.specs.Causes.{numbers_of, stored_places, written, 
 use Rattle.alias_range_places.specs.Instructions.{value_placed, places_placed, surroundings, surrounded, env_assigned, instruction_placed, placed_in, instruction_at, instructions_placed}
 use Rattle.alias_range_places.specs.KeepLaws.{set_in, sets}
 use Rattle.alias_range_places.specs.MappedLaws.{pattern_back}
-use Rattle.alias_range_places.specs.Ranges.{begun, started, stored, merged, with_range, ranged, all_ranged, phis_merged, assigned, value_stored}
+use Rattle.alias_range_places.specs.Ranges.{begun, started, stored, merged, ranged, all_ranged, phis_merged, assigned, value_stored}
 use Rattle.alias_range_places.specs.Tables.{Table, table_of, with_table}
 
 -- ---- ranges

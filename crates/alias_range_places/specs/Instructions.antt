@@ -1,5 +1,5 @@
 -- An instruction with the effects of its places, and what it does to ranges and to the function that it creates.
-use Rattle.std.specs.Prelude.{◌==◌, List, [], Option, Some, None, if◌then◌else◌, fold, map, slice_get, slice_set, length}
+use Rattle.std.specs.Prelude.{◌==◌, List, Option, Some, None, if◌then◌else◌, fold, map, slice_get, slice_set, length}
 use Rattle.std.specs.Option.{option_map_or}
 use Rattle.alias_base.specs.declared.ids.EvaluationOrder.{EvaluationOrder}
 use Rattle.alias_base.specs.declared.ids.FunctionId.{FunctionId}

@@ -3,7 +3,7 @@ use Rattle.std.specs.Prelude.{◌≡◌, List, [], ◌∷◌, ◌++◌, Option, 
 use Rattle.std.proofs.Common.{ap, sym, ◌∙◌}
 use Rattle.std.specs.List.{flat_map}
 use Rattle.alias_hir.specs.Parts.{optional_place, arg_places, element_places, property_places, item_places, target_places, pattern_places, attribute_places}
-use Rattle.alias_hir.specs.Terminals.{case_places, terminal_places}
+use Rattle.alias_hir.specs.Terminals.{case_places}
 use Rattle.alias_hir.specs.declared.place.Place.{Place}
 use Rattle.alias_hir.specs.declared.place.PlaceOrSpread.{PlaceOrSpread}
 use Rattle.alias_hir.specs.declared.place.PlaceOrSpread.TheVariants as arg
@@ -14,7 +14,6 @@ use Rattle.alias_hir.specs.declared.value.ArrayElement.{ArrayElement}
 use Rattle.alias_hir.specs.declared.value.ArrayElement.TheVariants as element
 use Rattle.alias_hir.specs.declared.value.ArrayPatternElement.{ArrayPatternElement}
 use Rattle.alias_hir.specs.declared.value.ArrayPatternElement.TheVariants as item
-use Rattle.alias_hir.specs.declared.value.InstructionValue.{InstructionValue}
 use Rattle.alias_hir.specs.declared.value.InstructionValue.TheVariants as value
 use Rattle.alias_hir.specs.declared.value.JsxAttribute.{JsxAttribute}
 use Rattle.alias_hir.specs.declared.value.JsxAttribute.TheVariants as attribute
@@ -25,7 +24,7 @@ use Rattle.alias_hir.specs.declared.value.ObjectPropertyOrSpread.TheVariants as 
 use Rattle.alias_hir.specs.declared.value.Pattern.{Pattern}
 use Rattle.alias_hir.specs.declared.value.Pattern.TheVariants as pattern
 use Rattle.alias_visit.specs.Rebuilt.{with_places, with_args, with_elements, with_key, after_key, with_properties, with_attributes, after_attributes, with_items, with_targets, with_pattern, with_cases}
-use Rattle.alias_range_places.specs.Mapped.{map_operands, map_lvalues, map_terminal}
+use Rattle.alias_range_places.specs.Mapped.{map_operands, map_terminal}
 
 -- ---- parts with each place changed
 

@@ -1,5 +1,5 @@
 -- What parts of a mutable range are by default. A start or an end is unset where it is 0.
-use Rattle.std.specs.Prelude.{◌+◌, ◌-◌, ◌==◌, List, [], ◌∷◌, if◌then◌else◌, nat_lt, nat_le, fold, slice_get, slice_set}
+use Rattle.std.specs.Prelude.{◌+◌, ◌-◌, ◌==◌, List, ◌∷◌, if◌then◌else◌, nat_lt, nat_le, fold, slice_get, slice_set}
 use Rattle.std.specs.Option.{option_map_or}
 use Rattle.alias_base.specs.declared.ids.EvaluationOrder.{EvaluationOrder}
 use Rattle.alias_base.specs.declared.ids.IdentifierId.{IdentifierId}

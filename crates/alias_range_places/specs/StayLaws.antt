@@ -1,5 +1,5 @@
 -- Of a function only the effects of places change.
-use Rattle.std.specs.Prelude.{◌≡◌, ℕ, Bool, List, [], ◌∷◌, Option, Some, None, map, option_map, slice_get, slice_set, refl, zero, suc}
+use Rattle.std.specs.Prelude.{◌≡◌, ℕ, Bool, List, [], ◌∷◌, Some, map, option_map, slice_get, slice_set, refl, zero, suc}
 use Rattle.std.proofs.Common.{ap, ◌∙◌}
 use Rattle.indexmap.specs.IndexMap.{set_value_at}
 use Rattle.alias_base.specs.declared.ids.BlockId.{BlockId}

@@ -70,11 +70,7 @@ fn place_context(table: &EffectTable, functions: &mut List<HirFunction>, id: Fun
 }
 
 /// The same, of the function that is created.
-fn place_created(
-    table: &EffectTable,
-    value: &InstructionValue,
-    functions: &mut List<HirFunction>,
-)
+fn place_created(table: &EffectTable, value: &InstructionValue, functions: &mut List<HirFunction>)
     ensures { functions.new ≡ created_placed table.now (created value.now) functions.old }
 {
     match value {

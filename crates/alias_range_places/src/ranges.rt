@@ -135,11 +135,7 @@ fn merge_at(identifiers: &mut List<Identifier>, id: IdentifierId, first: Evaluat
 }
 
 /// Starts the ranges of phis' places, where they end after the first order of the block.
-pub(crate) fn merge_phis(
-    identifiers: &mut List<Identifier>,
-    phis: &[Phi],
-    first: EvaluationOrder,
-)
+pub(crate) fn merge_phis(identifiers: &mut List<Identifier>, phis: &[Phi], first: EvaluationOrder)
     ensures { identifiers.new ≡ phis_merged first phis.now identifiers.old }
 {
     for phi in phis {

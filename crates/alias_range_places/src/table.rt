@@ -152,12 +152,7 @@ pub(crate) fn table_of(
 {
     let mut table = EffectTable::new(alloc);
     if let Some(effects) = &instruction.effects {
-        set_effects(
-            &mut table,
-            identifiers,
-            instruction.id,
-            effects.as_slice(),
-        )?;
+        set_effects(&mut table, identifiers, instruction.id, effects.as_slice())?;
     }
     Ok(table)
 }
