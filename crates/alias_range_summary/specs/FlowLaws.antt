@@ -19,7 +19,7 @@ use Rattle.alias_range_summary.specs.LegalLaws.{links_back, links_after, legal_s
 use Rattle.alias_range_summary.specs.Marks.{marks_of_all}
 use Rattle.alias_range_summary.specs.Summaries.{context_and_params, returns_created, tracked, summarized}
 use Rattle.alias_range_summary.specs.WalkLaws.{stay_before}
-use Rattle.alias_range_summary.specs.Walking.{start_entry, start_origin, expanded, nodes_after}
+use Rattle.alias_range_summary.specs.Walking.{start_entry, expanded, nodes_after}
 
 -- ---- one flow
 

@@ -5,12 +5,11 @@ use Rattle.std.specs.List.{flat_map}
 use Rattle.alias_hir.specs.declared.effect.AliasingEffect.{AliasingEffect}
 use Rattle.alias_hir.specs.declared.effect.AliasingEffect.TheVariants as effect
 use Rattle.alias_hir.specs.declared.place.Place.{Place}
-use Rattle.alias_ranges.specs.declared.types.Entry.{Entry}
 use Rattle.alias_ranges.specs.declared.types.MutationKind.TheVariants.{Conditional}
 use Rattle.alias_ranges.specs.Nodes.{Node, Nodes}
 use Rattle.alias_range_summary.specs.declared.start.WalkStart.{WalkStart}
 use Rattle.alias_range_summary.specs.Marks.{marks_at}
-use Rattle.alias_range_summary.specs.Walking.{start_entry, nodes_after}
+use Rattle.alias_range_summary.specs.Walking.{nodes_after}
 
 -- the walk that is simulated from a tracked place: transitive, conditional, and without an end
 abbrev pub flow_start : ℕ → Place → WalkStart

@@ -14,7 +14,6 @@ use Rattle.alias_ranges.specs.Marks.{later, visited, info, marked}
 use Rattle.alias_ranges.specs.Nodes.{Node, Nodes, node_at, Within}
 use Rattle.alias_ranges.specs.Reach.{end_of, end_at, AllBefore, SeenDefinite}
 use Rattle.alias_ranges.specs.RemainingLinks.{was_made, when, remaining_node}
-use Rattle.alias_ranges.specs.Walks.{IsOneOf}
 use Rattle.alias_ranges.proofs.Effects.{ranges_length, ranges_up, changed_here, changed_apart, walk_covered, walk_caused, walk_marks, EitherDefinite, stored_one, marks_stay}
 use Rattle.alias_ranges.proofs.Reaching.{id_is}
 use Rattle.alias_ranges.proofs.RemainingNodes.{graph_is_remaining}

@@ -55,11 +55,7 @@ fn push_marks(
         return Ok(());
     };
     if let Some(info) = node.local {
-        summary.push(local_effect(
-            info.kind,
-            node.mutation_reason,
-            at_mark(info, place),
-        ))?;
+        summary.push(local_effect(info.kind, node.mutation_reason, at_mark(info, place)))?;
     }
     if let Some(info) = node.transitive {
         summary.push(transitive_effect(info.kind, at_mark(info, place)))?;
