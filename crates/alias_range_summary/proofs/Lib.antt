@@ -1,0 +1,2 @@
+mod Captured
+mod Simulated

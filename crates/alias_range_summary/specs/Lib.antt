@@ -1,0 +1,10 @@
+pub mod Walking
+pub mod Marks
+pub mod Flows
+pub mod Summaries
+pub mod Laws
+pub mod Keeping
+pub mod KeepingLaws
+pub mod LegalLaws
+pub mod WalkLaws
+pub mod FlowLaws
