@@ -127,6 +127,33 @@ fn report_effects(
 
 /// Walks from each mutation of a listing, and then runs its renders where errors are recorded.
 #[tactic(auto, using(crate::specs::KeepingLaws::keeps_trans, crate::specs::KeepingLaws::keeps_same))]
+fn walk_and_render(
+    should_record_errors: bool,
+    listing: &Listing,
+    graph: &mut AliasGraph,
+    env: &mut Environment,
+) -> Result<(), AllocError>
+    requires orders { AllOf OrderFits listing.now.mutations }
+    requires within { Within (length env.old.identifiers) graph.old }
+    ensures graph { OnOk result (graph.new ≡ (after_mutations should_record_errors listing.now.mutations (graph.old, env.old)).0) }
+    ensures env { OnOk result (env.new ≡ renders_done should_record_errors listing.now (after_mutations should_record_errors listing.now.mutations (graph.old, env.old))) }
+    ensures within { OnOk result (Within (length env.new.identifiers) graph.new) }
+    ensures kept { WalksKeep env.old env.new }
+{
+    walk_mutations(
+        graph,
+        env,
+        listing.mutations.as_slice(),
+        should_record_errors,
+    )?;
+    if should_record_errors {
+        run_renders(graph, env, listing.renders.as_slice())?;
+    }
+    Ok(())
+}
+
+/// Records the reports of error effects where errors are recorded, and walks then.
+#[tactic(auto, using(crate::specs::KeepingLaws::keeps_trans, crate::specs::KeepingLaws::keeps_same))]
 fn walk_all(
     alloc: Global,
     should_record_errors: bool,
@@ -142,15 +169,7 @@ fn walk_all(
     ensures kept { WalksKeep env.old env.new }
 {
     report_effects(alloc, should_record_errors, listing, env)?;
-    walk_mutations(
-        graph,
-        env,
-        listing.mutations.as_slice(),
-        should_record_errors,
-    )?;
-    if should_record_errors {
-        run_renders(graph, env, listing.renders.as_slice())?;
-    }
+    walk_and_render(should_record_errors, listing, graph, env)?;
     Ok(())
 }
 
