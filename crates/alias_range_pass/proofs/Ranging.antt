@@ -70,8 +70,8 @@ module _ (g h : Nodes) (ms : List RecordedMutation) (old walked mid new : Enviro
       let more : end_at walked.identifiers e.id.0 ≤ end_at new.identifiers e.id.0 = subst Q is_mid (up e.id.0) in
       omega arith
 
-  pub causes_after : (f k : HirFunction) → k ≡ function_captured h f → MutationCauses h ms old.identifiers walked.identifiers → EndsCaused k.instructions mid.identifiers new.identifiers → Causes g ms f.instructions old.identifiers new.identifiers
-  causes_after f k is_k first last j =
+  pub causes_after : (marked : Nodes) (f k : HirFunction) → k ≡ function_captured marked f → MutationCauses h ms old.identifiers walked.identifiers → EndsCaused k.instructions mid.identifiers new.identifiers → Causes g ms f.instructions old.identifiers new.identifiers
+  causes_after marked f k is_k first last j =
       let P : Nodes → Type 0 = λ z. MutationCauses z ms old.identifiers walked.identifiers in
       let Q : Environment → Type 0 = λ z. EndsCaused k.instructions z.identifiers new.identifiers in
       let R : HirFunction → Type 0 = λ z. EndsCaused z.instructions walked.identifiers new.identifiers in

@@ -1,3 +1,4 @@
 pub mod Refusals
 pub mod Passes
 pub mod Laws
+pub mod CheckLaws

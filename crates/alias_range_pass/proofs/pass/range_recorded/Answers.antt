@@ -34,7 +34,7 @@ returns-clause-definite c =
 pub returns-clause-cause : goal.returns-clause-cause
 returns-clause-cause c =
     causes_after (graph_listed c.args.listing) c.in_ok-graph.graph c.args.listing.mutations c.args.env.now c.walk_listing.new.env c.summarize.new.env c.place_function.new.env c.in_ok-graph.ensures c.summarize.ensures.env
-    c.args.func.now c.summarize.new.func c.in_ok-summarize.ensures.func c.in_ok-walk_listing.ensures.cause c.in_ok-place_function.ensures.cause
+    c.walk_listing.new.graph c.args.func.now c.summarize.new.func c.in_ok-summarize.ensures.func c.in_ok-walk_listing.ensures.cause c.in_ok-place_function.ensures.cause
 
 pub returns-clause-flows : goal.returns-clause-flows
 returns-clause-flows c =
