@@ -48,4 +48,4 @@ range_recorded-requires-clause-left c =
 
 pub returns-in_err-listing-clause-pass : goal.returns-in_err-listing-clause-pass
 returns-in_err-listing-clause-pass c =
-    refused_pass c.args.is_function_expression c.args.func.now c.args.env.now c.from_residual.result _ c.in_err-listing.ensures c.from_residual.ensures.1
+    refused_pass c.args.is_function_expression c.args.func.now c.args.env.now c.from_residual-in_err-listing.result _ c.in_err-listing.ensures c.from_residual-in_err-listing.ensures.1
