@@ -1,4 +1,4 @@
-use Rattle.std.proofs.Common.{ℕ, ◌+◌, ◌≤◌, List, length, subst, sym, ◌∙◌}
+use Rattle.std.proofs.Common.{◌+◌, ◌≤◌, List, length, subst, sym, ◌∙◌}
 use Rattle.alias_hir.specs.declared.place.Place.{Place}
 use Rattle.alias_events.specs.declared.listing.Listing.{Listing}
 use Rattle.alias_events.specs.FitLaws.{listed_fits}
