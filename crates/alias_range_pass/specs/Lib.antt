@@ -1,0 +1,4 @@
+pub mod Refusals
+pub mod Passes
+pub mod Laws
+pub mod CheckLaws

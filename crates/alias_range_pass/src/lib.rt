@@ -1,0 +1,7 @@
+//! The range pass: mutable ranges, the effects of places, and a function's summary, from what its instructions record.
+#![tactic(auto)]
+
+mod pass;
+mod refusals;
+
+pub use pass::infer_mutation_aliasing_ranges;
