@@ -5,8 +5,17 @@ use alias_base::List;
 use alias_hir::effect::{ValueKind, ValueReason};
 use alias_hir::hir::{ContextValue, FunctionType, HirFunction, ParamPattern};
 use alias_hir::place::SpreadPattern;
+use alias_lattice::AbstractValue;
 use std::alloc::{AllocError, Global};
 use std::test::Fail;
+
+fn frozen() -> AbstractValue {
+    value(ValueKind::Frozen, ValueReason::ReactiveFunctionArgument)
+}
+
+fn mutable() -> AbstractValue {
+    value(ValueKind::Mutable, ValueReason::Other)
+}
 
 /// A function with three parameters, 1 to 3, of which the last is spread.
 fn with_params(alloc: Global, fn_type: FunctionType) -> Result<HirFunction, AllocError> {
@@ -23,10 +32,8 @@ fn a_component_has_props_and_a_ref(rt: HostRuntime) -> Result<(), Fail> {
     let alloc = rt.alloc();
     let func = with_params(alloc, FunctionType::Component)?;
     let state = initial(alloc, &func, false)?;
-    let frozen = value(ValueKind::Frozen, ValueReason::ReactiveFunctionArgument);
-    let mutable = value(ValueKind::Mutable, ValueReason::Other);
-    assert!(rt; found(&state, 1) == Some(frozen));
-    assert!(rt; found(&state, 2) == Some(mutable));
+    assert!(rt; found(&state, 1) == Some(frozen()));
+    assert!(rt; found(&state, 2) == Some(mutable()));
     assert!(rt; found(&state, 3) == None);
     Ok(())
 }
@@ -36,10 +43,9 @@ fn the_parameters_of_a_hook_are_frozen(rt: HostRuntime) -> Result<(), Fail> {
     let alloc = rt.alloc();
     let func = with_params(alloc, FunctionType::Hook)?;
     let state = initial(alloc, &func, false)?;
-    let frozen = value(ValueKind::Frozen, ValueReason::ReactiveFunctionArgument);
-    assert!(rt; found(&state, 1) == Some(frozen));
-    assert!(rt; found(&state, 2) == Some(frozen));
-    assert!(rt; found(&state, 3) == Some(frozen));
+    assert!(rt; found(&state, 1) == Some(frozen()));
+    assert!(rt; found(&state, 2) == Some(frozen()));
+    assert!(rt; found(&state, 3) == Some(frozen()));
     Ok(())
 }
 
@@ -48,9 +54,8 @@ fn those_of_a_function_expression_are_mutable(rt: HostRuntime) -> Result<(), Fai
     let alloc = rt.alloc();
     let func = with_params(alloc, FunctionType::Other)?;
     let state = initial(alloc, &func, true)?;
-    let mutable = value(ValueKind::Mutable, ValueReason::Other);
-    assert!(rt; found(&state, 1) == Some(mutable));
-    assert!(rt; found(&state, 3) == Some(mutable));
+    assert!(rt; found(&state, 1) == Some(mutable()));
+    assert!(rt; found(&state, 3) == Some(mutable()));
     assert!(rt; found(&state, 4) == None);
     Ok(())
 }
@@ -80,9 +85,8 @@ fn context_places(rt: HostRuntime) -> Result<(), Fail> {
     let alloc = rt.alloc();
     let mut func = with_context(alloc)?;
     let state = initial(alloc, &func, true)?;
-    let context = value(ValueKind::Context, ValueReason::Other);
-    assert!(rt; found(&state, 4) == Some(context));
-    assert!(rt; found(&state, 5) == Some(context));
+    assert!(rt; found(&state, 4) == Some(value(ValueKind::Context, ValueReason::Other)));
+    assert!(rt; found(&state, 5) == Some(value(ValueKind::Context, ValueReason::Other)));
     let frozen = known_as(
         alloc,
         ValueKind::Frozen,
