@@ -48,7 +48,7 @@ use Rattle.alias_block_laws.specs.WrittenLaws.{fits_with_tables, all_effects_wri
 use Rattle.alias_effects.specs.declared.output.LastVisits.{LastVisits}
 use Rattle.alias_effects.specs.declared.output.PassEnd.{PassEnd}
 use Rattle.alias_effects.specs.declared.solved.Solved.{Solved}
-use Rattle.alias_effects.specs.Inference.{instructions_recorded, terminal_recorded, end_of, answer_of, pass_end, env_after, env_inferred, effects_inferred}
+use Rattle.alias_effects.specs.Inference.{instructions_recorded, terminal_recorded, end_of, end_tables, answer_of, pass_end, env_after, env_inferred, effects_inferred}
 use Rattle.alias_effects.specs.Numbered.{Blocks, position_of, step_at, numbered, visits_end}
 use Rattle.alias_effects.specs.Output.{last_of, last_visits}
 use Rattle.alias_effects.specs.PassLaws.{outcome_is}
@@ -238,6 +238,15 @@ module _ (func : HirFunction) (env : Environment) (f : Bool) (h : function_fits 
   answer_fits (end.Solved w) e v i = let same : end_of func w ≡ e = cc in subst (λ (z : PassEnd). function_fits (with_effects_of z.solved func) (env_after env z) ≡ true) same (solved_fits w v)
   answer_fits (end.Fault n k) e v i = cc
   answer_fits (end.NotSettled n) e v i = cc
+
+  answer_within : (r : End (VisitLog State) TableLists BlockEffects BlockRefusal) (e : PassEnd) → visits_end c ≡ r → answer_of env func r ≡ Ok e → TablesWithin env (end_tables e)
+  answer_within (end.Solved w) e v i = let same : end_of func w ≡ e = cc in subst (λ (z : PassEnd). TablesWithin env (end_tables z)) same (end_within w v).0
+  answer_within (end.Fault n k) e v i = cc
+  answer_within (end.NotSettled n) e v i = cc
+
+-- the tables that the pass ends with are those of the environment, and further entries
+pub pass_end_within : (func : HirFunction) (env : Environment) (f : Bool) (e : PassEnd) → function_fits func env ≡ true → pass_end env func f ≡ Ok e → TablesWithin env (end_tables e)
+pass_end_within func env f e h i = answer_within func env f h (visits_end (context_of env func f)) e refl i
 
 -- the inference takes the function with what it recorded, in the environment that took over what it added
 pub pass_end_fits : (func : HirFunction) (env : Environment) (f : Bool) (e : PassEnd) → function_fits func env ≡ true → pass_end env func f ≡ Ok e → function_fits (with_effects_of e.solved func) (env_after env e) ≡ true

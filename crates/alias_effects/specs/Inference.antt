@@ -95,9 +95,13 @@ inferred env func is_function_expression = do
   e ← pass_end env func is_function_expression
   Ok e.solved
 
+-- the tables that the pass ends with
+abbrev pub end_tables : PassEnd → TableLists
+end_tables e = record { first = e.solved.first; temporaries = e.solved.temporaries; reports = e.reports; reads = e.reads }
+
 -- the environment with what the pass added to it
 abbrev pub env_after : Environment → PassEnd → Environment
-env_after env e = with_tables (record { first = e.solved.first; temporaries = e.solved.temporaries; reports = e.reports; reads = e.reads }) env
+env_after env e = with_tables (end_tables e) env
 
 -- the environment after the pass, or the refusal
 abbrev pub env_inferred : Environment → HirFunction → Bool → Result Environment InferError
