@@ -1,0 +1,12 @@
+//! The whole chain: the functions of a unit, innermost first, and then its root.
+#![tactic(auto)]
+
+mod analyse;
+mod created;
+mod errors;
+mod function;
+pub mod infer;
+mod settling;
+mod slots;
+
+pub use infer::{Inferred, infer_unit};

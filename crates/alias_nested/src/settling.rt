@@ -1,0 +1,103 @@
+//! What is set of a nested function once its summary is known.
+ghost use Rattle.std.specs.Prelude.{◌≡◌, map};
+ghost use Rattle.std.specs.List.{list_any};
+ghost use Rattle.alias_nested.specs.Settling.{takes, is_capture, is_captured, context_settled, summarized, reset, settled};
+
+use alias_base::{EvaluationOrder, IdentifierId, List};
+use alias_hir::effect::{AliasingEffect, AliasingEffects};
+use alias_hir::env::{Environment, Identifier};
+use alias_hir::hir::HirFunction;
+use alias_hir::place::{Effect, MutableRange, Place};
+
+/// Whether the effect captures or mutates the identifier.
+fn takes(effect: &AliasingEffect, identifier: IdentifierId) -> bool
+    ensures { result ≡ takes identifier effect.now }
+{
+    match effect {
+        AliasingEffect::Assign { from, .. }
+        | AliasingEffect::Alias { from, .. }
+        | AliasingEffect::Capture { from, .. }
+        | AliasingEffect::CreateFrom { from, .. }
+        | AliasingEffect::MaybeAlias { from, .. } => from.identifier.0 == identifier.0,
+        AliasingEffect::Mutate { value, .. }
+        | AliasingEffect::MutateConditionally { value }
+        | AliasingEffect::MutateTransitive { value }
+        | AliasingEffect::MutateTransitiveConditionally { value } => {
+            value.identifier.0 == identifier.0
+        }
+        _ => false,
+    }
+}
+
+fn is_capture(effect: Effect) -> bool
+    ensures { result ≡ is_capture effect }
+{
+    matches!(effect, Effect::Capture)
+}
+
+/// Whether some effect of the summary captures or mutates the identifier.
+fn is_taken(summary: &[AliasingEffect], identifier: IdentifierId) -> bool
+    ensures { result ≡ list_any (takes identifier) summary.now }
+{
+    summary.iter().any(|effect| takes(effect, identifier))
+}
+
+fn is_captured(summary: &[AliasingEffect], place: Place) -> bool
+    ensures { result ≡ is_captured summary.now place }
+{
+    is_taken(summary, place.identifier) || is_capture(place.effect)
+}
+
+fn context_settled(summary: &[AliasingEffect], place: Place) -> Place
+    ensures { result ≡ context_settled summary.now place }
+{
+    Place {
+        effect: if is_captured(summary, place) {
+            Effect::Capture
+        } else {
+            Effect::Read
+        },
+        ..place
+    }
+}
+
+#[tactic(auto, using(std::proofs::lemmas::List::Edits::map_over_more))]
+fn settle_context(summary: &[AliasingEffect], context: &mut [Place])
+    ensures { context.new ≡ map (context_settled summary.now) context.old }
+{
+    for place in context.iter_mut() {
+        *place = context_settled(summary, *place);
+    }
+}
+
+/// Stores the summary, and sets the effects of context places: `Capture` where the summary captures or mutates the
+/// identifier, or where it was that already, and else `Read`.
+fn summarize(func: &mut HirFunction, summary: AliasingEffects)
+    ensures { func.new ≡ summarized summary func.old }
+{
+    settle_context(summary.as_slice(), func.context.as_mut_slice());
+    func.aliasing_effects = Some(summary);
+}
+
+/// Takes ranges and scopes of the places' identifiers away.
+fn reset_context(context: &[Place], identifiers: &mut List<Identifier>)
+    ensures { identifiers.new ≡ reset context.now identifiers.old }
+{
+    for place in context {
+        if let Some(identifier) = identifiers.get_mut(place.identifier.0 as usize) {
+            identifier.mutable_range = MutableRange {
+                start: EvaluationOrder(0),
+                end: EvaluationOrder(0),
+            };
+            identifier.scope = None;
+        }
+    }
+}
+
+/// Sets what follows from the summary of a nested function. Takes no memory.
+pub(crate) fn settle(func: &mut HirFunction, env: &mut Environment, summary: AliasingEffects)
+    ensures { (func.new, env.new) ≡ settled summary (func.old, env.old) }
+{
+    summarize(func, summary);
+    reset_context(func.context.as_slice(), &mut env.identifiers);
+}
