@@ -1,5 +1,5 @@
-//! `alias_bench < unit.json`: the effects of a unit by the call that hands no entry states out, in the lines and
-//! with the statuses of the command `infer`.
+//! `alias_bench < unit.json`: the effects of a unit's root by the call that hands no entry states out, in the lines and
+//! with the statuses of the command `infer`. Nested functions aren't analysed, so it is for units without them.
 //!
 //! It is there to be timed beside that program, and to be compared with it. No clause says what it writes: it is
 //! tested, and not proved to write the right text.
@@ -12,7 +12,6 @@ use alias_base::Text;
 use alias_read::read_unit;
 use alias_rules::check::{Checked, check_unit};
 use alias_run::Status;
-use alias_run::built::unit_is_built;
 use alias_run::text::push_refusal_line;
 use alias_stream::{ReaderSource, Sink, Source, WriterSink, read_whole, write_whole};
 use plain::effects_text;
@@ -25,19 +24,10 @@ fn unit_of(alloc: Global, bytes: &[u8]) -> Result<Checked, Status> {
     Ok(check_unit(alloc, unit)?)
 }
 
-/// The text of a unit, or why there is none.
-fn text_of(alloc: Global, unit: Checked) -> Result<Text, Status> {
-    if unit_is_built(unit.unit()) {
-        Ok(effects_text(alloc, unit)?)
-    } else {
-        Err(Status::NotBuilt)
-    }
-}
-
 /// The text of the unit that the source spells, or why there is none.
 fn find<S: Source>(alloc: Global, source: &mut S) -> Result<Text, Status> {
     let bytes = read_whole(alloc, source)?;
-    text_of(alloc, unit_of(alloc, bytes.as_slice())?)
+    Ok(effects_text(alloc, unit_of(alloc, bytes.as_slice())?)?)
 }
 
 /// Writes a text, and gives the status where that is done.

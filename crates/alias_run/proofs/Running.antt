@@ -1,18 +1,8 @@
 -- From what a layer finds to what the run comes to.
-use Rattle.std.proofs.Common.{◌≡◌, false, ℕ, ◌≤◌, List, [], ◌∷◌, ◌++◌, length, take, Option, Some, None, refl, sym, ◌∙◌, ap, subst}
-use Rattle.std.specs.Prelude.{Result, Ok, Err, IsErrAnd}
+use Rattle.std.proofs.Common.{◌≡◌, ℕ, ◌≤◌, List, [], ◌∷◌, ◌++◌, length, take, Option, Some, None, refl, sym, ◌∙◌, ap, subst}
+use Rattle.std.specs.Prelude.{Err}
 use Rattle.std.proofs.lemmas.List.{append-nil}
-use Rattle.alias_base.specs.Answer.{◌>>=◌, Gives}
-use Rattle.alias_hir.specs.Errors.{is_memory}
-use Rattle.alias_hir.specs.declared.effect.AliasingEffect.{AliasingEffect}
-use Rattle.alias_hir.specs.declared.env.Environment.{Environment}
 use Rattle.alias_hir.specs.declared.env.Unit.{Unit as HirUnit}
-use Rattle.alias_hir.specs.declared.hir.HirFunction.{HirFunction}
-use Rattle.alias_hir.specs.declared.error.InferError.{InferError}
-use Rattle.alias_hir.specs.declared.report.Report.{Report}
-use Rattle.alias_effects.specs.declared.solved.Solved.{Solved}
-use Rattle.alias_effects.specs.Inference.{pass_end, inferred, env_inferred, env_after}
-use Rattle.alias_effects.specs.Recording.{with_effects_of}
 use Rattle.alias_stream.specs.Streams.{Adds, IsAllOf, IfKnown}
 use Rattle.alias_stream.specs.declared.sink.SinkStop.{SinkStop}
 use Rattle.alias_stream.specs.declared.sink.SinkStop.TheVariants as sink
@@ -22,11 +12,11 @@ use Rattle.alias_read.specs.declared.fault.TextFault.TheVariants as text
 use Rattle.alias_run.specs.declared.command.Command.{Command}
 use Rattle.alias_run.specs.declared.command.Command.TheVariants.{Infer}
 use Rattle.alias_run.specs.declared.status.Status.{Status}
-use Rattle.alias_run.specs.declared.status.Status.TheVariants.{Done, Words, NotJson, NotUnit, Unfit, Refused, ReadFault, WriteFault, TooLong, Memory, NotBuilt}
-use Rattle.alias_run.specs.declared.inferred.Inferred.{Inferred}
+use Rattle.alias_run.specs.declared.status.Status.TheVariants.{Done, Words, NotJson, NotUnit, Unfit, Refused, ReadFault, WriteFault, TooLong, Memory}
+use Rattle.alias_nested.specs.declared.infer.Inferred.{Inferred}
 use Rattle.alias_run.specs.declared.outcome.Outcome.{Outcome}
 use Rattle.alias_run.specs.Findings.{IsJudged, IsRead, IsFound, Leaves, greatest_input}
-use Rattle.alias_run.specs.Inferences.{inferred_unit, functions_of, solved_tell}
+use Rattle.alias_run.specs.Inferences.{solved_tell}
 use Rattle.alias_run.specs.Runs.{IsRun, IsHeadline}
 use Rattle.alias_run.specs.Statuses.{text_status, write_status}
 use Rattle.alias_run.specs.Texts.{text_with, text_of}
@@ -34,46 +24,6 @@ use Rattle.alias_run.specs.Texts.{text_with, text_of}
 -- an outcome with nothing inferred
 abbrev pub ended_as : Status → Outcome
 ended_as status = record { status = status; inferred = None }
-
--- ---- a unit
-
-same_refusal : {A B C : Type 0} (r : Result A InferError) (f : A → B) (g : A → C) (e : InferError) → ◌≡◌ {A = Result B InferError} (r >>= (λ x. Ok (f x))) (Err e) → ◌≡◌ {A = Result C InferError} (r >>= (λ x. Ok (g x))) (Err e)
-same_refusal (Ok x) f g e h = cc
-same_refusal (Err z) f g e h = cc
-
--- the refusal of the effects pass is that of what goes on from it
-pub refused_on : {A B C : Type 0} (r : Result A InferError) (f : A → B) (g : A → C) (q : Result C InferError) (e : InferError)
-    → Gives {A = B} is_memory (r >>= (λ x. Ok (f x))) (Err e) → IsErrAnd q (λ z. z ≡ e) → Gives is_memory (r >>= (λ x. Ok (g x))) q
-refused_on r f g (Ok x) e h is = absurd is
-refused_on {C = C} r f g (Err z) e h is = subst (λ (y : InferError). Gives {A = C} is_memory (r >>= (λ x. Ok (g x))) (Err y)) (sym is) (λ m. same_refusal r f g e (h m))
-
-abbrev pub unit_after : HirFunction → Solved → Environment → Inferred
-unit_after func s env = record { unit = record { function = with_effects_of s func; env = env }; solved = s ∷ []; summary = []; reports = [] }
-
--- what the pass hands out, and what it makes of function and environment, are what is inferred of the unit
-made_from : {E : Type 0} (r : Result E InferError) (f : E → Solved) (g : E → Environment) (func func' : HirFunction) (env' : Environment) (s : Solved)
-    → ◌≡◌ {A = Result Solved InferError} (r >>= (λ e. Ok (f e))) (Ok s) → ◌≡◌ {A = Result Environment InferError} (r >>= (λ e. Ok (g e))) (Ok env') → func' ≡ with_effects_of s func
-    → ◌≡◌ {A = Result Inferred InferError} (r >>= (λ e. Ok (unit_after func (f e) (g e)))) (Ok (record { unit = record { function = func'; env = env' }; solved = s ∷ []; summary = []; reports = [] }))
-made_from (Ok e) f g func func' env' s h i j =
-    let a : f e ≡ s = cc in
-    let b : g e ≡ env' = cc in
-    ap (λ (z : Environment). Ok (unit_after func (f e) z)) b
-    ∙ ap (λ (z : Solved). Ok (unit_after func z env')) a
-    ∙ ap (λ (z : HirFunction). Ok (record { unit = record { function = z; env = env' }; solved = s ∷ []; summary = []; reports = [] })) (sym j)
-made_from (Err x) f g func func' env' s h i j = cc
-
-pub inferred_from : (func func' : HirFunction) (env env' : Environment) (s : Solved) → inferred env func false ≡ Ok s → env_inferred env func false ≡ Ok env' → func' ≡ with_effects_of s func
-    → inferred_unit (record { function = func; env = env }) ≡ Ok (record { unit = record { function = func'; env = env' }; solved = s ∷ []; summary = []; reports = [] })
-inferred_from func func' env env' s h i j = made_from (pass_end env func false) (λ e. e.solved) (env_after env) func func' env' s h i j
-
-pub inferred_as : (u v now : HirUnit) (s : Solved) (before after : List Solved) (summary : List AliasingEffect) (reports : List Report) → inferred_unit u ≡ Ok (record { unit = now; solved = s ∷ []; summary = []; reports = [] }) → u ≡ v
-    → after ≡ before ++ s ∷ [] → before ≡ [] → summary ≡ [] → reports ≡ [] → inferred_unit v ≡ Ok (record { unit = now; solved = after; summary = summary; reports = reports })
-inferred_as u v now s before after summary reports h same more none no_summary no_reports =
-    let list : s ∷ [] ≡ after = sym (more ∙ ap (λ (ss : List Solved). ss ++ s ∷ []) none) in
-    ap inferred_unit (sym same) ∙ h
-    ∙ ap (λ (ss : List Solved). Ok (record { unit = now; solved = ss; summary = []; reports = [] })) list
-    ∙ ap (λ (es : List AliasingEffect). Ok (record { unit = now; solved = after; summary = es; reports = [] })) (sym no_summary)
-    ∙ ap (λ (rs : List Report). Ok (record { unit = now; solved = after; summary = summary; reports = rs })) (sym no_reports)
 
 -- ---- bytes
 
@@ -102,7 +52,6 @@ read_bytes known failed bytes ReadFault i a l h = absurd h.2.2
 read_bytes known failed bytes WriteFault i a l h = (bytes, a, l, h)
 read_bytes known failed bytes TooLong i a l h = absurd h.2.2
 read_bytes known failed bytes Memory i a l h = h
-read_bytes known failed bytes NotBuilt i a l h = (bytes, a, l, h)
 
 unwritten : (stop : SinkStop) (left : Option (List ℕ)) → Leaves (write_status stop) left
 unwritten sink.Failed left = tt
@@ -173,7 +122,7 @@ module _ (known : Option (List ℕ)) (read_failed write_failed : Type 0) (held h
   ran_infer : (status : Status) (i : Option Inferred) → IsRead known read_failed status i → Adds held (text_with status i) held' → Ran (Some Infer) status i
   unfolding IsFound IsHeadline
   ran_infer Done None f a = absurd f.3.2.2
-  ran_infer Done (Some x) f a = let j = f.3 in ((f, a), (j.0, known_unit known f.0 j.0 f.1 j.1, j.2.0, j.2.2.0, j.2.2.1, solved_tell j.0.env (functions_of j.0) x.solved j.2.2.1, a))
+  ran_infer Done (Some x) f a = let j = f.3 in let k = j.2.1 in ((f, a), (j.0, k.0, known_unit known f.0 j.0 f.1 j.1, j.2.0, k.1, k.2, solved_tell k.0 k.2, a))
   ran_infer Words i f a = absurd f.3.2.2
   ran_infer NotJson i f a = ((f, a), tt)
   ran_infer (NotUnit pointer rule) i f a = ((f, a), tt)
@@ -183,7 +132,6 @@ module _ (known : Option (List ℕ)) (read_failed write_failed : Type 0) (held h
   ran_infer WriteFault i f a = absurd f.3.2.2
   ran_infer TooLong i f a = ((f, a), tt)
   ran_infer Memory i f a = out_of_memory i f a
-  ran_infer NotBuilt i f a = ((f, a), tt)
 
   pub ran : (asked : Option Command) (status : Status) (i : Option Inferred) → IsFound asked known read_failed status i → Adds held (text_with status i) held' → Ran asked status i
   unfolding IsFound IsHeadline

@@ -1,35 +1,36 @@
 -- Why a run comes to a status.
-use Rattle.std.specs.Prelude.{◌≡◌, ℕ, ◌<◌, ◌≤◌, true, false, List, length, Option, Some, None, Ok, Err}
+use Rattle.std.specs.Prelude.{◌≡◌, ℕ, ◌<◌, ◌≤◌, List, length, Option, Some, None, Ok, Err}
+use Rattle.std.specs.List.{AllByRecursion}
 use Rattle.alias_rules.specs.Functions.{rules_hold}
 use Rattle.alias_hir.specs.declared.env.Unit.{Unit as HirUnit}
 use Rattle.alias_read.specs.Units.{UnitReading, ReadsUnit}
 use Rattle.alias_read.specs.declared.fault.TextFault.TheVariants as text
-use Rattle.alias_run.specs.Built.{unit_is_built}
 use Rattle.alias_stream.specs.Streams.{IsAllOf, IsAtEnd, IfKnown}
 use Rattle.alias_run.specs.declared.command.Command.{Command}
 use Rattle.alias_run.specs.declared.command.Command.TheVariants.{Infer}
 use Rattle.alias_run.specs.declared.status.Status.{Status}
-use Rattle.alias_run.specs.declared.status.Status.TheVariants.{Done, Words, NotJson, NotUnit, Unfit, Refused, ReadFault, WriteFault, TooLong, Memory, NotBuilt}
-use Rattle.alias_run.specs.declared.inferred.Inferred.{Inferred}
-use Rattle.alias_run.specs.Inferences.{inferred_unit, functions_of, AreSolved}
+use Rattle.alias_run.specs.declared.status.Status.TheVariants.{Done, Words, NotJson, NotUnit, Unfit, Refused, ReadFault, WriteFault, TooLong, Memory}
+use Rattle.alias_nested.specs.declared.infer.Inferred.{Inferred}
+use Rattle.alias_nested.specs.Analysis.{Analysed, SolvesItsFlow}
+use Rattle.alias_nested.specs.Units.{unit_analysed}
 
 -- the greatest input, in bytes
 abbrev pub greatest_input : ℕ
 greatest_input = 16777216
 
--- what a unit that keeps the rules leads to: its functions are solved, or its root is refused
+-- what a unit that keeps the rules leads to: what is handed out is what is inferred of it, and of each function, as its effects pass begins, the entry
+-- states solve the flow; or it is refused
 abbrev pub IsInferred : HirUnit → Status → Option Inferred → Type 0
-IsInferred u Done (Some i) = (inferred_unit u ≡ Ok i) × AreSolved u.env (functions_of u) i.solved
-IsInferred u (Refused e) None = inferred_unit u ≡ Err e
+IsInferred u Done (Some i) = (fs : List Analysed) × (unit_analysed u ≡ Ok (record { functions = fs; inferred = i })) × AllByRecursion SolvesItsFlow fs
+IsInferred u (Refused e) None = unit_analysed u ≡ Err e
 IsInferred u Memory None = Unit {0}
 IsInferred u status i = ⊥
 
--- what a unit leads to: it breaks this rule first, or it breaks none and has a form that isn't built, or it is inferred
+-- what a unit leads to: it breaks this rule first, or it breaks none and is inferred
 abbrev pub IsChecked : HirUnit → Status → Option Inferred → Type 0
 IsChecked u (Unfit fault) i = (rules_hold u ≡ Err fault) × (i ≡ None)
-IsChecked u NotBuilt i = (rules_hold u ≡ Ok tt) × (unit_is_built u ≡ false) × (i ≡ None)
 IsChecked u Memory i = i ≡ None
-IsChecked u status i = (rules_hold u ≡ Ok tt) × (unit_is_built u ≡ true) × IsInferred u status i
+IsChecked u status i = (rules_hold u ≡ Ok tt) × IsInferred u status i
 
 -- what the bytes of the whole input lead to: they are no JSON, or JSON of no unit, or that of one
 abbrev pub IsJudged : List ℕ → Status → Option Inferred → Type 0
@@ -58,7 +59,6 @@ Leaves NotJson left = IsAtEnd left
 Leaves (NotUnit pointer rule) left = IsAtEnd left
 Leaves (Unfit fault) left = IsAtEnd left
 Leaves (Refused error) left = IsAtEnd left
-Leaves NotBuilt left = IsAtEnd left
 Leaves Words left = Unit {0}
 Leaves ReadFault left = Unit {0}
 Leaves WriteFault left = Unit {0}

@@ -1,4 +1,3 @@
-pub mod Built
 pub mod Commands
 pub mod Findings
 pub mod Inferences

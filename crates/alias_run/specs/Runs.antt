@@ -1,5 +1,6 @@
 -- What a run comes to.
 use Rattle.std.specs.Prelude.{◌≡◌, ℕ, List, take, Option, Some, None, Ok}
+use Rattle.std.specs.List.{AllByRecursion}
 use Rattle.alias_rules.specs.Functions.{rules_hold}
 use Rattle.alias_hir.specs.declared.env.Unit.{Unit as HirUnit}
 use Rattle.alias_stream.specs.Streams.{Adds, IfKnown}
@@ -8,9 +9,11 @@ use Rattle.alias_text.specs.Results.{result_text}
 use Rattle.alias_run.specs.declared.command.Command.{Command}
 use Rattle.alias_run.specs.declared.status.Status.{Status}
 use Rattle.alias_run.specs.declared.status.Status.TheVariants.{Done, WriteFault, Memory}
-use Rattle.alias_run.specs.declared.inferred.Inferred.{Inferred}
+use Rattle.alias_nested.specs.declared.infer.Inferred.{Inferred}
+use Rattle.alias_nested.specs.Analysis.{Analysed, SolvesItsFlow}
+use Rattle.alias_nested.specs.Units.{unit_analysed}
 use Rattle.alias_run.specs.Findings.{IsFound}
-use Rattle.alias_run.specs.Inferences.{inferred_unit, AreSolved, TellAll, functions_of}
+use Rattle.alias_run.specs.Inferences.{TellsItsWrites}
 use Rattle.alias_run.specs.Texts.{text_with}
 
 module _ (asked : Option Command) (known : Option (List ℕ)) (read_failed write_failed : Type 0) (held held' : Option (List ℕ)) where
@@ -25,12 +28,13 @@ module _ (asked : Option Command) (known : Option (List ℕ)) (read_failed write
   IsRun status i = IsFound asked known read_failed status i × Adds held (text_with status i) held'
 
 -- Where the status is Done: the bytes that the source had, where that is known, are the JSON of one unit, and no others; the unit keeps
--- the rules; what is handed out is its inference, and for each of its functions the entry states solve its flow, and what is written for certain
--- and isn't to be written stands as an error effect; and the sink got the text of what was recorded.
+-- the rules; what is handed out is its inference, and of each of its functions, as its effects pass begins, the entry states solve the flow, and what is
+-- written for certain and isn't to be written stands as an error effect; and the sink got the text of what was recorded.
 abbrev pub IsHeadlineOf : Option (List ℕ) → Option (List ℕ) → Option (List ℕ) → Option Inferred → Type 0
 IsHeadlineOf known held held' None = ⊥
 IsHeadlineOf known held held' (Some i) =
-    (u : HirUnit) × IfKnown known (λ bytes. UnitReading bytes u) × (rules_hold u ≡ Ok tt) × (inferred_unit u ≡ Ok i) × AreSolved u.env (functions_of u) i.solved × TellAll u.env (functions_of u) i.solved × Adds held (result_text i.unit i.solved) held'
+    (u : HirUnit) × (fs : List Analysed) × IfKnown known (λ bytes. UnitReading bytes u) × (rules_hold u ≡ Ok tt) × (unit_analysed u ≡ Ok (record { functions = fs; inferred = i })) × AllByRecursion SolvesItsFlow fs × AllByRecursion TellsItsWrites fs
+    × Adds held (result_text i.unit i.solved i.summary i.reports) held'
 
 unfoldable pub IsHeadline : Option (List ℕ) → Option (List ℕ) → Option (List ℕ) → Status → Option Inferred → Type 0
 IsHeadline known held held' Done i = IsHeadlineOf known held held' i

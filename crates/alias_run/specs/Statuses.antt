@@ -12,7 +12,7 @@ use Rattle.alias_stream.specs.declared.whole.ReadStop.{ReadStop}
 use Rattle.alias_stream.specs.declared.whole.ReadStop.TheVariants as read
 use Rattle.alias_text.specs.Refusals.{refused_text, unfit_text, not_unit_text}
 use Rattle.alias_run.specs.declared.status.Status.{Status}
-use Rattle.alias_run.specs.declared.status.Status.TheVariants.{Done, Words, NotJson, NotUnit, Unfit, Refused, ReadFault, WriteFault, TooLong, Memory, NotBuilt}
+use Rattle.alias_run.specs.declared.status.Status.TheVariants.{Done, Words, NotJson, NotUnit, Unfit, Refused, ReadFault, WriteFault, TooLong, Memory}
 
 -- ---- faults. Want of memory has one status, wherever it comes
 
@@ -51,7 +51,6 @@ status_code ReadFault = 7
 status_code WriteFault = 8
 status_code TooLong = 9
 status_code Memory = 10
-status_code NotBuilt = 11
 
 -- one line, or nothing where the status writes none
 abbrev pub refusal_line : Status → List ℕ
@@ -65,4 +64,3 @@ refusal_line ReadFault = codes "refused ReadFault\n"
 refusal_line WriteFault = []
 refusal_line TooLong = codes "refused TooLong\n"
 refusal_line Memory = []
-refusal_line NotBuilt = []

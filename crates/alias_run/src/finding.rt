@@ -4,13 +4,13 @@ ghost use Rattle.alias_stream.specs.Streams.{HasFailed};
 ghost use Rattle.alias_run.specs.Commands.{command_of};
 ghost use Rattle.alias_run.specs.Findings.{IsFound, IsRead, IsJudged, IsChecked, IsInferred, Leaves};
 
-use crate::built::unit_is_built;
 use crate::command::Command;
-use crate::inferred::infer_unit;
 use crate::outcome::{Outcome, done, ended};
 use crate::status::Status;
 use alias_base::Text;
 use alias_hir::env::Unit;
+use alias_inner_passes::KeepAll;
+use alias_nested::infer_unit;
 use alias_read::read_unit;
 use alias_rules::check::{Checked, check_unit};
 use alias_stream::{Source, read_whole};
@@ -20,20 +20,10 @@ use std::alloc::Global;
 fn infer_checked(alloc: Global, unit: Checked) -> Outcome
     ensures { IsInferred unit result.status result.inferred }
 {
-    match infer_unit(alloc, unit) {
+    let mut passes = KeepAll;
+    match infer_unit(alloc, unit, &mut passes) {
         Ok(inferred) => done(inferred),
         Err(error) => ended(Status::from(error)),
-    }
-}
-
-/// What a unit that keeps the rules leads to, whether its forms are built or not.
-fn infer_built(alloc: Global, unit: Checked) -> Outcome
-    ensures { IsChecked unit result.status result.inferred }
-{
-    if unit_is_built(unit.unit()) {
-        infer_checked(alloc, unit)
-    } else {
-        ended(Status::NotBuilt)
     }
 }
 
@@ -42,7 +32,7 @@ fn judge_unit(alloc: Global, unit: Unit) -> Outcome
     ensures { IsChecked unit result.status result.inferred }
 {
     match check_unit(alloc, unit) {
-        Ok(checked) => infer_built(alloc, checked),
+        Ok(checked) => infer_checked(alloc, checked),
         Err(fault) => ended(Status::from(fault)),
     }
 }

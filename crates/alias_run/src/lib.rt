@@ -1,17 +1,15 @@
 //! A whole run: words and a source in, a status and a text out.
 #![tactic(auto)]
 
-pub mod built;
 pub mod command;
 mod finding;
-pub mod inferred;
 pub mod outcome;
 mod run;
 pub mod status;
 pub mod text;
 
+pub use alias_nested::{Inferred, infer_unit};
 pub use command::Command;
-pub use inferred::{Inferred, infer_unit};
 pub use outcome::Outcome;
 pub use run::run_alias;
 pub use status::Status;

@@ -2,8 +2,8 @@
 ghost use Rattle.std.specs.Prelude.{◌≡◌};
 ghost use Rattle.alias_run.specs.Statuses.{status_code};
 
-use crate::inferred::Inferred;
 use crate::status::Status;
+use alias_nested::Inferred;
 
 /// How a run ends, and what was inferred where the status is `Done`.
 #[derive(Drop)]

@@ -33,8 +33,6 @@ pub enum Status {
     TooLong,
     /// Memory ran out, which can happen at any growth.
     Memory,
-    /// The unit keeps the rules, and has a form that isn't built yet.
-    NotBuilt,
 }
 
 impl Status {
@@ -53,7 +51,6 @@ impl Status {
             Status::WriteFault => 8,
             Status::TooLong => 9,
             Status::Memory => 10,
-            Status::NotBuilt => 11,
         }
     }
 }

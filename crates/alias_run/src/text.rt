@@ -23,7 +23,7 @@ pub fn push_refusal_line(alloc: Global, out: &mut Text, status: &Status) -> Resu
         Status::Refused(error) => push_refusal(out, error),
         Status::ReadFault => out.push_str("refused ReadFault\n"),
         Status::TooLong => out.push_str("refused TooLong\n"),
-        Status::Done | Status::WriteFault | Status::Memory | Status::NotBuilt => Ok(()),
+        Status::Done | Status::WriteFault | Status::Memory => Ok(()),
     }
 }
 
@@ -33,7 +33,13 @@ pub(crate) fn text_of(alloc: Global, outcome: &Outcome) -> Result<Text, AllocErr
 {
     let mut out = Text::new(alloc);
     match &outcome.inferred {
-        Some(inferred) => push_result(&mut out, &inferred.unit, inferred.solved.as_slice())?,
+        Some(inferred) => push_result(
+            &mut out,
+            &inferred.unit,
+            inferred.solved.as_slice(),
+            inferred.summary.as_slice(),
+            inferred.reports.as_slice(),
+        )?,
         None => push_refusal_line(alloc, &mut out, &outcome.status)?,
     }
     Ok(out)
