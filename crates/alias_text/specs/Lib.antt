@@ -1,3 +1,6 @@
 pub mod Lines
+pub mod Ranges
 pub mod Refusals
+pub mod Reports
 pub mod Results
+pub mod Summaries

@@ -3,5 +3,9 @@
 
 pub mod effects;
 pub mod functions;
+mod quoting;
+pub mod ranges;
 pub mod refusals;
+pub mod reports;
 pub mod results;
+pub mod summaries;

@@ -1,16 +1,15 @@
 //! Why a unit or a function is refused, as lines.
-ghost use Rattle.std.specs.Prelude.{◌≡◌, ◌++◌, OnOk, IfOk, codes};
-ghost use Rattle.json.specs.Print.{quoted};
+ghost use Rattle.std.specs.Prelude.{◌≡◌, ◌++◌, OnOk, codes};
 ghost use Rattle.alias_text.specs.Lines.{spaced};
 ghost use Rattle.alias_text.specs.Refusals.{refused_head, at_number_text, at_numbers_text, refused_text, table_word, spaced_function, spaced_holder, pass_word, counter_word, last_word, word_text, number_text, pass_fault_text, unfit_data, unfit_text, rule_word, words_text, not_unit_text};
 
 use crate::effects::push_spaced;
 use crate::functions::push_function_name;
+use crate::quoting::quoted;
 use alias_base::{FunctionId, IdentifierId, InstructionId, Text};
 use alias_function_rules::fault::{Holder, Table, UnitFault};
 use alias_hir::error::{Counter, InferError, Pass};
 use alias_json::fault::TextRule;
-use serde_json::Value;
 use std::alloc::{AllocError, Global};
 
 /// Appends what is refused, and the function.
@@ -335,14 +334,6 @@ fn rule_word(rule: TextRule) -> &'static str
         TextRule::Name => "Name",
         TextRule::Twice => "Twice",
     }
-}
-
-/// The text as `serde_json` writes it.
-fn quoted(alloc: Global, text: &str) -> Result<Text, AllocError>
-    ensures { IfOk result (λ t. t ≡ quoted text.now) }
-{
-    let value = Value::String(String::from_str(alloc, text)?);
-    Text::from_str(alloc, &value.to_string(alloc)?)
 }
 
 /// Appends the line of a refusal that names two words and no function.

@@ -1,14 +1,19 @@
 //! What was inferred of a unit, as lines.
-ghost use Rattle.std.specs.Prelude.{◌≡◌, ◌++◌, OnOk, map};
+ghost use Rattle.std.specs.Prelude.{◌≡◌, ◌++◌, OnOk, map, option_map};
 ghost use Rattle.std.specs.Option.{option_copied};
-ghost use Rattle.alias_text.specs.Results.{function_of, entry_text, blocks_text, function_text, result_text};
+ghost use Rattle.alias_text.specs.Results.{function_of, entry_text, blocks_text, found_text, function_text, functions_text, result_text};
 
 use crate::functions::{push_block, push_function_head};
+use crate::ranges::push_ranges;
+use crate::reports::push_reports;
+use crate::summaries::push_summary;
 use alias_base::{FunctionId, Text};
 use alias_effects::{BlockEntry, Solved};
+use alias_hir::effect::AliasingEffect;
 use alias_hir::env::Unit;
 use alias_hir::hir::HirFunction;
-use std::alloc::AllocError;
+use alias_hir::report::Report;
+use std::alloc::{AllocError, Global};
 
 /// The function of the unit with this number, which is the root at `None`.
 fn function_of(unit: &Unit, function: Option<FunctionId>) -> Option<&HirFunction>
@@ -33,24 +38,66 @@ fn push_entries(
     Ok(())
 }
 
-fn push_function(out: &mut Text, unit: &Unit, solved: &Solved) -> Result<(), AllocError>
-    ensures { OnOk result (out.new ≡ out.old ++ function_text unit.now solved.now) }
+/// Appends the blocks of a function that are reached: nothing where the function isn't there.
+fn push_found(
+    out: &mut Text,
+    func: Option<&HirFunction>,
+    entries: &[BlockEntry],
+) -> Result<(), AllocError>
+    ensures { OnOk result (out.new ≡ out.old ++ found_text (option_map (λ f. f.now) func.entry) entries.now) }
 {
-    push_function_head(out, solved.function)?;
-    match function_of(unit, solved.function) {
-        Some(func) => push_entries(out, func, solved.entries.as_slice()),
+    match func {
+        Some(func) => push_entries(out, func, entries),
         None => Ok(()),
     }
 }
 
-/// Appends what was inferred of a unit whose effects are recorded on it, function by function: a line for the
-/// function, and then for each block that is reached a line and those of its effects. docs/FORMAT.md has the
-/// form of the lines. An `Err` is want of memory, and leaves what was appended before it.
-pub fn push_result(out: &mut Text, unit: &Unit, solved: &[Solved]) -> Result<(), AllocError>
-    ensures { OnOk result (out.new ≡ out.old ++ result_text unit.now solved.now) }
+fn push_function(
+    out: &mut Text,
+    unit: &Unit,
+    summary: &[AliasingEffect],
+    solved: &Solved,
+) -> Result<(), AllocError>
+    ensures { OnOk result (out.new ≡ out.old ++ function_text unit.now summary.now solved.now) }
+{
+    push_function_head(out, solved.function)?;
+    push_found(
+        out,
+        function_of(unit, solved.function),
+        solved.entries.as_slice(),
+    )?;
+    push_summary(out, unit, summary, solved.function)
+}
+
+fn push_functions(
+    out: &mut Text,
+    unit: &Unit,
+    summary: &[AliasingEffect],
+    solved: &[Solved],
+) -> Result<(), AllocError>
+    ensures { OnOk result (out.new ≡ out.old ++ functions_text unit.now summary.now solved.now) }
 {
     for of_function in solved {
-        push_function(out, unit, of_function)?;
+        push_function(out, unit, summary, of_function)?;
     }
     Ok(())
+}
+
+/// Appends what was inferred of a unit, where it is recorded on the unit: function by function a line for the
+/// function, for each block that is reached a line and those of its effects, and those of the summary, of which
+/// `summary` is the root's; then the mutable ranges, and the reports. docs/FORMAT.md has the form of the lines. An
+/// `Err` is want of memory, and leaves what was appended before it.
+pub fn push_result(
+    alloc: Global,
+    out: &mut Text,
+    unit: &Unit,
+    solved: &[Solved],
+    summary: &[AliasingEffect],
+    reports: &[Report],
+) -> Result<(), AllocError>
+    ensures { OnOk result (out.new ≡ out.old ++ result_text unit.now solved.now summary.now reports.now) }
+{
+    push_functions(out, unit, summary, solved)?;
+    push_ranges(out, unit.env.identifiers.as_slice())?;
+    push_reports(alloc, out, reports)
 }

@@ -1,7 +1,0 @@
-use Rattle.std.proofs.Common.{◌≡◌, ◌++◌, take}
-use Rattle.alias_text.specs.Results.{result_text}
-use Rattle.alias_text.proofs.results.push_result.Given as goal
-
--- the functions so far were appended
-abbrev pub invariant-loop-of_function : goal.invariant-loop-of_function
-invariant-loop-of_function l = l.out ≡ l.initial.out ++ result_text l.unit (take l.of_function-index l.solved)
