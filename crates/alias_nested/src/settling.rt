@@ -5,9 +5,9 @@ ghost use Rattle.alias_nested.specs.Settling.{takes, is_capture, is_captured, co
 
 use alias_base::{EvaluationOrder, IdentifierId, List};
 use alias_hir::effect::{AliasingEffect, AliasingEffects};
-use alias_hir::env::{Environment, Identifier};
+use alias_hir::env::{Environment, Identifier, MutableRange};
 use alias_hir::hir::HirFunction;
-use alias_hir::place::{Effect, MutableRange, Place};
+use alias_hir::place::{Effect, Place};
 
 /// Whether the effect captures or mutates the identifier.
 fn takes(effect: &AliasingEffect, identifier: IdentifierId) -> bool

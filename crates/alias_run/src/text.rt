@@ -34,6 +34,7 @@ pub(crate) fn text_of(alloc: Global, outcome: &Outcome) -> Result<Text, AllocErr
     let mut out = Text::new(alloc);
     match &outcome.inferred {
         Some(inferred) => push_result(
+            alloc,
             &mut out,
             &inferred.unit,
             inferred.solved.as_slice(),
