@@ -15,7 +15,8 @@ use Rattle.alias_effects.specs.Solutions.{IsSolved}
 use Rattle.alias_range_pass.specs.Passes.{Ranged, range_pass}
 use Rattle.alias_nested.specs.Created.{created_functions}
 use Rattle.alias_nested.specs.Settling.{settled}
-use Rattle.alias_nested.specs.Slots.{emptied, with_function}
+use Rattle.alias_nesting_laws.specs.Slots.{with_function}
+use Rattle.alias_nested.specs.Slots.{emptied}
 
 -- ---- errors and solutions that name their function
 

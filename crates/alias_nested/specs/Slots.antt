@@ -1,7 +1,5 @@
--- Functions in their slots.
-use Rattle.std.specs.Prelude.{false, [], None, slice_set}
-use Rattle.alias_base.specs.declared.ids.FunctionId.{FunctionId}
-use Rattle.alias_hir.specs.declared.env.Environment.{Environment}
+-- What stands in the slot of a function that is out of it.
+use Rattle.std.specs.Prelude.{false, [], None}
 use Rattle.alias_hir.specs.declared.hir.FunctionType.TheVariants.{Other}
 use Rattle.alias_hir.specs.declared.hir.HirFunction.{HirFunction}
 use Rattle.alias_hir.specs.declared.place.Place.{Place}
@@ -20,7 +18,3 @@ emptied returns = record {
   span = None;
   aliasing_effects = None;
 }
-
--- the environment with another function in the slot of the number
-abbrev pub with_function : FunctionId → HirFunction → Environment → Environment
-with_function id f env = record env { functions = slice_set env.functions id.0 f }

@@ -4,7 +4,8 @@ ghost use Rattle.alias_failures.specs.Failures.{HasFailed};
 ghost use Rattle.alias_rules.specs.Fitting.{function_fits};
 ghost use Rattle.alias_nested.specs.Analysis.{analysis, analysed, slot_analysed, taken_analysed, Accounts, Leads, LeadsWith, IsPassFault};
 ghost use Rattle.alias_nested.specs.Fitting.{EnvironmentKept, FunctionKept};
-ghost use Rattle.alias_nested.specs.Slots.{emptied, with_function};
+ghost use Rattle.alias_nesting_laws.specs.Slots.{with_function};
+ghost use Rattle.alias_nested.specs.Slots.{emptied};
 
 use crate::created::created_functions;
 use crate::function::infer_function;

@@ -1,6 +1,7 @@
 //! Functions in their slots.
 ghost use Rattle.std.specs.Prelude.{◌≡◌, ◌<◌, Some, length, slice_get};
-ghost use Rattle.alias_nested.specs.Slots.{emptied, with_function};
+ghost use Rattle.alias_nesting_laws.specs.Slots.{with_function};
+ghost use Rattle.alias_nested.specs.Slots.{emptied};
 
 use alias_base::{BlockId, BlockMap, FunctionId, List};
 use alias_hir::env::Environment;

@@ -1,0 +1,236 @@
+-- What the steps of an analysis keep of a function and its environment.
+use Rattle.std.specs.Prelude.{◌≡◌, ℕ, ◌≤◌, ◌==◌, ◌||◌, Bool, true, false, not, ◌&&◌, if◌then◌else◌, List, [], ◌∷◌, Option, Some, None, Result, Ok, Err, ⊤, length, map, slice_get, slice_set, refl}
+use Rattle.std.specs.List.{list_all}
+use Rattle.std.proofs.Common.{zero, suc, ap, sym, subst, ◌∙◌, arith}
+use Rattle.std.proofs.lemmas.List.{length-map}
+use Rattle.alias_base.specs.Answer.{◌>>=◌, all_pass}
+use Rattle.alias_base.specs.AnswerLaws.{both_true}
+use Rattle.alias_base.specs.declared.ids.FunctionId.{FunctionId}
+use Rattle.alias_bare_laws.specs.Bare.{bare, but_places}
+use Rattle.alias_bare_laws.specs.BareLaws.{bare_of_places, bare_of_effects, fits_with_other_places}
+use Rattle.alias_bare_laws.specs.EvolvedLaws.{Evolves, evolves_self, evolves_through, fits_evolved}
+use Rattle.alias_block_laws.specs.FitLaws.{Wider, together}
+use Rattle.alias_effects.proofs.RecordedDiffers.{recorded_differs}
+use Rattle.alias_effects.proofs.StillFits.{pass_end_fits}
+use Rattle.alias_effects.specs.Inference.{pass_end, env_after}
+use Rattle.alias_effects.specs.Recording.{with_effects_of}
+use Rattle.alias_effects.specs.declared.output.PassEnd.{PassEnd}
+use Rattle.alias_function_rules.specs.Rules.{below, tables_fit, types_fit, types_fit_from, signatures_fit, signature_fits}
+use Rattle.alias_function_rules.specs.declared.fault.Table.TheVariants.{Declarations, Types}
+use Rattle.alias_function_rules.specs.declared.fault.UnitFault.{UnitFault}
+use Rattle.alias_hir.specs.declared.effect.AliasingEffect.{AliasingEffect}
+use Rattle.alias_hir.specs.declared.env.Environment.{Environment}
+use Rattle.alias_hir.specs.declared.env.Identifier.{Identifier}
+use Rattle.alias_hir.specs.declared.hir.HirFunction.{HirFunction}
+use Rattle.alias_hir.specs.declared.place.Effect.{Effect}
+use Rattle.alias_hir.specs.declared.place.Effect.TheVariants.{Read, Capture}
+use Rattle.alias_hir.specs.declared.place.Place.{Place}
+use Rattle.alias_hir.specs.declared.report.Report.{Report}
+use Rattle.alias_hir.specs.declared.report.Interned.{Interned}
+use Rattle.alias_hir.specs.declared.signature.Shape.{Shape}
+use Rattle.alias_hir.specs.declared.types.Ty.{Ty}
+use Rattle.alias_nested.specs.Fitting.{TablesFit, EnvironmentKept, FunctionKept, SummaryFits}
+use Rattle.alias_nested.specs.Settling.{context_settled, is_captured, summarized, without_range, reset_at, reset, settled}
+use Rattle.alias_nested.proofs.Evolving.{evolves_with_contexts, pass_evolves}
+use Rattle.alias_nesting_laws.specs.FittingLaws.{fitted}
+use Rattle.alias_range_laws.specs.ReportLaws.{expression_reports}
+use Rattle.alias_range_pass.specs.Laws.{but_inferred, PassKeeps}
+use Rattle.alias_range_places.specs.Keeping.{but_effect, but_context, but_range}
+use Rattle.alias_rules.specs.Fitting.{effect_within_tables, recorded_within_tables, effects_within_tables, holds_no_call, effects_fit, reports_no_invariant, function_fits}
+use Rattle.alias_rules.specs.RecordedLaws.{without_effects, fits_with_other_effects}
+use Rattle.alias_tables.specs.GrowingLaws.{Grows, grows_self}
+
+-- ---- tables
+
+pub tables_of_fitting : (f : HirFunction) (env : Environment) → function_fits f env ≡ true → TablesFit env
+tables_of_fitting f env h = let p = fitted f env h in record { identifiers = p.tables; types = p.types; signatures = p.signatures; reports = p.reports }
+
+-- a function that the inference takes, over what its environment has become
+pub still_fits : (env more : Environment) → EnvironmentKept env more → (g : HirFunction) → function_fits g env ≡ true → function_fits g more ≡ true
+still_fits env more k g h = fits_evolved env more k.evolves k.tables.identifiers k.tables.types k.tables.signatures k.tables.reports g h
+
+pub environment_self : (f : HirFunction) (env : Environment) → function_fits f env ≡ true → EnvironmentKept env env
+environment_self f env h = record { evolves = evolves_self env; tables = tables_of_fitting f env h }
+
+pub environment_through : (a b c : Environment) → EnvironmentKept a b → EnvironmentKept b c → EnvironmentKept a c
+environment_through a b c j k = record { evolves = evolves_through a b c j.evolves k.evolves; tables = k.tables }
+
+-- a rule that doesn't look at what another part of an identifier is
+all_pass_mapped : {A B E : Type 0} (f : B → Result ⊤ E) (g : A → B) (h : A → Result ⊤ E) → ((x : A) → f (g x) ≡ h x) → (xs : List A) → all_pass f (map g xs) ≡ all_pass h xs
+all_pass_mapped f g h e [] = refl
+all_pass_mapped f g h e (x ∷ xs) = ap (λ r. r >>= (λ _. all_pass f (map g xs))) (e x) ∙ ap (λ r. h x >>= (λ _. r)) (all_pass_mapped f g h e xs)
+
+-- the rule of an identifier, over tables of so many entries
+abbrev entry_fits : ℕ → ℕ → Identifier → Result ⊤ UnitFault
+entry_fits n m i = do
+  _ ← below Declarations n i.declaration_id.0
+  below Types m i.type_.0
+
+rules_without_ranges : (n m : ℕ) (is : List Identifier) → all_pass (entry_fits n m) (map without_range is) ≡ all_pass (entry_fits n m) is
+rules_without_ranges n m is = all_pass_mapped (entry_fits n m) without_range (entry_fits n m) (λ i. refl) is
+
+length_of_alike : (is js : List Identifier) → map without_range js ≡ map without_range is → length js ≡ length is
+length_of_alike is js h = sym (length-map js without_range) ∙ ap length h ∙ length-map is without_range
+
+-- tables whose identifiers differ in ranges and scopes alone keep the same rules
+tables_alike : (env more : Environment) → map without_range more.identifiers ≡ map without_range env.identifiers → more.types ≡ env.types → tables_fit env ≡ Ok tt → tables_fit more ≡ Ok tt
+tables_alike env more ids types h =
+    sym (rules_without_ranges (length more.identifiers) (length more.types) more.identifiers)
+    ∙ ap (all_pass (entry_fits (length more.identifiers) (length more.types))) ids
+    ∙ ap (λ n. all_pass (entry_fits n (length more.types)) (map without_range env.identifiers)) (length_of_alike env.identifiers more.identifiers ids)
+    ∙ ap (λ (ts : List Ty). all_pass (entry_fits (length env.identifiers) (length ts)) (map without_range env.identifiers)) types
+    ∙ rules_without_ranges (length env.identifiers) (length env.types) env.identifiers
+    ∙ h
+
+-- ---- what changes but ranges, scopes and the effects of context places
+
+-- all of the environment but these
+abbrev pub but_ranges_and_contexts : Environment → Environment
+but_ranges_and_contexts env = record env { identifiers = map without_range env.identifiers; functions = map but_context env.functions }
+
+grows_equal : (old new : List Interned) → new ≡ old → Grows old new
+grows_equal old new h = subst (Grows old) (sym h) (grows_self old)
+
+module _ (env more : Environment) (same : but_ranges_and_contexts more ≡ but_ranges_and_contexts env) where
+  ids_same : map without_range more.identifiers ≡ map without_range env.identifiers
+  ids_same = ap (λ (e : Environment). e.identifiers) same
+
+  contexts_same : map but_context more.functions ≡ map but_context env.functions
+  contexts_same = ap (λ (e : Environment). e.functions) same
+
+  types_same : more.types ≡ env.types
+  types_same = ap (λ (e : Environment). e.types) same
+
+  shapes_same : more.shapes ≡ env.shapes
+  shapes_same = ap (λ (e : Environment). e.shapes) same
+
+  interned_same : more.interned ≡ env.interned
+  interned_same = ap (λ (e : Environment). e.interned) same
+
+  errors_same : more.errors ≡ env.errors
+  errors_same = ap (λ (e : Environment). e.errors) same
+
+  wider_alike : Wider env more
+  wider_alike =
+      let i : length more.identifiers ≡ length env.identifiers = length_of_alike env.identifiers more.identifiers ids_same in
+      let t : length more.types ≡ length env.types = ap length types_same in
+      let f : length more.functions ≡ length env.functions = sym (length-map more.functions but_context) ∙ ap length contexts_same ∙ length-map env.functions but_context in
+      record { identifiers = omega arith; types = omega arith; functions = omega arith; interned = grows_equal env.interned more.interned interned_same }
+
+  tables_alike_fit : TablesFit env → TablesFit more
+  tables_alike_fit t = record {
+    identifiers = tables_alike env more ids_same types_same t.identifiers;
+    types = ap (types_fit_from 0) types_same ∙ t.types;
+    signatures = ap (all_pass (λ (s : Shape). signature_fits s.signature)) shapes_same ∙ t.signatures;
+    reports = ap (λ (e : Environment). reports_no_invariant e) reports_alike ∙ t.reports;
+  }
+    where
+      abbrev reported : List Report → List Interned → Environment
+      reported es is = record env { errors = es; interned = is }
+
+      reports_alike : reported more.errors more.interned ≡ reported env.errors env.interned
+      reports_alike = ap (λ es. reported es more.interned) errors_same ∙ ap (reported env.errors) interned_same
+
+  pub environment_alike : TablesFit env → EnvironmentKept env more
+  environment_alike t = record { evolves = evolves_with_contexts env more wider_alike contexts_same; tables = tables_alike_fit t }
+
+-- ---- functions
+
+pub function_through : (f g h : HirFunction) (a b c : Environment) → FunctionKept f a g b → FunctionKept g b h c → FunctionKept f a h c
+function_through f g h a b c j k = record { evolves = evolves_through a b c j.evolves k.evolves; still = k.still ∙ j.still; fits = k.fits }
+
+pub function_self : (f : HirFunction) (env : Environment) → function_fits f env ≡ true → FunctionKept f env f env
+function_self f env h = record { evolves = evolves_self env; still = refl; fits = h }
+
+-- the effects pass
+pub effects_keep : (func : HirFunction) (env : Environment) (b : Bool) (e : PassEnd) → function_fits func env ≡ true → pass_end env func b ≡ Ok e → FunctionKept func env (with_effects_of e.solved func) (env_after env e)
+effects_keep func env b e h i = record {
+  evolves = pass_evolves func env b e h i;
+  still = sym (bare_of_effects func (with_effects_of e.solved func) (recorded_differs e.solved func));
+  fits = pass_end_fits func env b e h i;
+}
+
+-- ---- the range pass
+
+without_twice : (i : Identifier) → without_range (but_range i) ≡ without_range i
+without_twice i = refl
+
+mapped_twice : (is : List Identifier) → map without_range (map but_range is) ≡ map without_range is
+mapped_twice [] = refl
+mapped_twice (x ∷ xs) = ap (λ ys. without_range x ∷ ys) (mapped_twice xs)
+
+range_alike : (env more : Environment) → PassKeeps env more → more.errors ≡ env.errors → but_ranges_and_contexts more ≡ but_ranges_and_contexts env
+range_alike env more k errors =
+    let rest : but_inferred more ≡ but_inferred env = k.rest in
+    let kept : but_all more ≡ but_all env = but_mapped more ∙ ap without_all rest ∙ sym (but_mapped env) in
+    ap (λ es. record (but_all more) { errors = es }) errors ∙ ap (λ (e : Environment). record e { errors = env.errors }) kept
+  where
+    abbrev but_all : Environment → Environment
+    but_all e = record (but_ranges_and_contexts e) { errors = [] }
+
+    abbrev without_all : Environment → Environment
+    without_all e = record e { identifiers = map without_range e.identifiers }
+
+    but_mapped : (e : Environment) → but_all e ≡ without_all (but_inferred e)
+    but_mapped e = ap (λ is. record (but_all e) { identifiers = is }) (sym (mapped_twice e.identifiers))
+
+-- the pass over a nested function, which records no report
+pub ranges_keep : (f g : HirFunction) (env more : Environment) → function_fits f env ≡ true → but_places g ≡ but_places f → PassKeeps env more → more.errors ≡ env.errors → FunctionKept f env g more
+ranges_keep f g env more h still kept errors =
+    let k : EnvironmentKept env more = environment_alike env more (range_alike env more kept errors) (tables_of_fitting f env h) in
+    record {
+      evolves = k.evolves;
+      still = sym (bare_of_places f g (sym still));
+      fits = fits_with_other_places f g more (sym still) (still_fits env more k f h);
+    }
+
+-- ---- what follows from the summary
+
+context_stays : (c : Bool) (p : Place) → but_effect (record p { effect = if c then Capture else Read }) ≡ but_effect p
+context_stays c p = refl
+
+contexts_stay : (summary : List AliasingEffect) (ps : List Place) → map but_effect (map (context_settled summary) ps) ≡ map but_effect ps
+contexts_stay summary [] = refl
+contexts_stay summary (p ∷ ps) = ap (λ z. but_effect p ∷ z) (contexts_stay summary ps)
+
+reset_stays : (is : List Identifier) (n : ℕ) (o : Option Identifier) → slice_get is n ≡ o → map without_range (reset_at is n o) ≡ map without_range is
+reset_stays is n None h = refl
+reset_stays [] n (Some x) h = refl
+reset_stays (i ∷ is) zero (Some x) h = let same : i ≡ x = cc in ap (λ y. without_range y ∷ map without_range is) (sym same)
+reset_stays (i ∷ is) (suc n) (Some x) h = ap (λ ys. without_range i ∷ ys) (reset_stays is n (Some x) h)
+
+resets_stay : (ps : List Place) (is : List Identifier) → map without_range (reset ps is) ≡ map without_range is
+resets_stay [] is = refl
+resets_stay (p ∷ ps) is = resets_stay ps (reset_at is p.identifier.0 (slice_get is p.identifier.0)) ∙ reset_stays is p.identifier.0 (slice_get is p.identifier.0) refl
+
+-- the effects of a function with another summary
+summarized_effects : (env : Environment) (f : HirFunction) (summary : List AliasingEffect) → effects_fit env f ≡ true → SummaryFits env summary → effects_fit env (record f { aliasing_effects = Some summary }) ≡ true
+summarized_effects env f summary h s =
+    let g : HirFunction = record f { aliasing_effects = Some summary } in
+    let a = both_true (effects_within_tables env f) (holds_no_call f.aliasing_effects) h in
+    let b = both_true _ (recorded_within_tables env f.aliasing_effects) a.0 in
+    together (effects_within_tables env g) (holds_no_call g.aliasing_effects) (together _ (recorded_within_tables env (Some summary)) b.0 s.within) s.no_call
+
+pub settled_keeps : (summary : List AliasingEffect) (f : HirFunction) (env : Environment) → function_fits f env ≡ true → SummaryFits env summary
+    → FunctionKept f env (settled summary (f, env)).0 (settled summary (f, env)).1
+settled_keeps summary f env h s =
+    let g : HirFunction = record f { aliasing_effects = Some summary } in
+    let after : HirFunction = summarized summary f in
+    let more : Environment = (settled summary (f, env)).1 in
+    let k : EnvironmentKept env more = environment_alike env more (ap (λ is. record (but_ranges_and_contexts env) { identifiers = is }) (resets_stay after.context env.identifiers)) (tables_of_fitting f env h) in
+    let stored : function_fits g env ≡ true = fits_with_other_effects f g env refl h (summarized_effects env f summary (fitted f env h).effects s) in
+    let places : but_places g ≡ but_places after = ap (λ ps. record (but_places g) { context = ps }) (sym (contexts_stay summary f.context)) in
+    let set : function_fits after env ≡ true = fits_with_other_places g after env places stored in
+    record {
+      evolves = k.evolves;
+      still = sym (bare_of_places g after places) ∙ sym (bare_of_effects f g refl);
+      fits = still_fits env more k after set;
+    }
+
+-- effects that name entries of the tables still do
+pub summary_kept : (env more : Environment) (f : HirFunction) → Evolves env more → function_fits f env ≡ true → (summary : List AliasingEffect) → SummaryFits env summary → SummaryFits more summary
+summary_kept env more f k h summary s =
+    let g : HirFunction = record f { aliasing_effects = Some summary } in
+    let fits : effects_fit more g ≡ true = k.effects g (summarized_effects env f summary (fitted f env h).effects s) in
+    let a = both_true (effects_within_tables more g) (holds_no_call g.aliasing_effects) fits in
+    record { within = (both_true _ (recorded_within_tables more (Some summary)) a.0).1; no_call = a.1 }

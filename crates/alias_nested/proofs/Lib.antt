@@ -1,0 +1,3 @@
+pub mod Evolving
+pub mod Keeping
+pub mod Surviving
