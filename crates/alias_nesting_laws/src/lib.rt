@@ -1,2 +1,0 @@
-//! Laws.
-#![tactic(auto)]
