@@ -1,0 +1,5 @@
+pub mod ClosureLaws
+pub mod FittingLaws
+pub mod PartLaws
+pub mod RootLaws
+pub mod SlotLaws
