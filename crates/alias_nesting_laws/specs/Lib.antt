@@ -3,3 +3,5 @@ pub mod FittingLaws
 pub mod PartLaws
 pub mod RootLaws
 pub mod SlotLaws
+pub mod StandInLaws
+pub mod SubtreeLaws
