@@ -11,11 +11,11 @@ use Rattle.alias_rules.specs.Nesting.{created_at, next_level, tree_from}
 abbrev pub Among : List ℕ → List ℕ → Type 0
 Among ks xs = (k : ℕ) → is_among xs k ≡ true → is_among ks k ≡ true
 
-left_true : (a b : Bool) → a ≡ true → (a || b) ≡ true
+pub left_true : (a b : Bool) → a ≡ true → (a || b) ≡ true
 left_true true b h = refl
 left_true false b h = cc
 
-right_true : (a b : Bool) → b ≡ true → (a || b) ≡ true
+pub right_true : (a b : Bool) → b ≡ true → (a || b) ≡ true
 right_true true b h = refl
 right_true false b h = h
 

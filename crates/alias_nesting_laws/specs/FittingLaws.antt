@@ -15,6 +15,7 @@ use Rattle.alias_rules.specs.Nesting.{tree_below}
 use Rattle.alias_rules.specs.RuleLaws.{fitting_tree, fitting_rules}
 use Rattle.alias_rules.specs.Sharing.{identifiers_apart}
 use Rattle.alias_rules.specs.declared.rules.Rule.{Rule}
+use Rattle.alias_nesting_laws.specs.ClosureLaws.{left_true, right_true}
 use Rattle.alias_rules.specs.declared.rules.Rule.TheVariants.{Numbers, Entry, Successors, Listed, ListedOnce, Handlers, Phis, Orders, Distinct, Calls, ContextValues}
 
 -- ---- steps and lists
@@ -27,22 +28,14 @@ pub then_pass : {E : Type 0} (r s : Result ⊤ E) → r ≡ Ok tt → s ≡ Ok t
 then_pass (Ok tt) s p q = q
 then_pass (Err e) s p q = cc
 
-here_too : (a b : Bool) → a ≡ true → (a || b) ≡ true
-here_too true b h = refl
-here_too false b h = cc
-
-there_too : (a b : Bool) → b ≡ true → (a || b) ≡ true
-there_too true b h = refl
-there_too false b h = h
-
 pub itself : (k : ℕ) → nat_eq k k ≡ true
 itself k = eq-eqb k k refl
 
 pub first_among : (x : ℕ) (xs : List ℕ) → is_among (x ∷ xs) x ≡ true
-first_among x xs = here_too (nat_eq x x) (is_among xs x) (itself x)
+first_among x xs = left_true (nat_eq x x) (is_among xs x) (itself x)
 
 pub later_among : (x : ℕ) (xs : List ℕ) (k : ℕ) → is_among xs k ≡ true → is_among (x ∷ xs) k ≡ true
-later_among x xs k h = there_too (nat_eq k x) (is_among xs k) h
+later_among x xs k h = right_true (nat_eq k x) (is_among xs k) h
 
 -- what passes for each of the numbers passes for one of them
 pub pass_among : {E : Type 0} (f : ℕ → Result ⊤ E) (ks : List ℕ) (k : ℕ) → all_pass f ks ≡ Ok tt → is_among ks k ≡ true → f k ≡ Ok tt

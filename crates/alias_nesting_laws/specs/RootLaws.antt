@@ -20,6 +20,7 @@ use Rattle.alias_function_rules.specs.declared.fault.UnitFault.{UnitFault}
 use Rattle.alias_rules.specs.Functions.{rule_holds}
 use Rattle.alias_rules.specs.declared.rules.Rule.{Rule}
 use Rattle.alias_rules.specs.declared.rules.Rule.TheVariants.{Numbers, Entry, Successors, Listed, ListedOnce, Handlers, Phis, Orders, Distinct, Calls, ContextValues}
+use Rattle.alias_nesting_laws.specs.ClosureLaws.{left_true}
 use Rattle.alias_nesting_laws.specs.FittingLaws.{then_pass}
 
 -- ---- steps
@@ -43,10 +44,6 @@ passes_unless false f g h = refl
 weaker_with : (b c : Bool) (f g : UnitFault) → (b ≡ true → c ≡ true) → ◌≡◌ {A = Result ⊤ UnitFault} (if b then Ok tt else Err f) (Ok tt) → ◌≡◌ {A = Result ⊤ UnitFault} (if c then Ok tt else Err g) (Ok tt)
 weaker_with true c f g w h = ap (λ (d : Bool). if d then Ok tt else Err g) (w refl)
 weaker_with false c f g w h = cc
-
-or_more : (a b : Bool) → a ≡ true → (a || b) ≡ true
-or_more true b h = refl
-or_more false b h = cc
 
 -- ---- the rules
 
@@ -114,4 +111,4 @@ module _ (k : FunctionId) where
       passes_on (λ (i : Instruction). at_most (holder.Function (Some k)) 1024 (argument_count i.value)) (λ (i : Instruction). at_most (holder.Function None) 1024 (argument_count i.value)) call_passes func.instructions h
   rule_of_root ContextValues env func h =
       weaker_with (length func.context_values == 0) ((length func.context_values == 0) || (length func.context_values == length func.context)) _ _
-      (or_more (length func.context_values == 0) (length func.context_values == length func.context)) h
+      (left_true (length func.context_values == 0) (length func.context_values == length func.context)) h

@@ -1,4 +1,4 @@
--- The slots of nested functions, and an environment with another function in one of them.
+-- A function that another one creates is in its slot; and lists of which one item is set.
 use Rattle.std.specs.Prelude.{◌≡◌, ℕ, ◌<◌, Bool, true, false, ◌||◌, nat_eq, nat_lt, List, [], ◌∷◌, ◌++◌, length, slice_get, slice_set, Option, Some, None, Result, Ok, Err, ⊤, refl, if◌then◌else◌}
 use Rattle.std.specs.List.{flat_map}
 use Rattle.std.proofs.Common.{zero, suc, ap, sym, ◌∙◌, subst, arith}
@@ -18,10 +18,6 @@ use Rattle.alias_rules.specs.Nesting.{number_of, created_in}
 use Rattle.alias_rules.specs.declared.rules.Rule.TheVariants.{Numbers}
 use Rattle.alias_nesting_laws.specs.FittingLaws.{Fitted, fitted}
 use Rattle.alias_nesting_laws.specs.PartLaws.{among_cases, append_cases}
-
--- the environment with another function in the slot of the number
-abbrev pub with_function : FunctionId → HirFunction → Environment → Environment
-with_function id g env = record env { functions = slice_set env.functions id.0 g }
 
 -- ---- lists of which one item is set
 

@@ -26,7 +26,8 @@ use Rattle.alias_rules.specs.Nesting.{created_of, created_at, next_level}
 use Rattle.alias_rules.specs.declared.rules.Rule.{Rule}
 use Rattle.alias_rules.specs.declared.rules.Rule.TheVariants.{Numbers, Entry, Successors, Listed, ListedOnce, Handlers, Phis, Orders, Distinct, Calls, ContextValues}
 use Rattle.alias_nesting_laws.specs.FittingLaws.{together}
-use Rattle.alias_nesting_laws.specs.SlotLaws.{with_function, length_set, set_other, at_set}
+use Rattle.alias_nesting_laws.specs.Slots.{with_function}
+use Rattle.alias_nesting_laws.specs.SlotLaws.{length_set, set_other, at_set}
 
 -- ---- lists
 

@@ -60,7 +60,7 @@ pub record Subtree (n : ℕ) (env : Environment) (found level ks : List ℕ) (wi
   pub left_out : is_among below without ≡ false
 
 -- one number is another where both are among some, and only one of them is
-apart_from : (ks : List ℕ) (k j : ℕ) → is_among ks k ≡ true → is_among ks j ≡ false → k ≡ j → ⊥
+pub apart_from : (ks : List ℕ) (k j : ℕ) → is_among ks k ≡ true → is_among ks j ≡ false → k ≡ j → ⊥
 apart_from ks k j h g e = not_both (is_among ks j) (subst (λ z. is_among ks z ≡ true) e h) g
 
 module _ (env : Environment) (id : FunctionId) (stand_in : HirFunction) where
