@@ -1,13 +1,13 @@
 -- The inference takes a function that another one creates, once it is out of its slot.
-use Rattle.std.specs.Prelude.{◌≡◌, ℕ, Bool, true, false, List, [], length, slice_get, Option, Some, None, Result, Ok, ⊤, refl}
+use Rattle.std.specs.Prelude.{◌≡◌, ℕ, true, [], slice_get, Some, None, Ok, refl}
 use Rattle.std.specs.Option.{option_map_or}
 use Rattle.std.proofs.Common.{ap, sym, ◌∙◌, subst}
 use Rattle.alias_base.specs.declared.ids.FunctionId.{FunctionId}
 use Rattle.alias_hir.specs.declared.env.Environment.{Environment}
 use Rattle.alias_hir.specs.declared.hir.HirFunction.{HirFunction}
 use Rattle.alias_function_rules.specs.Rules.{is_among}
-use Rattle.alias_rules.specs.Fitting.{effects_fit, effects_fit_at, function_fits}
-use Rattle.alias_rules.specs.Functions.{rule_holds, of_function, at_function}
+use Rattle.alias_rules.specs.Fitting.{effects_fit, function_fits}
+use Rattle.alias_rules.specs.Functions.{rule_holds, of_function}
 use Rattle.alias_rules.specs.Nesting.{created_in, created_at}
 use Rattle.alias_rules.specs.declared.rules.Rule.{Rule}
 use Rattle.alias_nesting_laws.specs.ClosureLaws.{Among, Closed, tree_closed}

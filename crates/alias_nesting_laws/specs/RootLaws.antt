@@ -1,6 +1,6 @@
 -- A nested function that keeps its rules keeps them as a function of its own: the rules name it in their faults alone.
 use Rattle.std.specs.Prelude.{◌≡◌, ℕ, Bool, true, false, ◌||◌, ◌==◌, nat_le, List, [], ◌∷◌, length, Option, Some, None, Result, Ok, Err, ⊤, refl, if◌then◌else◌}
-use Rattle.std.proofs.Common.{ap, sym, ◌∙◌}
+use Rattle.std.proofs.Common.{ap}
 use Rattle.alias_base.specs.Answer.{◌>>=◌, all_pass}
 use Rattle.alias_base.specs.AnswerLaws.{both_pass}
 use Rattle.alias_base.specs.declared.ids.BlockId.{BlockId}
@@ -13,8 +13,7 @@ use Rattle.alias_hir.specs.declared.hir.HirFunction.{HirFunction}
 use Rattle.alias_hir.specs.declared.hir.Instruction.{Instruction}
 use Rattle.alias_hir.specs.declared.hir.Phi.{Phi}
 use Rattle.alias_hir.specs.declared.place.Place.{Place}
-use Rattle.alias_hir.specs.declared.terminal.Terminal.{Terminal}
-use Rattle.alias_function_rules.specs.Rules.{is_block, named_exists, leads_to_blocks, handler_of, missing, first_missing, listed_instructions, twice, first_again, shared, handlers, has_edge, operand_fits, operands_fit, order_fits, repeated, own_identifiers, at_most, argument_count, values_fit}
+use Rattle.alias_function_rules.specs.Rules.{is_block, named_exists, leads_to_blocks, handler_of, missing, first_missing, listed_instructions, twice, first_again, shared, handlers, has_edge, operand_fits, operands_fit, order_fits, repeated, own_identifiers, at_most, argument_count}
 use Rattle.alias_function_rules.specs.declared.fault.Holder.TheVariants as holder
 use Rattle.alias_function_rules.specs.declared.fault.UnitFault.{UnitFault}
 use Rattle.alias_rules.specs.Functions.{rule_holds}

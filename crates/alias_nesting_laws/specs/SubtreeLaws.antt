@@ -1,6 +1,5 @@
 -- The functions below one that another function creates: they are a tree too, a part of those below the other one.
-use Rattle.std.specs.Prelude.{◌≡◌, ℕ, Bool, true, false, ◌||◌, ◌==◌, nat_eq, List, [], ◌∷◌, ◌++◌, length, slice_get, Option, Some, None, is_none, refl, if◌then◌else◌}
-use Rattle.std.specs.List.{flat_map}
+use Rattle.std.specs.Prelude.{◌≡◌, ℕ, Bool, true, false, ◌==◌, List, [], ◌∷◌, ◌++◌, length, slice_get, Option, Some, None, is_none, refl, if◌then◌else◌}
 use Rattle.std.proofs.Common.{zero, suc, ap, sym, ◌∙◌, subst, arith}
 use Rattle.std.proofs.lemmas.Bool.{eqb-true}
 use Rattle.std.proofs.lemmas.List.{append-nil}
@@ -9,7 +8,7 @@ use Rattle.alias_hir.specs.declared.env.Environment.{Environment}
 use Rattle.alias_hir.specs.declared.hir.HirFunction.{HirFunction}
 use Rattle.alias_function_rules.specs.Rules.{is_among, first_again}
 use Rattle.alias_rules.specs.Nesting.{created_in, created_of, created_at, next_level, ended, tree_from, tree_below}
-use Rattle.alias_nesting_laws.specs.ClosureLaws.{Among, among_front, among_rest, among_neither, Closed, tree_closed}
+use Rattle.alias_nesting_laws.specs.ClosureLaws.{Among, among_front, among_neither, tree_closed}
 use Rattle.alias_nesting_laws.specs.FittingLaws.{first_among, later_among}
 use Rattle.alias_nesting_laws.specs.PartLaws.{Part, part_nothing, part_both, part_of_nothing, part_each, part_among, part_at, absent, not_both, part_distinct, front_apart}
 use Rattle.alias_nesting_laws.specs.StandInLaws.{standing, creates_same}
