@@ -1,0 +1,10 @@
+pub mod ClosureLaws
+pub mod FittingLaws
+pub mod NestingLaws
+pub mod PartLaws
+pub mod RootLaws
+pub mod SeparateLaws
+pub mod SlotLaws
+pub mod Slots
+pub mod StandInLaws
+pub mod SubtreeLaws
