@@ -1,0 +1,5 @@
+use Rattle.alias_bare_laws.specs.EvolvedLaws.{fits_evolved}
+use Rattle.alias_bare_laws.proofs.laws.evolved_laws.Goals as goal
+
+pub returns : goal.returns
+returns c = fits_evolved c.args.env.now c.args.more.now

@@ -1,0 +1,5 @@
+pub mod Bare
+pub mod BareIdentifiers
+pub mod BareLaws
+pub mod BareParts
+pub mod EvolvedLaws
