@@ -5,12 +5,11 @@ use Rattle.std.specs.Option.{option_map_or}
 use Rattle.std.proofs.Common.{sym, ◌∙◌, ap}
 use Rattle.std.proofs.lemmas.List.{length-map}
 use Rattle.alias_base.specs.Answer.{◌>>=◌, all_pass}
-use Rattle.alias_base.specs.AnswerLaws.{both_true}
 use Rattle.alias_base.specs.Find.{same_block, value_at}
 use Rattle.alias_base.specs.declared.ids.BlockId.{BlockId}
 use Rattle.alias_base.specs.declared.ids.FunctionId.{FunctionId}
 use Rattle.alias_hir.specs.Parts.{param_place}
-use Rattle.alias_hir.specs.Terminals.{evaluation_order, terminal_places, terminal_effects, optional_block, successors, with_terminal_effects}
+use Rattle.alias_hir.specs.Terminals.{evaluation_order, terminal_places, terminal_effects, optional_block, successors}
 use Rattle.alias_hir.specs.Values.{places_of, created}
 use Rattle.alias_hir.specs.declared.env.Environment.{Environment}
 use Rattle.alias_hir.specs.declared.hir.BasicBlock.{BasicBlock}
@@ -22,12 +21,12 @@ use Rattle.alias_hir.specs.declared.hir.Phi.{Phi}
 use Rattle.alias_hir.specs.declared.place.Place.{Place}
 use Rattle.alias_hir.specs.declared.terminal.Terminal.{Terminal}
 use Rattle.alias_visit.specs.Places.{identifiers_in}
-use Rattle.alias_function_rules.specs.Rules.{below, place_fits, created_fits, instruction_fits, phi_fits, block_fits, numbers_fit, is_block, entry_exists, handler_of, named_exists, leads_to_blocks, successors_exist, first_missing, missing, listed_instructions, instructions_listed, first_again, twice, none_listed_twice, shared, handlers, handlers_distinct, goes_to, has_edge, operand_fits, operands_fit, phis_fit, order_fits, orders_fit, own_identifiers, repeated, places_distinct, tables_fit, types_fit, signatures_fit, argument_count, at_most, calls_fit, values_fit, context_values_fit}
+use Rattle.alias_function_rules.specs.Rules.{below, place_fits, created_fits, instruction_fits, phi_fits, block_fits, numbers_fit, is_block, entry_exists, handler_of, named_exists, leads_to_blocks, successors_exist, first_missing, missing, listed_instructions, instructions_listed, first_again, twice, none_listed_twice, shared, handlers_distinct, goes_to, has_edge, operand_fits, operands_fit, phis_fit, order_fits, orders_fit, repeated, places_distinct, tables_fit, types_fit, signatures_fit, argument_count, at_most, calls_fit, values_fit, context_values_fit}
 use Rattle.alias_function_rules.specs.declared.fault.Holder.TheVariants as holder
 use Rattle.alias_function_rules.specs.declared.fault.Table.TheVariants.{Identifiers, Instructions}
 use Rattle.alias_function_rules.specs.declared.fault.UnitFault.TheVariants as fault
-use Rattle.alias_range_places.specs.Keeping.{but_effect, but_value, but_instruction, but_terminal, but_operand, but_phi, but_block, but_entry}
-use Rattle.alias_rules.specs.Fitting.{recorded_within_tables, effects_within_tables, holds_no_call, effects_fit, effects_fit_at, reports_no_invariant, function_rules, function_fits_with, function_fits}
+use Rattle.alias_range_places.specs.Keeping.{but_effect, but_context, but_value, but_instruction, but_terminal, but_operand, but_phi, but_block, but_entry}
+use Rattle.alias_rules.specs.Fitting.{recorded_within_tables, holds_no_call, effects_fit, effects_fit_at, reports_no_invariant, function_rules, function_fits_with, function_fits}
 use Rattle.alias_rules.specs.Functions.{rule_holds, at_function, each_function}
 use Rattle.alias_rules.specs.Nesting.{number_of, created_in, tree_from, tree_below}
 use Rattle.alias_rules.specs.RecordedLaws.{without_instruction_effects, without_block_effects, without_effects, without_effects_again, rule_of_other_effects, identifiers_of_other_effects}
@@ -44,7 +43,8 @@ use Rattle.alias_bare_laws.specs.BareParts.{effects_ids, value_ids, value_create
 then_same : {E : Type 0} (p q r s : Result ⊤ E) → p ≡ q → r ≡ s → (p >>= (λ _. r)) ≡ (q >>= (λ _. s))
 then_same p q r s a b = ap (λ z. z >>= (λ _. r)) a ∙ ap (λ z. q >>= (λ _. z)) b
 
-all_pass_mapped : {A B E : Type 0} (f : B → Result ⊤ E) (g : A → B) (h : A → Result ⊤ E) → ((x : A) → f (g x) ≡ h x) → (xs : List A) → all_pass f (map g xs) ≡ all_pass h xs
+-- what passes of changed items is what passes of the items
+pub all_pass_mapped : {A B E : Type 0} (f : B → Result ⊤ E) (g : A → B) (h : A → Result ⊤ E) → ((x : A) → f (g x) ≡ h x) → (xs : List A) → all_pass f (map g xs) ≡ all_pass h xs
 all_pass_mapped f g h e [] = refl
 all_pass_mapped f g h e (x ∷ xs) = then_same (f (g x)) (h x) (all_pass f (map g xs)) (all_pass h xs) (e x) (all_pass_mapped f g h e xs)
 
@@ -295,6 +295,10 @@ bare_of_places f g e = without_swapped f ∙ ap without_effects e ∙ sym (witho
 -- and so is what is recorded
 pub bare_of_effects : (f g : HirFunction) → without_effects f ≡ without_effects g → bare f ≡ bare g
 bare_of_effects f g e = ap but_places e
+
+-- and the effects of context places
+pub bare_of_context : (f : HirFunction) → bare (but_context f) ≡ bare f
+bare_of_context f = ap (λ ps. record (bare f) { context = ps }) (map_mapped but_effect but_effect but_effect (λ p. refl) f.context)
 
 effects_alike : (env : Environment) (f : HirFunction) → effects_fit env (but_places f) ≡ effects_fit env f
 effects_alike env f =

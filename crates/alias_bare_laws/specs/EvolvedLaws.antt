@@ -1,5 +1,5 @@
 -- What analysing nested functions changes of an environment keeps the rules: a function that the inference takes is taken again.
-use Rattle.std.specs.Prelude.{◌≡◌, ℕ, ◌+◌, ◌-◌, ◌≤◌, Bool, true, false, ◌&&◌, List, [], ◌∷◌, ◌++◌, length, slice_get, Option, Some, None, option_map, Result, Ok, Err, ⊤, is_ok, is_none, refl, if◌then◌else◌}
+use Rattle.std.specs.Prelude.{◌≡◌, ℕ, ◌+◌, ◌-◌, ◌≤◌, true, false, ◌&&◌, List, [], ◌∷◌, ◌++◌, length, slice_get, Option, Some, None, option_map, Result, Ok, ⊤, is_ok, is_none, refl, if◌then◌else◌}
 use Rattle.std.specs.List.{list_all}
 use Rattle.std.specs.Option.{option_map_or}
 use Rattle.std.proofs.Common.{zero, suc, ap, sym, ◌∙◌, subst, length-append, arith}
@@ -8,15 +8,13 @@ use Rattle.alias_base.specs.AnswerLaws.{both_true, both_pass}
 use Rattle.alias_base.specs.declared.ids.FunctionId.{FunctionId}
 use Rattle.alias_hir.specs.Tables.{fresh_identifier, with_identifier}
 use Rattle.alias_hir.specs.declared.env.Environment.{Environment}
-use Rattle.alias_hir.specs.declared.env.Identifier.{Identifier}
 use Rattle.alias_hir.specs.declared.hir.HirFunction.{HirFunction}
 use Rattle.alias_function_rules.specs.Rules.{first_again, tables_fit, types_fit, signatures_fit}
-use Rattle.alias_function_rules.specs.declared.fault.UnitFault.{UnitFault}
 use Rattle.alias_rules.specs.Fitting.{effects_fit, effects_fit_at, reports_no_invariant, function_rules, function_fits_with, function_fits}
 use Rattle.alias_rules.specs.Functions.{rule_holds, of_function, at_function, each_function}
 use Rattle.alias_rules.specs.Nesting.{created_in, created_of, created_at, next_level, tree_from, tree_below}
 use Rattle.alias_rules.specs.RuleLaws.{fitting_tree, fitting_rules}
-use Rattle.alias_rules.specs.Sharing.{identifiers_of, identifiers_at, context_of, context_at, family, inside, others, outside, first_shared, in_two, nested_is_apart, identifiers_apart}
+use Rattle.alias_rules.specs.Sharing.{identifiers_of, identifiers_at, context_of, context_at, inside, outside, first_shared, in_two, nested_is_apart, identifiers_apart}
 use Rattle.alias_rules.specs.declared.rules.Rule.{Rule}
 use Rattle.alias_rules.specs.declared.rules.Rule.TheVariants.{Numbers, Entry, Successors, ListedOnce, Handlers, Phis, Orders, Distinct, Calls, ContextValues}
 use Rattle.alias_tables.specs.GrowingLaws.{grows_self}

@@ -3,3 +3,4 @@ pub mod BareIdentifiers
 pub mod BareLaws
 pub mod BareParts
 pub mod EvolvedLaws
+pub mod RangedLaws
