@@ -1,0 +1,34 @@
+//! What no rule looks at, and what analysing nested functions leaves true of a function.
+
+ghost use Rattle.std.specs.Prelude.{◌≡◌, true, Option, Ok};
+ghost use Rattle.alias_base.specs.declared.ids.FunctionId.{FunctionId};
+ghost use Rattle.alias_hir.specs.declared.hir.HirFunction.{HirFunction};
+ghost use Rattle.alias_function_rules.specs.Rules.{tables_fit, types_fit, signatures_fit};
+ghost use Rattle.alias_rules.specs.Fitting.{function_fits, reports_no_invariant};
+ghost use Rattle.alias_rules.specs.Functions.{rule_holds};
+ghost use Rattle.alias_rules.specs.declared.rules.Rule.{Rule};
+ghost use Rattle.alias_bare_laws.specs.Bare.{bare, but_places};
+ghost use Rattle.alias_bare_laws.specs.EvolvedLaws.{Evolves};
+ghost use Rattle.alias_bare_laws.specs.RangedLaws.{SameButRanges};
+
+use alias_hir::env::Environment;
+
+/// Functions that differ in what is inferred alone keep, or break, each rule alike; and one that differs from a function
+/// that the inference takes in the effects of its places alone is taken. Does nothing.
+pub fn bare_laws(env: &Environment)
+    ensures rules { (r : Rule) (o : Option FunctionId) (f g : HirFunction) → bare f ≡ bare g → rule_holds r env.now o g ≡ rule_holds r env.now o f }
+    ensures fits { (f g : HirFunction) → but_places f ≡ but_places g → function_fits f env.now ≡ true → function_fits g env.now ≡ true }
+{
+    let _env = env;
+}
+
+/// A function that the inference takes is taken again over what analysing nested functions makes of its environment, where
+/// the tables keep their rules and no report says that an invariant was broken; and where nothing but ranges, effects of
+/// context places and reports changed, that is what the analysis may make of it. Does nothing.
+pub fn evolved_laws(env: &Environment, more: &Environment)
+    ensures ranges { SameButRanges env.now more.now → Evolves env.now more.now }
+    ensures fits { Evolves env.now more.now → tables_fit more.now ≡ Ok tt → types_fit more.now ≡ Ok tt → signatures_fit more.now ≡ Ok tt → reports_no_invariant more.now ≡ true → (g : HirFunction) → function_fits g env.now ≡ true → function_fits g more.now ≡ true }
+{
+    let _env = env;
+    let _more = more;
+}
