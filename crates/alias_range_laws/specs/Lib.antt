@@ -1,0 +1,4 @@
+pub mod AnswerLaws
+pub mod SummaryLaws
+pub mod PlacedLaws
+pub mod ReportLaws
