@@ -2,3 +2,4 @@ pub mod AnswerLaws
 pub mod SummaryLaws
 pub mod PlacedLaws
 pub mod ReportLaws
+pub mod TableLaws
