@@ -1,9 +1,11 @@
 -- What the range pass keeps of the tables: what effects name is there afterwards exactly where it was before.
-use Rattle.std.proofs.Common.{◌≡◌, ℕ, ◌&&◌, Bool, true, List, [], ◌∷◌, Option, Some, None, option_map, length, slice_get, nat_lt, refl, ap, ap₂, sym, ◌∙◌}
+use Rattle.std.proofs.Common.{◌≡◌, ℕ, ◌&&◌, Bool, true, List, [], ◌∷◌, Option, Some, None, map, option_map, length, slice_get, nat_lt, refl, ap, ap₂, sym, ◌∙◌}
 use Rattle.std.proofs.lemmas.List.{length-map}
 use Rattle.std.proofs.lemmas.Option.{slice_get-map}
+use Rattle.std.specs.Prelude.{Result, ⊤}
 use Rattle.std.specs.List.{list_all}
 use Rattle.std.specs.Option.{option_map_or}
+use Rattle.alias_base.specs.Answer.{◌>>=◌, all_pass}
 use Rattle.alias_base.specs.declared.ids.BlockId.{BlockId}
 use Rattle.alias_base.specs.declared.ids.FunctionId.{FunctionId}
 use Rattle.alias_base.specs.declared.ids.TypeId.{TypeId}
@@ -12,11 +14,14 @@ use Rattle.alias_hir.specs.Effects.{effect_places, error_of, function_of, signat
 use Rattle.alias_hir.specs.Terminals.{terminal_effects}
 use Rattle.alias_hir.specs.declared.effect.AliasingEffect.{AliasingEffect}
 use Rattle.alias_hir.specs.declared.env.Environment.{Environment}
+use Rattle.alias_hir.specs.declared.env.Identifier.{Identifier}
 use Rattle.alias_hir.specs.declared.hir.BasicBlock.{BasicBlock}
 use Rattle.alias_hir.specs.declared.hir.HirFunction.{HirFunction}
 use Rattle.alias_hir.specs.declared.hir.Instruction.{Instruction}
 use Rattle.alias_hir.specs.declared.place.Place.{Place}
 use Rattle.alias_hir.specs.declared.report.DiagnosticId.{DiagnosticId}
+use Rattle.alias_function_rules.specs.declared.fault.Table.TheVariants.{Declarations, Types}
+use Rattle.alias_function_rules.specs.Rules.{below, identifier_fits, tables_fit, types_fit, signatures_fit}
 use Rattle.alias_rules.specs.Fitting.{place_within_tables, error_within_tables, function_within_tables, type_within_tables, named_within_tables, summary_within_tables, effect_within_tables, recorded_within_tables, holds_no_call, effects_fit, effects_fit_at}
 use Rattle.alias_range_places.specs.Keeping.{but_range, but_context}
 use Rattle.alias_range_pass.specs.Laws.{PassKeeps}
@@ -24,6 +29,15 @@ use Rattle.alias_range_pass.specs.Laws.{PassKeeps}
 all_equal : {X : Type 0} (p q : X → Bool) → ((x : X) → p x ≡ q x) → (xs : List X) → list_all p xs ≡ list_all q xs
 all_equal p q h [] = refl
 all_equal p q h (x ∷ xs) = ap₂ (λ a b. a && b) (h x) (all_equal p q h xs)
+
+pass_equal : {A E : Type 0} (f g : A → Result ⊤ E) → ((x : A) → f x ≡ g x) → (xs : List A) → all_pass f xs ≡ all_pass g xs
+pass_equal f g h [] = refl
+pass_equal f g h (x ∷ xs) = ap₂ (λ a b. a >>= (λ _. b)) (h x) (pass_equal f g h xs)
+
+-- no rule looks at ranges
+identifiers_pass_same : (env : Environment) (xs : List Identifier) → all_pass (identifier_fits env) (map but_range xs) ≡ all_pass (identifier_fits env) xs
+identifiers_pass_same env [] = refl
+identifiers_pass_same env (x ∷ xs) = ap (λ b. identifier_fits env x >>= (λ _. b)) (identifiers_pass_same env xs)
 
 -- the effects of context places are no part of a summary, nor of what a function records
 summary_same : (o : Option HirFunction) → summary (option_map but_context o) ≡ summary o
@@ -52,6 +66,27 @@ module _ (old new : Environment) (k : PassKeeps old new) where
   -- the function in a slot is the same but for the effects of its context places
   pub slots_stay : (j : ℕ) → option_map but_context (slice_get new.functions j) ≡ option_map but_context (slice_get old.functions j)
   slots_stay j = sym (slice_get-map but_context new.functions j) ∙ ap (λ (e : Environment). slice_get e.functions j) k.rest ∙ slice_get-map but_context old.functions j
+
+  -- ---- the rules of the tables
+
+  identifier_same : (i : Identifier) → identifier_fits new i ≡ identifier_fits old i
+  identifier_same i = ap₂ (λ n m. below Declarations n i.declaration_id.0 >>= (λ _. below Types m i.type_.0)) identifiers_as_long (ap (λ ts. length ts) types_stay)
+
+  -- the identifiers fit exactly where they did
+  pub tables_fit_same : tables_fit new ≡ tables_fit old
+  tables_fit_same =
+      pass_equal (identifier_fits new) (identifier_fits old) identifier_same new.identifiers
+      ∙ sym (identifiers_pass_same old new.identifiers)
+      ∙ ap (λ (e : Environment). all_pass (identifier_fits old) e.identifiers) k.rest
+      ∙ identifiers_pass_same old old.identifiers
+
+  -- and so do the types
+  pub types_fit_same : types_fit new ≡ types_fit old
+  types_fit_same = ap types_fit k.rest
+
+  -- and so do the signatures
+  pub signatures_fit_same : signatures_fit new ≡ signatures_fit old
+  signatures_fit_same = ap signatures_fit k.rest
 
   -- ---- effects
 
