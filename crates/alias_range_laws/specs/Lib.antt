@@ -1,0 +1,5 @@
+pub mod AnswerLaws
+pub mod SummaryLaws
+pub mod PlacedLaws
+pub mod ReportLaws
+pub mod TableLaws
