@@ -117,6 +117,12 @@ module _ (env more : Environment) (same : but_ranges_and_contexts more ≡ but_r
       let f : length more.functions ≡ length env.functions = sym (length-map more.functions but_context) ∙ ap length contexts_same ∙ length-map env.functions but_context in
       record { identifiers = omega arith; types = omega arith; functions = omega arith; interned = grows_equal env.interned more.interned interned_same }
 
+  abbrev reported : List Report → List Interned → Environment
+  reported es is = record env { errors = es; interned = is }
+
+  reports_alike : reported more.errors more.interned ≡ reported env.errors env.interned
+  reports_alike = ap (λ es. reported es more.interned) errors_same ∙ ap (reported env.errors) interned_same
+
   tables_alike_fit : TablesFit env → TablesFit more
   tables_alike_fit t = record {
     identifiers = tables_alike env more ids_same types_same t.identifiers;
@@ -124,12 +130,6 @@ module _ (env more : Environment) (same : but_ranges_and_contexts more ≡ but_r
     signatures = ap (all_pass (λ (s : Shape). signature_fits s.signature)) shapes_same ∙ t.signatures;
     reports = ap (λ (e : Environment). reports_no_invariant e) reports_alike ∙ t.reports;
   }
-    where
-      abbrev reported : List Report → List Interned → Environment
-      reported es is = record env { errors = es; interned = is }
-
-      reports_alike : reported more.errors more.interned ≡ reported env.errors env.interned
-      reports_alike = ap (λ es. reported es more.interned) errors_same ∙ ap (reported env.errors) interned_same
 
   pub environment_alike : TablesFit env → EnvironmentKept env more
   environment_alike t = record { evolves = evolves_with_contexts env more wider_alike contexts_same; tables = tables_alike_fit t }
@@ -159,20 +159,20 @@ mapped_twice : (is : List Identifier) → map without_range (map but_range is) �
 mapped_twice [] = refl
 mapped_twice (x ∷ xs) = ap (λ ys. without_range x ∷ ys) (mapped_twice xs)
 
+abbrev but_reports : Environment → Environment
+but_reports e = record (but_ranges_and_contexts e) { errors = [] }
+
+abbrev without_all : Environment → Environment
+without_all e = record e { identifiers = map without_range e.identifiers }
+
+but_mapped : (e : Environment) → but_reports e ≡ without_all (but_inferred e)
+but_mapped e = ap (λ is. record (but_reports e) { identifiers = is }) (sym (mapped_twice e.identifiers))
+
 range_alike : (env more : Environment) → PassKeeps env more → more.errors ≡ env.errors → but_ranges_and_contexts more ≡ but_ranges_and_contexts env
 range_alike env more k errors =
     let rest : but_inferred more ≡ but_inferred env = k.rest in
-    let kept : but_all more ≡ but_all env = but_mapped more ∙ ap without_all rest ∙ sym (but_mapped env) in
-    ap (λ es. record (but_all more) { errors = es }) errors ∙ ap (λ (e : Environment). record e { errors = env.errors }) kept
-  where
-    abbrev but_all : Environment → Environment
-    but_all e = record (but_ranges_and_contexts e) { errors = [] }
-
-    abbrev without_all : Environment → Environment
-    without_all e = record e { identifiers = map without_range e.identifiers }
-
-    but_mapped : (e : Environment) → but_all e ≡ without_all (but_inferred e)
-    but_mapped e = ap (λ is. record (but_all e) { identifiers = is }) (sym (mapped_twice e.identifiers))
+    let kept : but_reports more ≡ but_reports env = but_mapped more ∙ ap without_all rest ∙ sym (but_mapped env) in
+    ap (λ es. record (but_reports more) { errors = es }) errors ∙ ap (λ (e : Environment). record e { errors = env.errors }) kept
 
 -- the pass over a nested function, which records no report
 pub ranges_keep : (f g : HirFunction) (env more : Environment) → function_fits f env ≡ true → but_places g ≡ but_places f → PassKeeps env more → more.errors ≡ env.errors → FunctionKept f env g more

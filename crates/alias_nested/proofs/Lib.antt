@@ -1,3 +1,4 @@
 pub mod Evolving
 pub mod Keeping
+pub mod Leading
 pub mod Surviving

@@ -11,7 +11,7 @@ fn push_created(
     found: &mut List<FunctionId>,
     instruction: Option<&Instruction>,
 ) -> Result<(), AllocError>
-    ensures { OnOk result (found.new ≡ found.old ++ created_by (option_map (λ i. i.now) instruction)) }
+    ensures { OnOk result (found.new ≡ found.old ++ created_by (option_map (λ i. i.now) instruction.entry)) }
 {
     if let Some(instruction) = instruction {
         if let Some(id) = created(&instruction.value) {

@@ -1,5 +1,5 @@
 //! One nested function, once those below it are analysed.
-ghost use Rattle.std.specs.Prelude.{◌≡◌, ◌≤◌, true, ⊥, Err, length, IfOk, IfErr, OnOk};
+ghost use Rattle.std.specs.Prelude.{◌≡◌, ◌≤◌, true, Err, length, IfOk, IfErr, OnOk};
 ghost use Rattle.alias_failures.specs.Failures.{HasFailed};
 ghost use Rattle.alias_rules.specs.Fitting.{function_fits};
 ghost use Rattle.alias_range_pass.specs.Passes.{range_pass};

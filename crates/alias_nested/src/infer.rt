@@ -1,5 +1,5 @@
 //! The inference of a unit.
-ghost use Rattle.std.specs.Prelude.{◌≡◌, ◌≤◌, true, [], ⊥, IfOk, OnOk};
+ghost use Rattle.std.specs.Prelude.{◌≡◌, ◌≤◌, true, [], IfOk, OnOk};
 ghost use Rattle.alias_failures.specs.Failures.{HasFailed};
 ghost use Rattle.alias_rules.specs.Fitting.{function_fits};
 ghost use Rattle.alias_validate.specs.Reports.{with_errors};

@@ -1,0 +1,24 @@
+use Rattle.std.proofs.Common.{◌≡◌, ◌+◌, ◌*◌, ◌-◌, ◌≤◌, drop, length}
+use Rattle.alias_base.specs.declared.ids.FunctionId.{FunctionId}
+use Rattle.alias_nested.specs.Analysis.{Analysed, analysis, analysed, slot_analysed, each, Accounts}
+use Rattle.alias_nested.specs.Fitting.{EnvironmentKept}
+use Rattle.alias_nested.proofs.Leading.{Continues}
+use Rattle.alias_nested.proofs.analyse.+nested.Given as goal
+
+abbrev pub decreases-analyse_created : goal.decreases-analyse_created
+decreases-analyse_created g l = l.levels * 3
+
+abbrev pub decreases-analyse_slot : goal.decreases-analyse_slot
+decreases-analyse_slot g l = l.levels * 3 + 2
+
+abbrev pub decreases-analyse_taken : goal.decreases-analyse_taken
+decreases-analyse_taken g l = l.levels * 3 + 1
+
+-- what is left decides
+abbrev pub invariant-analyse_created-loop-id : goal.invariant-analyse_created-loop-id
+invariant-analyse_created-loop-id g l = record {
+  run : (fs : _) → Accounts fs l.fn.solved → Continues (slot_analysed (analysed (l.levels - 1))) l.id-items (drop l.id-index l.id-items) (analysis l.fn.env fs) l.env l.solved;
+  kept : EnvironmentKept l.fn.env l.env;
+  count : length l.env.functions ≡ length l.fn.env.functions;
+  faults : g.P.InnerPasses.faults l.fn.passes ≤ g.P.InnerPasses.faults l.passes;
+}
