@@ -15,7 +15,7 @@ use std::alloc::{AllocError, Global};
 
 /// How a pass ends where it hands a solution out: the solution, and what else the tables have.
 #[derive(Drop)]
-pub(crate) struct PassEnd {
+pub struct PassEnd {
     pub(crate) solved: Solved,
     /// All reports that are interned.
     pub(crate) reports: InternedReports,
