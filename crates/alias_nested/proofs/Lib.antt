@@ -1,3 +1,4 @@
+pub mod Ending
 pub mod Evolving
 pub mod Keeping
 pub mod Leading

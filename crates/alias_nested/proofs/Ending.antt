@@ -1,0 +1,115 @@
+-- What the effects pass on a function leads to.
+use Rattle.std.specs.Prelude.{◌≡◌, Bool, true, false, List, [], ◌∷◌, ◌++◌, Option, Some, None, Result, Ok, Err, ⊤, map, refl}
+use Rattle.std.specs.List.{AllByRecursion}
+use Rattle.std.proofs.Common.{ap, sym, subst, ◌∙◌}
+use Rattle.std.proofs.lemmas.List.{map-append}
+use Rattle.alias_base.specs.Answer.{◌>>=◌}
+use Rattle.alias_base.specs.declared.ids.FunctionId.{FunctionId}
+use Rattle.alias_effects.specs.Inference.{pass_end, inferred, env_after, env_inferred}
+use Rattle.alias_effects.specs.Recording.{with_effects_of}
+use Rattle.alias_effects.specs.Solutions.{IsSolved}
+use Rattle.alias_effects.specs.declared.output.PassEnd.{PassEnd}
+use Rattle.alias_effects.specs.declared.solved.Solved.{Solved}
+use Rattle.alias_hir.specs.Errors.{is_memory}
+use Rattle.alias_hir.specs.declared.env.Environment.{Environment}
+use Rattle.alias_hir.specs.declared.error.InferError.{InferError}
+use Rattle.alias_hir.specs.declared.error.InferError.TheVariants as error
+use Rattle.alias_hir.specs.declared.hir.HirFunction.{HirFunction}
+use Rattle.alias_nested.specs.Analysis.{Analysed, Analysis, analysis, named, naming, numbered, is_free, SolvesItsFlow, Accounts, effects_analysed}
+use Rattle.alias_nested.specs.Fitting.{FunctionKept}
+use Rattle.alias_nested.proofs.Keeping.{effects_keep}
+use Rattle.alias_rules.specs.Fitting.{function_fits}
+use Rattle.alias_step_laws.specs.TableLaws.{all_appended}
+
+-- the pass ends with this solution, and with what it makes of the environment
+pub record Ended (env : Environment) (func : HirFunction) (b : Bool) (s : Solved) (after : Environment) : Type 0 where
+  pub end : PassEnd
+  pub is : pass_end env func b ≡ Ok end
+  pub solved : end.solved ≡ s
+  pub env : env_after env end ≡ after
+
+ended_at : (r : Result PassEnd InferError) (env : Environment) (func : HirFunction) (b : Bool) (s : Solved) (after : Environment) → pass_end env func b ≡ r
+    → ◌≡◌ {A = Result Solved InferError} (r >>= (λ e. Ok e.solved)) (Ok s) → ◌≡◌ {A = Result Environment InferError} (r >>= (λ e. Ok (env_after env e))) (Ok after) → Ended env func b s after
+ended_at (Ok e) env func b s after p h i =
+    let a : e.solved ≡ s = cc in
+    let c : env_after env e ≡ after = cc in
+    record { end = e; is = p; solved = a; env = c }
+ended_at (Err x) env func b s after p h i = cc
+
+pub ended : (env : Environment) (func : HirFunction) (b : Bool) (s : Solved) (after : Environment) → inferred env func b ≡ Ok s → env_inferred env func b ≡ Ok after → Ended env func b s after
+ended env func b s after h i = ended_at (pass_end env func b) env func b s after refl h i
+
+module _ (env : Environment) (func : HirFunction) (b : Bool) (s : Solved) (after : Environment) (x : Ended env func b s after) (func' : HirFunction) (made : func' ≡ with_effects_of s func) where
+  func_is : with_effects_of x.end.solved func ≡ func'
+  func_is = ap (λ (z : Solved). with_effects_of z func) x.solved ∙ sym made
+
+  pub ended_keeps : function_fits func env ≡ true → FunctionKept func env func' after
+  ended_keeps h =
+      subst (λ (e : Environment). FunctionKept func env func' e) x.env
+      (subst (λ (f : HirFunction). FunctionKept func env f (env_after env x.end)) func_is (effects_keep func env b x.end h x.is))
+
+  -- what is analysed of the function
+  abbrev pub begun : FunctionId → Analysed
+  begun id = record { env = env; func = func; is_function_expression = true; solved = numbered id s }
+
+-- a nested function
+module _ (env : Environment) (func : HirFunction) (s : Solved) (after : Environment) (x : Ended env func true s after) (func' : HirFunction) (made : func' ≡ with_effects_of s func) where
+  pub effects_lead : (id : FunctionId) (fs : List Analysed) → effects_analysed id func (analysis env fs) ≡ Ok (func', analysis after (fs ++ begun env func true s after x func' made id ∷ []))
+  effects_lead id fs =
+      ap (λ r. naming id r >>= (λ e. Ok (with_effects_of e.solved func, analysis (env_after env e) (fs ++ record { env = env; func = func; is_function_expression = true; solved = numbered id e.solved } ∷ [])))) x.is
+      ∙ ap (λ f. Ok (f, analysis (env_after env x.end) (fs ++ record { env = env; func = func; is_function_expression = true; solved = numbered id x.end.solved } ∷ []))) (func_is env func true s after x func' made)
+      ∙ ap (λ e. Ok (func', analysis e (fs ++ record { env = env; func = func; is_function_expression = true; solved = numbered id x.end.solved } ∷ []))) x.env
+      ∙ ap (λ z. Ok (func', analysis after (fs ++ record { env = env; func = func; is_function_expression = true; solved = numbered id z } ∷ []))) x.solved
+
+-- a solution that is noted
+numbered_solves : (env : Environment) (func : HirFunction) (b : Bool) (id : FunctionId) (s : Solved) → IsSolved env func b s → IsSolved env func b (numbered id s)
+numbered_solves env func b id s h = record { in_order = h.in_order; solution = h.solution; effects = h.effects; terminal_effects = h.terminal_effects; joins = h.joins }
+
+pub accounts_more : (fs : List Analysed) (before after : List Solved) (x : Analysed) → Accounts fs before → after ≡ before ++ x.solved ∷ [] → SolvesItsFlow x → Accounts (fs ++ x ∷ []) after
+accounts_more fs before after x a more h = record {
+  same = map-append (λ (y : Analysed). y.solved) fs (x ∷ []) ∙ ap (λ ss. ss ++ x.solved ∷ []) a.same ∙ sym more;
+  solve = all_appended SolvesItsFlow fs (x ∷ []) a.solve (h, tt);
+}
+
+pub accounts_numbered : (env : Environment) (func : HirFunction) (id : FunctionId) (s : Solved) (fs : List Analysed) (before after : List Solved) → Accounts fs before → after ≡ before ++ numbered id s ∷ [] → IsSolved env func true s
+    → Accounts (fs ++ record { env = env; func = func; is_function_expression = true; solved = numbered id s } ∷ []) after
+accounts_numbered env func id s fs before after a more h =
+    accounts_more fs before after (record { env = env; func = func; is_function_expression = true; solved = numbered id s }) a more (numbered_solves env func true id s h)
+
+-- ---- refusals
+
+-- a refusal of a function is no want of memory
+pub not_memory : (id : FunctionId) (e : InferError) → is_free (named id e) ≡ false → is_memory e ≡ false
+not_memory id (error.Memory m) h = cc
+not_memory id (error.PassFault f p) h = refl
+not_memory id (error.NotSettled f v r) h = refl
+not_memory id (error.Uninitialized f b x s r) h = refl
+not_memory id (error.Reinitialized f i x) h = refl
+not_memory id (error.AliasBeforeCreate f i x) h = refl
+not_memory id (error.IncompatibleLibrary f i r) h = refl
+not_memory id (error.SpreadArgument f i s r) h = refl
+not_memory id (error.UnreplacedApply i r) h = refl
+not_memory id (error.EffectsNotInferred x) h = refl
+not_memory id (error.TooMany w) h = refl
+
+pub unfree : (e : InferError) → is_free e ≡ false → is_memory e ≡ false
+unfree (error.Memory m) h = cc
+unfree (error.PassFault f p) h = refl
+unfree (error.NotSettled f v r) h = refl
+unfree (error.Uninitialized f b x s r) h = refl
+unfree (error.Reinitialized f i x) h = refl
+unfree (error.AliasBeforeCreate f i x) h = refl
+unfree (error.IncompatibleLibrary f i r) h = refl
+unfree (error.SpreadArgument f i s r) h = refl
+unfree (error.UnreplacedApply i r) h = refl
+unfree (error.EffectsNotInferred x) h = refl
+unfree (error.TooMany w) h = refl
+
+-- the refusal of a step is that of what follows it
+pub refused_at : {A B : Type 0} (r : Result A InferError) (f : A → B) (e : InferError) → ◌≡◌ {A = Result B InferError} (r >>= (λ x. Ok (f x))) (Err e) → r ≡ Err e
+refused_at (Ok x) f e h = cc
+refused_at (Err z) f e h = let same : z ≡ e = cc in ap Err same
+
+pub effects_refused : (env : Environment) (func : HirFunction) (id : FunctionId) (fs : List Analysed) (e : InferError) → inferred env func true ≡ Err e → effects_analysed id func (analysis env fs) ≡ Err (named id e)
+effects_refused env func id fs e h =
+    ap (λ r. naming id r >>= (λ e. Ok (with_effects_of e.solved func, analysis (env_after env e) (fs ++ record { env = env; func = func; is_function_expression = true; solved = numbered id e.solved } ∷ [])))) (refused_at (pass_end env func true) (λ e. e.solved) e h)

@@ -1,0 +1,35 @@
+use Rattle.std.proofs.Common.{◌≡◌, true, false, Err, sym, subst}
+use Rattle.alias_nested.specs.Analysis.{analysis, named, is_free, effects_analysed}
+use Rattle.alias_nested.proofs.Ending.{ended, ended_keeps, effects_lead, accounts_numbered, not_memory, effects_refused}
+use Rattle.alias_nested.proofs.function.infer_effects.Goals as goal
+
+pub returns-in_err-push-in-Ok-clause-count : goal.returns-in_err-push-in-Ok-clause-count
+returns-in_err-push-in-Ok-clause-count c =
+    let p = c.infer_effects_certified in
+    let x = ended c.args.env.now c.args.func.now true c.in-Ok.found p.new.env c.in-Ok.ensures.answer c.in-Ok.ensures.env in
+    (ended_keeps c.args.env.now c.args.func.now true c.in-Ok.found p.new.env x p.new.func c.in-Ok.ensures.recorded c.requires).evolves.count
+
+pub returns-in_ok-push-in-Ok-clause-run : goal.returns-in_ok-push-in-Ok-clause-run
+returns-in_ok-push-in-Ok-clause-run c =
+    let p = c.infer_effects_certified in
+    let x = ended c.args.env.now c.args.func.now true c.in-Ok.found p.new.env c.in-Ok.ensures.answer c.in-Ok.ensures.env in
+    λ fs a. (_, effects_lead c.args.env.now c.args.func.now c.in-Ok.found p.new.env x p.new.func c.in-Ok.ensures.recorded c.args.id fs, accounts_numbered c.args.env.now c.args.func.now c.args.id c.in-Ok.found fs c.args.solved.now c.push.new.self a c.in_ok-push-in-Ok.ensures.items c.in-Ok.ensures.solves)
+
+pub returns-in_ok-push-in-Ok-clause-kept : goal.returns-in_ok-push-in-Ok-clause-kept
+returns-in_ok-push-in-Ok-clause-kept c =
+    let p = c.infer_effects_certified in
+    let x = ended c.args.env.now c.args.func.now true c.in-Ok.found p.new.env c.in-Ok.ensures.answer c.in-Ok.ensures.env in
+    ended_keeps c.args.env.now c.args.func.now true c.in-Ok.found p.new.env x p.new.func c.in-Ok.ensures.recorded c.requires
+
+pub returns-in_ok-push-in-Ok-clause-count : goal.returns-in_ok-push-in-Ok-clause-count
+returns-in_ok-push-in-Ok-clause-count c =
+    let p = c.infer_effects_certified in
+    let x = ended c.args.env.now c.args.func.now true c.in-Ok.found p.new.env c.in-Ok.ensures.answer c.in-Ok.ensures.env in
+    (ended_keeps c.args.env.now c.args.func.now true c.in-Ok.found p.new.env x p.new.func c.in-Ok.ensures.recorded c.requires).evolves.count
+
+pub returns-in-Err-clause-run : goal.returns-in-Err-clause-run
+returns-in-Err-clause-run c =
+    λ fs a free.
+    let not : is_free (named c.args.id c.in-Err.error) ≡ false = subst (λ e. is_free e ≡ false) c.named.ensures free in
+    subst (λ e. effects_analysed c.args.id c.args.func.now (analysis c.args.env.now fs) ≡ Err e) (sym c.named.ensures)
+    (effects_refused c.args.env.now c.args.func.now c.args.id fs c.in-Err.error (c.in-Err.ensures.answer (not_memory c.args.id c.in-Err.error not)))

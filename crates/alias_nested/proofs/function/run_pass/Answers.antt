@@ -1,0 +1,5 @@
+use Rattle.std.proofs.Common.{ap, Err}
+use Rattle.alias_nested.proofs.function.run_pass.Goals as goal
+
+pub returns-in-Err-clause-failed : goal.returns-in-Err-clause-failed
+returns-in-Err-clause-failed g c = λ f. c.in-Err.ensures.failed (ap Err (c.stopped.ensures.fault f))
