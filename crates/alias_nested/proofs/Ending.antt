@@ -11,14 +11,20 @@ use Rattle.alias_effects.specs.Solutions.{IsSolved}
 use Rattle.alias_effects.specs.declared.output.PassEnd.{PassEnd}
 use Rattle.alias_effects.specs.declared.solved.Solved.{Solved}
 use Rattle.alias_hir.specs.Errors.{is_memory}
+use Rattle.alias_hir.specs.declared.effect.AliasingEffect.{AliasingEffect}
 use Rattle.alias_hir.specs.declared.env.Environment.{Environment}
 use Rattle.alias_hir.specs.declared.error.InferError.{InferError}
 use Rattle.alias_hir.specs.declared.error.InferError.TheVariants as error
 use Rattle.alias_hir.specs.declared.hir.HirFunction.{HirFunction}
 use Rattle.alias_nested.specs.Analysis.{Analysed, Analysis, analysis, named, naming, numbered, is_free, SolvesItsFlow, Accounts, effects_analysed}
 use Rattle.alias_nested.specs.Fitting.{FunctionKept}
+use Rattle.alias_nested.specs.Units.{RootAnalysis, validated, root_finished, root_analysed, RootLeads}
 use Rattle.alias_nested.proofs.Keeping.{effects_keep}
+use Rattle.alias_range_pass.specs.Passes.{Ranged, range_pass}
 use Rattle.alias_rules.specs.Fitting.{function_fits}
+use Rattle.alias_validate.specs.Freezing.{frozen_reports}
+use Rattle.alias_validate.specs.Reassigning.{reassigned_reports, with_reassigned}
+use Rattle.alias_validate.specs.Reports.{with_reports}
 use Rattle.alias_step_laws.specs.TableLaws.{all_appended}
 
 -- the pass ends with this solution, and with what it makes of the environment
@@ -26,14 +32,14 @@ pub record Ended (env : Environment) (func : HirFunction) (b : Bool) (s : Solved
   pub end : PassEnd
   pub is : pass_end env func b ≡ Ok end
   pub solved : end.solved ≡ s
-  pub env : env_after env end ≡ after
+  pub left : env_after env end ≡ after
 
 ended_at : (r : Result PassEnd InferError) (env : Environment) (func : HirFunction) (b : Bool) (s : Solved) (after : Environment) → pass_end env func b ≡ r
     → ◌≡◌ {A = Result Solved InferError} (r >>= (λ e. Ok e.solved)) (Ok s) → ◌≡◌ {A = Result Environment InferError} (r >>= (λ e. Ok (env_after env e))) (Ok after) → Ended env func b s after
 ended_at (Ok e) env func b s after p h i =
     let a : e.solved ≡ s = cc in
     let c : env_after env e ≡ after = cc in
-    record { end = e; is = p; solved = a; env = c }
+    record { end = e; is = p; solved = a; left = c }
 ended_at (Err x) env func b s after p h i = cc
 
 pub ended : (env : Environment) (func : HirFunction) (b : Bool) (s : Solved) (after : Environment) → inferred env func b ≡ Ok s → env_inferred env func b ≡ Ok after → Ended env func b s after
@@ -45,7 +51,7 @@ module _ (env : Environment) (func : HirFunction) (b : Bool) (s : Solved) (after
 
   pub ended_keeps : function_fits func env ≡ true → FunctionKept func env func' after
   ended_keeps h =
-      subst (λ (e : Environment). FunctionKept func env func' e) x.env
+      subst (λ (e : Environment). FunctionKept func env func' e) x.left
       (subst (λ (f : HirFunction). FunctionKept func env f (env_after env x.end)) func_is (effects_keep func env b x.end h x.is))
 
   -- what is analysed of the function
@@ -58,7 +64,7 @@ module _ (env : Environment) (func : HirFunction) (s : Solved) (after : Environm
   effects_lead id fs =
       ap (λ r. naming id r >>= (λ e. Ok (with_effects_of e.solved func, analysis (env_after env e) (fs ++ record { env = env; func = func; is_function_expression = true; solved = numbered id e.solved } ∷ [])))) x.is
       ∙ ap (λ f. Ok (f, analysis (env_after env x.end) (fs ++ record { env = env; func = func; is_function_expression = true; solved = numbered id x.end.solved } ∷ []))) (func_is env func true s after x func' made)
-      ∙ ap (λ e. Ok (func', analysis e (fs ++ record { env = env; func = func; is_function_expression = true; solved = numbered id x.end.solved } ∷ []))) x.env
+      ∙ ap (λ e. Ok (func', analysis e (fs ++ record { env = env; func = func; is_function_expression = true; solved = numbered id x.end.solved } ∷ []))) x.left
       ∙ ap (λ z. Ok (func', analysis after (fs ++ record { env = env; func = func; is_function_expression = true; solved = numbered id z } ∷ []))) x.solved
 
 -- a solution that is noted
@@ -113,3 +119,39 @@ refused_at (Err z) f e h = let same : z ≡ e = cc in ap Err same
 pub effects_refused : (env : Environment) (func : HirFunction) (id : FunctionId) (fs : List Analysed) (e : InferError) → inferred env func true ≡ Err e → effects_analysed id func (analysis env fs) ≡ Err (named id e)
 effects_refused env func id fs e h =
     ap (λ r. naming id r >>= (λ e. Ok (with_effects_of e.solved func, analysis (env_after env e) (fs ++ record { env = env; func = func; is_function_expression = true; solved = numbered id e.solved } ∷ [])))) (refused_at (pass_end env func true) (λ e. e.solved) e h)
+
+-- ---- the root
+
+module _ (env : Environment) (func : HirFunction) (s : Solved) (after : Environment) (x : Ended env func false s after) (func' : HirFunction) (made : func' ≡ with_effects_of s func) where
+  pub root_begins : (fs : List Analysed) → root_analysed func (analysis env fs) ≡ root_finished func' after (fs ++ record { env = env; func = func; is_function_expression = false; solved = s } ∷ [])
+  root_begins fs =
+      ap (λ r. r >>= (λ e. root_finished (with_effects_of e.solved func) (env_after env e) (fs ++ record { env = env; func = func; is_function_expression = false; solved = e.solved } ∷ []))) x.is
+      ∙ ap (λ f. root_finished f (env_after env x.end) (fs ++ record { env = env; func = func; is_function_expression = false; solved = x.end.solved } ∷ [])) (func_is env func false s after x func' made)
+      ∙ ap (λ e. root_finished func' e (fs ++ record { env = env; func = func; is_function_expression = false; solved = x.end.solved } ∷ [])) x.left
+      ∙ ap (λ z. root_finished func' after (fs ++ record { env = env; func = func; is_function_expression = false; solved = z } ∷ [])) x.solved
+
+pub root_refused : (env : Environment) (func : HirFunction) (fs : List Analysed) (e : InferError) → inferred env func false ≡ Err e → root_analysed func (analysis env fs) ≡ Err e
+root_refused env func fs e h =
+    ap (λ r. r >>= (λ e. root_finished (with_effects_of e.solved func) (env_after env e) (fs ++ record { env = env; func = func; is_function_expression = false; solved = e.solved } ∷ []))) (refused_at (pass_end env func false) (λ e. e.solved) e h)
+
+-- an error of a step of the root
+pub root_error : (stated : Result RootAnalysis InferError) (r : Result (List AliasingEffect) InferError) (e : InferError) (f : HirFunction) (env : Environment) (solved : List Solved) → r ≡ Err e → (is_free e ≡ false → stated ≡ Err e) → RootLeads stated r f env solved
+root_error stated r e f env solved is h = subst (λ q. RootLeads stated q f env solved) (sym is) h
+
+-- the range pass refuses
+pub unranged : (f : HirFunction) (env : Environment) (fs : List Analysed) (e : InferError) → range_pass false f env ≡ Err e → root_finished f env fs ≡ Err e
+unranged f env fs e h = ap (λ r. r >>= (λ r. validated r.after.0 r.after.1 >>= (λ more. Ok (record { summary = r.summary; func = r.after.0; analysis = analysis more fs })))) h
+
+-- the first validation refuses
+pub unvalidated : (f : HirFunction) (env : Environment) (fs : List Analysed) (r : Ranged) (e : InferError) → range_pass false f env ≡ Ok r → with_reassigned r.after.1 (reassigned_reports r.after.1 r.after.0) ≡ Err e → root_finished f env fs ≡ Err e
+unvalidated f env fs r e h i =
+    ap (λ r. r >>= (λ r. validated r.after.0 r.after.1 >>= (λ more. Ok (record { summary = r.summary; func = r.after.0; analysis = analysis more fs })))) h
+    ∙ ap (λ v. (v >>= (λ more. Ok (with_reports more (frozen_reports more r.after.0)))) >>= (λ more. Ok (record { summary = r.summary; func = r.after.0; analysis = analysis more fs }))) i
+
+-- nothing refuses
+pub finished : (f : HirFunction) (env : Environment) (fs : List Analysed) (r : Ranged) (more last : Environment) → range_pass false f env ≡ Ok r → with_reassigned r.after.1 (reassigned_reports r.after.1 r.after.0) ≡ Ok more → last ≡ with_reports more (frozen_reports more r.after.0)
+    → root_finished f env fs ≡ Ok (record { summary = r.summary; func = r.after.0; analysis = analysis last fs })
+finished f env fs r more last h i j =
+    ap (λ r. r >>= (λ r. validated r.after.0 r.after.1 >>= (λ more. Ok (record { summary = r.summary; func = r.after.0; analysis = analysis more fs })))) h
+    ∙ ap (λ v. (v >>= (λ more. Ok (with_reports more (frozen_reports more r.after.0)))) >>= (λ more. Ok (record { summary = r.summary; func = r.after.0; analysis = analysis more fs }))) i
+    ∙ ap (λ e. Ok (record { summary = r.summary; func = r.after.0; analysis = analysis e fs })) (sym j)

@@ -168,16 +168,15 @@ without_all e = record e { identifiers = map without_range e.identifiers }
 but_mapped : (e : Environment) → but_reports e ≡ without_all (but_inferred e)
 but_mapped e = ap (λ is. record (but_reports e) { identifiers = is }) (sym (mapped_twice e.identifiers))
 
-range_alike : (env more : Environment) → PassKeeps env more → more.errors ≡ env.errors → but_ranges_and_contexts more ≡ but_ranges_and_contexts env
-range_alike env more k errors =
-    let rest : but_inferred more ≡ but_inferred env = k.rest in
+range_alike : (env more : Environment) → but_inferred more ≡ but_inferred env → more.errors ≡ env.errors → but_ranges_and_contexts more ≡ but_ranges_and_contexts env
+range_alike env more rest errors =
     let kept : but_reports more ≡ but_reports env = but_mapped more ∙ ap without_all rest ∙ sym (but_mapped env) in
     ap (λ es. record (but_reports more) { errors = es }) errors ∙ ap (λ (e : Environment). record e { errors = env.errors }) kept
 
 -- the pass over a nested function, which records no report
 pub ranges_keep : (f g : HirFunction) (env more : Environment) → function_fits f env ≡ true → but_places g ≡ but_places f → PassKeeps env more → more.errors ≡ env.errors → FunctionKept f env g more
 ranges_keep f g env more h still kept errors =
-    let k : EnvironmentKept env more = environment_alike env more (range_alike env more kept errors) (tables_of_fitting f env h) in
+    let k : EnvironmentKept env more = environment_alike env more (range_alike env more kept.rest errors) (tables_of_fitting f env h) in
     record {
       evolves = k.evolves;
       still = sym (bare_of_places f g (sym still));
@@ -234,3 +233,38 @@ summary_kept env more f k h summary s =
     let fits : effects_fit more g ≡ true = k.effects g (summarized_effects env f summary (fitted f env h).effects s) in
     let a = both_true (effects_within_tables more g) (holds_no_call g.aliasing_effects) fits in
     record { within = (both_true _ (recorded_within_tables more (Some summary)) a.0).1; no_call = a.1 }
+
+-- what follows the effects pass: passes of the caller that keep everything, the range pass, and what is set at the end
+pub kept_as : (f₀ f₁ f₂ f₃ f₄ f₅ : HirFunction) (e₀ e₁ e₂ e₃ e₄ e₅ : Environment) (summary : List AliasingEffect) → (f₁ ≡ f₀) × (e₁ ≡ e₀) → FunctionKept f₁ e₁ f₂ e₂ → SummaryFits e₂ summary
+    → (f₃ ≡ f₂) × (e₃ ≡ e₂) → (f₄ ≡ f₃) × (e₄ ≡ e₃) → (f₅, e₅) ≡ settled summary (f₄, e₄) → FunctionKept f₀ e₀ f₅ e₅
+kept_as f₀ f₁ f₂ f₃ f₄ f₅ e₀ e₁ e₂ e₃ e₄ e₅ summary first ranged s second third set =
+    let after : HirFunction × Environment = settled summary (f₂, e₂) in
+    let whole : FunctionKept f₁ e₁ after.0 after.1 = function_through f₁ f₂ after.0 e₁ e₂ after.1 ranged (settled_keeps summary f₂ e₂ ranged.fits s) in
+    let f : f₄ ≡ f₂ = third.0 ∙ second.0 in
+    let e : e₄ ≡ e₂ = third.1 ∙ second.1 in
+    let last : after ≡ (f₅, e₅) = sym (set ∙ ap (λ g. settled summary (g, e₄)) f ∙ ap (λ v. settled summary (f₂, v)) e) in
+    let left : FunctionKept f₁ e₁ f₅ e₅ = subst (λ (p : HirFunction × Environment). FunctionKept f₁ e₁ p.0 p.1) last whole in
+    subst (λ g. FunctionKept g e₀ f₅ e₅) first.0 (subst (λ v. FunctionKept f₁ v f₅ e₅) first.1 left)
+
+-- ---- the root
+
+abbrev unreported : Environment → Environment
+unreported e = record e { errors = [] }
+
+-- without its reports the environment keeps its rules
+unreported_tables : (f : HirFunction) (env : Environment) → function_fits f env ≡ true → EnvironmentKept env (unreported env)
+unreported_tables f env h =
+    let t = tables_of_fitting f env h in
+    let w : Wider env (unreported env) = record { identifiers = omega arith; types = omega arith; functions = omega arith; interned = grows_self env.interned } in
+    record {
+      evolves = evolves_with_contexts env (unreported env) w refl;
+      tables = record { identifiers = t.identifiers; types = t.types; signatures = t.signatures; reports = (both_true _ _ t.reports).1 };
+    }
+
+-- the root after the range pass and the validations, without reports
+pub root_fits : (f g : HirFunction) (env more after : Environment) → function_fits f env ≡ true → but_places g ≡ but_places f → PassKeeps env more → unreported after ≡ unreported more → function_fits g (unreported after) ≡ true
+root_fits f g env more after h still kept same =
+    let k = unreported_tables f env h in
+    let before : function_fits f (unreported env) ≡ true = still_fits env (unreported env) k f h in
+    let j : EnvironmentKept (unreported env) (unreported more) = environment_alike (unreported env) (unreported more) (range_alike (unreported env) (unreported more) kept.rest refl) k.tables in
+    subst (λ e. function_fits g e ≡ true) (sym same) (fits_with_other_places f g (unreported more) (sym still) (still_fits (unreported env) (unreported more) j f before))

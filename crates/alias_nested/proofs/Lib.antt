@@ -1,5 +1,6 @@
 pub mod Ending
 pub mod Evolving
+pub mod Faultless
 pub mod Keeping
 pub mod Leading
 pub mod Surviving

@@ -140,6 +140,10 @@ Ranges stated (Ok summary) func env = stated ≡ Ok (record { summary = summary;
 Ranges stated (Err e) func env = is_free e ≡ false → stated ≡ Err e
 
 -- a pass of the caller failed
+abbrev pub IsFault : InferError → Type 0
+IsFault (PassFault f pass) = ⊤
+IsFault e = ⊥
+
 abbrev pub IsPassFault : {A : Type 0} → Result A InferError → Type 0
-IsPassFault (Err (PassFault f pass)) = ⊤
-IsPassFault r = ⊥
+IsPassFault (Ok x) = ⊥
+IsPassFault (Err e) = IsFault e

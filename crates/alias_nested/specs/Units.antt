@@ -33,13 +33,18 @@ validated f env = do
   more ← with_reassigned env (reassigned_reports env f)
   Ok (with_reports more (frozen_reports more f))
 
--- the root, once the functions below it are analysed: the effects pass, the range pass and both validations
+-- the root once its effects are recorded: the range pass and both validations
+abbrev pub root_finished : HirFunction → Environment → List Analysed → Result RootAnalysis InferError
+root_finished f env fs = do
+  r ← range_pass false f env
+  more ← validated r.after.0 r.after.1
+  Ok (record { summary = r.summary; func = r.after.0; analysis = analysis more fs })
+
+-- the root, once the functions below it are analysed: first the effects pass
 abbrev pub root_analysed : HirFunction → Analysis → Result RootAnalysis InferError
 root_analysed f a = do
   e ← pass_end a.env f false
-  r ← range_pass false (with_effects_of e.solved f) (env_after a.env e)
-  env ← validated r.after.0 r.after.1
-  Ok (record { summary = r.summary; func = r.after.0; analysis = analysis env (a.functions ++ record { env = a.env; func = f; is_function_expression = false; solved = e.solved } ∷ []) })
+  root_finished (with_effects_of e.solved f) (env_after a.env e) (a.functions ++ record { env = a.env; func = f; is_function_expression = false; solved = e.solved } ∷ [])
 
 -- the functions below the root, innermost first, and then the root
 abbrev pub all_analysed : HirFunction → Analysis → Result RootAnalysis InferError

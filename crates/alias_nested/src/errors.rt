@@ -1,6 +1,6 @@
 //! Errors that name their function.
-ghost use Rattle.std.specs.Prelude.{◌≡◌, ⊤, true, Err};
-ghost use Rattle.alias_nested.specs.Analysis.{named, is_free, IsPassFault};
+ghost use Rattle.std.specs.Prelude.{◌≡◌, true};
+ghost use Rattle.alias_nested.specs.Analysis.{named, is_free, IsFault};
 
 use alias_base::FunctionId;
 use alias_hir::error::{InferError, Pass};
@@ -75,7 +75,7 @@ pub(crate) fn named(id: FunctionId, error: InferError) -> InferError
 /// Why nothing is inferred, where a pass of the caller stopped on the function of this number.
 pub(crate) fn stopped(id: FunctionId, pass: Pass, stop: PassStop) -> InferError
     ensures free { is_free result ≡ true }
-    ensures fault { IsPassFault (Err {A = ⊤} result) → stop ≡ PassStop.Failed }
+    ensures fault { IsFault result → stop ≡ PassStop.Failed }
 {
     match stop {
         PassStop::Failed => InferError::PassFault {

@@ -1,3 +1,4 @@
+use Rattle.std.proofs.Common.{true}
 use Rattle.alias_range_laws.specs.ReportLaws.{expression_reports}
 use Rattle.alias_range_laws.specs.SummaryLaws.{summary_fits}
 use Rattle.alias_range_laws.specs.TableLaws.{functions_as_long}

@@ -1,0 +1,108 @@
+-- The first validation answers no fault of a pass of the caller.
+use Rattle.std.specs.Prelude.{◌≡◌, ℕ, Bool, true, false, cond, List, [], ◌∷◌, Option, Some, None, Result, Ok, Err, ⊤, slice_get, refl}
+use Rattle.std.proofs.Common.{zero, suc, subst}
+use Rattle.alias_base.specs.Answer.{◌>>=◌}
+use Rattle.alias_base.specs.declared.ids.BlockId.{BlockId}
+use Rattle.alias_base.specs.declared.ids.FunctionId.{FunctionId}
+use Rattle.alias_base.specs.declared.ids.IdentifierId.{IdentifierId}
+use Rattle.alias_base.specs.declared.ids.InstructionId.{InstructionId}
+use Rattle.alias_hir.specs.Values.{created}
+use Rattle.alias_hir.specs.declared.env.Environment.{Environment}
+use Rattle.alias_hir.specs.Errors.{is_memory}
+use Rattle.alias_hir.specs.declared.error.InferError.{InferError}
+use Rattle.alias_hir.specs.declared.error.InferError.TheVariants.{Memory, PassFault}
+use Rattle.alias_hir.specs.declared.hir.BasicBlock.{BasicBlock}
+use Rattle.alias_hir.specs.declared.hir.HirFunction.{HirFunction}
+use Rattle.alias_hir.specs.declared.hir.Instruction.{Instruction}
+use Rattle.alias_hir.specs.declared.place.Place.{Place}
+use Rattle.alias_hir.specs.declared.report.Report.{Report}
+use Rattle.alias_hir.specs.declared.value.InstructionValue.{InstructionValue}
+use Rattle.alias_hir.specs.declared.value.InstructionValue.TheVariants.{LoadLocal, StoreLocal, DeclareContext, StoreContext}
+use Rattle.alias_nested.specs.Analysis.{IsFault}
+use Rattle.alias_validate.specs.InstructionSteps.{plain_step}
+use Rattle.alias_validate.specs.OperandMarks.{ReassigningFunctions, Seen, operand, checked, other_step}
+use Rattle.alias_validate.specs.Reassigning.{Below, created_step, value_step, instruction_step, instruction_steps, block_step, block_steps, context_reassignment, reassigned_within, reassigned_reports, with_reassigned}
+use Rattle.alias_validate.specs.Walks.{and_then, each}
+use Rattle.alias_validate.specs.declared.outcome.Shared.{Shared}
+use Rattle.alias_validate.specs.declared.outcome.WalkOutcome.{WalkOutcome}
+use Rattle.alias_validate.specs.declared.outcome.WalkOutcome.TheVariants.{Continue, End}
+
+abbrev pub Faultless : {A : Type 0} → Result A InferError → Type 0
+Faultless (Ok x) = ⊤
+Faultless (Err e) = IsFault e → ⊥
+
+bind_faultless : {A B : Type 0} (r : Result A InferError) (f : A → Result B InferError) → Faultless r → ((x : A) → Faultless (f x)) → Faultless (r >>= f)
+bind_faultless (Ok x) f h k = k x
+bind_faultless (Err e) f h k = h
+
+next_faultless : {S : Type 0} (f : S → Result (S × WalkOutcome) InferError) (s : S) (o : WalkOutcome) → ((t : S) → Faultless (f t)) → Faultless (and_then f s o)
+next_faultless f s Continue h = h s
+next_faultless f s (End p) h = tt
+
+each_faultless : {S X : Type 0} (f : S → X → Result (S × WalkOutcome) InferError) → ((s : S) (x : X) → Faultless (f s x)) → (s : S) (xs : List X) → Faultless (each f s xs)
+each_faultless f h s [] = tt
+each_faultless f h s (x ∷ xs) = bind_faultless (f s x) (λ r. and_then (λ t. each f t xs) r.0 r.1) (h s x) (λ r. next_faultless (λ t. each f t xs) r.0 r.1 (λ t. each_faultless f h t xs))
+
+cond_faultless : {A : Type 0} (b : Bool) (r q : Result A InferError) → Faultless r → Faultless q → Faultless (cond b r q)
+cond_faultless true r q h k = h
+cond_faultless false r q h k = k
+
+operand_faultless : (ls : List IdentifierId) (ms : ReassigningFunctions) (o : Place) → Faultless (operand ls ms o)
+operand_faultless ls ms o = cond_faultless _ _ _ (λ h. h) tt
+
+other_faultless : (env : Environment) (s : Seen) (ls : List IdentifierId) (v : InstructionValue) → Faultless (other_step env s ls v)
+other_faultless env s ls v = bind_faultless (each (operand ls) s.0 (checked env v)) _ (each_faultless (operand ls) (operand_faultless ls) s.0 (checked env v)) (λ r. tt)
+
+plain_faultless : (env : Environment) (b : Bool) (s : Seen) (l : IdentifierId) (ls : List IdentifierId) (v : InstructionValue) → Faultless (plain_step env b s l ls v)
+plain_faultless env b s l ls (LoadLocal place) = tt
+plain_faultless env b s l ls (StoreLocal target value) = tt
+plain_faultless env b s l ls (DeclareContext target) = tt
+plain_faultless env b s l ls (StoreContext target value) = tt
+plain_faultless env b s l ls v = other_faultless env s ls v
+
+module _ (env : Environment) (below : Below) (below_faultless : (async : Bool) (f : HirFunction) (sh : Shared) → Faultless (below async f sh)) (b async : Bool) where
+  created_faultless : (l : IdentifierId) (s : Seen) (o : Option HirFunction) → Faultless (created_step env below async l s o)
+  created_faultless l s None = tt
+  created_faultless l s (Some f) = bind_faultless (below _ f s.1) _ (below_faultless _ f s.1) (λ r. tt)
+
+  value_faultless : (s : Seen) (i : Instruction) (o : Option FunctionId) → Faultless (value_step env below b async s i o)
+  value_faultless s i None = plain_faultless env b s i.lvalue.identifier _ i.value
+  value_faultless s i (Some f) = created_faultless i.lvalue.identifier s (slice_get env.functions f.0)
+
+  instruction_faultless : (s : Seen) (o : Option Instruction) → Faultless (instruction_step env below b async s o)
+  instruction_faultless s None = tt
+  instruction_faultless s (Some i) = value_faultless s i (created i.value)
+
+  instructions_faultless : (func : HirFunction) (s : Seen) (is : List InstructionId) → Faultless (instruction_steps env below b async func s is)
+  instructions_faultless func s is = each_faultless (λ t (i : InstructionId). instruction_step env below b async t (slice_get func.instructions i.0)) (λ t i. instruction_faultless t (slice_get func.instructions i.0)) s is
+
+  block_faultless : (func : HirFunction) (s : Seen) (x : BasicBlock) → Faultless (block_step env below b async func s x)
+  block_faultless func s x = bind_faultless (instruction_steps env below b async func s x.instructions) _ (instructions_faultless func s x.instructions) (λ r. next_faultless _ r.0 r.1 (λ t. tt))
+
+  blocks_faultless : (func : HirFunction) (s : Seen) (xs : List (BlockId × BasicBlock)) → Faultless (block_steps env below b async func s xs)
+  blocks_faultless func s xs = each_faultless (λ t (x : BlockId × BasicBlock). block_step env below b async func t x.1) (λ t x. block_faultless func t x.1) s xs
+
+walk_faultless : (n : ℕ) (env : Environment) (b async : Bool) (func : HirFunction) (sh : Shared) → Faultless (context_reassignment n env b async func sh)
+unfolding context_reassignment
+walk_faultless zero env b async func sh = tt
+walk_faultless (suc n) env b async func sh =
+    bind_faultless (block_steps env (context_reassignment n env true) b async func ([], sh) func.body.blocks) _
+    (blocks_faultless env (context_reassignment n env true) (walk_faultless n env true) b async func ([], sh) func.body.blocks) (λ r. tt)
+
+pub reassigned_faultless : (env : Environment) (func : HirFunction) → Faultless (with_reassigned env (reassigned_reports env func))
+reassigned_faultless env func =
+    bind_faultless (reassigned_reports env func) _ (bind_faultless (context_reassignment 64 env false false func (record { context_variables = []; reports = [] })) _ (walk_faultless 64 env false false func (record { context_variables = []; reports = [] })) (λ r. tt)) (λ r. tt)
+
+-- a refusal of what answers no fault is none
+pub no_fault_of : {A : Type 0} (r : Result A InferError) (e : InferError) → Faultless r → r ≡ Err e → IsFault e → ⊥
+no_fault_of (Ok x) e h is = cc
+no_fault_of (Err z) e h is = subst (λ y. IsFault y → ⊥) (err_is z e is) h
+  where
+    err_is : {A : Type 0} (x y : InferError) → ◌≡◌ {A = Result A InferError} (Err x) (Err y) → x ≡ y
+    err_is x y q = cc
+
+-- nor is what the validation answers one, want of memory included
+pub faultless_error : (env : Environment) (func : HirFunction) (e : InferError) → (is_memory e ≡ false → with_reassigned env (reassigned_reports env func) ≡ Err e) → IsFault e → ⊥
+faultless_error env func (Memory m) h f = f
+faultless_error env func (PassFault g p) h f = no_fault_of (with_reassigned env (reassigned_reports env func)) (PassFault g p) (reassigned_faultless env func) (h refl) f
+faultless_error env func e h f = f
