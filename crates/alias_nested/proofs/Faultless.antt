@@ -6,11 +6,12 @@ use Rattle.alias_base.specs.declared.ids.BlockId.{BlockId}
 use Rattle.alias_base.specs.declared.ids.FunctionId.{FunctionId}
 use Rattle.alias_base.specs.declared.ids.IdentifierId.{IdentifierId}
 use Rattle.alias_base.specs.declared.ids.InstructionId.{InstructionId}
+use Rattle.alias_hir.specs.Terminals.{terminal_places}
 use Rattle.alias_hir.specs.Values.{created}
 use Rattle.alias_hir.specs.declared.env.Environment.{Environment}
 use Rattle.alias_hir.specs.Errors.{is_memory}
 use Rattle.alias_hir.specs.declared.error.InferError.{InferError}
-use Rattle.alias_hir.specs.declared.error.InferError.TheVariants.{Memory, PassFault}
+use Rattle.alias_hir.specs.declared.error.InferError.TheVariants.{Memory, PassFault, EffectsNotInferred}
 use Rattle.alias_hir.specs.declared.hir.BasicBlock.{BasicBlock}
 use Rattle.alias_hir.specs.declared.hir.HirFunction.{HirFunction}
 use Rattle.alias_hir.specs.declared.hir.Instruction.{Instruction}
@@ -20,10 +21,12 @@ use Rattle.alias_hir.specs.declared.value.InstructionValue.{InstructionValue}
 use Rattle.alias_hir.specs.declared.value.InstructionValue.TheVariants.{LoadLocal, StoreLocal, DeclareContext, StoreContext}
 use Rattle.alias_nested.specs.Analysis.{IsFault}
 use Rattle.alias_validate.specs.InstructionSteps.{plain_step}
-use Rattle.alias_validate.specs.OperandMarks.{ReassigningFunctions, Seen, operand, checked, other_step}
+use Rattle.alias_validate.specs.OperandMarks.{ReassigningFunctions, Seen, first_mark, marked_operand, operand, checked, other_step}
+use Rattle.alias_validate.specs.Marking.{mark_of, is_unknown}
 use Rattle.alias_validate.specs.Reassigning.{Below, created_step, value_step, instruction_step, instruction_steps, block_step, block_steps, context_reassignment, reassigned_within, reassigned_reports, with_reassigned}
-use Rattle.alias_validate.specs.Walks.{and_then, each}
+use Rattle.alias_validate.specs.Walks.{and_then, each, ended}
 use Rattle.alias_validate.specs.declared.outcome.Shared.{Shared}
+use Rattle.alias_visit.specs.Operands.{lvalue_ids}
 use Rattle.alias_validate.specs.declared.outcome.WalkOutcome.{WalkOutcome}
 use Rattle.alias_validate.specs.declared.outcome.WalkOutcome.TheVariants.{Continue, End}
 
@@ -47,8 +50,12 @@ cond_faultless : {A : Type 0} (b : Bool) (r q : Result A InferError) → Faultle
 cond_faultless true r q h k = h
 cond_faultless false r q h k = k
 
+not_inferred : (x : IdentifierId) → Faultless {A = ReassigningFunctions × WalkOutcome} (Err (EffectsNotInferred x))
+not_inferred x = λ (h : ⊥). h
+
 operand_faultless : (ls : List IdentifierId) (ms : ReassigningFunctions) (o : Place) → Faultless (operand ls ms o)
-operand_faultless ls ms o = cond_faultless _ _ _ (λ h. h) tt
+operand_faultless ls ms o =
+    cond_faultless (is_unknown o.effect) (Err (EffectsNotInferred o.identifier)) (Ok (marked_operand ls ms o.effect (mark_of ms o.identifier))) (not_inferred o.identifier) tt
 
 other_faultless : (env : Environment) (s : Seen) (ls : List IdentifierId) (v : InstructionValue) → Faultless (other_step env s ls v)
 other_faultless env s ls v = bind_faultless (each (operand ls) s.0 (checked env v)) _ (each_faultless (operand ls) (operand_faultless ls) s.0 (checked env v)) (λ r. tt)
@@ -66,7 +73,7 @@ module _ (env : Environment) (below : Below) (below_faultless : (async : Bool) (
   created_faultless l s (Some f) = bind_faultless (below _ f s.1) _ (below_faultless _ f s.1) (λ r. tt)
 
   value_faultless : (s : Seen) (i : Instruction) (o : Option FunctionId) → Faultless (value_step env below b async s i o)
-  value_faultless s i None = plain_faultless env b s i.lvalue.identifier _ i.value
+  value_faultless s i None = plain_faultless env b s i.lvalue.identifier (lvalue_ids i) i.value
   value_faultless s i (Some f) = created_faultless i.lvalue.identifier s (slice_get env.functions f.0)
 
   instruction_faultless : (s : Seen) (o : Option Instruction) → Faultless (instruction_step env below b async s o)
@@ -77,7 +84,10 @@ module _ (env : Environment) (below : Below) (below_faultless : (async : Bool) (
   instructions_faultless func s is = each_faultless (λ t (i : InstructionId). instruction_step env below b async t (slice_get func.instructions i.0)) (λ t i. instruction_faultless t (slice_get func.instructions i.0)) s is
 
   block_faultless : (func : HirFunction) (s : Seen) (x : BasicBlock) → Faultless (block_step env below b async func s x)
-  block_faultless func s x = bind_faultless (instruction_steps env below b async func s x.instructions) _ (instructions_faultless func s x.instructions) (λ r. next_faultless _ r.0 r.1 (λ t. tt))
+  block_faultless func s x =
+      let last : Seen → Result (Seen × WalkOutcome) InferError = λ t. Ok (t, ended (first_mark t.0 (terminal_places x.terminal))) in
+      let fine : (t : Seen) → Faultless (last t) = λ t. tt in
+      bind_faultless (instruction_steps env below b async func s x.instructions) (λ r. and_then last r.0 r.1) (instructions_faultless func s x.instructions) (λ r. next_faultless last r.0 r.1 fine)
 
   blocks_faultless : (func : HirFunction) (s : Seen) (xs : List (BlockId × BasicBlock)) → Faultless (block_steps env below b async func s xs)
   blocks_faultless func s xs = each_faultless (λ t (x : BlockId × BasicBlock). block_step env below b async func t x.1) (λ t x. block_faultless func t x.1) s xs

@@ -31,7 +31,8 @@ use Rattle.alias_hir.specs.declared.signature.Shape.{Shape}
 use Rattle.alias_hir.specs.declared.types.Ty.{Ty}
 use Rattle.alias_nested.specs.Fitting.{TablesFit, EnvironmentKept, FunctionKept, SummaryFits}
 use Rattle.alias_nested.specs.Settling.{context_settled, is_captured, summarized, without_range, reset_at, reset, settled}
-use Rattle.alias_nested.proofs.Evolving.{evolves_with_contexts, pass_evolves}
+use Rattle.alias_nested.proofs.Evolving.{evolves_with_contexts, evolves_back, pass_evolves}
+use Rattle.alias_nesting_laws.specs.Slots.{with_function}
 use Rattle.alias_nesting_laws.specs.FittingLaws.{fitted}
 use Rattle.alias_range_laws.specs.ReportLaws.{expression_reports}
 use Rattle.alias_range_pass.specs.Laws.{but_inferred, PassKeeps}
@@ -268,3 +269,15 @@ root_fits f g env more after h still kept same =
     let before : function_fits f (unreported env) ≡ true = still_fits env (unreported env) k f h in
     let j : EnvironmentKept (unreported env) (unreported more) = environment_alike (unreported env) (unreported more) (range_alike (unreported env) (unreported more) kept.rest refl) k.tables in
     subst (λ e. function_fits g e ≡ true) (sym same) (fits_with_other_places f g (unreported more) (sym still) (still_fits (unreported env) (unreported more) j f before))
+
+-- ---- a function that is put back
+
+pub environment_back : (env : Environment) (id : FunctionId) (f g stand_in : HirFunction) (out after back : Environment) → slice_get env.functions id.0 ≡ Some f → stand_in.aliasing_effects ≡ None → out ≡ with_function id stand_in env → back ≡ with_function id g after
+    → FunctionKept f out g after → EnvironmentKept env back
+environment_back env id f g stand_in out after back at none is put k =
+    let t = tables_of_fitting g after k.fits in
+    let whole : EnvironmentKept env (with_function id g after) = record {
+      evolves = evolves_back env after id f g stand_in at none k.still (fitted g after k.fits).effects (subst (λ e. Evolves e after) is k.evolves);
+      tables = record { identifiers = t.identifiers; types = t.types; signatures = t.signatures; reports = t.reports };
+    } in
+    subst (EnvironmentKept env) (sym put) whole

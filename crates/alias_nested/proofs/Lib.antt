@@ -1,3 +1,4 @@
+pub mod Creating
 pub mod Ending
 pub mod Evolving
 pub mod Faultless
