@@ -13,18 +13,20 @@ use Rattle.alias_effects.specs.declared.solved.Solved.{Solved}
 use Rattle.alias_hir.specs.Errors.{is_memory}
 use Rattle.alias_hir.specs.declared.effect.AliasingEffect.{AliasingEffect}
 use Rattle.alias_hir.specs.declared.env.Environment.{Environment}
+use Rattle.alias_hir.specs.declared.env.Unit.{Unit as HirUnit}
 use Rattle.alias_hir.specs.declared.error.InferError.{InferError}
 use Rattle.alias_hir.specs.declared.error.InferError.TheVariants as error
 use Rattle.alias_hir.specs.declared.hir.HirFunction.{HirFunction}
+use Rattle.alias_hir.specs.declared.report.Report.{Report}
 use Rattle.alias_nested.specs.Analysis.{Analysed, Analysis, analysis, named, naming, numbered, is_free, SolvesItsFlow, Accounts, effects_analysed}
 use Rattle.alias_nested.specs.Fitting.{FunctionKept}
-use Rattle.alias_nested.specs.Units.{RootAnalysis, validated, root_finished, root_analysed, RootLeads}
+use Rattle.alias_nested.specs.Units.{RootAnalysis, validated, root_finished, root_analysed, all_analysed, handed_out, unit_analysed, RootLeads}
 use Rattle.alias_nested.proofs.Keeping.{effects_keep}
 use Rattle.alias_range_pass.specs.Passes.{Ranged, range_pass}
 use Rattle.alias_rules.specs.Fitting.{function_fits}
 use Rattle.alias_validate.specs.Freezing.{frozen_reports}
 use Rattle.alias_validate.specs.Reassigning.{reassigned_reports, with_reassigned}
-use Rattle.alias_validate.specs.Reports.{with_reports}
+use Rattle.alias_validate.specs.Reports.{with_reports, with_errors}
 use Rattle.alias_step_laws.specs.TableLaws.{all_appended}
 
 -- the pass ends with this solution, and with what it makes of the environment
@@ -155,3 +157,18 @@ finished f env fs r more last h i j =
     ap (λ r. r >>= (λ r. validated r.after.0 r.after.1 >>= (λ more. Ok (record { summary = r.summary; func = r.after.0; analysis = analysis more fs })))) h
     ∙ ap (λ v. (v >>= (λ more. Ok (with_reports more (frozen_reports more r.after.0)))) >>= (λ more. Ok (record { summary = r.summary; func = r.after.0; analysis = analysis more fs }))) i
     ∙ ap (λ e. Ok (record { summary = r.summary; func = r.after.0; analysis = analysis e fs })) (sym j)
+
+-- ---- the unit
+
+pub unit_leads : (u v : HirUnit) (r : RootAnalysis) → u ≡ v → all_analysed u.function (analysis u.env []) ≡ Ok r → unit_analysed v ≡ Ok (handed_out r)
+unit_leads u v r same h = ap unit_analysed (sym same) ∙ ap (λ q. q >>= (λ r. Ok (handed_out r))) h
+
+-- what is handed out, in other words
+pub unit_as : (v : HirUnit) (fs : List Analysed) (f : HirFunction) (env : Environment) (summary : List AliasingEffect) (solved : List Solved) (none reports : List Report)
+    → unit_analysed v ≡ Ok (handed_out (record { summary = summary; func = f; analysis = analysis env fs })) → map (λ (x : Analysed). x.solved) fs ≡ solved → none ≡ [] → reports ≡ env.errors
+    → unit_analysed v ≡ Ok (record { functions = fs; inferred = record { unit = record { function = f; env = with_errors env none }; solved = solved; summary = summary; reports = reports } })
+unit_as v fs f env summary solved none reports h same empty taken =
+    h
+    ∙ ap (λ ss. Ok (record { functions = fs; inferred = record { unit = record { function = f; env = with_errors env [] }; solved = ss; summary = summary; reports = env.errors } })) same
+    ∙ ap (λ es. Ok (record { functions = fs; inferred = record { unit = record { function = f; env = with_errors env es }; solved = solved; summary = summary; reports = env.errors } })) (sym empty)
+    ∙ ap (λ rs. Ok (record { functions = fs; inferred = record { unit = record { function = f; env = with_errors env none }; solved = solved; summary = summary; reports = rs } })) (sym taken)
