@@ -1,6 +1,5 @@
 -- What the effects pass on a function leads to.
-use Rattle.std.specs.Prelude.{◌≡◌, Bool, true, false, List, [], ◌∷◌, ◌++◌, Option, Some, None, Result, Ok, Err, ⊤, map, refl}
-use Rattle.std.specs.List.{AllByRecursion}
+use Rattle.std.specs.Prelude.{◌≡◌, Bool, true, false, List, [], ◌∷◌, ◌++◌, Result, Ok, Err, map, refl}
 use Rattle.std.proofs.Common.{ap, sym, subst, ◌∙◌}
 use Rattle.std.proofs.lemmas.List.{map-append}
 use Rattle.alias_base.specs.Answer.{◌>>=◌}
@@ -18,7 +17,7 @@ use Rattle.alias_hir.specs.declared.error.InferError.{InferError}
 use Rattle.alias_hir.specs.declared.error.InferError.TheVariants as error
 use Rattle.alias_hir.specs.declared.hir.HirFunction.{HirFunction}
 use Rattle.alias_hir.specs.declared.report.Report.{Report}
-use Rattle.alias_nested.specs.Analysis.{Analysed, Analysis, analysis, named, naming, numbered, is_free, SolvesItsFlow, Accounts, effects_analysed}
+use Rattle.alias_nested.specs.Analysis.{Analysed, analysis, named, naming, numbered, is_free, SolvesItsFlow, Accounts, effects_analysed}
 use Rattle.alias_nested.specs.Fitting.{FunctionKept}
 use Rattle.alias_nested.specs.Units.{RootAnalysis, validated, root_finished, root_analysed, all_analysed, handed_out, unit_analysed, RootLeads}
 use Rattle.alias_nested.proofs.Keeping.{effects_keep}

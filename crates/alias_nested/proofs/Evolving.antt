@@ -1,5 +1,5 @@
 -- How the steps of an analysis change the environment, as the rules see it.
-use Rattle.std.specs.Prelude.{◌≡◌, ℕ, ◌≤◌, ◌==◌, Bool, true, false, not, ◌&&◌, if◌then◌else◌, List, [], ◌∷◌, ◌++◌, Option, Some, None, Result, Ok, Err, ⊤, length, map, slice_get, slice_set, refl}
+use Rattle.std.specs.Prelude.{◌≡◌, ℕ, ◌==◌, Bool, true, false, if◌then◌else◌, List, [], ◌∷◌, Option, Some, None, Ok, length, map, slice_get, slice_set, refl}
 use Rattle.std.specs.List.{list_all}
 use Rattle.std.specs.Option.{option_map, option_map_or}
 use Rattle.std.proofs.Common.{zero, suc, ap, sym, subst, ◌∙◌, arith}
@@ -25,11 +25,11 @@ use Rattle.alias_nesting_laws.specs.SlotLaws.{length_set, set_other, set_there}
 use Rattle.alias_nesting_laws.specs.Slots.{with_function}
 use Rattle.alias_nested.proofs.Surviving.{SummaryNames, effects_survive}
 use Rattle.alias_range_places.specs.Keeping.{but_effect, but_context}
-use Rattle.alias_rules.specs.Fitting.{named_within_tables, summary_within_tables, effect_within_tables, recorded_within_tables, effects_within_tables, holds_no_call, effects_fit, effects_fit_at, function_fits}
+use Rattle.alias_rules.specs.Fitting.{named_within_tables, effect_within_tables, recorded_within_tables, effects_within_tables, holds_no_call, effects_fit, effects_fit_at, function_fits}
 use Rattle.alias_tables.specs.GrowingLaws.{grows_self}
 use Rattle.alias_tables.specs.declared.reads.ContextRead.{ContextRead}
 use Rattle.alias_tables.specs.declared.temporaries.Temporary.{Temporary}
-use Rattle.alias_write_back.specs.WriteBack.{with_identifiers, read_place, with_context_read, with_read, with_reads, with_tables}
+use Rattle.alias_write_back.specs.WriteBack.{with_identifiers, read_place, with_context_read, with_read, with_reads}
 
 -- ---- functions that are the same but for the effects of their context places
 

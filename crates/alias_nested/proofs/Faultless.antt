@@ -16,14 +16,13 @@ use Rattle.alias_hir.specs.declared.hir.BasicBlock.{BasicBlock}
 use Rattle.alias_hir.specs.declared.hir.HirFunction.{HirFunction}
 use Rattle.alias_hir.specs.declared.hir.Instruction.{Instruction}
 use Rattle.alias_hir.specs.declared.place.Place.{Place}
-use Rattle.alias_hir.specs.declared.report.Report.{Report}
 use Rattle.alias_hir.specs.declared.value.InstructionValue.{InstructionValue}
 use Rattle.alias_hir.specs.declared.value.InstructionValue.TheVariants.{LoadLocal, StoreLocal, DeclareContext, StoreContext}
 use Rattle.alias_nested.specs.Analysis.{IsFault}
 use Rattle.alias_validate.specs.InstructionSteps.{plain_step}
 use Rattle.alias_validate.specs.OperandMarks.{ReassigningFunctions, Seen, first_mark, marked_operand, operand, checked, other_step}
 use Rattle.alias_validate.specs.Marking.{mark_of, is_unknown}
-use Rattle.alias_validate.specs.Reassigning.{Below, created_step, value_step, instruction_step, instruction_steps, block_step, block_steps, context_reassignment, reassigned_within, reassigned_reports, with_reassigned}
+use Rattle.alias_validate.specs.Reassigning.{Below, created_step, value_step, instruction_step, instruction_steps, block_step, block_steps, context_reassignment, reassigned_reports, with_reassigned}
 use Rattle.alias_validate.specs.Walks.{and_then, each, ended}
 use Rattle.alias_validate.specs.declared.outcome.Shared.{Shared}
 use Rattle.alias_visit.specs.Operands.{lvalue_ids}

@@ -1,12 +1,11 @@
 -- What the steps of an analysis keep of a function and its environment.
-use Rattle.std.specs.Prelude.{◌≡◌, ℕ, ◌≤◌, ◌==◌, ◌||◌, Bool, true, false, not, ◌&&◌, if◌then◌else◌, List, [], ◌∷◌, Option, Some, None, Result, Ok, Err, ⊤, length, map, slice_get, slice_set, refl}
-use Rattle.std.specs.List.{list_all}
+use Rattle.std.specs.Prelude.{◌≡◌, ℕ, Bool, true, if◌then◌else◌, List, [], ◌∷◌, Option, Some, None, Result, Ok, ⊤, length, map, slice_get, refl}
 use Rattle.std.proofs.Common.{zero, suc, ap, sym, subst, ◌∙◌, arith}
 use Rattle.std.proofs.lemmas.List.{length-map}
 use Rattle.alias_base.specs.Answer.{◌>>=◌, all_pass}
 use Rattle.alias_base.specs.AnswerLaws.{both_true}
 use Rattle.alias_base.specs.declared.ids.FunctionId.{FunctionId}
-use Rattle.alias_bare_laws.specs.Bare.{bare, but_places}
+use Rattle.alias_bare_laws.specs.Bare.{but_places}
 use Rattle.alias_bare_laws.specs.BareLaws.{bare_of_places, bare_of_effects, fits_with_other_places}
 use Rattle.alias_bare_laws.specs.EvolvedLaws.{Evolves, evolves_self, evolves_through, fits_evolved}
 use Rattle.alias_block_laws.specs.FitLaws.{Wider, together}
@@ -15,14 +14,13 @@ use Rattle.alias_effects.proofs.StillFits.{pass_end_fits}
 use Rattle.alias_effects.specs.Inference.{pass_end, env_after}
 use Rattle.alias_effects.specs.Recording.{with_effects_of}
 use Rattle.alias_effects.specs.declared.output.PassEnd.{PassEnd}
-use Rattle.alias_function_rules.specs.Rules.{below, tables_fit, types_fit, types_fit_from, signatures_fit, signature_fits}
+use Rattle.alias_function_rules.specs.Rules.{below, tables_fit, types_fit_from, signature_fits}
 use Rattle.alias_function_rules.specs.declared.fault.Table.TheVariants.{Declarations, Types}
 use Rattle.alias_function_rules.specs.declared.fault.UnitFault.{UnitFault}
 use Rattle.alias_hir.specs.declared.effect.AliasingEffect.{AliasingEffect}
 use Rattle.alias_hir.specs.declared.env.Environment.{Environment}
 use Rattle.alias_hir.specs.declared.env.Identifier.{Identifier}
 use Rattle.alias_hir.specs.declared.hir.HirFunction.{HirFunction}
-use Rattle.alias_hir.specs.declared.place.Effect.{Effect}
 use Rattle.alias_hir.specs.declared.place.Effect.TheVariants.{Read, Capture}
 use Rattle.alias_hir.specs.declared.place.Place.{Place}
 use Rattle.alias_hir.specs.declared.report.Report.{Report}
@@ -30,15 +28,14 @@ use Rattle.alias_hir.specs.declared.report.Interned.{Interned}
 use Rattle.alias_hir.specs.declared.signature.Shape.{Shape}
 use Rattle.alias_hir.specs.declared.types.Ty.{Ty}
 use Rattle.alias_nested.specs.Fitting.{TablesFit, EnvironmentKept, FunctionKept, SummaryFits}
-use Rattle.alias_nested.specs.Settling.{context_settled, is_captured, summarized, without_range, reset_at, reset, settled}
+use Rattle.alias_nested.specs.Settling.{context_settled, summarized, without_range, reset_at, reset, settled}
 use Rattle.alias_nested.proofs.Evolving.{evolves_with_contexts, evolves_back, pass_evolves}
 use Rattle.alias_nesting_laws.specs.Slots.{with_function}
 use Rattle.alias_nesting_laws.specs.FittingLaws.{fitted}
-use Rattle.alias_range_laws.specs.ReportLaws.{expression_reports}
 use Rattle.alias_range_pass.specs.Laws.{but_inferred, PassKeeps}
 use Rattle.alias_range_places.specs.Keeping.{but_effect, but_context, but_range}
-use Rattle.alias_rules.specs.Fitting.{effect_within_tables, recorded_within_tables, effects_within_tables, holds_no_call, effects_fit, reports_no_invariant, function_fits}
-use Rattle.alias_rules.specs.RecordedLaws.{without_effects, fits_with_other_effects}
+use Rattle.alias_rules.specs.Fitting.{recorded_within_tables, effects_within_tables, holds_no_call, effects_fit, reports_no_invariant, function_fits}
+use Rattle.alias_rules.specs.RecordedLaws.{fits_with_other_effects}
 use Rattle.alias_tables.specs.GrowingLaws.{Grows, grows_self}
 
 -- ---- tables

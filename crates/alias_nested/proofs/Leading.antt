@@ -1,5 +1,5 @@
 -- What calls lead to, one after the other.
-use Rattle.std.specs.Prelude.{◌≡◌, ℕ, ◌+◌, ◌<◌, ◌≤◌, false, List, [], ◌∷◌, Option, Some, None, Result, Ok, Err, ⊤, OnOk, length, slice_get, slice_index_or, refl}
+use Rattle.std.specs.Prelude.{◌≡◌, ℕ, ◌+◌, ◌<◌, ◌≤◌, false, List, [], ◌∷◌, Some, Result, Ok, Err, ⊤, OnOk, length, slice_get, slice_index_or, refl}
 use Rattle.std.proofs.Common.{zero, suc, ap, sym, subst, ◌∙◌, drop, arith}
 use Rattle.std.proofs.lemmas.List.{drop_more}
 use Rattle.std.proofs.lemmas.Option.{slice_get_within, get_or_from_slice_get}

@@ -1,5 +1,5 @@
 -- Effects that fit the tables still do, where what summaries name is still there.
-use Rattle.std.specs.Prelude.{◌≡◌, true, ◌&&◌, List, [], ◌∷◌, Option, Some, None, slice_get, refl}
+use Rattle.std.specs.Prelude.{◌≡◌, true, ◌&&◌, List, Option, Some, None, slice_get, refl}
 use Rattle.std.specs.List.{list_all}
 use Rattle.alias_base.specs.AnswerLaws.{both_true}
 use Rattle.alias_base.specs.declared.ids.BlockId.{BlockId}

@@ -1,5 +1,5 @@
 -- What the analysis of nested functions keeps.
-use Rattle.std.specs.Prelude.{◌≡◌, true, ⊤, Ok, List, Some}
+use Rattle.std.specs.Prelude.{◌≡◌, true, Ok, List, Some}
 use Rattle.std.specs.List.{list_all}
 use Rattle.alias_function_rules.specs.Rules.{tables_fit, types_fit, signatures_fit}
 use Rattle.alias_hir.specs.declared.effect.AliasingEffect.{AliasingEffect}

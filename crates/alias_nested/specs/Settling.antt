@@ -8,7 +8,7 @@ use Rattle.alias_hir.specs.declared.env.Environment.{Environment}
 use Rattle.alias_hir.specs.declared.env.Identifier.{Identifier}
 use Rattle.alias_hir.specs.declared.hir.HirFunction.{HirFunction}
 use Rattle.alias_hir.specs.declared.place.Effect.{Effect}
-use Rattle.alias_hir.specs.declared.place.Effect.TheVariants.{Unknown, Freeze, Read, Capture, ConditionallyMutateIterator, ConditionallyMutate, Mutate, Store}
+use Rattle.alias_hir.specs.declared.place.Effect.TheVariants.{Read, Capture}
 use Rattle.alias_hir.specs.declared.place.Place.{Place}
 
 -- the effect captures or mutates the identifier: it names it as what flows into another place, or as what is mutated

@@ -1,8 +1,8 @@
-use Rattle.std.proofs.Common.{◌≡◌, ◌∙◌, ◌-◌, suc, Ok, Err, Some, ap, refl, sym, subst, rules, arith}
+use Rattle.std.proofs.Common.{◌≡◌, ◌∙◌, ◌-◌, suc, Err, Some, ap, refl, sym, subst, rules, arith}
 use Rattle.std.specs.Prelude.{slice_get, slice_index_or}
 use Rattle.alias_base.specs.declared.ids.FunctionId.{FunctionId}
 use Rattle.alias_hir.specs.declared.error.InferError.{InferError}
-use Rattle.alias_nested.specs.Analysis.{analysis, analysed, slot_analysed, each, Accounts}
+use Rattle.alias_nested.specs.Analysis.{analysis, analysed, slot_analysed, each}
 use Rattle.alias_nested.specs.Created.{created_functions}
 use Rattle.alias_nested.specs.Slots.{emptied}
 use Rattle.alias_nested.proofs.Creating.{created_is_among}

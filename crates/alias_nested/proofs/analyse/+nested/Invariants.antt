@@ -1,6 +1,5 @@
 use Rattle.std.proofs.Common.{◌≡◌, ◌+◌, ◌*◌, ◌-◌, ◌≤◌, drop, length}
-use Rattle.alias_base.specs.declared.ids.FunctionId.{FunctionId}
-use Rattle.alias_nested.specs.Analysis.{Analysed, analysis, analysed, slot_analysed, each, Accounts}
+use Rattle.alias_nested.specs.Analysis.{analysis, analysed, slot_analysed, Accounts}
 use Rattle.alias_nested.specs.Fitting.{EnvironmentKept}
 use Rattle.alias_nested.proofs.Leading.{Continues}
 use Rattle.alias_nested.proofs.analyse.+nested.Given as goal
