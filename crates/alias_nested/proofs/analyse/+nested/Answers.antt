@@ -55,13 +55,14 @@ analyse_created-returns-clause-run g t c =
     let all : items ≡ created_functions f = c.as_slice-id-items.ensures ∙ c.in_ok-created.ensures in
     let step = slot_analysed (analysed (c.args.levels - 1)) in
     λ fs a.
-    let so_far = c.loop-id.invariant.run fs a in
-    (so_far.0,
-    analysed_more c.args.levels (c.args.levels - 1) f (analysis c.args.env.now fs) more
-    ∙ ap (λ xs. each step xs (analysis c.args.env.now fs)) (sym all)
-    ∙ so_far.1.rest
-    ∙ all_done step items c.loop-id.id-index (analysis c.loop-id.env so_far.0) (omega (arith, c.loop-id-test.false)),
-    so_far.1.accounts)
+    let so_far = c.loop-id.invariant.run fs a in (
+      so_far.0,
+      analysed_more c.args.levels (c.args.levels - 1) f (analysis c.args.env.now fs) more
+          ∙ ap (λ xs. each step xs (analysis c.args.env.now fs)) (sym all)
+          ∙ so_far.1.rest
+          ∙ all_done step items c.loop-id.id-index (analysis c.loop-id.env so_far.0) (omega (arith, c.loop-id-test.false)),
+      so_far.1.accounts,
+    )
 
 pub analyse_slot-returns-clause-kept : goal.analyse_slot-returns-clause-kept
 analyse_slot-returns-clause-kept g t c =

@@ -48,10 +48,12 @@ pub returns-clause-run : goal.returns-clause-run
 returns-clause-run c =
     let p = c.infer_effects_certified in
     let x = ended c.args.env.now c.args.func.now false c.in_ok-found.found p.new.env c.in_ok-found.ensures.answer c.in_ok-found.ensures.env in
-    λ fs a. (_,
-    root_begins c.args.env.now c.args.func.now c.in_ok-found.found p.new.env x p.new.func c.in_ok-found.ensures.recorded fs
-    ∙ finished p.new.func p.new.env _ (record { summary = c.in_ok-summary.summary; after = (c.infer_mutation_aliasing_ranges.new.func, c.infer_mutation_aliasing_ranges.new.env) }) c.validate_locals_not_reassigned_after_render.new.env c.validate_no_freezing_known_mutable_functions.new.env c.in_ok-summary.ensures.pass c.in_ok-validate_locals_not_reassigned_after_render.ensures.reports c.in_ok-validate_no_freezing_known_mutable_functions.ensures.reports,
-    accounts_more fs c.args.solved.now c.push.new.self (record { env = c.args.env.now; func = c.args.func.now; is_function_expression = false; solved = c.in_ok-found.found }) a c.in_ok-push.ensures.items c.in_ok-found.ensures.solves)
+    λ fs a. (
+      _,
+      root_begins c.args.env.now c.args.func.now c.in_ok-found.found p.new.env x p.new.func c.in_ok-found.ensures.recorded fs
+          ∙ finished p.new.func p.new.env _ (record { summary = c.in_ok-summary.summary; after = (c.infer_mutation_aliasing_ranges.new.func, c.infer_mutation_aliasing_ranges.new.env) }) c.validate_locals_not_reassigned_after_render.new.env c.validate_no_freezing_known_mutable_functions.new.env c.in_ok-summary.ensures.pass c.in_ok-validate_locals_not_reassigned_after_render.ensures.reports c.in_ok-validate_no_freezing_known_mutable_functions.ensures.reports,
+      accounts_more fs c.args.solved.now c.push.new.self (record { env = c.args.env.now; func = c.args.func.now; is_function_expression = false; solved = c.in_ok-found.found }) a c.in_ok-push.ensures.items c.in_ok-found.ensures.solves,
+    )
 
 pub returns-clause-fits : goal.returns-clause-fits
 returns-clause-fits c =
