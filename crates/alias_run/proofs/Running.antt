@@ -48,9 +48,9 @@ read_bytes known failed bytes NotJson i a l h = (bytes, a, l, h)
 read_bytes known failed bytes (NotUnit pointer rule) i a l h = (bytes, a, l, h)
 read_bytes known failed bytes (Unfit fault) i a l h = (bytes, a, l, h)
 read_bytes known failed bytes (Refused e) i a l h = (bytes, a, l, h)
-read_bytes known failed bytes ReadFault i a l h = absurd h.2.2
+read_bytes known failed bytes ReadFault i a l h = absurd h.2.1
 read_bytes known failed bytes WriteFault i a l h = (bytes, a, l, h)
-read_bytes known failed bytes TooLong i a l h = absurd h.2.2
+read_bytes known failed bytes TooLong i a l h = absurd h.2.1
 read_bytes known failed bytes Memory i a l h = h
 
 unwritten : (stop : SinkStop) (left : Option (List ℕ)) → Leaves (write_status stop) left
@@ -121,15 +121,15 @@ module _ (known : Option (List ℕ)) (read_failed write_failed : Type 0) (held h
 
   ran_infer : (status : Status) (i : Option Inferred) → IsRead known read_failed status i → Adds held (text_with status i) held' → Ran (Some Infer) status i
   unfolding IsFound IsHeadline
-  ran_infer Done None f a = absurd f.3.2.2
+  ran_infer Done None f a = absurd f.3.2.1
   ran_infer Done (Some x) f a = let j = f.3 in let k = j.2.1 in ((f, a), (j.0, k.0, known_unit known f.0 j.0 f.1 j.1, j.2.0, k.1, k.2, solved_tell k.0 k.2, a))
-  ran_infer Words i f a = absurd f.3.2.2
+  ran_infer Words i f a = absurd f.3.2.1
   ran_infer NotJson i f a = ((f, a), tt)
   ran_infer (NotUnit pointer rule) i f a = ((f, a), tt)
   ran_infer (Unfit fault) i f a = ((f, a), tt)
   ran_infer (Refused e) i f a = ((f, a), tt)
   ran_infer ReadFault i f a = ((f, a), tt)
-  ran_infer WriteFault i f a = absurd f.3.2.2
+  ran_infer WriteFault i f a = absurd f.3.2.1
   ran_infer TooLong i f a = ((f, a), tt)
   ran_infer Memory i f a = out_of_memory i f a
 
