@@ -7,9 +7,8 @@ ghost use Rattle.alias_function_rules.specs.Rules.{tables_fit, types_fit, signat
 ghost use Rattle.alias_rules.specs.Fitting.{function_fits, reports_no_invariant};
 ghost use Rattle.alias_rules.specs.Functions.{rule_holds};
 ghost use Rattle.alias_rules.specs.declared.rules.Rule.{Rule};
-ghost use Rattle.alias_bare_laws.specs.Bare.{bare, but_places};
+ghost use Rattle.alias_bare_laws.specs.Bare.{bare, but_places, but_ranges_and_contexts};
 ghost use Rattle.alias_bare_laws.specs.EvolvedLaws.{Evolves};
-ghost use Rattle.alias_bare_laws.specs.RangedLaws.{SameButRanges};
 
 use alias_hir::env::Environment;
 
@@ -23,10 +22,10 @@ pub fn bare_laws(env: &Environment)
 }
 
 /// A function that the inference takes is taken again over what analysing nested functions makes of its environment, where
-/// the tables keep their rules and no report says that an invariant was broken; and where nothing but ranges, effects of
-/// context places and reports changed, that is what the analysis may make of it. Does nothing.
+/// the tables keep their rules and no report says that an invariant was broken; and where nothing but ranges, scopes and effects of
+/// context places changed, that is what the analysis may make of it. Does nothing.
 pub fn evolved_laws(env: &Environment, more: &Environment)
-    ensures ranges { SameButRanges env.now more.now → Evolves env.now more.now }
+    ensures ranges { but_ranges_and_contexts more.now ≡ but_ranges_and_contexts env.now → Evolves env.now more.now }
     ensures fits { Evolves env.now more.now → tables_fit more.now ≡ Ok tt → types_fit more.now ≡ Ok tt → signatures_fit more.now ≡ Ok tt → reports_no_invariant more.now ≡ true → (g : HirFunction) → function_fits g env.now ≡ true → function_fits g more.now ≡ true }
 {
     let _env = env;

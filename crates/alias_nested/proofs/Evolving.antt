@@ -3,14 +3,13 @@ use Rattle.std.specs.Prelude.{◌≡◌, ℕ, ◌==◌, Bool, true, false, if◌
 use Rattle.std.specs.List.{list_all}
 use Rattle.std.specs.Option.{option_map, option_map_or}
 use Rattle.std.proofs.Common.{zero, suc, ap, sym, subst, ◌∙◌, arith}
-use Rattle.std.proofs.lemmas.List.{length-map}
 use Rattle.alias_base.specs.AnswerLaws.{both_true}
 use Rattle.alias_base.specs.declared.ids.FunctionId.{FunctionId}
 use Rattle.alias_base.specs.declared.ids.IdentifierId.{IdentifierId}
 use Rattle.alias_bare_laws.specs.Bare.{bare}
 use Rattle.alias_bare_laws.specs.EvolvedLaws.{Evolves}
-use Rattle.alias_block_laws.specs.FitLaws.{Wider, effects_kept, all_weaker, named_kept}
-use Rattle.alias_block_laws.specs.WiderLaws.{fit_kept}
+use Rattle.alias_bare_laws.specs.RangedLaws.{evolves_with_contexts}
+use Rattle.alias_block_laws.specs.FitLaws.{Wider, all_weaker, named_kept}
 use Rattle.alias_block_laws.specs.WrittenLaws.{tables_extended}
 use Rattle.alias_effects.proofs.StillFits.{pass_end_within}
 use Rattle.alias_effects.specs.Inference.{pass_end, end_tables, env_after}
@@ -30,54 +29,6 @@ use Rattle.alias_tables.specs.GrowingLaws.{grows_self}
 use Rattle.alias_tables.specs.declared.reads.ContextRead.{ContextRead}
 use Rattle.alias_tables.specs.declared.temporaries.Temporary.{Temporary}
 use Rattle.alias_write_back.specs.WriteBack.{with_identifiers, read_place, with_context_read, with_read, with_reads}
-
--- ---- functions that are the same but for the effects of their context places
-
-effect_once : (ps : List Place) → map but_effect (map but_effect ps) ≡ map but_effect ps
-effect_once [] = refl
-effect_once (p ∷ ps) = ap (λ z. but_effect p ∷ z) (effect_once ps)
-
-context_bare : (f : HirFunction) → bare (but_context f) ≡ bare f
-context_bare f = ap (λ z. record (bare f) { context = z }) (effect_once f.context)
-
-slot_mapped : {X Y : Type 0} (g : X → Y) (xs : List X) (k : ℕ) → slice_get (map g xs) k ≡ option_map g (slice_get xs k)
-slot_mapped g [] k = refl
-slot_mapped g (x ∷ xs) zero = refl
-slot_mapped g (x ∷ xs) (suc k) = slot_mapped g xs k
-
-bare_slot : (o : Option HirFunction) → option_map bare (option_map but_context o) ≡ option_map bare o
-bare_slot None = refl
-bare_slot (Some f) = ap Some (context_bare f)
-
-summary_slot : (o : Option HirFunction) → summary (option_map but_context o) ≡ summary o
-summary_slot None = refl
-summary_slot (Some f) = refl
-
-fit_slot : (env : Environment) (o : Option HirFunction) → option_map_or (effects_fit env) (option_map but_context o) true ≡ option_map_or (effects_fit env) o true
-fit_slot env None = refl
-fit_slot env (Some f) = refl
-
-module _ (env more : Environment) (w : Wider env more) (same : map but_context more.functions ≡ map but_context env.functions) where
-  slot_alike : (k : ℕ) → option_map but_context (slice_get more.functions k) ≡ option_map but_context (slice_get env.functions k)
-  slot_alike k = sym (slot_mapped but_context more.functions k) ∙ ap (λ fs. slice_get fs k) same ∙ slot_mapped but_context env.functions k
-
-  -- whatever doesn't look at the effects of context places is the same of what stands in a slot
-  slot_same : {X : Type 0} (g : Option HirFunction → X) → ((o : Option HirFunction) → g (option_map but_context o) ≡ g o) → (k : ℕ) → g (slice_get more.functions k) ≡ g (slice_get env.functions k)
-  slot_same g h k = sym (h (slice_get more.functions k)) ∙ ap g (slot_alike k) ∙ h (slice_get env.functions k)
-
-  summaries_same : (f : FunctionId) → summary (slice_get more.functions f.0) ≡ summary (slice_get env.functions f.0)
-  summaries_same f = slot_same summary summary_slot f.0
-
-  -- the rules see nothing but longer tables
-  pub evolves_with_contexts : Evolves env more
-  evolves_with_contexts = record {
-    identifiers = w.identifiers;
-    types = w.types;
-    count = sym (length-map more.functions but_context) ∙ ap length same ∙ length-map env.functions but_context;
-    slots = slot_same (option_map bare) bare_slot;
-    effects = effects_kept env more w summaries_same;
-    effects_at = λ k h. slot_same (λ o. option_map_or (effects_fit more) o true) (fit_slot more) k ∙ fit_kept env more w summaries_same (slice_get env.functions k) h;
-  }
 
 -- ---- the effects pass
 

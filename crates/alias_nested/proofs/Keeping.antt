@@ -1,42 +1,35 @@
 -- What the steps of an analysis keep of a function and its environment.
-use Rattle.std.specs.Prelude.{◌≡◌, ℕ, Bool, true, if◌then◌else◌, List, [], ◌∷◌, Option, Some, None, Result, Ok, ⊤, length, map, slice_get, refl}
+use Rattle.std.specs.Prelude.{◌≡◌, ℕ, Bool, true, if◌then◌else◌, List, [], ◌∷◌, Option, Some, None, Ok, length, map, slice_get, refl}
 use Rattle.std.proofs.Common.{zero, suc, ap, sym, subst, ◌∙◌, arith}
 use Rattle.std.proofs.lemmas.List.{length-map}
-use Rattle.alias_base.specs.Answer.{◌>>=◌, all_pass}
 use Rattle.alias_base.specs.AnswerLaws.{both_true}
 use Rattle.alias_base.specs.declared.ids.FunctionId.{FunctionId}
-use Rattle.alias_bare_laws.specs.Bare.{but_places}
+use Rattle.alias_bare_laws.specs.Bare.{but_places, without_range, but_ranges_and_contexts, TablesFit}
 use Rattle.alias_bare_laws.specs.BareLaws.{bare_of_places, bare_of_effects, fits_with_other_places}
 use Rattle.alias_bare_laws.specs.EvolvedLaws.{Evolves, evolves_self, evolves_through, fits_evolved}
+use Rattle.alias_bare_laws.specs.RangedLaws.{evolves_with_contexts, evolves_alike, tables_alike_fit}
 use Rattle.alias_block_laws.specs.FitLaws.{Wider, together}
 use Rattle.alias_effects.proofs.RecordedDiffers.{recorded_differs}
 use Rattle.alias_effects.proofs.StillFits.{pass_end_fits}
 use Rattle.alias_effects.specs.Inference.{pass_end, env_after}
 use Rattle.alias_effects.specs.Recording.{with_effects_of}
 use Rattle.alias_effects.specs.declared.output.PassEnd.{PassEnd}
-use Rattle.alias_function_rules.specs.Rules.{below, tables_fit, types_fit_from, signature_fits}
-use Rattle.alias_function_rules.specs.declared.fault.Table.TheVariants.{Declarations, Types}
-use Rattle.alias_function_rules.specs.declared.fault.UnitFault.{UnitFault}
 use Rattle.alias_hir.specs.declared.effect.AliasingEffect.{AliasingEffect}
 use Rattle.alias_hir.specs.declared.env.Environment.{Environment}
 use Rattle.alias_hir.specs.declared.env.Identifier.{Identifier}
 use Rattle.alias_hir.specs.declared.hir.HirFunction.{HirFunction}
 use Rattle.alias_hir.specs.declared.place.Effect.TheVariants.{Read, Capture}
 use Rattle.alias_hir.specs.declared.place.Place.{Place}
-use Rattle.alias_hir.specs.declared.report.Report.{Report}
-use Rattle.alias_hir.specs.declared.report.Interned.{Interned}
-use Rattle.alias_hir.specs.declared.signature.Shape.{Shape}
-use Rattle.alias_hir.specs.declared.types.Ty.{Ty}
-use Rattle.alias_nested.specs.Fitting.{TablesFit, EnvironmentKept, FunctionKept, SummaryFits}
-use Rattle.alias_nested.specs.Settling.{context_settled, summarized, without_range, reset_at, reset, settled}
-use Rattle.alias_nested.proofs.Evolving.{evolves_with_contexts, evolves_back, pass_evolves}
+use Rattle.alias_nested.specs.Fitting.{EnvironmentKept, FunctionKept, SummaryFits}
+use Rattle.alias_nested.specs.Settling.{context_settled, summarized, reset_at, reset, settled}
+use Rattle.alias_nested.proofs.Evolving.{evolves_back, pass_evolves}
 use Rattle.alias_nesting_laws.specs.Slots.{with_function}
 use Rattle.alias_nesting_laws.specs.FittingLaws.{fitted}
 use Rattle.alias_range_pass.specs.Laws.{but_inferred, PassKeeps}
 use Rattle.alias_range_places.specs.Keeping.{but_effect, but_context, but_range}
-use Rattle.alias_rules.specs.Fitting.{recorded_within_tables, effects_within_tables, holds_no_call, effects_fit, reports_no_invariant, function_fits}
+use Rattle.alias_rules.specs.Fitting.{recorded_within_tables, effects_within_tables, holds_no_call, effects_fit, function_fits}
 use Rattle.alias_rules.specs.RecordedLaws.{fits_with_other_effects}
-use Rattle.alias_tables.specs.GrowingLaws.{Grows, grows_self}
+use Rattle.alias_tables.specs.GrowingLaws.{grows_self}
 
 -- ---- tables
 
@@ -53,84 +46,9 @@ environment_self f env h = record { evolves = evolves_self env; tables = tables_
 pub environment_through : (a b c : Environment) → EnvironmentKept a b → EnvironmentKept b c → EnvironmentKept a c
 environment_through a b c j k = record { evolves = evolves_through a b c j.evolves k.evolves; tables = k.tables }
 
--- a rule that doesn't look at what another part of an identifier is
-all_pass_mapped : {A B E : Type 0} (f : B → Result ⊤ E) (g : A → B) (h : A → Result ⊤ E) → ((x : A) → f (g x) ≡ h x) → (xs : List A) → all_pass f (map g xs) ≡ all_pass h xs
-all_pass_mapped f g h e [] = refl
-all_pass_mapped f g h e (x ∷ xs) = ap (λ r. r >>= (λ _. all_pass f (map g xs))) (e x) ∙ ap (λ r. h x >>= (λ _. r)) (all_pass_mapped f g h e xs)
-
--- the rule of an identifier, over tables of so many entries
-abbrev entry_fits : ℕ → ℕ → Identifier → Result ⊤ UnitFault
-entry_fits n m i = do
-  _ ← below Declarations n i.declaration_id.0
-  below Types m i.type_.0
-
-rules_without_ranges : (n m : ℕ) (is : List Identifier) → all_pass (entry_fits n m) (map without_range is) ≡ all_pass (entry_fits n m) is
-rules_without_ranges n m is = all_pass_mapped (entry_fits n m) without_range (entry_fits n m) (λ i. refl) is
-
-length_of_alike : (is js : List Identifier) → map without_range js ≡ map without_range is → length js ≡ length is
-length_of_alike is js h = sym (length-map js without_range) ∙ ap length h ∙ length-map is without_range
-
--- tables whose identifiers differ in ranges and scopes alone keep the same rules
-tables_alike : (env more : Environment) → map without_range more.identifiers ≡ map without_range env.identifiers → more.types ≡ env.types → tables_fit env ≡ Ok tt → tables_fit more ≡ Ok tt
-tables_alike env more ids types h =
-    sym (rules_without_ranges (length more.identifiers) (length more.types) more.identifiers)
-    ∙ ap (all_pass (entry_fits (length more.identifiers) (length more.types))) ids
-    ∙ ap (λ n. all_pass (entry_fits n (length more.types)) (map without_range env.identifiers)) (length_of_alike env.identifiers more.identifiers ids)
-    ∙ ap (λ (ts : List Ty). all_pass (entry_fits (length env.identifiers) (length ts)) (map without_range env.identifiers)) types
-    ∙ rules_without_ranges (length env.identifiers) (length env.types) env.identifiers
-    ∙ h
-
--- ---- what changes but ranges, scopes and the effects of context places
-
--- all of the environment but these
-abbrev pub but_ranges_and_contexts : Environment → Environment
-but_ranges_and_contexts env = record env { identifiers = map without_range env.identifiers; functions = map but_context env.functions }
-
-grows_equal : (old new : List Interned) → new ≡ old → Grows old new
-grows_equal old new h = subst (Grows old) (sym h) (grows_self old)
-
-module _ (env more : Environment) (same : but_ranges_and_contexts more ≡ but_ranges_and_contexts env) where
-  ids_same : map without_range more.identifiers ≡ map without_range env.identifiers
-  ids_same = ap (λ (e : Environment). e.identifiers) same
-
-  contexts_same : map but_context more.functions ≡ map but_context env.functions
-  contexts_same = ap (λ (e : Environment). e.functions) same
-
-  types_same : more.types ≡ env.types
-  types_same = ap (λ (e : Environment). e.types) same
-
-  shapes_same : more.shapes ≡ env.shapes
-  shapes_same = ap (λ (e : Environment). e.shapes) same
-
-  interned_same : more.interned ≡ env.interned
-  interned_same = ap (λ (e : Environment). e.interned) same
-
-  errors_same : more.errors ≡ env.errors
-  errors_same = ap (λ (e : Environment). e.errors) same
-
-  wider_alike : Wider env more
-  wider_alike =
-      let i : length more.identifiers ≡ length env.identifiers = length_of_alike env.identifiers more.identifiers ids_same in
-      let t : length more.types ≡ length env.types = ap length types_same in
-      let f : length more.functions ≡ length env.functions = sym (length-map more.functions but_context) ∙ ap length contexts_same ∙ length-map env.functions but_context in
-      record { identifiers = omega arith; types = omega arith; functions = omega arith; interned = grows_equal env.interned more.interned interned_same }
-
-  abbrev reported : List Report → List Interned → Environment
-  reported es is = record env { errors = es; interned = is }
-
-  reports_alike : reported more.errors more.interned ≡ reported env.errors env.interned
-  reports_alike = ap (λ es. reported es more.interned) errors_same ∙ ap (reported env.errors) interned_same
-
-  tables_alike_fit : TablesFit env → TablesFit more
-  tables_alike_fit t = record {
-    identifiers = tables_alike env more ids_same types_same t.identifiers;
-    types = ap (types_fit_from 0) types_same ∙ t.types;
-    signatures = ap (all_pass (λ (s : Shape). signature_fits s.signature)) shapes_same ∙ t.signatures;
-    reports = ap (λ (e : Environment). reports_no_invariant e) reports_alike ∙ t.reports;
-  }
-
-  pub environment_alike : TablesFit env → EnvironmentKept env more
-  environment_alike t = record { evolves = evolves_with_contexts env more wider_alike contexts_same; tables = tables_alike_fit t }
+-- nothing but ranges, scopes and the effects of context places changed
+environment_alike : (env more : Environment) → but_ranges_and_contexts more ≡ but_ranges_and_contexts env → TablesFit env → EnvironmentKept env more
+environment_alike env more same t = record { evolves = evolves_alike env more same; tables = tables_alike_fit env more same t }
 
 -- ---- functions
 
@@ -278,3 +196,7 @@ environment_back env id f g stand_in out after back at none is put k =
       tables = record { identifiers = t.identifiers; types = t.types; signatures = t.signatures; reports = t.reports };
     } in
     subst (EnvironmentKept env) (sym put) whole
+
+-- on every answer of the range pass there are as many functions
+pub count_kept : (env more : Environment) → PassKeeps env more → length more.functions ≡ length env.functions
+count_kept env more k = sym (length-map more.functions but_context) ∙ ap (λ (e : Environment). length e.functions) k.rest ∙ length-map env.functions but_context

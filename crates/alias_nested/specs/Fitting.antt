@@ -1,20 +1,12 @@
 -- What the analysis of nested functions keeps.
-use Rattle.std.specs.Prelude.{◌≡◌, true, Ok, List, Some}
+use Rattle.std.specs.Prelude.{◌≡◌, true, List, Some}
 use Rattle.std.specs.List.{list_all}
-use Rattle.alias_function_rules.specs.Rules.{tables_fit, types_fit, signatures_fit}
 use Rattle.alias_hir.specs.declared.effect.AliasingEffect.{AliasingEffect}
 use Rattle.alias_hir.specs.declared.env.Environment.{Environment}
 use Rattle.alias_hir.specs.declared.hir.HirFunction.{HirFunction}
-use Rattle.alias_rules.specs.Fitting.{effect_within_tables, holds_no_call, reports_no_invariant, function_fits}
-use Rattle.alias_bare_laws.specs.Bare.{bare}
+use Rattle.alias_rules.specs.Fitting.{effect_within_tables, holds_no_call, function_fits}
+use Rattle.alias_bare_laws.specs.Bare.{bare, TablesFit}
 use Rattle.alias_bare_laws.specs.EvolvedLaws.{Evolves}
-
--- the tables keep their rules, and no report says that an invariant was broken
-pub record TablesFit (env : Environment) : Type 0 where
-  pub identifiers : tables_fit env ≡ Ok tt
-  pub types : types_fit env ≡ Ok tt
-  pub signatures : signatures_fit env ≡ Ok tt
-  pub reports : reports_no_invariant env ≡ true
 
 -- tables that still keep their rules, and functions that are the same but for what is inferred
 pub record EnvironmentKept (old new : Environment) : Type 0 where

@@ -1,6 +1,7 @@
 -- What is set of a nested function once its summary is known.
 use Rattle.std.specs.Prelude.{ℕ, Bool, true, false, ◌||◌, if◌then◌else◌, ◌==◌, List, [], ◌∷◌, Option, Some, None, map, slice_get, slice_set}
 use Rattle.std.specs.List.{list_any}
+use Rattle.alias_bare_laws.specs.Bare.{without_range}
 use Rattle.alias_base.specs.declared.ids.IdentifierId.{IdentifierId}
 use Rattle.alias_hir.specs.declared.effect.AliasingEffect.{AliasingEffect}
 use Rattle.alias_hir.specs.declared.effect.AliasingEffect.TheVariants as effect
@@ -39,9 +40,6 @@ context_settled summary p = record p { effect = if is_captured summary p then Ca
 -- the function with its summary, and with the effects of its context places
 abbrev pub summarized : List AliasingEffect → HirFunction → HirFunction
 summarized summary f = record f { context = map (context_settled summary) f.context; aliasing_effects = Some summary }
-
-abbrev pub without_range : Identifier → Identifier
-without_range i = record i { mutable_range = record { start = record { 0 = 0 }; end = record { 0 = 0 } }; scope = None }
 
 abbrev pub reset_at : List Identifier → ℕ → Option Identifier → List Identifier
 reset_at is n None = is

@@ -2,4 +2,3 @@ pub mod AnswerLaws
 pub mod SummaryLaws
 pub mod PlacedLaws
 pub mod ReportLaws
-pub mod TableLaws

@@ -1,9 +1,8 @@
 use Rattle.std.proofs.Common.{true}
 use Rattle.alias_range_laws.specs.ReportLaws.{expression_reports}
 use Rattle.alias_range_laws.specs.SummaryLaws.{summary_fits}
-use Rattle.alias_range_laws.specs.TableLaws.{functions_as_long}
 use Rattle.alias_range_pass.specs.CheckLaws.{checked_fits}
-use Rattle.alias_nested.proofs.Keeping.{ranges_keep, summary_kept}
+use Rattle.alias_nested.proofs.Keeping.{ranges_keep, summary_kept, count_kept}
 use Rattle.alias_nested.proofs.function.infer_ranges.Goals as goal
 
 pub infer_mutation_aliasing_ranges-requires : goal.infer_mutation_aliasing_ranges-requires
@@ -22,4 +21,4 @@ returns-in-Ok-clause-summary c =
     summary_kept c.args.env.now p.new.env c.args.func.now kept.evolves c.requires c.in-Ok.summary (record { within = fits.0; no_call = fits.1 })
 
 pub returns-in-Err-clause-count : goal.returns-in-Err-clause-count
-returns-in-Err-clause-count c = functions_as_long c.args.env.now c.infer_mutation_aliasing_ranges.new.env c.infer_mutation_aliasing_ranges.ensures.kept
+returns-in-Err-clause-count c = count_kept c.args.env.now c.infer_mutation_aliasing_ranges.new.env c.infer_mutation_aliasing_ranges.ensures.kept
