@@ -73,7 +73,7 @@ pub(crate) fn ending_with<P: InnerPasses>(alloc: Global, text: &str, passes: &mu
 }
 
 /// The ending where the calls of these numbers fail.
-pub(crate) fn ending(alloc: Global, text: &str, calls: &[u64]) -> Result<Ending, AllocError> {
+pub(crate) fn ending_at(alloc: Global, text: &str, calls: &[u64]) -> Result<Ending, AllocError> {
     let mut passes = FailingPasses::new(List::from_slice(alloc, calls)?);
     Ok(ending_with(alloc, text, &mut passes))
 }

@@ -1,6 +1,6 @@
 //! Which call of a pass of the caller runs which pass on which function.
 
-use crate::endings::{Ending, ending};
+use crate::endings::{Ending, ending_at};
 use crate::units::{NO_VALUE, ONE_FUNCTION, TWO_LEVELS, TWO_SIDE_BY_SIDE};
 use alias_base::FunctionId;
 use alias_hir::error::Pass;
@@ -24,7 +24,7 @@ fn calls_three_passes_on_a_function(rt: HostRuntime) -> Result<(), Fail> {
         (4, Ending::Inferred(2)),
     ] {
         assert_eq!(rt;
-            ending(alloc, ONE_FUNCTION, &[call])?,
+            ending_at(alloc, ONE_FUNCTION, &[call])?,
             wanted,
             "call {call}"
         );
@@ -36,7 +36,7 @@ fn calls_three_passes_on_a_function(rt: HostRuntime) -> Result<(), Fail> {
 fn stops_at_the_first_failure(rt: HostRuntime) -> Result<(), Fail> {
     let alloc = rt.alloc();
     assert_eq!(rt;
-        ending(alloc, ONE_FUNCTION, &[3, 2])?,
+        ending_at(alloc, ONE_FUNCTION, &[3, 2])?,
         failed(0, Pass::RewriteInstructionKindsBasedOnReassignment)
     );
     Ok(())
@@ -53,7 +53,7 @@ fn runs_on_functions_in_the_order_in_which_they_are_created(rt: HostRuntime) -> 
         (7, Ending::Inferred(3)),
     ] {
         assert_eq!(rt;
-            ending(alloc, TWO_SIDE_BY_SIDE, &[call])?,
+            ending_at(alloc, TWO_SIDE_BY_SIDE, &[call])?,
             wanted,
             "call {call}"
         );
@@ -71,7 +71,11 @@ fn runs_on_the_innermost_function_first(rt: HostRuntime) -> Result<(), Fail> {
         (6, failed(0, Pass::InferReactiveScopeVariables)),
         (7, Ending::Inferred(3)),
     ] {
-        assert_eq!(rt; ending(alloc, TWO_LEVELS, &[call])?, wanted, "call {call}");
+        assert_eq!(rt;
+            ending_at(alloc, TWO_LEVELS, &[call])?,
+            wanted,
+            "call {call}"
+        );
     }
     Ok(())
 }
@@ -83,7 +87,7 @@ fn refuses_a_function_before_a_pass_runs_on_it(rt: HostRuntime) -> Result<(), Fa
         (3u64, failed(1, Pass::InferReactiveScopeVariables)),
         (4, Ending::Uninitialized(Some(FunctionId(0)))),
     ] {
-        assert_eq!(rt; ending(alloc, NO_VALUE, &[call])?, wanted, "call {call}");
+        assert_eq!(rt; ending_at(alloc, NO_VALUE, &[call])?, wanted, "call {call}");
     }
     Ok(())
 }
