@@ -1,5 +1,5 @@
 //! A list for each number.
-ghost use Rattle.std.specs.Prelude.{◌≡◌, ℕ, ◌==◌, ◌++◌, ◌∷◌, [], cond, OnOk, OnErr};
+ghost use Rattle.std.specs.Prelude.{◌≡◌, ℕ, ◌==◌, ◌++◌, ◌∷◌, [], cond, OnOk, OnErr, List as Elements};
 ghost use Rattle.std.specs.Ordering.{nat_cmp};
 ghost use Rattle.std.specs.BTreeMap.{get};
 ghost use Rattle.alias_base.specs.Find.{list_at};
@@ -36,4 +36,13 @@ pub fn append_at<T: Drop>(
     list.push(item)?;
     lists.insert(number, list)?;
     Ok(())
+}
+
+/// Takes the last item off the list of the number, where it has one: what `append_at` appended there last.
+pub fn take_back<T: Drop>(lists: &mut BTreeMap<u32, List<T>>, number: u32)
+    ensures { (q : ℕ) (xs : Elements T) (x : T) → list_at (get nat_cmp lists.old q) ≡ cond (number == q) (xs ++ x ∷ []) xs → list_at (get nat_cmp lists.new q) ≡ xs }
+{
+    if let Some(list) = lists.get_mut(&number) {
+        let _last = list.pop();
+    }
 }

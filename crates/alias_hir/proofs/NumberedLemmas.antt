@@ -1,12 +1,9 @@
--- Entries are found by the numbers of those of their identifier.
+-- Entries are found by the numbers of those with their digest.
 use Rattle.std.proofs.Common.{◌≡◌, ℕ, suc, ◌+◌, Bool, true, false, cond, ◌==◌, ◌<◌, List, [], ◌∷◌, ◌++◌, drop, get_or, drop-cons, add-one, length, refl, ap, sym, ◌∙◌, arith}
 use Rattle.std.specs.Prelude.{Option, Some, slice_get}
-use Rattle.alias_base.specs.AnswerLaws.{both_true}
-use Rattle.alias_base.specs.declared.ids.IdentifierId.{IdentifierId}
 use Rattle.alias_hir.specs.Numbered.{numbers_of, passes, first_among}
-use Rattle.alias_hir.specs.SameReports.{same_words, same_report, same_identity, same_instance, number_of}
+use Rattle.alias_hir.specs.SameReports.{number_of}
 use Rattle.alias_hir.specs.declared.report.Interned.{Interned}
-use Rattle.alias_hir.specs.declared.report.Report.{Report}
 
 from_index : (xs : List ℕ) (i : ℕ) → i < length xs → drop i xs ≡ get_or xs i 0 ∷ drop (i + 1) xs
 from_index xs i h = rw (add-one i) (drop-cons xs i 0 h)
@@ -38,35 +35,27 @@ by_tests true false n later rest i e = omega (arith, e)
 by_tests false true n later rest i e = let no : false ≡ true = i refl in cc
 by_tests false false n later rest i e = omega (arith, e)
 
--- where f passes entries of the identifier q alone, the numbers of that identifier's entries serve in the place of all
-first_from : (f : Interned → Bool) (q : ℕ) → ((e : Interned) → f e ≡ true → (e.identifier.0 == q) ≡ true) → (all es : List Interned) (n : ℕ)
-    → ((k : ℕ) → slice_get all (n + k) ≡ slice_get es k) → length all ≡ n + length es → first_among f all (numbers_of q n es) ≡ n + number_of f es
-first_from f q i all [] n h l = l
-first_from f q i all (x ∷ xs) n h l =
+-- where f passes entries with the digest q alone, the numbers of those entries serve in the place of all
+first_from : (f : Interned → Bool) (digest : Interned → ℕ) (q : ℕ) → ((e : Interned) → f e ≡ true → (digest e == q) ≡ true) → (all es : List Interned) (n : ℕ)
+    → ((k : ℕ) → slice_get all (n + k) ≡ slice_get es k) → length all ≡ n + length es → first_among f all (numbers_of digest q n es) ≡ n + number_of f es
+first_from f digest q i all [] n h l = l
+first_from f digest q i all (x ∷ xs) n h l =
     let same : n ≡ n + 0 = omega arith in
     let here : slice_get all n ≡ Some x = ap (slice_get all) same ∙ h 0 in
     let shift : (k : ℕ) → (n + 1) + k ≡ n + suc k = λ k. omega arith in
     let next : (k : ℕ) → slice_get all ((n + 1) + k) ≡ slice_get xs k = λ k. ap (slice_get all) (shift k) ∙ h (suc k) in
     let short : length all ≡ (n + 1) + length xs = omega (arith, l) in
-    let later : first_among f all (numbers_of q (n + 1) xs) ≡ (n + 1) + number_of f xs = first_from f q i all xs (n + 1) next short in
-    chosen f all n (numbers_of q (n + 1) xs) (x.identifier.0 == q)
-    ∙ ap (λ (z : Bool). cond (x.identifier.0 == q) (cond z n (first_among f all (numbers_of q (n + 1) xs))) (first_among f all (numbers_of q (n + 1) xs))) (ap (passes f) here)
-    ∙ by_tests (x.identifier.0 == q) (f x) n (first_among f all (numbers_of q (n + 1) xs)) (number_of f xs) (i x) later
+    let later : first_among f all (numbers_of digest q (n + 1) xs) ≡ (n + 1) + number_of f xs = first_from f digest q i all xs (n + 1) next short in
+    chosen f all n (numbers_of digest q (n + 1) xs) (digest x == q)
+    ∙ ap (λ (z : Bool). cond (digest x == q) (cond z n (first_among f all (numbers_of digest q (n + 1) xs))) (first_among f all (numbers_of digest q (n + 1) xs))) (ap (passes f) here)
+    ∙ by_tests (digest x == q) (f x) n (first_among f all (numbers_of digest q (n + 1) xs)) (number_of f xs) (i x) later
 
-first_numbered : (f : Interned → Bool) (q : ℕ) → ((e : Interned) → f e ≡ true → (e.identifier.0 == q) ≡ true) → (es : List Interned) (ns : List ℕ)
-    → ns ≡ numbers_of q 0 es → first_among f es ns ≡ number_of f es
-first_numbered f q i es ns e =
+pub first_numbered : (f : Interned → Bool) (digest : Interned → ℕ) (q : ℕ) → ((e : Interned) → f e ≡ true → (digest e == q) ≡ true) → (es : List Interned) (ns : List ℕ)
+    → ns ≡ numbers_of digest q 0 es → first_among f es ns ≡ number_of f es
+first_numbered f digest q i es ns e =
     let plain : (k : ℕ) → 0 + k ≡ k = λ k. omega arith in
     let all : length es ≡ 0 + length es = omega arith in
-    ap (first_among f es) e ∙ first_from f q i es es 0 (λ k. ap (slice_get es) (plain k)) all ∙ plain (number_of f es)
-
--- the first that says the same
-pub identity_numbered : (es : List Interned) (id : IdentifierId) (r : Report) (ns : List ℕ) → ns ≡ numbers_of id.0 0 es → first_among (same_identity id r) es ns ≡ number_of (same_identity id r) es
-identity_numbered es id r ns e = first_numbered (same_identity id r) id.0 (λ x h. (both_true (x.identifier.0 == id.0) (same_words x.report r) h).0) es ns e
-
--- the equal one
-pub instance_numbered : (es : List Interned) (id : IdentifierId) (r : Report) (ns : List ℕ) → ns ≡ numbers_of id.0 0 es → first_among (same_instance id r) es ns ≡ number_of (same_instance id r) es
-instance_numbered es id r ns e = first_numbered (same_instance id r) id.0 (λ x h. (both_true (x.identifier.0 == id.0) (same_report x.report r) h).0) es ns e
+    ap (first_among f es) e ∙ first_from f digest q i es es 0 (λ k. ap (slice_get es) (plain k)) all ∙ plain (number_of f es)
 
 pushed : (t s : Bool) (n : ℕ) (ns later : List ℕ) (a b : ℕ) → a ≡ b → later ≡ cond s (ns ++ a ∷ []) ns → cond t (n ∷ later) later ≡ cond s (cond t (n ∷ ns) ns ++ b ∷ []) (cond t (n ∷ ns) ns)
 pushed true true n ns later a b e h = cc
@@ -74,16 +63,16 @@ pushed true false n ns later a b e h = cc
 pushed false true n ns later a b e h = cc
 pushed false false n ns later a b e h = cc
 
-numbers_of-append : (q n : ℕ) (es : List Interned) (e : Interned) → numbers_of q n (es ++ e ∷ []) ≡ cond (e.identifier.0 == q) (numbers_of q n es ++ (n + length es) ∷ []) (numbers_of q n es)
-numbers_of-append q n [] e = let same : n ≡ n + 0 = omega arith in ap (λ (z : ℕ). cond (e.identifier.0 == q) (z ∷ []) []) same
-numbers_of-append q n (x ∷ xs) e =
+numbers_of-append : (digest : Interned → ℕ) (q n : ℕ) (es : List Interned) (e : Interned) → numbers_of digest q n (es ++ e ∷ []) ≡ cond (digest e == q) (numbers_of digest q n es ++ (n + length es) ∷ []) (numbers_of digest q n es)
+numbers_of-append digest q n [] e = let same : n ≡ n + 0 = omega arith in ap (λ (z : ℕ). cond (digest e == q) (z ∷ []) []) same
+numbers_of-append digest q n (x ∷ xs) e =
     let same : (n + 1) + length xs ≡ n + length (x ∷ xs) = omega arith in
-    pushed (x.identifier.0 == q) (e.identifier.0 == q) n (numbers_of q (n + 1) xs) _ _ _ same (numbers_of-append q (n + 1) xs e)
+    pushed (digest x == q) (digest e == q) n (numbers_of digest q (n + 1) xs) _ _ _ same (numbers_of-append digest q (n + 1) xs e)
 
 -- one more entry has the next number
-pub numbers_push : (q n : ℕ) (es fs : List Interned) (e : Interned) (old new : List ℕ) → fs ≡ es ++ e ∷ [] → n ≡ length es → old ≡ numbers_of q 0 es
-    → new ≡ cond (e.identifier.0 == q) (old ++ n ∷ []) old → new ≡ numbers_of q 0 fs
-numbers_push q n es fs e old new f l o h =
-    let whole : numbers_of q 0 fs ≡ cond (e.identifier.0 == q) (numbers_of q 0 es ++ (0 + length es) ∷ []) (numbers_of q 0 es) = ap (numbers_of q 0) f ∙ numbers_of-append q 0 es e in
+pub numbers_push : (digest : Interned → ℕ) (q n d : ℕ) (es fs : List Interned) (e : Interned) (old new : List ℕ) → fs ≡ es ++ e ∷ [] → n ≡ length es → old ≡ numbers_of digest q 0 es
+    → d ≡ digest e → new ≡ cond (d == q) (old ++ n ∷ []) old → new ≡ numbers_of digest q 0 fs
+numbers_push digest q n d es fs e old new f l o g h =
+    let whole : numbers_of digest q 0 fs ≡ cond (digest e == q) (numbers_of digest q 0 es ++ (0 + length es) ∷ []) (numbers_of digest q 0 es) = ap (numbers_of digest q 0) f ∙ numbers_of-append digest q 0 es e in
     let last : 0 + length es ≡ n = omega (arith, l) in
     cc

@@ -1,9 +1,9 @@
 -- Shapes found by their names.
-use Rattle.std.specs.Prelude.{◌≡◌, ℕ, Bool, true, false, cond, List, [], ◌∷◌, ◌++◌, length, Option, Some, None, find, nat_eq, refl}
+use Rattle.std.specs.Prelude.{◌≡◌, ℕ, true, false, cond, List, [], ◌∷◌, ◌++◌, length, Option, Some, None, find, nat_eq, refl}
 use Rattle.std.proofs.Common.{ap, sym, ◌∙◌, subst}
 use Rattle.std.specs.Option.{is_some}
 use Rattle.std.specs.Cmp.Lexicographic.{pointwise, nat_list_eq_equiv}
-use Rattle.alias_base.specs.Indexes.{at_slot, IsIndex, first_of, slot_of, first_at, index_push, index_still}
+use Rattle.alias_base.specs.Indexes.{at_slot, IsIndex, first_of, first_at, index_push, index_still}
 use Rattle.alias_hir.specs.declared.signature.Shape.{Shape}
 
 -- the first shape with the name
