@@ -1,4 +1,5 @@
 pub mod Kinds
+pub mod Made
 pub mod Progress
 pub mod Contexts
 pub mod Reports

@@ -1,6 +1,5 @@
 -- What the parts of a step do to its progress.
-use Rattle.std.specs.Prelude.{◌≡◌, Bool, ◌==◌, List, [], ◌∷◌, ◌++◌, Option, Some, None, Result, Ok, Err, ⊤, if◌then◌else◌}
-use Rattle.std.specs.List.{list_any}
+use Rattle.std.specs.Prelude.{◌≡◌, List, [], ◌∷◌, ◌++◌, Option, Some, None, Result, Ok, Err, ⊤, if◌then◌else◌}
 use Rattle.alias_base.specs.declared.ids.IdentifierId.{IdentifierId}
 use Rattle.alias_hir.specs.declared.effect.ValueKind.{ValueKind}
 use Rattle.alias_hir.specs.declared.place.Place.{Place}
@@ -15,6 +14,7 @@ use Rattle.alias_tables.specs.declared.faults.EffectFault.TheVariants.{Refused, 
 use Rattle.alias_tables.specs.Tables.{TableLists, Step}
 use Rattle.alias_tables.specs.Steps.{gives, refuses}
 use Rattle.alias_apply.specs.declared.progress.StepProgress.{StepProgress}
+pub use Rattle.alias_apply.specs.Made.{is_made}
 
 -- the effect is recorded
 abbrev pub record_of : AliasingEffect → StepProgress → StepProgress
@@ -43,9 +43,6 @@ looked_with_span p s = looked p.identifier p.span s
 -- the kind of the place's value as the step has come
 abbrev pub kind_at : Place → StepProgress → ValueKind
 kind_at p s = (look s.state p.identifier).kind
-
-abbrev pub is_made : IdentifierId → List IdentifierId → Bool
-is_made x made = list_any (λ (y : IdentifierId). y.0 == x.0) made
 
 -- the identifier is made, once in an instruction
 abbrev pub made : IdentifierId → StepProgress → Step StepProgress

@@ -6,6 +6,7 @@ pub mod context;
 pub mod kinds;
 pub mod laws;
 pub mod leaves;
+pub mod made;
 pub mod mutation;
 pub mod progress;
 pub mod reports;
@@ -13,4 +14,5 @@ pub mod values;
 
 pub use apply::{raise_all_plain, raise_plain, raise_simple};
 pub use context::StepContext;
+pub use made::MadeIdentifiers;
 pub use progress::StepProgress;

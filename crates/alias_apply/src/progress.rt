@@ -2,9 +2,10 @@
 
 ghost use Rattle.std.specs.Prelude.{◌≡◌, OnOk};
 ghost use Rattle.alias_lattice.specs.States.{look as look_of, given};
-ghost use Rattle.alias_apply.specs.Progress.{with_state, record_of, looked, is_made, made, Follows};
+ghost use Rattle.alias_apply.specs.Progress.{with_state, record_of, looked, made, Follows};
 
-use alias_base::{IdentifierId, List};
+use crate::made::MadeIdentifiers;
+use alias_base::IdentifierId;
 use alias_hir::effect::{AliasingEffect, AliasingEffects};
 use alias_hir::place::{Place, Span};
 use alias_lattice::{AbstractValue, InferenceState, MissingLook, Site};
@@ -16,7 +17,7 @@ use std::alloc::AllocError;
 pub struct StepProgress {
     pub state: InferenceState,
     /// The identifiers that the instruction has made.
-    pub made: List<IdentifierId>,
+    pub made: MadeIdentifiers,
     /// What was recorded of the instruction.
     pub recorded: AliasingEffects,
     /// The first look of the block at an identifier without a value.
@@ -31,13 +32,6 @@ pub fn record(step: &mut StepProgress, effect: AliasingEffect) -> Result<(), All
     Ok(())
 }
 
-/// Whether the instruction has made the identifier.
-pub fn is_made(made: &[IdentifierId], identifier: IdentifierId) -> bool
-    ensures { result ≡ is_made identifier made.now }
-{
-    made.contains(&identifier)
-}
-
 /// Notes that the instruction makes the identifier, which it may do once.
 pub fn make(
     step: &mut StepProgress,
@@ -47,7 +41,7 @@ pub fn make(
     ensures { Follows (made identifier step.old tables.now) result step.new tables.now }
 {
     let _tables = tables;
-    if is_made(step.made.as_slice(), identifier) {
+    if step.made.contains(identifier) {
         return Err(EffectFault::Refused(Refusal::Reinitialized { identifier }));
     }
     step.made.push(identifier)?;

@@ -6,7 +6,7 @@ ghost use Rattle.alias_apply.specs.Values.{apply_create, record_create_from, app
 
 use crate::kinds::{captures, is_constant, is_frozen, may_alias, may_be_frozen, value_with};
 use crate::leaves::{raise_aliasing, raise_leaf};
-use crate::progress::{StepProgress, give, is_made, look, make, record};
+use crate::progress::{StepProgress, give, look, make, record};
 use alias_hir::effect::{AliasingEffect, ValueKind, ValueReason};
 use alias_hir::place::Place;
 use alias_lattice::{AbstractValue, Site, primary_reason};
@@ -195,7 +195,7 @@ pub fn apply_alias(
 ) -> Result<(), EffectFault>
     ensures { Follows (apply_alias from into step.old tables.old) result step.new tables.new }
 {
-    if is_made(step.made.as_slice(), into.identifier) {
+    if step.made.contains(into.identifier) {
         return apply_link(
             step,
             tables,

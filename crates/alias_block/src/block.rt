@@ -9,7 +9,7 @@ use crate::actions::terminal_action;
 use crate::context::BlockContext;
 use crate::faults::{BlockFault, BlockRefusal};
 use crate::recorded::{BlockEffects, no_effects, push_recorded, terminal_recorded_as};
-use alias_apply::StepProgress;
+use alias_apply::{MadeIdentifiers, StepProgress};
 use alias_base::{BlockId, InstructionId, List};
 use alias_hir::hir::{BasicBlock, Instruction, Phi};
 use alias_lattice::{InferenceState, MissingLook};
@@ -56,7 +56,7 @@ fn step_start(alloc: Global, state: InferenceState, missing: Option<MissingLook>
 {
     StepProgress {
         state,
-        made: List::new(alloc),
+        made: MadeIdentifiers::new(alloc),
         recorded: List::new(alloc),
         missing,
     }

@@ -21,7 +21,7 @@ use alias_apply::context::summary_of;
 use alias_apply::kinds::{is_frozen, value_with};
 use alias_apply::progress::record;
 use alias_apply::reports::write_report;
-use alias_apply::{StepContext, StepProgress};
+use alias_apply::{MadeIdentifiers, StepContext, StepProgress};
 use alias_base::{FunctionId, IdentifierId, List};
 use alias_facts::FunctionFacts;
 use alias_freezing::context_of;
@@ -188,7 +188,7 @@ fn check_created(
 fn begin(alloc: Global, step: &mut StepProgress)
     ensures { step.new ≡ begun step.old }
 {
-    step.made = List::new(alloc);
+    step.made = MadeIdentifiers::new(alloc);
     step.recorded = List::new(alloc);
 }
 

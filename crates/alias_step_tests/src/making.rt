@@ -1,6 +1,6 @@
 //! Small environments, and how far steps have come in them.
 
-use alias_apply::StepProgress;
+use alias_apply::{MadeIdentifiers, StepProgress};
 use alias_base::{
     BlockId, BlockMap, Boxed, DeclarationId, EvaluationOrder, FunctionId, IdentifierId, List, Text,
     TypeId,
@@ -167,7 +167,7 @@ pub fn begun(alloc: Global, site: Site) -> Result<StepProgress, AllocError> {
     state.give(IdentifierId(2), argument, value(ValueKind::Mutable))?;
     Ok(StepProgress {
         state,
-        made: List::new(alloc),
+        made: MadeIdentifiers::new(alloc),
         recorded: List::new(alloc),
         missing: None,
     })

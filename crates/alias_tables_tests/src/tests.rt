@@ -1,4 +1,4 @@
-use alias_apply::{StepContext, StepProgress, raise_plain};
+use alias_apply::{MadeIdentifiers, StepContext, StepProgress, raise_plain};
 use alias_base::{
     BlockId, BlockMap, DeclarationId, EvaluationOrder, FunctionId, IdentifierId, List, Text, TypeId,
 };
@@ -200,7 +200,7 @@ fn value(kind: ValueKind) -> AbstractValue {
 fn begun(alloc: Global) -> StepProgress {
     StepProgress {
         state: InferenceState::empty(alloc),
-        made: List::new(alloc),
+        made: MadeIdentifiers::new(alloc),
         recorded: List::new(alloc),
         missing: None,
     }
