@@ -1,11 +1,16 @@
 -- The slot of a node, and a change there.
-use Rattle.std.proofs.Common.{◌≡◌, ℕ, ◌+◌, Bool, true, false, not, cond, [], ◌∷◌, Option, Some, None, nat_lt, length, option_map, slice_get, refl, ap, sym, ◌∙◌, arith, suc, zero}
+use Rattle.std.proofs.Common.{◌≡◌, ◌==◌, ℕ, ◌+◌, Bool, true, false, not, cond, [], ◌∷◌, Option, Some, None, nat_lt, length, option_map, slice_get, refl, ap, sym, ◌∙◌, arith, suc, zero}
 use Rattle.std.specs.List.{position_or_len}
 use Rattle.std.specs.Map.{keys_of}
+use Rattle.std.specs.Cmp.{IsEquivalence}
+use Rattle.std.specs.List.{IsDistinct}
 use Rattle.indexmap.specs.IndexMap.{set_value_at}
+use Rattle.indexmap.proofs.MapLemmas.{index-first}
+use Rattle.indexmap.proofs.RemoveLemmas.{own_first}
 use Rattle.alias_base.specs.declared.ids.IdentifierId.{IdentifierId}
 use Rattle.alias_ranges.specs.Nodes.{Entries, node_at, slot_of, same_id}
 use Rattle.alias_ranges.specs.Graph.{changed}
+use Rattle.alias_ranges.proofs.Covering.{eqb_is, eqb_itself}
 
 slot_is : (b : Bool) (a i : ℕ) → cond b (Some a) None ≡ Some i → a ≡ i
 slot_is true a i h = cc
@@ -22,7 +27,23 @@ slot_less : (b : Bool) (a i : ℕ) → cond b (Some a) None ≡ Some i → b ≡
 slot_less true a i h = refl
 slot_less false a i h = cc
 
+same_either : (a b : ℕ) → (a == b) ≡ (b == a)
+same_either a b = grind arith
+
+same_laws : IsEquivalence same_id
+same_laws = record { refl = λ x. eqb_itself x.0; symm = λ x y. same_either x.0 y.0; congr = λ x y z h. ap (λ n. n == z.0) (eqb_is x.0 y.0 h) }
+
 module _ {V : Type 0} where
+  -- an entry of the identifier is where its node is
+  pub slot_here : (g : Entries V) (id key : IdentifierId) (i : ℕ) (n : V) → IsDistinct same_id (keys_of g) → Some (key, n) ≡ slice_get g i → key.0 ≡ id.0 → Some i ≡ slot_of g id
+  slot_here g id key i n distinct at same =
+      let one : key ≡ id = ap (λ (k : ℕ). let z : IdentifierId = record { 0 = k } in z) same in
+      sym (index-first (same_id id) g i (own_first same_id same_laws g i id n distinct (sym at ∙ ap (λ k. Some (k, n)) one)))
+
+  -- a look-up of the same identifier
+  pub same_key : (g : Entries V) (id key : IdentifierId) (n : V) → node_at g key ≡ Some n → key.0 ≡ id.0 → Some n ≡ node_at g id
+  same_key g id key n at same = sym at ∙ ap (λ (k : ℕ). let z : IdentifierId = record { 0 = k } in node_at g z) same
+
   -- the node n of the identifier is at slot i
   abbrev pub Found : Entries V → IdentifierId → ℕ → V → Type 0
   Found [] id i n = ⊥

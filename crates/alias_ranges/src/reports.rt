@@ -4,7 +4,7 @@ ghost use Rattle.alias_hir.specs.Diagnostics.{report_at, effect_reports, summary
 ghost use Rattle.alias_ranges.specs.Nodes.{node_at};
 ghost use Rattle.alias_ranges.specs.Reports.{value_reports, reported, stored_reported_at, with_reports, Front};
 
-use crate::node_map::NodeMap;
+use crate::node_map::{NodeMap, SlotHint};
 use crate::types::{Node, NodeValue};
 use alias_base::{FunctionId, IdentifierId, List, TryClone};
 use alias_hir::effect::{AliasingEffect, error_of};
@@ -98,6 +98,7 @@ pub(crate) fn report_node_at(
     alloc: Global,
     nodes: &NodeMap,
     id: IdentifierId,
+    hint: SlotHint,
     should_record_errors: bool,
     env: &mut Environment,
 ) -> Result<(), AllocError>
@@ -109,7 +110,7 @@ pub(crate) fn report_node_at(
     if !should_record_errors {
         return Ok(());
     }
-    match nodes.get(id) {
+    match nodes.get_near(id, hint) {
         None => Ok(()),
         Some(node) => report_node(alloc, node, env),
     }
