@@ -163,11 +163,11 @@ pub unit_leads : (u v : HirUnit) (r : RootAnalysis) → u ≡ v → all_analysed
 unit_leads u v r same h = ap unit_analysed (sym same) ∙ ap (λ q. q >>= (λ r. Ok (handed_out r))) h
 
 -- what is handed out, in other words
-pub unit_as : (v : HirUnit) (fs : List Analysed) (f : HirFunction) (env : Environment) (summary : List AliasingEffect) (solved : List Solved) (none reports : List Report)
-    → unit_analysed v ≡ Ok (handed_out (record { summary = summary; func = f; analysis = analysis env fs })) → map (λ (x : Analysed). x.solved) fs ≡ solved → none ≡ [] → reports ≡ env.errors
-    → unit_analysed v ≡ Ok (record { functions = fs; inferred = record { unit = record { function = f; env = with_errors env none }; solved = solved; summary = summary; reports = reports } })
-unit_as v fs f env summary solved none reports h same empty taken =
+pub unit_as : (v : HirUnit) (fs : List Analysed) (f : HirFunction) (env : Environment) (summary : List AliasingEffect) (solved : List Solved) (left : Environment) (reports : List Report)
+    → unit_analysed v ≡ Ok (handed_out (record { summary = summary; func = f; analysis = analysis env fs })) → map (λ (x : Analysed). x.solved) fs ≡ solved → left ≡ with_errors env [] → reports ≡ env.errors
+    → unit_analysed v ≡ Ok (record { functions = fs; inferred = record { unit = record { function = f; env = left }; solved = solved; summary = summary; reports = reports } })
+unit_as v fs f env summary solved left reports h same without taken =
     h
     ∙ ap (λ ss. Ok (record { functions = fs; inferred = record { unit = record { function = f; env = with_errors env [] }; solved = ss; summary = summary; reports = env.errors } })) same
-    ∙ ap (λ es. Ok (record { functions = fs; inferred = record { unit = record { function = f; env = with_errors env es }; solved = solved; summary = summary; reports = env.errors } })) (sym empty)
-    ∙ ap (λ rs. Ok (record { functions = fs; inferred = record { unit = record { function = f; env = with_errors env none }; solved = solved; summary = summary; reports = rs } })) (sym taken)
+    ∙ ap (λ e. Ok (record { functions = fs; inferred = record { unit = record { function = f; env = e }; solved = solved; summary = summary; reports = env.errors } })) (sym without)
+    ∙ ap (λ rs. Ok (record { functions = fs; inferred = record { unit = record { function = f; env = left }; solved = solved; summary = summary; reports = rs } })) (sym taken)

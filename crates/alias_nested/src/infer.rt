@@ -78,6 +78,14 @@ fn infer_all<P: InnerPasses>(
     infer_root(alloc, func, env, solved)
 }
 
+/// The reports, which are taken out of the environment.
+fn take_reports(alloc: Global, env: &mut Environment) -> List<Report>
+    ensures reports { result ≡ env.old.errors }
+    ensures taken { env.new ≡ with_errors env.old [] }
+{
+    mem::replace(&mut env.errors, List::new(alloc))
+}
+
 /// Infers a unit that keeps the rules: its nested functions, innermost first, and then its root. The passes of the
 /// caller keep everything, as `KeepAll` and `FailingPasses` do. The unit is dropped on `Err`.
 ///
@@ -106,7 +114,7 @@ pub fn infer_unit<P: InnerPasses>(
     } = unit.into_unit();
     let mut solved = List::new(alloc);
     let summary = infer_all(alloc, &mut function, &mut env, passes, &mut solved)?;
-    let reports = mem::replace(&mut env.errors, List::new(alloc));
+    let reports = take_reports(alloc, &mut env);
     Ok(Inferred {
         unit: Unit { function, env },
         solved,

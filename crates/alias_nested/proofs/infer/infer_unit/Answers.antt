@@ -11,7 +11,7 @@ pub returns-clause-answer : goal.returns-clause-answer
 returns-clause-answer g c =
     let l = c.in_ok-summary.ensures.run [] (record { same = sym c.new-solved.ensures; solve = tt }) in (
       l.0,
-      unit_as c.args.unit l.0 c.infer_all.new.func c.infer_all.new.env c.in_ok-summary.summary c.infer_all.new.solved c.replace-reports.new.dest c.replace-reports.result
-          (unit_leads c.into_unit-function.result c.args.unit _ c.into_unit-function.ensures.unit l.1) l.2.same (c.replace-reports.ensures.after ∙ c.new.ensures) c.replace-reports.ensures.value,
+      unit_as c.args.unit l.0 c.infer_all.new.func c.infer_all.new.env c.in_ok-summary.summary c.infer_all.new.solved c.take_reports-reports.new.env c.take_reports-reports.result
+          (unit_leads c.into_unit-function.result c.args.unit _ c.into_unit-function.ensures.unit l.1) l.2.same c.take_reports-reports.ensures.taken c.take_reports-reports.ensures.reports,
       l.2.solve,
     )
