@@ -1,0 +1,4 @@
+pub mod Draws
+pub mod Instructions
+pub mod Blocks
+pub mod Units

@@ -1,0 +1,11 @@
+//! Units that are made from a seed, for measuring and for trying the inference without a file.
+#![tactic(auto)]
+
+pub mod blocks;
+pub mod draws;
+pub mod instructions;
+#[cfg(test)]
+mod tests;
+pub mod unit;
+
+pub use unit::made_unit;

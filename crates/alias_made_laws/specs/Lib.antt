@@ -1,0 +1,4 @@
+pub mod RangeLaws
+pub mod InstructionLaws
+pub mod BlockLaws
+pub mod MadeLaws

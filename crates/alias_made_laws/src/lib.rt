@@ -1,0 +1,4 @@
+//! Made units keep the rules.
+#![tactic(auto)]
+
+pub mod laws;
