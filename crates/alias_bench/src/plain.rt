@@ -7,7 +7,7 @@ use alias_hir::env::Unit;
 use alias_hir::error::InferError;
 use alias_hir::hir::HirFunction;
 use alias_rules::check::Checked;
-use alias_text::functions::{push_block, push_function_head};
+use alias_text::functions::{push_block_head, push_block_lines, push_function_head};
 use std::alloc::{AllocError, Global};
 
 /// The root of the unit, with its effects on it.
@@ -26,7 +26,8 @@ fn with_effects(alloc: Global, unit: Checked) -> Result<HirFunction, InferError>
 fn push_blocks(out: &mut Text, func: &HirFunction, blocks: &[BlockId]) -> Result<(), AllocError> {
     push_function_head(out, None)?;
     for block in blocks {
-        push_block(out, func, *block)?;
+        push_block_head(out, *block)?;
+        push_block_lines(out, func, *block)?;
     }
     Ok(())
 }

@@ -1,3 +1,5 @@
+pub mod Certificates
+pub mod Counts
 pub mod Lines
 pub mod Ranges
 pub mod Refusals

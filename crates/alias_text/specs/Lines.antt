@@ -142,10 +142,10 @@ terminal_lines t = end_lines (recorded (terminal_effects t))
 abbrev pub block_head : BlockId → List ℕ
 block_head b = codes "block " ++ decimal b.0 ++ codes "\n"
 
--- the block's line, the lines of its instructions in its order, and those of its terminal
-abbrev pub block_text : List Instruction → BlockId → Option BasicBlock → List ℕ
-block_text instructions b None = block_head b
-block_text instructions b (Some block) = block_head b ++ listed_lines instructions block.instructions ++ terminal_lines block.terminal
+-- the lines of the block's instructions in its order, and those of its terminal
+abbrev pub block_lines : List Instruction → Option BasicBlock → List ℕ
+block_lines instructions None = []
+block_lines instructions (Some block) = listed_lines instructions block.instructions ++ terminal_lines block.terminal
 
 -- ---- functions
 

@@ -9,7 +9,7 @@ use alias_hir::place::{Place, PlaceOrSpreadOrHole};
 use alias_hir::report::DiagnosticId;
 use std::alloc::{AllocError, Global};
 
-fn kind_word(kind: ValueKind) -> &'static str
+pub(crate) fn kind_word(kind: ValueKind) -> &'static str
     ensures { result.now ≡ kind_word kind }
 {
     match kind {
@@ -22,7 +22,7 @@ fn kind_word(kind: ValueKind) -> &'static str
     }
 }
 
-fn reason_word(reason: ValueReason) -> &'static str
+pub(crate) fn reason_word(reason: ValueReason) -> &'static str
     ensures { result.now ≡ reason_word reason }
 {
     match reason {

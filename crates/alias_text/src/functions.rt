@@ -1,7 +1,7 @@
 //! The effects of blocks and functions, as lines.
 ghost use Rattle.std.specs.Prelude.{◌≡◌, ◌++◌, OnOk};
 ghost use Rattle.alias_base.specs.Find.{value_at};
-ghost use Rattle.alias_text.specs.Lines.{effect_line, effect_lines, end_line, end_lines, instruction_lines, terminal_lines, block_head, listed_lines, block_text, function_name, function_head};
+ghost use Rattle.alias_text.specs.Lines.{effect_line, effect_lines, end_line, end_lines, instruction_lines, terminal_lines, block_head, listed_lines, block_lines, function_name, function_head};
 
 use crate::effects::push_effect;
 use alias_base::{BlockId, FunctionId, InstructionId, Text};
@@ -89,7 +89,9 @@ fn push_terminal(out: &mut Text, terminal: &Terminal) -> Result<(), AllocError>
     }
 }
 
-fn push_block_head(out: &mut Text, block: BlockId) -> Result<(), AllocError>
+/// Appends the line that stands over a block's lines. An `Err` is want of memory, and leaves what was appended
+/// before it.
+pub fn push_block_head(out: &mut Text, block: BlockId) -> Result<(), AllocError>
     ensures { OnOk result (out.new ≡ out.old ++ block_head block) }
 {
     out.push_str("block ")?;
@@ -97,13 +99,15 @@ fn push_block_head(out: &mut Text, block: BlockId) -> Result<(), AllocError>
     out.push_str("\n")
 }
 
-/// Appends the block's line, and then the lines of its instructions' effects in the block's order and those
-/// of its terminal. A block that isn't there has only the first line. An `Err` is want of memory, and leaves
-/// what was appended before it.
-pub fn push_block(out: &mut Text, func: &HirFunction, block: BlockId) -> Result<(), AllocError>
-    ensures { OnOk result (out.new ≡ out.old ++ block_text func.now.instructions block (value_at func.now.body.blocks block)) }
+/// Appends the lines of the effects of the block's instructions in the block's order, and those of its terminal: none
+/// where the block isn't there. An `Err` is want of memory, and leaves what was appended before it.
+pub fn push_block_lines(
+    out: &mut Text,
+    func: &HirFunction,
+    block: BlockId,
+) -> Result<(), AllocError>
+    ensures { OnOk result (out.new ≡ out.old ++ block_lines func.now.instructions (value_at func.now.body.blocks block)) }
 {
-    push_block_head(out, block)?;
     match func.body.blocks.get(block) {
         Some(found) => {
             push_instructions(

@@ -1,6 +1,9 @@
 //! What is inferred of a unit, as text.
 #![tactic(auto)]
 
+mod certificates;
+mod counts;
+pub mod detail;
 pub mod effects;
 pub mod functions;
 mod quoting;
@@ -9,3 +12,5 @@ pub mod refusals;
 pub mod reports;
 pub mod results;
 pub mod summaries;
+
+pub use detail::Detail;

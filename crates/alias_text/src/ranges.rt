@@ -1,6 +1,6 @@
 //! Mutable ranges, as lines.
 ghost use Rattle.std.specs.Prelude.{◌≡◌, ◌++◌, OnOk};
-ghost use Rattle.alias_text.specs.Ranges.{range_line, range_text, ranges_text};
+ghost use Rattle.alias_text.specs.Ranges.{has_range, range_line, range_text, ranges_text};
 
 use crate::effects::push_spaced;
 use alias_base::Text;
@@ -18,14 +18,21 @@ fn push_range_line(out: &mut Text, number: usize, range: MutableRange) -> Result
     out.push_str("\n")
 }
 
+/// Whether the range is another than 0..0.
+pub(crate) fn has_range(range: MutableRange) -> bool
+    ensures { result ≡ has_range range }
+{
+    !(range.start.0 == 0 && range.end.0 == 0)
+}
+
 /// Appends the line of the range of the identifier with this number: nothing where it is 0..0.
 fn push_range(out: &mut Text, number: usize, range: MutableRange) -> Result<(), AllocError>
     ensures { OnOk result (out.new ≡ out.old ++ range_text number range) }
 {
-    if range.start.0 == 0 && range.end.0 == 0 {
-        Ok(())
-    } else {
+    if has_range(range) {
         push_range_line(out, number, range)
+    } else {
+        Ok(())
     }
 }
 

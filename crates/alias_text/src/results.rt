@@ -1,9 +1,12 @@
 //! What was inferred of a unit, as lines.
 ghost use Rattle.std.specs.Prelude.{◌≡◌, ◌++◌, OnOk, map, option_map};
 ghost use Rattle.std.specs.Option.{option_copied};
-ghost use Rattle.alias_text.specs.Results.{function_of, entry_text, blocks_text, found_text, function_text, functions_text, result_text};
+ghost use Rattle.alias_text.specs.Results.{function_of, entry_text, blocks_text, found_text, function_text, functions_text, listing_text, result_text};
 
-use crate::functions::{push_block, push_function_head};
+use crate::certificates::{push_state, push_tables, push_visits};
+use crate::counts::push_counts;
+use crate::detail::Detail;
+use crate::functions::{push_block_head, push_block_lines, push_function_head};
 use crate::ranges::push_ranges;
 use crate::reports::push_reports;
 use crate::summaries::push_summary;
@@ -25,15 +28,31 @@ fn function_of(unit: &Unit, function: Option<FunctionId>) -> Option<&HirFunction
     }
 }
 
+fn push_entry(
+    out: &mut Text,
+    detail: Detail,
+    func: &HirFunction,
+    entry: &BlockEntry,
+) -> Result<(), AllocError>
+    ensures { OnOk result (out.new ≡ out.old ++ entry_text detail func.now entry.now) }
+{
+    push_block_head(out, entry.block)?;
+    if detail == Detail::Certify {
+        push_state(out, &entry.state)?;
+    }
+    push_block_lines(out, func, entry.block)
+}
+
 fn push_entries(
     out: &mut Text,
+    detail: Detail,
     func: &HirFunction,
     entries: &[BlockEntry],
 ) -> Result<(), AllocError>
-    ensures { OnOk result (out.new ≡ out.old ++ blocks_text func.now entries.now) }
+    ensures { OnOk result (out.new ≡ out.old ++ blocks_text detail func.now entries.now) }
 {
     for entry in entries {
-        push_block(out, func, entry.block)?;
+        push_entry(out, detail, func, entry)?;
     }
     Ok(())
 }
@@ -41,63 +60,97 @@ fn push_entries(
 /// Appends the blocks of a function that are reached: nothing where the function isn't there.
 fn push_found(
     out: &mut Text,
+    detail: Detail,
     func: Option<&HirFunction>,
     entries: &[BlockEntry],
 ) -> Result<(), AllocError>
-    ensures { OnOk result (out.new ≡ out.old ++ found_text (option_map (λ f. f.now) func.entry) entries.now) }
+    ensures { OnOk result (out.new ≡ out.old ++ found_text detail (option_map (λ f. f.now) func.entry) entries.now) }
 {
     match func {
-        Some(func) => push_entries(out, func, entries),
+        Some(func) => push_entries(out, detail, func, entries),
         None => Ok(()),
     }
 }
 
 fn push_function(
+    alloc: Global,
     out: &mut Text,
+    detail: Detail,
     unit: &Unit,
     summary: &[AliasingEffect],
     solved: &Solved,
 ) -> Result<(), AllocError>
-    ensures { OnOk result (out.new ≡ out.old ++ function_text unit.now summary.now solved.now) }
+    ensures { OnOk result (out.new ≡ out.old ++ function_text detail unit.now summary.now solved.now) }
 {
     push_function_head(out, solved.function)?;
+    if detail == Detail::Certify {
+        push_visits(out, solved.visits.as_slice())?;
+    }
     push_found(
         out,
+        detail,
         function_of(unit, solved.function),
         solved.entries.as_slice(),
     )?;
+    if detail == Detail::Certify {
+        push_tables(alloc, out, solved)?;
+    }
     push_summary(out, unit, summary, solved.function)
 }
 
 fn push_functions(
+    alloc: Global,
     out: &mut Text,
+    detail: Detail,
     unit: &Unit,
     summary: &[AliasingEffect],
     solved: &[Solved],
 ) -> Result<(), AllocError>
-    ensures { OnOk result (out.new ≡ out.old ++ functions_text unit.now summary.now solved.now) }
+    ensures { OnOk result (out.new ≡ out.old ++ functions_text detail unit.now summary.now solved.now) }
 {
     for of_function in solved {
-        push_function(out, unit, summary, of_function)?;
+        push_function(alloc, out, detail, unit, summary, of_function)?;
     }
     Ok(())
 }
 
-/// Appends what was inferred of a unit, where it is recorded on the unit: function by function a line for the
-/// function, for each block that is reached a line and those of its effects, and those of the summary, of which
-/// `summary` is the root's; then the mutable ranges, and the reports. docs/FORMAT.md has the form of the lines. An
-/// `Err` is want of memory, and leaves what was appended before it.
-pub fn push_result(
+/// Appends the functions, the mutable ranges and the reports.
+fn push_listing(
     alloc: Global,
     out: &mut Text,
+    detail: Detail,
     unit: &Unit,
     solved: &[Solved],
     summary: &[AliasingEffect],
     reports: &[Report],
 ) -> Result<(), AllocError>
-    ensures { OnOk result (out.new ≡ out.old ++ result_text unit.now solved.now summary.now reports.now) }
+    ensures { OnOk result (out.new ≡ out.old ++ listing_text detail unit.now solved.now summary.now reports.now) }
 {
-    push_functions(out, unit, summary, solved)?;
+    push_functions(alloc, out, detail, unit, summary, solved)?;
     push_ranges(out, unit.env.identifiers.as_slice())?;
     push_reports(alloc, out, reports)
+}
+
+/// Appends what was inferred of a unit, where it is recorded on the unit: function by function a line for the
+/// function, for each block that is reached a line and those of its effects, and those of the summary, of which
+/// `summary` is the root's; then the mutable ranges, and the reports. `Certify` has besides the visits, the entry
+/// states, the first effects and the temporaries, and `Counts` only how many there are. docs/FORMAT.md has the form of
+/// the lines. An `Err` is want of memory, and leaves what was appended before it.
+pub fn push_result(
+    alloc: Global,
+    out: &mut Text,
+    detail: Detail,
+    unit: &Unit,
+    solved: &[Solved],
+    summary: &[AliasingEffect],
+    reports: &[Report],
+) -> Result<(), AllocError>
+    ensures { OnOk result (out.new ≡ out.old ++ result_text detail unit.now solved.now summary.now reports.now) }
+{
+    match detail {
+        Detail::Infer | Detail::Certify => {
+            push_listing(alloc, out, detail, unit, solved, summary, reports)
+        }
+        Detail::Counts => push_counts(out, unit, solved, reports),
+    }
 }

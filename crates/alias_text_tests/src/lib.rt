@@ -1,0 +1,10 @@
+//! Tests of the lines of a result: of each form of sites, of each key, and of the counts. A crate of its own, so that
+//! `alias_text` is proved once.
+#![tactic(auto)]
+
+#[cfg(test)]
+mod results;
+#[cfg(test)]
+mod solutions;
+#[cfg(test)]
+mod units;
