@@ -1,25 +1,29 @@
 -- From what a layer finds to what the run comes to.
-use Rattle.std.proofs.Common.{◌≡◌, ℕ, ◌≤◌, List, [], ◌∷◌, ◌++◌, length, take, Option, Some, None, refl, sym, ◌∙◌, ap, subst}
+use Rattle.std.proofs.Common.{◌≡◌, ℕ, ◌≤◌, List, [], length, take, Option, Some, None, refl, sym, ◌∙◌, ap, subst}
 use Rattle.std.specs.Prelude.{Err}
 use Rattle.std.proofs.lemmas.List.{append-nil}
+use Rattle.std.proofs.Math.Seq.{take-length}
 use Rattle.alias_hir.specs.declared.env.Unit.{Unit as HirUnit}
-use Rattle.alias_stream.specs.Streams.{Adds, IsAllOf, IfKnown}
+use Rattle.alias_stream.specs.Streams.{Adds, IsAllOf}
 use Rattle.alias_stream.specs.declared.sink.SinkStop.{SinkStop}
 use Rattle.alias_stream.specs.declared.sink.SinkStop.TheVariants as sink
+use Rattle.alias_made.specs.Units.{made_unit}
 use Rattle.alias_read.specs.Units.{UnitReading, ReadsUnit}
 use Rattle.alias_read.specs.declared.fault.TextFault.{TextFault}
 use Rattle.alias_read.specs.declared.fault.TextFault.TheVariants as text
 use Rattle.alias_run.specs.declared.command.Command.{Command}
-use Rattle.alias_run.specs.declared.command.Command.TheVariants.{Infer}
+use Rattle.alias_run.specs.declared.command.Command.TheVariants.{Infer, Certify, Made, Help, Version}
 use Rattle.alias_run.specs.declared.status.Status.{Status}
 use Rattle.alias_run.specs.declared.status.Status.TheVariants.{Done, Words, NotJson, NotUnit, Unfit, Refused, ReadFault, WriteFault, TooLong, Memory}
+use Rattle.alias_text.specs.declared.detail.Detail.{Detail}
+use Rattle.alias_text.specs.declared.detail.Detail.TheVariants as detail
 use Rattle.alias_nested.specs.declared.infer.Inferred.{Inferred}
 use Rattle.alias_run.specs.declared.outcome.Outcome.{Outcome}
-use Rattle.alias_run.specs.Findings.{IsJudged, IsRead, IsFound, Leaves, greatest_input}
+use Rattle.alias_run.specs.Findings.{IsChecked, IsJudged, IsRead, IsFound, Leaves, greatest_input}
 use Rattle.alias_run.specs.Inferences.{solved_tell}
-use Rattle.alias_run.specs.Runs.{IsRun, IsHeadline}
+use Rattle.alias_run.specs.Runs.{IsRun, IsInferredOf, IsUnitOf, IsDone, IsHeadline}
 use Rattle.alias_run.specs.Statuses.{text_status, write_status}
-use Rattle.alias_run.specs.Texts.{text_with, text_of}
+use Rattle.alias_run.specs.Texts.{text_of, result_or_line}
 
 -- an outcome with nothing inferred
 abbrev pub ended_as : Status → Outcome
@@ -62,24 +66,25 @@ pub leaves_unwritten : (stop : SinkStop) (left : Option (List ℕ)) (status : St
 leaves_unwritten stop left status o is s = subst (λ (z : Outcome). Leaves z.status left) (sym (is ∙ ap ended_as s)) (unwritten stop left)
 
 -- a run that stopped before its end has no headline
-none_unwritten : (known held held' : Option (List ℕ)) (stop : SinkStop) → IsHeadline known held held' (write_status stop) None
-unfolding IsHeadline
-none_unwritten known held held' sink.Failed = tt
-none_unwritten known held held' (sink.Memory e) = tt
+module _ (asked : Option Command) (known held held' : Option (List ℕ)) where
+  none_unwritten : (stop : SinkStop) → IsHeadline asked known held held' (write_status stop) None
+  unfolding IsHeadline
+  none_unwritten sink.Failed = tt
+  none_unwritten (sink.Memory e) = tt
 
-pub no_headline : (known held held' : Option (List ℕ)) (stop : SinkStop) (status : Status) (o : Outcome) → o ≡ ended_as status → status ≡ write_status stop → IsHeadline known held held' o.status o.inferred
-no_headline known held held' stop status o is s = subst (λ (z : Outcome). IsHeadline known held held' z.status z.inferred) (sym (is ∙ ap ended_as s)) (none_unwritten known held held' stop)
+  pub no_headline : (stop : SinkStop) (status : Status) (o : Outcome) → o ≡ ended_as status → status ≡ write_status stop → IsHeadline asked known held held' o.status o.inferred
+  no_headline stop status o is s = subst (λ (z : Outcome). IsHeadline asked known held held' z.status z.inferred) (sym (is ∙ ap ended_as s)) (none_unwritten stop)
 
-out_of_memory_alone : (known held held' : Option (List ℕ)) → IsHeadline known held held' Memory None
-unfolding IsHeadline
-out_of_memory_alone known held held' = tt
+  out_of_memory : IsHeadline asked known held held' Memory None
+  unfolding IsHeadline
+  out_of_memory = tt
 
-pub no_headline_of_memory : (known held held' : Option (List ℕ)) (o : Outcome) → o ≡ ended_as Memory → IsHeadline known held held' o.status o.inferred
-no_headline_of_memory known held held' o is = subst (λ (z : Outcome). IsHeadline known held held' z.status z.inferred) (sym is) (out_of_memory_alone known held held')
+  pub no_headline_of_memory : (o : Outcome) → o ≡ ended_as Memory → IsHeadline asked known held held' o.status o.inferred
+  no_headline_of_memory o is = subst (λ (z : Outcome). IsHeadline asked known held held' z.status z.inferred) (sym is) out_of_memory
 
 -- ---- runs
 
-known_unit : (o : Option (List ℕ)) (bytes : List ℕ) (u : HirUnit) → IsAllOf o bytes → UnitReading bytes u → IfKnown o (λ all. UnitReading all u)
+known_unit : (o : Option (List ℕ)) (bytes : List ℕ) (u : HirUnit) → IsAllOf o bytes → UnitReading bytes u → IsUnitOf o u
 known_unit None bytes u a r = tt
 known_unit (Some all) bytes u a r = subst (λ z. UnitReading z u) (sym a) r
 
@@ -93,49 +98,68 @@ module _ (asked : Option Command) (known : Option (List ℕ)) (read_failed write
   ran_out found o is f =
       subst (λ (z : Outcome). IsRun asked known read_failed write_failed held held z.status z.inferred) (sym is) ((found.status, found.inferred, f, 0, adds_nothing held), refl)
 
-  stopped : (found : Outcome) (n : ℕ) (stop : SinkStop) → IsFound asked known read_failed found.status found.inferred → Adds held (take n (text_of found)) held' → (stop ≡ sink.Failed → write_failed)
+  stopped : (found : Outcome) (n : ℕ) (stop : SinkStop) → IsFound asked known read_failed found.status found.inferred → Adds held (take n (text_of asked found.status found.inferred)) held' → (stop ≡ sink.Failed → write_failed)
       → IsRun asked known read_failed write_failed held held' (write_status stop) None
   stopped found n sink.Failed f a w = (w refl, (found.status, found.inferred, f, n, a), refl)
   stopped found n (sink.Memory e) f a w = ((found.status, found.inferred, f, n, a), refl)
 
   -- the sink stopped, and a front of the text was written
   pub broke_off : (found : Outcome) (n : ℕ) (stop : SinkStop) (status : Status) (o : Outcome) → o ≡ ended_as status → status ≡ write_status stop
-      → IsFound asked known read_failed found.status found.inferred → Adds held (take n (text_of found)) held' → (stop ≡ sink.Failed → write_failed)
+      → IsFound asked known read_failed found.status found.inferred → Adds held (take n (text_of asked found.status found.inferred)) held' → (stop ≡ sink.Failed → write_failed)
       → IsRun asked known read_failed write_failed held held' o.status o.inferred
   broke_off found n stop status o is s f a w =
       subst (λ (z : Outcome). IsRun asked known read_failed write_failed held held' z.status z.inferred) (sym (is ∙ ap ended_as s)) (stopped found n stop f a w)
 
+-- what is found, before anything is written
+module _ (known : Option (List ℕ)) (read_failed : Type 0) where
+  memory_alone : (asked : Option Command) (i : Option Inferred) → IsFound asked known read_failed Memory i → i ≡ None
+  unfolding IsFound
+  memory_alone None i f = f.1
+  memory_alone (Some Infer) i f = f
+  memory_alone (Some Certify) i f = f
+  memory_alone (Some (Made seed size)) i f = f
+  memory_alone (Some Help) i f = f.1
+  memory_alone (Some Version) i f = f.1
+
+  no_write_fault : (asked : Option Command) (i : Option Inferred) → IsFound asked known read_failed WriteFault i → ⊥
+  unfolding IsFound
+  no_write_fault None i f = let e : WriteFault ≡ Words = f.0 in cc
+  no_write_fault (Some Infer) i f = f.3.2.1
+  no_write_fault (Some Certify) i f = f.3.2.1
+  no_write_fault (Some (Made seed size)) i f = f.1
+  no_write_fault (Some Help) i f = let e : WriteFault ≡ Done = f.0 in cc
+  no_write_fault (Some Version) i f = let e : WriteFault ≡ Done = f.0 in cc
+
 -- the whole text was written
 module _ (known : Option (List ℕ)) (read_failed write_failed : Type 0) (held held' : Option (List ℕ)) where
-  abbrev Ran : Option Command → Status → Option Inferred → Type 0
-  Ran asked status i = IsRun asked known read_failed write_failed held held' status i × IsHeadline known held held' status i
+  pub ran : (asked : Option Command) (status : Status) (i : Option Inferred) → IsFound asked known read_failed status i → Adds held (text_of asked status i) held' → IsRun asked known read_failed write_failed held held' status i
+  ran asked WriteFault i f a = absurd (no_write_fault known read_failed asked i f)
+  ran asked Memory i f a =
+      let text = text_of asked Memory i in
+      ((Memory, i, f, length text, subst (λ t. Adds held t held') (sym (take-length text)) a), memory_alone known read_failed asked i f)
+  ran asked status i f a = (f, a)
 
-  ran_words : (i : Option Inferred) → i ≡ None → Adds held (text_with Words i) held' → Ran None Words i
-  unfolding IsFound IsHeadline
-  ran_words i e a = (((refl, e), a), tt)
+  done_read : (printed : Detail) (i : Option Inferred) → IsRead known read_failed Done i → Adds held (result_or_line printed Done i) held' → IsInferredOf (IsUnitOf known) printed held held' i
+  done_read printed None f a = f.3.2.1
+  done_read printed (Some x) f a =
+      let j = f.3 in
+      let k = j.2.1 in
+      (j.0, k.0, known_unit known f.0 j.0 f.1 j.1, j.2.0, k.1, k.2, solved_tell k.0 k.2, a)
 
-  out_of_memory : (i : Option Inferred) → i ≡ None → Adds held (text_with Memory i) held' → Ran (Some Infer) Memory i
-  unfolding IsFound IsHeadline
-  out_of_memory None e a = (((Memory, None, refl, 0, a), refl), tt)
-  out_of_memory (Some x) e a = cc
+  done_made : (made : HirUnit) (i : Option Inferred) → IsChecked made Done i → Adds held (result_or_line detail.Counts Done i) held' → IsInferredOf (λ u. u ≡ made) detail.Counts held held' i
+  done_made made None f a = f.1
+  done_made made (Some x) f a = let k = f.1 in (made, k.0, refl, f.0, k.1, k.2, solved_tell k.0 k.2, a)
 
-  ran_infer : (status : Status) (i : Option Inferred) → IsRead known read_failed status i → Adds held (text_with status i) held' → Ran (Some Infer) status i
-  unfolding IsFound IsHeadline
-  ran_infer Done None f a = absurd f.3.2.1
-  ran_infer Done (Some x) f a = let j = f.3 in let k = j.2.1 in ((f, a), (j.0, k.0, known_unit known f.0 j.0 f.1 j.1, j.2.0, k.1, k.2, solved_tell k.0 k.2, a))
-  ran_infer Words i f a = absurd f.3.2.1
-  ran_infer NotJson i f a = ((f, a), tt)
-  ran_infer (NotUnit pointer rule) i f a = ((f, a), tt)
-  ran_infer (Unfit fault) i f a = ((f, a), tt)
-  ran_infer (Refused e) i f a = ((f, a), tt)
-  ran_infer ReadFault i f a = ((f, a), tt)
-  ran_infer WriteFault i f a = absurd f.3.2.1
-  ran_infer TooLong i f a = ((f, a), tt)
-  ran_infer Memory i f a = out_of_memory i f a
+  done : (asked : Option Command) (i : Option Inferred) → IsFound asked known read_failed Done i → Adds held (text_of asked Done i) held' → IsDone asked known held held' i
+  unfolding IsFound
+  done None i f a = let e : Done ≡ Words = f.0 in cc
+  done (Some Infer) i f a = done_read detail.Infer i f a
+  done (Some Certify) i f a = done_read detail.Certify i f a
+  done (Some (Made seed size)) i f a = done_made (made_unit seed size) i f a
+  done (Some Help) i f a = (f.1, a)
+  done (Some Version) i f a = (f.1, a)
 
-  pub ran : (asked : Option Command) (status : Status) (i : Option Inferred) → IsFound asked known read_failed status i → Adds held (text_with status i) held' → Ran asked status i
-  unfolding IsFound IsHeadline
-  ran None status i f a =
-      let b : Adds held (text_with Words i) held' = subst (λ z. Adds held (text_with z i) held') f.0 a in
-      subst (λ z. Ran None z i) (sym f.0) (ran_words i f.1 b)
-  ran (Some Infer) status i f a = ran_infer status i f a
+  pub headline : (asked : Option Command) (status : Status) (i : Option Inferred) → IsFound asked known read_failed status i → Adds held (text_of asked status i) held' → IsHeadline asked known held held' status i
+  unfolding IsHeadline
+  headline asked Done i f a = done asked i f a
+  headline asked status i f a = tt

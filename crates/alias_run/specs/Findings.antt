@@ -3,11 +3,12 @@ use Rattle.std.specs.Prelude.{◌≡◌, ℕ, ◌<◌, ◌≤◌, List, length, 
 use Rattle.std.specs.List.{AllByRecursion}
 use Rattle.alias_rules.specs.Functions.{rules_hold}
 use Rattle.alias_hir.specs.declared.env.Unit.{Unit as HirUnit}
+use Rattle.alias_made.specs.Units.{made_unit}
 use Rattle.alias_read.specs.Units.{UnitReading, ReadsUnit}
 use Rattle.alias_read.specs.declared.fault.TextFault.TheVariants as text
 use Rattle.alias_stream.specs.Streams.{IsAllOf, IsAtEnd, IfKnown}
 use Rattle.alias_run.specs.declared.command.Command.{Command}
-use Rattle.alias_run.specs.declared.command.Command.TheVariants.{Infer}
+use Rattle.alias_run.specs.declared.command.Command.TheVariants.{Infer, Certify, Made, Help, Version}
 use Rattle.alias_run.specs.declared.status.Status.{Status}
 use Rattle.alias_run.specs.declared.status.Status.TheVariants.{Done, Words, NotJson, NotUnit, Unfit, Refused, ReadFault, WriteFault, TooLong, Memory}
 use Rattle.alias_nested.specs.declared.infer.Inferred.{Inferred}
@@ -47,10 +48,15 @@ IsRead known failed TooLong i = IfKnown known (λ all. greatest_input < length a
 IsRead known failed Memory i = i ≡ None
 IsRead known failed status i = (bytes : List ℕ) × IsAllOf known bytes × (length bytes ≤ greatest_input) × IsJudged bytes status i
 
--- What the words and a source lead to, before anything is written: `asked` is the command of the words, where they are one.
+-- What the words and a source lead to, before anything is written: `asked` is the command of the words, where they are one. A made unit is checked as
+-- each unit is.
 unfoldable pub IsFound : Option Command → Option (List ℕ) → Type 0 → Status → Option Inferred → Type 0
 IsFound None known failed status i = (status ≡ Words) × (i ≡ None)
 IsFound (Some Infer) known failed status i = IsRead known failed status i
+IsFound (Some Certify) known failed status i = IsRead known failed status i
+IsFound (Some (Made seed size)) known failed status i = IsChecked (made_unit seed size) status i
+IsFound (Some Help) known failed status i = (status ≡ Done) × (i ≡ None)
+IsFound (Some Version) known failed status i = (status ≡ Done) × (i ≡ None)
 
 -- nothing is left, where that is known and the status is of the whole input
 abbrev pub Leaves : Status → Option (List ℕ) → Type 0

@@ -1,4 +1,5 @@
 pub mod Commands
+pub mod Explanations
 pub mod Findings
 pub mod Inferences
 pub mod Runs

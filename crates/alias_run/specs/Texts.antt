@@ -1,15 +1,59 @@
 -- The text that a run writes.
-use Rattle.std.specs.Prelude.{ℕ, List, Option, Some, None}
+use Rattle.std.specs.Prelude.{ℕ, List, ◌++◌, Option, Some, None, codes}
+use Rattle.alias_text.specs.declared.detail.Detail.{Detail}
+use Rattle.alias_text.specs.declared.detail.Detail.TheVariants as detail
 use Rattle.alias_text.specs.Results.{result_text}
 use Rattle.alias_nested.specs.declared.infer.Inferred.{Inferred}
-use Rattle.alias_run.specs.declared.outcome.Outcome.{Outcome}
+use Rattle.alias_run.specs.declared.command.Command.{Command}
+use Rattle.alias_run.specs.declared.command.Command.TheVariants.{Infer, Certify, Made, Help, Version}
 use Rattle.alias_run.specs.declared.status.Status.{Status}
 use Rattle.alias_run.specs.Statuses.{refusal_line}
 
--- the result, where there is one, and else the line of the refusal
-abbrev pub text_with : Status → Option Inferred → List ℕ
-text_with status (Some i) = result_text i.unit i.solved i.summary i.reports
-text_with status None = refusal_line status
+-- what `--help` writes
+abbrev pub help_text : List ℕ
+help_text =
+    codes "jirrambeo infers what code may alias, freeze and write.\n"
+    ++ codes "\n"
+    ++ codes "  jirrambeo infer < unit.json     writes what is inferred of a unit\n"
+    ++ codes "  jirrambeo certify < unit.json   writes also what a checker of it needs\n"
+    ++ codes "  jirrambeo made <seed> <size>    makes a unit of 1 to 1,000 blocks, and writes counts\n"
+    ++ codes "  jirrambeo --help                writes this\n"
+    ++ codes "  jirrambeo --version             writes name and version\n"
+    ++ codes "\n"
+    ++ codes "It ends with one of these statuses:\n"
+    ++ codes "\n"
+    ++ codes "  0   done\n"
+    ++ codes "  1   the words can't be had, or the program can't be built\n"
+    ++ codes "  2   the words are no command\n"
+    ++ codes "  3   the input is no JSON\n"
+    ++ codes "  4   the input is no unit\n"
+    ++ codes "  5   the unit breaks a rule\n"
+    ++ codes "  6   the inference refuses the unit\n"
+    ++ codes "  7   the input can't be read\n"
+    ++ codes "  8   the output can't be written\n"
+    ++ codes "  9   the input is too long\n"
+    ++ codes "  10  memory ran out\n"
+    ++ codes "\n"
+    ++ codes "docs/FORMAT.md describes units, what is written of them, and refusals.\n"
 
-abbrev pub text_of : Outcome → List ℕ
-text_of o = text_with o.status o.inferred
+-- what `--version` writes
+abbrev pub version_text : List ℕ
+version_text = codes "jirrambeo 0.1.0\n"
+
+-- what is printed of an inference in this detail
+abbrev pub inferred_text : Detail → Inferred → List ℕ
+inferred_text printed i = result_text printed i.unit i.solved i.summary i.reports
+
+-- the result, where there is one, and else the line of the refusal
+abbrev pub result_or_line : Detail → Status → Option Inferred → List ℕ
+result_or_line printed status (Some i) = inferred_text printed i
+result_or_line printed status None = refusal_line status
+
+-- the text of a run, by its command
+abbrev pub text_of : Option Command → Status → Option Inferred → List ℕ
+text_of None status i = refusal_line status
+text_of (Some Infer) status i = result_or_line detail.Infer status i
+text_of (Some Certify) status i = result_or_line detail.Certify status i
+text_of (Some (Made seed size)) status i = result_or_line detail.Counts status i
+text_of (Some Help) status i = help_text
+text_of (Some Version) status i = version_text

@@ -1,15 +1,16 @@
 //! What the words and the input lead to, before anything is written.
-ghost use Rattle.std.specs.Prelude.{◌≡◌, ◌≤◌, None};
+ghost use Rattle.std.specs.Prelude.{◌≡◌, ◌≤◌, true, false};
 ghost use Rattle.alias_stream.specs.Streams.{HasFailed};
-ghost use Rattle.alias_run.specs.Commands.{command_of};
+ghost use Rattle.alias_made.specs.Units.{made_unit as unit_of};
+ghost use Rattle.alias_run.specs.Commands.{reads, IsSized};
 ghost use Rattle.alias_run.specs.Findings.{IsFound, IsRead, IsJudged, IsChecked, IsInferred, Leaves};
 
 use crate::command::Command;
 use crate::outcome::{Outcome, done, ended};
 use crate::status::Status;
-use alias_base::Text;
 use alias_hir::env::Unit;
 use alias_inner_passes::KeepAll;
+use alias_made::made_unit;
 use alias_nested::infer_unit;
 use alias_read::read_unit;
 use alias_rules::check::{Checked, check_unit};
@@ -59,16 +60,31 @@ fn infer_source<S: Source>(alloc: Global, source: &mut S) -> Outcome
     }
 }
 
-/// What the words and the source lead to.
+/// What the unit of a seed and a size leads to.
+fn infer_made(alloc: Global, seed: u64, size: u32) -> Outcome
+    requires some { 1 ≤ size }
+    requires limit { size ≤ 1000 }
+    ensures { IsChecked (unit_of seed size) result.status result.inferred }
+{
+    match made_unit(alloc, seed, size) {
+        Ok(unit) => judge_unit(alloc, unit),
+        Err(_) => ended(Status::Memory),
+    }
+}
+
+/// What the words and the source lead to, where the words ask for this.
 #[tactic(auto, unfolding(crate::specs::Findings::IsFound))]
-pub(crate) fn find<S: Source>(alloc: Global, words: &[Text], source: &mut S) -> Outcome
-    ensures found { IsFound (command_of words.now) (S.left source.old) (HasFailed (S.faults source.old) (S.faults source.new) (S.at_last source.new)) result.status result.inferred }
-    ensures unread { command_of words.now ≡ None → (S.left source.new ≡ S.left source.old) × (S.faults source.new ≡ S.faults source.old) }
-    ensures leaves { Leaves result.status (S.left source.new) }
+pub(crate) fn find<S: Source>(alloc: Global, asked: Option<Command>, source: &mut S) -> Outcome
+    requires { IsSized asked }
+    ensures found { IsFound asked (S.left source.old) (HasFailed (S.faults source.old) (S.faults source.new) (S.at_last source.new)) result.status result.inferred }
+    ensures unread { reads asked ≡ false → (S.left source.new ≡ S.left source.old) × (S.faults source.new ≡ S.faults source.old) }
+    ensures leaves { reads asked ≡ true → Leaves result.status (S.left source.new) }
     ensures faults { S.faults source.old ≤ S.faults source.new }
 {
-    match Command::from_words(words) {
+    match asked {
         None => ended(Status::Words),
-        Some(Command::Infer) => infer_source(alloc, source),
+        Some(Command::Infer | Command::Certify) => infer_source(alloc, source),
+        Some(Command::Made { seed, size }) => infer_made(alloc, seed, size),
+        Some(Command::Help | Command::Version) => ended(Status::Done),
     }
 }

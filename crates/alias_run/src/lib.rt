@@ -6,10 +6,13 @@ mod finding;
 pub mod outcome;
 mod run;
 pub mod status;
+mod telling;
 pub mod text;
 
 pub use alias_nested::{Inferred, infer_unit};
+pub use alias_text::Detail;
 pub use command::Command;
 pub use outcome::Outcome;
 pub use run::run_alias;
 pub use status::Status;
+pub use text::{print_inferred, print_refusal};

@@ -1,5 +1,6 @@
 //! How a run ends.
 ghost use Rattle.std.specs.Prelude.{◌≡◌};
+ghost use Rattle.alias_run.specs.Explanations.{explanation};
 ghost use Rattle.alias_run.specs.Statuses.{status_code, read_status, text_status, unit_status, infer_status, write_status};
 
 use alias_base::Text;
@@ -51,6 +52,32 @@ impl Status {
             Status::WriteFault => 8,
             Status::TooLong => 9,
             Status::Memory => 10,
+        }
+    }
+
+    /// What is wrong and what to look at, for a person: nothing where the status is `Done`. Takes no memory.
+    pub fn explanation(&self) -> &'static str
+        ensures { result.now ≡ explanation self.now }
+    {
+        match self {
+            Status::Done => "",
+            Status::Words => "the words are no command: see jirrambeo --help",
+            Status::NotJson => {
+                "the input is no JSON, or nests deeper than 127 levels: see docs/FORMAT.md, The input"
+            }
+            Status::NotUnit { .. } => {
+                "the input is JSON, and the value at this JSON Pointer doesn't fit a unit: see docs/FORMAT.md, The input"
+            }
+            Status::Unfit(_) => {
+                "the unit breaks the rule of this number: see docs/FORMAT.md, The rules of a well-formed unit"
+            }
+            Status::Refused(_) => "the unit can't be inferred: see docs/FORMAT.md, Statuses",
+            Status::ReadFault => "the input couldn't be read to its end: see where it comes from",
+            Status::WriteFault => {
+                "the output couldn't be written to its end: see where it goes to"
+            }
+            Status::TooLong => "the input has more than 16,777,216 bytes",
+            Status::Memory => "memory ran out",
         }
     }
 }

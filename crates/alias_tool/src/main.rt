@@ -1,13 +1,15 @@
-//! The program: `jirrambeo infer < unit.json`. Its words and streams are the system's; all else is alias_run.
+//! The program: `jirrambeo infer < unit.json`. Its words and streams are the system's; all else is alias_run. At a
+//! terminal it says on standard error why a run was refused.
 #![tactic(auto)]
 
 ghost use Rattle.std.specs.Prelude.{◌≡◌, IfOk, map, drop, string_bytes};
 
 use alias_base::Text;
-use alias_run::run_alias;
+use alias_run::{Status, print_refusal, run_alias};
 use alias_stream::{ReaderSource, WriterSink};
 use std::alloc::{AllocError, Global};
 use std::io;
+use std::io::IsTerminal;
 use std::process::ExitCode;
 use std::rt::Env;
 
@@ -28,12 +30,30 @@ fn words_given(rt: &(impl Env + AllocGlobal), alloc: Global) -> io::Result<Vec<T
     Ok(words_of(alloc, arguments)?)
 }
 
+/// Says on standard error why a run was refused, with the line that standard output has, where a person reads it. What can't
+/// be said is left unsaid: the status of the program says it too.
+fn explain(rt: &HostRuntime, alloc: Global, status: &Status) {
+    if status.code() == 0 || !rt.stderr().is_terminal() {
+        return;
+    }
+    let why = status.explanation();
+    let _ = match print_refusal(alloc, status) {
+        Ok(line) if line.as_str() != "" => eprint!(rt; "jirrambeo: {why}: {}", line.as_str()),
+        _ => eprintln!(rt; "jirrambeo: {why}"),
+    };
+}
+
 fn main(rt: HostRuntime) -> ExitCode {
     let alloc = rt.alloc();
     let Ok(words) = words_given(&rt, alloc) else {
+        let _ = eprintln!(rt;
+            "jirrambeo: the words of the command line couldn't be had from the system"
+        );
         return ExitCode::from(1);
     };
     let mut source = ReaderSource::new(rt.stdin());
     let mut sink = WriterSink::new(rt.stdout());
-    ExitCode::from(run_alias(alloc, &words, &mut source, &mut sink).into_code())
+    let outcome = run_alias(alloc, &words, &mut source, &mut sink);
+    explain(&rt, alloc, &outcome.status);
+    ExitCode::from(outcome.into_code())
 }

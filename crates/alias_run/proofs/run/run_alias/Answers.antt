@@ -1,8 +1,9 @@
 use Rattle.std.proofs.Common.{◌≡◌, ◌∙◌, subst, take, ap, Err}
 use Rattle.alias_stream.specs.Streams.{Adds, HasFailed}
 use Rattle.alias_run.specs.Commands.{command_of}
+use Rattle.alias_run.specs.Runs.{IsRun, IsHeadline}
 use Rattle.alias_run.specs.Texts.{text_of}
-use Rattle.alias_run.proofs.Running.{ran_out, broke_off, ran, leaves_unwritten, no_headline, no_headline_of_memory}
+use Rattle.alias_run.proofs.Running.{ran_out, broke_off, ran, headline, leaves_unwritten, no_headline, no_headline_of_memory}
 use Rattle.alias_run.proofs.run.run_alias.Goals as goal
 
 pub returns-in_default-clause-run : goal.returns-in_default-clause-run
@@ -13,38 +14,14 @@ returns-in_default-clause-run g c =
     let read_failed = HasFailed (g.S.Source.faults source) (g.S.Source.faults after) (g.S.Source.at_last after) in
     let write_failed = HasFailed (g.K.Sink.faults sink) (g.K.Sink.faults sink) (g.K.Sink.at_last sink) in
     let held = g.K.Sink.held sink in
-    ran_out (command_of c.args.words.now) (g.S.Source.left source) read_failed write_failed held held c.find-outcome.result c.unwritten.result c.unwritten.ensures c.find-outcome.ensures.found
+    let left = g.S.Source.left source in
+    let o = c.unwritten.result in
+    subst (λ asked. IsRun asked left read_failed write_failed held held o.status o.inferred) c.from_words-asked.ensures.command
+    (ran_out c.from_words-asked.result left read_failed write_failed held held c.find-outcome.result o c.unwritten.ensures c.find-outcome.ensures.found)
 
-pub returns-in-Ok-write_whole-clause-headline : goal.returns-in-Ok-write_whole-clause-headline
-returns-in-Ok-write_whole-clause-headline g c =
-    let found = c.find-outcome.result in
-    let source = c.args.source.now in
-    let after = c.find-outcome.new.source in
-    let read_failed = HasFailed (g.S.Source.faults source) (g.S.Source.faults after) (g.S.Source.at_last after) in
-    let held = g.K.Sink.held c.args.sink.now in
-    let held' = g.K.Sink.held c.write_whole.new.sink in
-    let text : c.as_bytes.result.now ≡ text_of found = c.as_bytes.ensures.value ∙ c.as_str.ensures ∙ c.in-Ok.ensures in
-    (ran (g.S.Source.left source) read_failed (Unit {0}) held held' (command_of c.args.words.now) found.status found.inferred c.find-outcome.ensures.found
-    (subst (λ t. Adds held t held') text c.in-Ok-write_whole.ensures.whole)).1
-
-pub returns-clause-run : goal.returns-clause-run
-returns-clause-run g c =
-    let found = c.find-outcome.result in
-    let source = c.args.source.now in
-    let after = c.find-outcome.new.source in
-    let sink = c.args.sink.now in
-    let sink' = c.write_whole.new.sink in
-    let read_failed = HasFailed (g.S.Source.faults source) (g.S.Source.faults after) (g.S.Source.at_last after) in
-    let write_failed = HasFailed (g.K.Sink.faults sink) (g.K.Sink.faults sink') (g.K.Sink.at_last sink') in
-    let held = g.K.Sink.held sink in
-    let held' = g.K.Sink.held sink' in
-    let text : c.as_bytes.result.now ≡ text_of found = c.as_bytes.ensures.value ∙ c.as_str.ensures ∙ c.in-Ok.ensures in
-    let part = c.in-Err.ensures.part in
-    broke_off (command_of c.args.words.now) (g.S.Source.left source) read_failed write_failed held held' found part.0 c.in-Err.stop _ c.unwritten-in-Err.result c.unwritten-in-Err.ensures c.from.ensures
-    c.find-outcome.ensures.found (subst (λ t. Adds held (take part.0 t) held') text part.2) (λ failed. c.in-Err.ensures.failed (ap Err failed))
-
-pub returns-clause-leaves : goal.returns-clause-leaves
-returns-clause-leaves g c = leaves_unwritten c.in-Err.stop (g.S.Source.left c.find-outcome.new.source) _ c.unwritten-in-Err.result c.unwritten-in-Err.ensures c.from.ensures
+pub returns-in_default-clause-headline : goal.returns-in_default-clause-headline
+returns-in_default-clause-headline g c =
+    no_headline_of_memory (command_of c.args.words.now) (g.S.Source.left c.args.source.now) (g.K.Sink.held c.args.sink.now) (g.K.Sink.held c.args.sink.now) c.unwritten.result c.unwritten.ensures
 
 pub returns-in-Ok-write_whole-clause-run : goal.returns-in-Ok-write_whole-clause-run
 returns-in-Ok-write_whole-clause-run g c =
@@ -57,14 +34,51 @@ returns-in-Ok-write_whole-clause-run g c =
     let write_failed = HasFailed (g.K.Sink.faults sink) (g.K.Sink.faults sink') (g.K.Sink.at_last sink') in
     let held = g.K.Sink.held sink in
     let held' = g.K.Sink.held sink' in
-    let text : c.as_bytes.result.now ≡ text_of found = c.as_bytes.ensures.value ∙ c.as_str.ensures ∙ c.in-Ok.ensures in
-    (ran (g.S.Source.left source) read_failed write_failed held held' (command_of c.args.words.now) found.status found.inferred c.find-outcome.ensures.found
-    (subst (λ t. Adds held t held') text c.in-Ok-write_whole.ensures.whole)).0
+    let left = g.S.Source.left source in
+    let asked = c.from_words-asked.result in
+    let text : c.as_bytes.result.now ≡ text_of asked found.status found.inferred = c.as_bytes.ensures.value ∙ c.as_str.ensures ∙ c.in-Ok.ensures in
+    subst (λ command. IsRun command left read_failed write_failed held held' found.status found.inferred) c.from_words-asked.ensures.command
+    (ran left read_failed write_failed held held' asked found.status found.inferred c.find-outcome.ensures.found
+    (subst (λ t. Adds held t held') text c.in-Ok-write_whole.ensures.whole))
+
+pub returns-in-Ok-write_whole-clause-headline : goal.returns-in-Ok-write_whole-clause-headline
+returns-in-Ok-write_whole-clause-headline g c =
+    let found = c.find-outcome.result in
+    let source = c.args.source.now in
+    let after = c.find-outcome.new.source in
+    let read_failed = HasFailed (g.S.Source.faults source) (g.S.Source.faults after) (g.S.Source.at_last after) in
+    let held = g.K.Sink.held c.args.sink.now in
+    let held' = g.K.Sink.held c.write_whole.new.sink in
+    let left = g.S.Source.left source in
+    let asked = c.from_words-asked.result in
+    let text : c.as_bytes.result.now ≡ text_of asked found.status found.inferred = c.as_bytes.ensures.value ∙ c.as_str.ensures ∙ c.in-Ok.ensures in
+    subst (λ command. IsHeadline command left held held' found.status found.inferred) c.from_words-asked.ensures.command
+    (headline left read_failed (Unit {0}) held held' asked found.status found.inferred c.find-outcome.ensures.found
+    (subst (λ t. Adds held t held') text c.in-Ok-write_whole.ensures.whole))
+
+pub returns-clause-run : goal.returns-clause-run
+returns-clause-run g c =
+    let found = c.find-outcome.result in
+    let source = c.args.source.now in
+    let after = c.find-outcome.new.source in
+    let sink = c.args.sink.now in
+    let sink' = c.write_whole.new.sink in
+    let read_failed = HasFailed (g.S.Source.faults source) (g.S.Source.faults after) (g.S.Source.at_last after) in
+    let write_failed = HasFailed (g.K.Sink.faults sink) (g.K.Sink.faults sink') (g.K.Sink.at_last sink') in
+    let held = g.K.Sink.held sink in
+    let held' = g.K.Sink.held sink' in
+    let left = g.S.Source.left source in
+    let asked = c.from_words-asked.result in
+    let text : c.as_bytes.result.now ≡ text_of asked found.status found.inferred = c.as_bytes.ensures.value ∙ c.as_str.ensures ∙ c.in-Ok.ensures in
+    let part = c.in-Err.ensures.part in
+    let o = c.unwritten-in-Err.result in
+    subst (λ command. IsRun command left read_failed write_failed held held' o.status o.inferred) c.from_words-asked.ensures.command
+    (broke_off asked left read_failed write_failed held held' found part.0 c.in-Err.stop _ o c.unwritten-in-Err.ensures c.from.ensures
+    c.find-outcome.ensures.found (subst (λ t. Adds held (take part.0 t) held') text part.2) (λ failed. c.in-Err.ensures.failed (ap Err failed)))
 
 pub returns-clause-headline : goal.returns-clause-headline
 returns-clause-headline g c =
-    no_headline (g.S.Source.left c.args.source.now) (g.K.Sink.held c.args.sink.now) (g.K.Sink.held c.write_whole.new.sink) c.in-Err.stop _ c.unwritten-in-Err.result c.unwritten-in-Err.ensures c.from.ensures
+    no_headline (command_of c.args.words.now) (g.S.Source.left c.args.source.now) (g.K.Sink.held c.args.sink.now) (g.K.Sink.held c.write_whole.new.sink) c.in-Err.stop _ c.unwritten-in-Err.result c.unwritten-in-Err.ensures c.from.ensures
 
-pub returns-in_default-clause-headline : goal.returns-in_default-clause-headline
-returns-in_default-clause-headline g c =
-    no_headline_of_memory (g.S.Source.left c.args.source.now) (g.K.Sink.held c.args.sink.now) (g.K.Sink.held c.args.sink.now) c.unwritten.result c.unwritten.ensures
+pub returns-clause-leaves : goal.returns-clause-leaves
+returns-clause-leaves g c = λ _. leaves_unwritten c.in-Err.stop (g.S.Source.left c.find-outcome.new.source) _ c.unwritten-in-Err.result c.unwritten-in-Err.ensures c.from.ensures

@@ -1,0 +1,31 @@
+//! What the program tells of itself.
+
+/// What `--help` writes.
+pub(crate) const HELP: &str = "\
+jirrambeo infers what code may alias, freeze and write.
+
+  jirrambeo infer < unit.json     writes what is inferred of a unit
+  jirrambeo certify < unit.json   writes also what a checker of it needs
+  jirrambeo made <seed> <size>    makes a unit of 1 to 1,000 blocks, and writes counts
+  jirrambeo --help                writes this
+  jirrambeo --version             writes name and version
+
+It ends with one of these statuses:
+
+  0   done
+  1   the words can't be had, or the program can't be built
+  2   the words are no command
+  3   the input is no JSON
+  4   the input is no unit
+  5   the unit breaks a rule
+  6   the inference refuses the unit
+  7   the input can't be read
+  8   the output can't be written
+  9   the input is too long
+  10  memory ran out
+
+docs/FORMAT.md describes units, what is written of them, and refusals.
+";
+
+/// What `--version` writes.
+pub(crate) const VERSION: &str = "jirrambeo 0.1.0\n";
