@@ -1,0 +1,12 @@
+pub mod Linking
+pub mod Reaching
+pub mod Changes
+pub mod Growing
+pub mod Steps
+pub mod Effects
+pub mod Operands
+pub mod Items
+pub mod Slots
+pub mod Along
+pub mod HeapLaws
+pub mod RowLaws
