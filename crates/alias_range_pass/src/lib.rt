@@ -4,4 +4,4 @@
 mod pass;
 mod refusals;
 
-pub use pass::infer_mutation_aliasing_ranges;
+pub use pass::run_range_pass;

@@ -73,12 +73,14 @@ fn range_recorded(
     Ok(summary)
 }
 
-/// Infers the ranges of a function's identifiers and the effects of its places, and answers its summary.
+/// The range pass without the rules of units: it asks only that what the function records lies within the table of
+/// identifiers. `infer_mutation_aliasing_ranges` of `alias_range_inference` runs it on functions that keep the rules.
 ///
+/// Infers the ranges of the function's identifiers and the effects of its places, and answers its summary.
 /// `UnreplacedApply` and `TooMany` leave everything as it was. After want of memory, ranges and effects may be set in
-/// part; no range end has fallen, and no report is lost.
+/// part, and some of the reports recorded; no range end has fallen, and no report is lost.
 #[tactic(auto, using(crate::proofs::Ranging::pass_answers, crate::proofs::Keeps::keeps_same))]
-pub fn infer_mutation_aliasing_ranges(
+pub fn run_range_pass(
     alloc: Global,
     func: &mut HirFunction,
     env: &mut Environment,

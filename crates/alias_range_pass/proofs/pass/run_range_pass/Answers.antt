@@ -10,7 +10,7 @@ use Rattle.alias_range_pass.specs.Laws.{Causes}
 use Rattle.alias_range_pass.specs.Passes.{records}
 use Rattle.alias_range_pass.proofs.Refused.{recorded_is, recorded_once, orders_fit}
 use Rattle.alias_range_pass.proofs.Ranging.{refused_pass}
-use Rattle.alias_range_pass.proofs.pass.infer_mutation_aliasing_ranges.Goals as goal
+use Rattle.alias_range_pass.proofs.pass.run_range_pass.Goals as goal
 
 pub range_recorded-requires-clause-fits : goal.range_recorded-requires-clause-fits
 range_recorded-requires-clause-fits c =
