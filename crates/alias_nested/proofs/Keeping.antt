@@ -1,12 +1,11 @@
 -- What the steps of an analysis keep of a function and its environment.
-use Rattle.std.specs.Prelude.{◌≡◌, ℕ, Bool, true, if◌then◌else◌, List, [], ◌∷◌, Option, Some, None, Ok, length, map, slice_get, refl}
+use Rattle.std.specs.Prelude.{◌≡◌, ℕ, Bool, true, false, if◌then◌else◌, List, [], ◌∷◌, Option, Some, None, Ok, map, slice_get, refl}
 use Rattle.std.proofs.Common.{zero, suc, ap, sym, subst, ◌∙◌, arith}
-use Rattle.std.proofs.lemmas.List.{length-map}
 use Rattle.alias_base.specs.AnswerLaws.{both_true}
 use Rattle.alias_base.specs.declared.ids.FunctionId.{FunctionId}
 use Rattle.alias_bare_laws.specs.Bare.{but_places, without_range, but_ranges_and_contexts, TablesFit}
 use Rattle.alias_bare_laws.specs.BareLaws.{bare_of_places, bare_of_effects, fits_with_other_places}
-use Rattle.alias_bare_laws.specs.EvolvedLaws.{Evolves, evolves_self, evolves_through, fits_evolved}
+use Rattle.alias_bare_laws.specs.EvolvedLaws.{evolves_self, fits_evolved}
 use Rattle.alias_bare_laws.specs.RangedLaws.{evolves_with_contexts, evolves_alike, tables_alike_fit}
 use Rattle.alias_block_laws.specs.FitLaws.{Wider, together}
 use Rattle.alias_effects.proofs.RecordedDiffers.{recorded_differs}
@@ -20,13 +19,25 @@ use Rattle.alias_hir.specs.declared.env.Identifier.{Identifier}
 use Rattle.alias_hir.specs.declared.hir.HirFunction.{HirFunction}
 use Rattle.alias_hir.specs.declared.place.Effect.TheVariants.{Read, Capture}
 use Rattle.alias_hir.specs.declared.place.Place.{Place}
-use Rattle.alias_nested.specs.Fitting.{EnvironmentKept, FunctionKept, SummaryFits}
+use Rattle.alias_nested.specs.Fitting.{EnvironmentKept, FunctionKept, EnvironmentPruned, SummaryFits}
 use Rattle.alias_nested.specs.Settling.{context_settled, summarized, reset_at, reset, settled}
-use Rattle.alias_nested.proofs.Evolving.{evolves_back, pass_evolves}
+use Rattle.alias_nested.specs.Answers.{IsPassed}
+use Rattle.alias_nested.specs.Slots.{emptied}
+use Rattle.alias_nested.proofs.Evolving.{pass_evolves}
 use Rattle.alias_nesting_laws.specs.Slots.{with_function}
 use Rattle.alias_nesting_laws.specs.FittingLaws.{fitted}
-use Rattle.alias_range_pass.specs.Laws.{but_inferred, PassKeeps}
-use Rattle.alias_range_places.specs.Keeping.{but_effect, but_context, but_range}
+use Rattle.alias_function_rules.specs.Rules.{is_among}
+use Rattle.alias_rules.specs.Nesting.{created_in, created_of}
+use Rattle.alias_nesting_laws.specs.PartLaws.{absent}
+use Rattle.alias_nesting_laws.specs.SubtreeLaws.{created_among}
+use Rattle.alias_pruning_laws.specs.BelowLaws.{created_once}
+use Rattle.alias_pruning_laws.specs.PassLaws.{pass_prunes}
+use Rattle.alias_pruning_laws.specs.Pruning.{FunctionPruned}
+use Rattle.alias_pruning_laws.specs.PruningLaws.{prunes_self, prunes_through, function_through, function_evolved, fits_pruned, function_beside}
+use Rattle.alias_pruning_laws.specs.PutBackLaws.{prunes_back}
+use Rattle.alias_range_inference.specs.KeptLaws.{ranged_bare, ranged_evolves}
+use Rattle.alias_range_pass.specs.Laws.{PassKeeps}
+use Rattle.alias_range_places.specs.Keeping.{but_effect}
 use Rattle.alias_rules.specs.Fitting.{recorded_within_tables, effects_within_tables, holds_no_call, effects_fit, function_fits}
 use Rattle.alias_rules.specs.RecordedLaws.{fits_with_other_effects}
 use Rattle.alias_tables.specs.GrowingLaws.{grows_self}
@@ -40,23 +51,17 @@ tables_of_fitting f env h = let p = fitted f env h in record { identifiers = p.t
 pub still_fits : (env more : Environment) → EnvironmentKept env more → (g : HirFunction) → function_fits g env ≡ true → function_fits g more ≡ true
 still_fits env more k g h = fits_evolved env more k.evolves k.tables.identifiers k.tables.types k.tables.signatures k.tables.reports g h
 
-pub environment_self : (f : HirFunction) (env : Environment) → function_fits f env ≡ true → EnvironmentKept env env
-environment_self f env h = record { evolves = evolves_self env; tables = tables_of_fitting f env h }
-
-pub environment_through : (a b c : Environment) → EnvironmentKept a b → EnvironmentKept b c → EnvironmentKept a c
-environment_through a b c j k = record { evolves = evolves_through a b c j.evolves k.evolves; tables = k.tables }
-
 -- nothing but ranges, scopes and the effects of context places changed
 environment_alike : (env more : Environment) → but_ranges_and_contexts more ≡ but_ranges_and_contexts env → TablesFit env → EnvironmentKept env more
 environment_alike env more same t = record { evolves = evolves_alike env more same; tables = tables_alike_fit env more same t }
 
 -- ---- functions
 
-pub function_through : (f g h : HirFunction) (a b c : Environment) → FunctionKept f a g b → FunctionKept g b h c → FunctionKept f a h c
-function_through f g h a b c j k = record { evolves = evolves_through a b c j.evolves k.evolves; still = k.still ∙ j.still; fits = k.fits }
+kept_self : (f : HirFunction) (env : Environment) → function_fits f env ≡ true → FunctionKept f env f env
+kept_self f env h = record { evolves = evolves_self env; still = refl; fits = h }
 
-pub function_self : (f : HirFunction) (env : Environment) → function_fits f env ≡ true → FunctionKept f env f env
-function_self f env h = record { evolves = evolves_self env; still = refl; fits = h }
+pub kept_unchanged : (f g : HirFunction) (env more : Environment) → g ≡ f → more ≡ env → function_fits f env ≡ true → FunctionKept f env g more
+kept_unchanged f g env more same all h = subst (λ z. FunctionKept f env z more) (sym same) (subst (FunctionKept f env f) (sym all) (kept_self f env h))
 
 -- the effects pass
 pub effects_keep : (func : HirFunction) (env : Environment) (b : Bool) (e : PassEnd) → function_fits func env ≡ true → pass_end env func b ≡ Ok e → FunctionKept func env (with_effects_of e.solved func) (env_after env e)
@@ -68,36 +73,9 @@ effects_keep func env b e h i = record {
 
 -- ---- the range pass
 
-without_twice : (i : Identifier) → without_range (but_range i) ≡ without_range i
-without_twice i = refl
-
-mapped_twice : (is : List Identifier) → map without_range (map but_range is) ≡ map without_range is
-mapped_twice [] = refl
-mapped_twice (x ∷ xs) = ap (λ ys. without_range x ∷ ys) (mapped_twice xs)
-
-abbrev but_reports : Environment → Environment
-but_reports e = record (but_ranges_and_contexts e) { errors = [] }
-
-abbrev without_all : Environment → Environment
-without_all e = record e { identifiers = map without_range e.identifiers }
-
-but_mapped : (e : Environment) → but_reports e ≡ without_all (but_inferred e)
-but_mapped e = ap (λ is. record (but_reports e) { identifiers = is }) (sym (mapped_twice e.identifiers))
-
-range_alike : (env more : Environment) → but_inferred more ≡ but_inferred env → more.errors ≡ env.errors → but_ranges_and_contexts more ≡ but_ranges_and_contexts env
-range_alike env more rest errors =
-    let kept : but_reports more ≡ but_reports env = but_mapped more ∙ ap without_all rest ∙ sym (but_mapped env) in
-    ap (λ es. record (but_reports more) { errors = es }) errors ∙ ap (λ (e : Environment). record e { errors = env.errors }) kept
-
--- the pass over a nested function, which records no report
-pub ranges_keep : (f g : HirFunction) (env more : Environment) → function_fits f env ≡ true → but_places g ≡ but_places f → PassKeeps env more → more.errors ≡ env.errors → FunctionKept f env g more
-ranges_keep f g env more h still kept errors =
-    let k : EnvironmentKept env more = environment_alike env more (range_alike env more kept.rest errors) (tables_of_fitting f env h) in
-    record {
-      evolves = k.evolves;
-      still = sym (bare_of_places f g (sym still));
-      fits = fits_with_other_places f g more (sym still) (still_fits env more k f h);
-    }
+-- after the pass the function is the same but for what is inferred, and the inference takes it
+pub ranged_keeps : (f g : HirFunction) (env more : Environment) → function_fits g more ≡ true → but_places g ≡ but_places f → PassKeeps env more → FunctionKept f env g more
+ranged_keeps f g env more fits still kept = record { evolves = ranged_evolves env more kept; still = ranged_bare f g still; fits = fits }
 
 -- ---- what follows from the summary
 
@@ -143,24 +121,74 @@ settled_keeps summary f env h s =
     }
 
 -- effects that name entries of the tables still do
-pub summary_kept : (env more : Environment) (f : HirFunction) → Evolves env more → function_fits f env ≡ true → (summary : List AliasingEffect) → SummaryFits env summary → SummaryFits more summary
+pub summary_kept : (env more : Environment) (f : HirFunction) → ((g : HirFunction) → effects_fit env g ≡ true → effects_fit more g ≡ true) → function_fits f env ≡ true → (summary : List AliasingEffect) → SummaryFits env summary → SummaryFits more summary
 summary_kept env more f k h summary s =
     let g : HirFunction = record f { aliasing_effects = Some summary } in
-    let fits : effects_fit more g ≡ true = k.effects g (summarized_effects env f summary (fitted f env h).effects s) in
+    let fits : effects_fit more g ≡ true = k g (summarized_effects env f summary (fitted f env h).effects s) in
     let a = both_true (effects_within_tables more g) (holds_no_call g.aliasing_effects) fits in
     record { within = (both_true _ (recorded_within_tables more (Some summary)) a.0).1; no_call = a.1 }
 
--- what follows the effects pass: passes of the caller that keep everything, the range pass, and what is set at the end
-pub kept_as : (f₀ f₁ f₂ f₃ f₄ f₅ : HirFunction) (e₀ e₁ e₂ e₃ e₄ e₅ : Environment) (summary : List AliasingEffect) → (f₁ ≡ f₀) × (e₁ ≡ e₀) → FunctionKept f₁ e₁ f₂ e₂ → SummaryFits e₂ summary
-    → (f₃ ≡ f₂) × (e₃ ≡ e₂) → (f₄ ≡ f₃) × (e₄ ≡ e₃) → (f₅, e₅) ≡ settled summary (f₄, e₄) → FunctionKept f₀ e₀ f₅ e₅
-kept_as f₀ f₁ f₂ f₃ f₄ f₅ e₀ e₁ e₂ e₃ e₄ e₅ summary first ranged s second third set =
-    let after : HirFunction × Environment = settled summary (f₂, e₂) in
-    let whole : FunctionKept f₁ e₁ after.0 after.1 = function_through f₁ f₂ after.0 e₁ e₂ after.1 ranged (settled_keeps summary f₂ e₂ ranged.fits s) in
-    let f : f₄ ≡ f₂ = third.0 ∙ second.0 in
-    let e : e₄ ≡ e₂ = third.1 ∙ second.1 in
-    let last : after ≡ (f₅, e₅) = sym (set ∙ ap (λ g. settled summary (g, e₄)) f ∙ ap (λ v. settled summary (f₂, v)) e) in
-    let left : FunctionKept f₁ e₁ f₅ e₅ = subst (λ (p : HirFunction × Environment). FunctionKept f₁ e₁ p.0 p.1) last whole in
-    subst (λ g. FunctionKept g e₀ f₅ e₅) first.0 (subst (λ v. FunctionKept f₁ v f₅ e₅) first.1 left)
+-- ---- over passes of the caller
+
+-- what the passes of the inference keep
+pub kept_pruned : (f : HirFunction) (env : Environment) (g : HirFunction) (more : Environment) → FunctionKept f env g more → FunctionPruned f env g more
+kept_pruned f env g more k = function_evolved f g env more k.evolves k.still k.fits
+
+-- what a pass of the caller keeps
+pub passed_pruned : (keeps_all : Bool) (f : HirFunction) (env : Environment) (g : HirFunction) (more : Environment) → IsPassed keeps_all (f, env) (g, more) → FunctionPruned f env g more
+passed_pruned keeps_all f env g more p = pass_prunes f env g more p.keeps
+
+-- the range pass after a pass of the caller
+pub range_pruned : (keeps_all : Bool) (f₀ f₁ f₂ : HirFunction) (e₀ e₁ e₂ : Environment) → IsPassed keeps_all (f₀, e₀) (f₁, e₁) → FunctionKept f₁ e₁ f₂ e₂ → FunctionPruned f₀ e₀ f₂ e₂
+range_pruned keeps_all f₀ f₁ f₂ e₀ e₁ e₂ first ranged = function_through f₀ f₁ f₂ e₀ e₁ e₂ (passed_pruned keeps_all f₀ e₀ f₁ e₁ first) (kept_pruned f₁ e₁ f₂ e₂ ranged)
+
+pub more_pruned : (keeps_all : Bool) (f₀ f₁ f₂ : HirFunction) (e₀ e₁ e₂ : Environment) → FunctionPruned f₀ e₀ f₁ e₁ → IsPassed keeps_all (f₁, e₁) (f₂, e₂) → FunctionPruned f₀ e₀ f₂ e₂
+more_pruned keeps_all f₀ f₁ f₂ e₀ e₁ e₂ before passed = function_through f₀ f₁ f₂ e₀ e₁ e₂ before (passed_pruned keeps_all f₁ e₁ f₂ e₂ passed)
+
+-- what is set at the end
+pub settled_pruned : (keeps_all : Bool) (f₀ f₁ f₂ f₃ f₄ f₅ : HirFunction) (e₀ e₁ e₂ e₃ e₄ e₅ : Environment) (summary : List AliasingEffect) → IsPassed keeps_all (f₀, e₀) (f₁, e₁) → FunctionKept f₁ e₁ f₂ e₂ → SummaryFits e₂ summary
+    → IsPassed keeps_all (f₂, e₂) (f₃, e₃) → IsPassed keeps_all (f₃, e₃) (f₄, e₄) → (f₅, e₅) ≡ settled summary (f₄, e₄) → FunctionPruned f₀ e₀ f₅ e₅
+settled_pruned keeps_all f₀ f₁ f₂ f₃ f₄ f₅ e₀ e₁ e₂ e₃ e₄ e₅ summary first ranged s second third set =
+    let two : FunctionPruned f₂ e₂ f₄ e₄ = more_pruned keeps_all f₂ f₃ f₄ e₂ e₃ e₄ (passed_pruned keeps_all f₂ e₂ f₃ e₃ second) third in
+    let here : SummaryFits e₄ summary = summary_kept e₂ e₄ f₂ two.prunes.effects ranged.fits summary s in
+    let after : HirFunction × Environment = settled summary (f₄, e₄) in
+    let last : FunctionPruned f₄ e₄ after.0 after.1 = kept_pruned f₄ e₄ after.0 after.1 (settled_keeps summary f₄ e₄ two.fits here) in
+    let whole : FunctionPruned f₀ e₀ after.0 after.1
+    = function_through f₀ f₂ after.0 e₀ e₂ after.1 (range_pruned keeps_all f₀ f₁ f₂ e₀ e₁ e₂ first ranged) (function_through f₂ f₄ after.0 e₂ e₄ after.1 two last) in
+    subst (λ (p : HirFunction × Environment). FunctionPruned f₀ e₀ p.0 p.1) (sym set) whole
+
+-- ---- environments over passes of the caller
+
+pub pruned_self : (f : HirFunction) (env : Environment) → function_fits f env ≡ true → EnvironmentPruned env env
+pruned_self f env h = record { prunes = prunes_self env; tables = tables_of_fitting f env h }
+
+pub pruned_through : (a b c : Environment) → EnvironmentPruned a b → EnvironmentPruned b c → EnvironmentPruned a c
+pruned_through a b c j k = record { prunes = prunes_through a b c j.prunes k.prunes; tables = k.tables }
+
+-- a function that the inference takes, over what its environment has become
+pub pruned_fits : (env more : Environment) → EnvironmentPruned env more → (g : HirFunction) → function_fits g env ≡ true → function_fits g more ≡ true
+pruned_fits env more k g h = fits_pruned env more k.prunes k.tables g h
+
+pub pruned_beside : (env more : Environment) → EnvironmentPruned env more → (g : HirFunction) → function_fits g env ≡ true → FunctionPruned g env g more
+pruned_beside env more k g h = function_beside env more k.prunes k.tables g h
+
+-- a function that another one creates doesn't create itself
+pub not_itself : (env : Environment) (holder f : HirFunction) (id : FunctionId) → function_fits holder env ≡ true → is_among (created_in holder) id.0 ≡ true → slice_get env.functions id.0 ≡ Some f → is_among (created_in f) id.0 ≡ false
+not_itself env holder f id h named at =
+    let p = fitted holder env h in
+    let within : is_among p.below id.0 ≡ true = created_among env holder p.below p.tree id.0 named in
+    absent (is_among (created_in f) id.0) (λ i. created_once env holder p.below id.0 id.0 p.tree within (subst (λ o. is_among (created_of o) id.0 ≡ true) (sym at) i) named)
+
+-- a function that is put back
+pub environment_back : (env : Environment) (id : FunctionId) (f g : HirFunction) (out after back : Environment) → slice_get env.functions id.0 ≡ Some f → is_among (created_in f) id.0 ≡ false → out ≡ with_function id (emptied f.returns) env → back ≡ with_function id g after
+    → FunctionPruned f out g after → EnvironmentPruned env back
+environment_back env id f g out after back at other is put k =
+    let t = tables_of_fitting g after k.fits in
+    let whole : EnvironmentPruned env (with_function id g after) = record {
+      prunes = prunes_back env after id f g (emptied f.returns) at refl refl other (subst (λ e. FunctionPruned f e g after) is k);
+      tables = record { identifiers = t.identifiers; types = t.types; signatures = t.signatures; reports = t.reports };
+    } in
+    subst (EnvironmentPruned env) (sym put) whole
 
 -- ---- the root
 
@@ -177,26 +205,6 @@ unreported_tables f env h =
       tables = record { identifiers = t.identifiers; types = t.types; signatures = t.signatures; reports = (both_true _ _ t.reports).1 };
     }
 
--- the root after the range pass and the validations, without reports
-pub root_fits : (f g : HirFunction) (env more after : Environment) → function_fits f env ≡ true → but_places g ≡ but_places f → PassKeeps env more → unreported after ≡ unreported more → function_fits g (unreported after) ≡ true
-root_fits f g env more after h still kept same =
-    let k = unreported_tables f env h in
-    let before : function_fits f (unreported env) ≡ true = still_fits env (unreported env) k f h in
-    let j : EnvironmentKept (unreported env) (unreported more) = environment_alike (unreported env) (unreported more) (range_alike (unreported env) (unreported more) kept.rest refl) k.tables in
-    subst (λ e. function_fits g e ≡ true) (sym same) (fits_with_other_places f g (unreported more) (sym still) (still_fits (unreported env) (unreported more) j f before))
-
--- ---- a function that is put back
-
-pub environment_back : (env : Environment) (id : FunctionId) (f g stand_in : HirFunction) (out after back : Environment) → slice_get env.functions id.0 ≡ Some f → stand_in.aliasing_effects ≡ None → out ≡ with_function id stand_in env → back ≡ with_function id g after
-    → FunctionKept f out g after → EnvironmentKept env back
-environment_back env id f g stand_in out after back at none is put k =
-    let t = tables_of_fitting g after k.fits in
-    let whole : EnvironmentKept env (with_function id g after) = record {
-      evolves = evolves_back env after id f g stand_in at none k.still (fitted g after k.fits).effects (subst (λ e. Evolves e after) is k.evolves);
-      tables = record { identifiers = t.identifiers; types = t.types; signatures = t.signatures; reports = t.reports };
-    } in
-    subst (EnvironmentKept env) (sym put) whole
-
--- on every answer of the range pass there are as many functions
-pub count_kept : (env more : Environment) → PassKeeps env more → length more.functions ≡ length env.functions
-count_kept env more k = sym (length-map more.functions but_context) ∙ ap (λ (e : Environment). length e.functions) k.rest ∙ length-map env.functions but_context
+-- the root after the validations, without reports
+pub unreported_fits : (f : HirFunction) (env after : Environment) → function_fits f env ≡ true → unreported after ≡ unreported env → function_fits f (unreported after) ≡ true
+unreported_fits f env after h same = subst (λ e. function_fits f e ≡ true) (sym same) (still_fits env (unreported env) (unreported_tables f env h) f h)

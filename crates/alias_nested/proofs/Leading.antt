@@ -1,23 +1,23 @@
 -- What calls lead to, one after the other.
-use Rattle.std.specs.Prelude.{◌≡◌, ℕ, ◌+◌, ◌<◌, ◌≤◌, false, List, [], ◌∷◌, Some, Result, Ok, Err, ⊤, OnOk, length, slice_get, slice_index_or, refl}
+use Rattle.std.specs.Prelude.{◌≡◌, ℕ, ◌+◌, ◌<◌, ◌≤◌, Bool, false, List, [], ◌∷◌, Some, Result, Ok, Err, ⊤, length, slice_get, slice_index_or, refl}
 use Rattle.std.proofs.Common.{zero, suc, ap, sym, subst, ◌∙◌, drop, arith}
 use Rattle.std.proofs.lemmas.List.{drop_more}
 use Rattle.std.proofs.lemmas.Option.{slice_get_within, get_or_from_slice_get}
-use Rattle.alias_base.specs.Answer.{◌>>=◌}
 use Rattle.alias_base.specs.declared.ids.FunctionId.{FunctionId}
 use Rattle.alias_effects.specs.declared.solved.Solved.{Solved}
 use Rattle.alias_hir.specs.declared.env.Environment.{Environment}
 use Rattle.alias_hir.specs.declared.error.InferError.{InferError}
 use Rattle.alias_hir.specs.declared.hir.HirFunction.{HirFunction}
-use Rattle.alias_nested.specs.Analysis.{Analysed, Analysis, analysis, each, is_free, Accounts, Leads, slot_analysed, analysed}
+use Rattle.alias_nested.specs.Analysis.{Analysed, Analysis, analysis, is_free, Accounts}
+use Rattle.alias_nested.specs.Answers.{Answers, done, refused, Each, SlotAnalysed, AnalysedWith, LeadsToOne}
 use Rattle.alias_nested.specs.Created.{created_functions}
 
 -- so far the steps lead from the analysis to this environment and these solutions, and those that are left decide
-pub record Continued (step : FunctionId → Analysis → Result Analysis InferError) (all left : List FunctionId) (a : Analysis) (env : Environment) (solved : List Solved) (fs : List Analysed) : Type 0 where
+pub record Continued (step : FunctionId → Analysis → Answers Analysis) (all left : List FunctionId) (a : Analysis) (env : Environment) (solved : List Solved) (fs : List Analysed) : Type 0 where
   pub accounts : Accounts fs solved
-  pub rest : each step all a ≡ each step left (analysis env fs)
+  pub rest : (r : Result Analysis InferError) → Each step left (analysis env fs) r → Each step all a r
 
-abbrev pub Continues : (FunctionId → Analysis → Result Analysis InferError) → List FunctionId → List FunctionId → Analysis → Environment → List Solved → Type 0
+abbrev pub Continues : (FunctionId → Analysis → Answers Analysis) → List FunctionId → List FunctionId → Analysis → Environment → List Solved → Type 0
 Continues step all left a env solved = (fs : List Analysed) × Continued step all left a env solved fs
 
 -- ---- lists, from a place on
@@ -38,51 +38,45 @@ nothing_from (x ∷ xs) (suc k) h = nothing_from xs k (omega arith)
 
 -- ---- steps
 
-module _ (step : FunctionId → Analysis → Result Analysis InferError) (xs : List FunctionId) (k : ℕ) (id : FunctionId) (at : slice_get xs k ≡ Some id) (a : Analysis) where
-  steps_from : each step (drop k xs) a ≡ (step id a >>= each step (drop (k + 1) xs))
-  steps_from = ap (λ ys. each step ys a) (from_here xs k id at)
+module _ (step : FunctionId → Analysis → Answers Analysis) (xs : List FunctionId) (k : ℕ) (id : FunctionId) (at : slice_get xs k ≡ Some id) (a : Analysis) where
+  -- a refusal of this step is one of all that are left
+  pub stops_here : (e : InferError) → step id a (Err e) → Each step (drop k xs) a (Err e)
+  stops_here e h = subst (λ ys. Each step ys a (Err e)) (sym (from_here xs k id at)) (refused e h refl)
 
-  pub stops_here : (e : InferError) → step id a ≡ Err e → each step (drop k xs) a ≡ Err e
-  stops_here e h = steps_from ∙ ap (λ r. r >>= each step (drop (k + 1) xs)) h
+  -- where this step is done, those behind it decide
+  pub goes_on : (b : Analysis) → step id a (Ok b) → (r : Result Analysis InferError) → Each step (drop (k + 1) xs) b r → Each step (drop k xs) a r
+  goes_on b h r i = subst (λ ys. Each step ys a r) (sym (from_here xs k id at)) (done b h i)
 
-  pub goes_on : (b : Analysis) → step id a ≡ Ok b → each step (drop k xs) a ≡ each step (drop (k + 1) xs) b
-  goes_on b h = steps_from ∙ ap (λ r. r >>= each step (drop (k + 1) xs)) h
-
-pub all_done : (step : FunctionId → Analysis → Result Analysis InferError) (xs : List FunctionId) (k : ℕ) (a : Analysis) → length xs ≤ k → each step (drop k xs) a ≡ Ok a
-all_done step xs k a h = ap (λ ys. each step ys a) (nothing_from xs k h)
+pub all_done : (step : FunctionId → Analysis → Answers Analysis) (xs : List FunctionId) (k : ℕ) (a : Analysis) → length xs ≤ k → Each step (drop k xs) a (Ok a)
+all_done step xs k a h = subst (λ ys. Each step ys a (Ok a)) (sym (nothing_from xs k h)) refl
 
 -- before the first step
-pub continues_all : (step : FunctionId → Analysis → Result Analysis InferError) (all : List FunctionId) (env : Environment) (fs : List Analysed) (solved : List Solved) → Accounts fs solved → Continues step all all (analysis env fs) env solved
-continues_all step all env fs solved a = (fs, record { accounts = a; rest = refl })
+pub continues_all : (step : FunctionId → Analysis → Answers Analysis) (all : List FunctionId) (env : Environment) (fs : List Analysed) (solved : List Solved) → Accounts fs solved → Continues step all all (analysis env fs) env solved
+continues_all step all env fs solved a = (fs, record { accounts = a; rest = λ r h. h })
 
 -- after one more step
-pub continues_on : (step : FunctionId → Analysis → Result Analysis InferError) (all : List FunctionId) (k : ℕ) (id : FunctionId) (a : Analysis) (env after : Environment) (solved more : List Solved) → slice_get all k ≡ Some id
-    → Continues step all (drop k all) a env solved → ((fs : List Analysed) → Accounts fs solved → Leads (step id (analysis env fs)) (Ok tt) after more) → Continues step all (drop (k + 1) all) a after more
+pub continues_on : (step : FunctionId → Analysis → Answers Analysis) (all : List FunctionId) (k : ℕ) (id : FunctionId) (a : Analysis) (env after : Environment) (solved more : List Solved) → slice_get all k ≡ Some id
+    → Continues step all (drop k all) a env solved → ((fs : List Analysed) → Accounts fs solved → LeadsToOne (step id (analysis env fs)) (Ok tt) after more) → Continues step all (drop (k + 1) all) a after more
 continues_on step all k id a env after solved more at c h =
     let l = h c.0 c.1.accounts in
-    (l.0, record { accounts = l.2; rest = c.1.rest ∙ goes_on step all k id at (analysis env c.0) (analysis after l.0) l.1 })
+    (l.0, record { accounts = l.2; rest = λ r e. c.1.rest r (goes_on step all k id at (analysis env c.0) (analysis after l.0) l.1 r e) })
 
 -- ---- levels
 
-at_zero : (f : HirFunction) (a : Analysis) → analysed 0 f a ≡ Ok a
-unfolding analysed
-at_zero f a = refl
+at_zero : (keeps_all : Bool) (f : HirFunction) (a : Analysis) → AnalysedWith keeps_all 0 f a (Ok a)
+unfolding AnalysedWith
+at_zero keeps_all f a = refl
 
-at_more : (m : ℕ) (f : HirFunction) (a : Analysis) → analysed (suc m) f a ≡ each (slot_analysed (analysed m)) (created_functions f) a
-unfolding analysed
-at_more m f a = refl
+at_more : (keeps_all : Bool) (m : ℕ) (f : HirFunction) (a : Analysis) (r : Result Analysis InferError) → Each (SlotAnalysed keeps_all (AnalysedWith keeps_all m)) (created_functions f) a r → AnalysedWith keeps_all (suc m) f a r
+unfolding AnalysedWith
+at_more keeps_all m f a r h = h
 
-pub analysed_none : (n : ℕ) (f : HirFunction) (a : Analysis) → n ≡ 0 → analysed n f a ≡ Ok a
-analysed_none n f a h = ap (λ k. analysed k f a) h ∙ at_zero f a
+pub analysed_none : (keeps_all : Bool) (n : ℕ) (f : HirFunction) (a : Analysis) → n ≡ 0 → AnalysedWith keeps_all n f a (Ok a)
+analysed_none keeps_all n f a h = subst (λ k. AnalysedWith keeps_all k f a (Ok a)) (sym h) (at_zero keeps_all f a)
 
-pub analysed_more : (n m : ℕ) (f : HirFunction) (a : Analysis) → n ≡ suc m → analysed n f a ≡ each (slot_analysed (analysed m)) (created_functions f) a
-analysed_more n m f a h = ap (λ k. analysed k f a) h ∙ at_more m f a
+pub analysed_more : (keeps_all : Bool) (n m : ℕ) (f : HirFunction) (a : Analysis) (r : Result Analysis InferError) → n ≡ suc m → Each (SlotAnalysed keeps_all (AnalysedWith keeps_all m)) (created_functions f) a r → AnalysedWith keeps_all n f a r
+analysed_more keeps_all n m f a r h i = subst (λ k. AnalysedWith keeps_all k f a r) (sym h) (at_more keeps_all m f a r i)
 
 -- a call that was refused
-pub leads_error : (stated : Result Analysis InferError) (r : Result ⊤ InferError) (e : InferError) (env : Environment) (solved : List Solved) → r ≡ Err e → (is_free e ≡ false → stated ≡ Err e) → Leads stated r env solved
-leads_error stated r e env solved is h = subst (λ q. Leads stated q env solved) (sym is) h
-
--- what holds at Ok
-pub at_ok : {A B : Type 0} (r : Result ⊤ InferError) → (A → B) → OnOk r A → OnOk r B
-at_ok (Ok u) f h = f h
-at_ok (Err e) f h = tt
+pub leads_error : (answers : Answers Analysis) (r : Result ⊤ InferError) (e : InferError) (env : Environment) (solved : List Solved) → r ≡ Err e → (is_free e ≡ false → answers (Err e)) → LeadsToOne answers r env solved
+leads_error answers r e env solved is h = subst (λ q. LeadsToOne answers q env solved) (sym is) h

@@ -102,6 +102,10 @@ unfoldable pub analysed : ℕ → HirFunction → Analysis → Result Analysis I
 analysed zero f a = Ok a
 analysed (suc n) f a = each (slot_analysed (analysed n)) (created_functions f) a
 
+-- the levels of functions below the one that is handed in
+abbrev pub most_levels : ℕ
+most_levels = 63
+
 -- ---- what calls answer
 
 -- an answer that no definition foretells: want of memory, and a fault of a pass of the caller
@@ -128,11 +132,6 @@ Leads stated (Err e) env solved = is_free e ≡ false → stated ≡ Err e
 abbrev pub LeadsWith : Result (HirFunction × Analysis) InferError → Result ⊤ InferError → HirFunction → Environment → List Solved → Type 0
 LeadsWith stated (Ok u) func env solved = (fs : List Analysed) × (stated ≡ Ok (func, analysis env fs)) × Accounts fs solved
 LeadsWith stated (Err e) func env solved = is_free e ≡ false → stated ≡ Err e
-
--- what follows the effects pass leaves the function and the environment stated, or answers the refusal stated
-abbrev pub Completes : Result (HirFunction × Environment) InferError → Result ⊤ InferError → HirFunction → Environment → Type 0
-Completes stated (Ok u) func env = stated ≡ Ok (func, env)
-Completes stated (Err e) func env = is_free e ≡ false → stated ≡ Err e
 
 -- the range pass answers the summary stated, and leaves what is stated, or answers the refusal stated
 abbrev pub Ranges : Result Ranged InferError → Result (List AliasingEffect) InferError → HirFunction → Environment → Type 0

@@ -7,8 +7,9 @@ use Rattle.alias_hir.specs.declared.hir.HirFunction.{HirFunction}
 use Rattle.alias_rules.specs.Fitting.{effect_within_tables, holds_no_call, function_fits}
 use Rattle.alias_bare_laws.specs.Bare.{bare, TablesFit}
 use Rattle.alias_bare_laws.specs.EvolvedLaws.{Evolves}
+use Rattle.alias_pruning_laws.specs.Pruning.{Prunes}
 
--- tables that still keep their rules, and functions that are the same but for what is inferred
+-- what the passes of the inference keep: tables that still keep their rules, and functions that are the same but for what is inferred
 pub record EnvironmentKept (old new : Environment) : Type 0 where
   pub evolves : Evolves old new
   pub tables : TablesFit new
@@ -18,6 +19,12 @@ pub record FunctionKept (f : HirFunction) (env : Environment) (f' : HirFunction)
   pub evolves : Evolves env env'
   pub still : bare f' ≡ bare f
   pub fits : function_fits f' env' ≡ true
+
+-- What the analysis keeps over passes of the caller: tables that still keep their rules, and slots that hold their own functions, which have lost at most
+-- some of what they create.
+pub record EnvironmentPruned (old new : Environment) : Type 0 where
+  pub prunes : Prunes old new
+  pub tables : TablesFit new
 
 -- a summary that names entries of the tables, and holds no call
 pub record SummaryFits (env : Environment) (summary : List AliasingEffect) : Type 0 where

@@ -1,5 +1,5 @@
 -- The inference of a unit.
-use Rattle.std.specs.Prelude.{◌≡◌, ℕ, false, List, [], ◌∷◌, ◌++◌, Result, Ok, Err, map}
+use Rattle.std.specs.Prelude.{◌≡◌, false, List, [], ◌∷◌, ◌++◌, Result, Ok, Err, map}
 use Rattle.std.specs.List.{AllByRecursion}
 use Rattle.alias_base.specs.Answer.{◌>>=◌}
 use Rattle.alias_hir.specs.declared.effect.AliasingEffect.{AliasingEffect}
@@ -15,11 +15,7 @@ use Rattle.alias_validate.specs.Freezing.{frozen_reports}
 use Rattle.alias_validate.specs.Reassigning.{reassigned_reports, with_reassigned}
 use Rattle.alias_validate.specs.Reports.{with_reports, with_errors}
 use Rattle.alias_nested.specs.declared.infer.Inferred.{Inferred}
-use Rattle.alias_nested.specs.Analysis.{Analysed, Analysis, analysis, analysed, is_free, Accounts, SolvesItsFlow}
-
--- the levels of functions below the root
-abbrev pub most_levels : ℕ
-most_levels = 63
+use Rattle.alias_nested.specs.Analysis.{Analysed, Analysis, analysis, most_levels, analysed, is_free, Accounts, SolvesItsFlow}
 
 -- the root with all that was analysed, and its summary
 pub record RootAnalysis : Type 0 where

@@ -1,13 +1,16 @@
 //! One nested function, once those below it are analysed.
-ghost use Rattle.std.specs.Prelude.{◌≡◌, ◌≤◌, true, Err, length, IfOk, IfErr, OnOk};
+ghost use Rattle.std.specs.Prelude.{◌≡◌, ◌≤◌, true, Err, IfOk, IfErr};
 ghost use Rattle.alias_failures.specs.Failures.{HasFailed};
 ghost use Rattle.alias_rules.specs.Fitting.{function_fits};
 ghost use Rattle.alias_range_pass.specs.Passes.{range_pass};
-ghost use Rattle.alias_nested.specs.Analysis.{naming, analysis, effects_analysed, completed, function_analysed, is_free, Accounts, LeadsWith, Completes, Ranges, IsPassFault};
+ghost use Rattle.alias_nested.specs.Analysis.{naming, analysis, effects_analysed, is_free, Accounts, LeadsWith, Ranges, IsPassFault};
+ghost use Rattle.alias_nested.specs.Answers.{IsPassed, Completed, FunctionAnalysed, CompletesOne, LeadsToOneWith};
 ghost use Rattle.alias_nested.specs.Fitting.{FunctionKept, SummaryFits};
+ghost use Rattle.alias_nested.specs.Settling.{settled};
+ghost use Rattle.alias_pruning_laws.specs.Pruning.{FunctionPruned};
 
 use crate::errors::{named, stopped};
-use crate::settling::settle;
+use crate::settling::{reset_context, summarize};
 use alias_base::{FunctionId, List};
 use alias_effects::{Solved, infer_effects_certified};
 use alias_hir::effect::AliasingEffects;
@@ -15,7 +18,7 @@ use alias_hir::env::Environment;
 use alias_hir::error::{InferError, Pass};
 use alias_hir::hir::HirFunction;
 use alias_inner_passes::{InnerPasses, PassStop};
-use alias_range_pass::infer_mutation_aliasing_ranges;
+use alias_range_inference::infer_mutation_aliasing_ranges;
 use std::alloc::Global;
 
 /// The effects pass on the function of the number; what is solved of it is noted.
@@ -28,8 +31,7 @@ fn infer_effects(
 ) -> Result<(), InferError>
     requires { function_fits func.old env.old ≡ true }
     ensures run { (fs : _) → Accounts fs solved.old → LeadsWith (effects_analysed id func.old (analysis env.old fs)) result func.new env.new solved.new }
-    ensures kept { OnOk result (FunctionKept func.old env.old func.new env.new) }
-    ensures count { length env.new.functions ≡ length env.old.functions }
+    ensures kept { FunctionKept func.old env.old func.new env.new }
     ensures no_fault { IsPassFault result → ⊥ }
 {
     match infer_effects_certified(alloc, func, env, true) {
@@ -53,8 +55,7 @@ fn infer_ranges(
 ) -> Result<AliasingEffects, InferError>
     requires { function_fits func.old env.old ≡ true }
     ensures run { Ranges (naming id (range_pass true func.old env.old)) result func.new env.new }
-    ensures kept { OnOk result (FunctionKept func.old env.old func.new env.new) }
-    ensures count { length env.new.functions ≡ length env.old.functions }
+    ensures kept { FunctionKept func.old env.old func.new env.new }
     ensures summary { IfOk result (λ s. SummaryFits env.new s) }
     ensures no_fault { IsPassFault result → ⊥ }
 {
@@ -64,7 +65,7 @@ fn infer_ranges(
     }
 }
 
-/// A pass of the caller, which keeps everything.
+/// A pass of the caller.
 fn called<P: InnerPasses>(
     alloc: Global,
     pass: Pass,
@@ -72,9 +73,8 @@ fn called<P: InnerPasses>(
     env: &mut Environment,
     passes: &mut P,
 ) -> Result<(), PassStop>
-    requires fits { function_fits func.old env.old ≡ true }
-    requires keeps_all { P.keeps_all ≡ true }
-    ensures same { (func.new ≡ func.old) × (env.new ≡ env.old) }
+    requires { function_fits func.old env.old ≡ true }
+    ensures passed { IsPassed P.keeps_all (func.old, env.old) (func.new, env.new) }
     ensures faults { P.faults passes.old ≤ P.faults passes.new }
     ensures failed { result ≡ Err PassStop.Failed → HasFailed (P.faults passes.old) (P.faults passes.new) (P.at_last passes.new) }
 {
@@ -98,9 +98,8 @@ fn run_pass<P: InnerPasses>(
     env: &mut Environment,
     passes: &mut P,
 ) -> Result<(), InferError>
-    requires fits { function_fits func.old env.old ≡ true }
-    requires keeps_all { P.keeps_all ≡ true }
-    ensures same { (func.new ≡ func.old) × (env.new ≡ env.old) }
+    requires { function_fits func.old env.old ≡ true }
+    ensures passed { IsPassed P.keeps_all (func.old, env.old) (func.new, env.new) }
     ensures free { IfErr result (λ e. is_free e ≡ true) }
     ensures faults { P.faults passes.old ≤ P.faults passes.new }
     ensures failed { IsPassFault result → HasFailed (P.faults passes.old) (P.faults passes.new) (P.at_last passes.new) }
@@ -111,19 +110,34 @@ fn run_pass<P: InnerPasses>(
     }
 }
 
+/// Sets what follows from the summary of a nested function, and calls the logger in between, once the function is as it stays.
+fn settle_logged<F: FnMut(&HirFunction, &Environment)>(
+    func: &mut HirFunction,
+    env: &mut Environment,
+    summary: AliasingEffects,
+    debug_logger: &mut F,
+)
+    requires { (log : F) (f : _) (e : _) → F.pre log f e }
+    ensures { (func.new, env.new) ≡ settled summary (func.old, env.old) }
+{
+    summarize(func, summary);
+    debug_logger(func, env);
+    reset_context(func.context.as_slice(), &mut env.identifiers);
+}
+
 /// What follows the effects pass.
-fn complete<P: InnerPasses>(
+fn complete<P: InnerPasses, F: FnMut(&HirFunction, &Environment)>(
     alloc: Global,
     id: FunctionId,
     func: &mut HirFunction,
     env: &mut Environment,
     passes: &mut P,
+    debug_logger: &mut F,
 ) -> Result<(), InferError>
     requires fits { function_fits func.old env.old ≡ true }
-    requires keeps_all { P.keeps_all ≡ true }
-    ensures run { Completes (completed id func.old env.old) result func.new env.new }
-    ensures kept { OnOk result (FunctionKept func.old env.old func.new env.new) }
-    ensures count { length env.new.functions ≡ length env.old.functions }
+    requires logger { (log : F) (f : _) (e : _) → F.pre log f e }
+    ensures run { CompletesOne (Completed P.keeps_all id (func.old, env.old)) result func.new env.new }
+    ensures kept { FunctionPruned func.old env.old func.new env.new }
     ensures faults { P.faults passes.old ≤ P.faults passes.new }
     ensures failed { IsPassFault result → HasFailed (P.faults passes.old) (P.faults passes.new) (P.at_last passes.new) }
 {
@@ -145,27 +159,27 @@ fn complete<P: InnerPasses>(
         env,
         passes,
     )?;
-    settle(func, env, summary);
+    settle_logged(func, env, summary, debug_logger);
     Ok(())
 }
 
 /// A nested function, which is out of its slot, once those below it are analysed.
-pub(crate) fn infer_function<P: InnerPasses>(
+pub(crate) fn infer_function<P: InnerPasses, F: FnMut(&HirFunction, &Environment)>(
     alloc: Global,
     id: FunctionId,
     func: &mut HirFunction,
     env: &mut Environment,
     passes: &mut P,
+    debug_logger: &mut F,
     solved: &mut List<Solved>,
 ) -> Result<(), InferError>
     requires fits { function_fits func.old env.old ≡ true }
-    requires keeps_all { P.keeps_all ≡ true }
-    ensures run { (fs : _) → Accounts fs solved.old → LeadsWith (function_analysed id func.old (analysis env.old fs)) result func.new env.new solved.new }
-    ensures kept { OnOk result (FunctionKept func.old env.old func.new env.new) }
-    ensures count { length env.new.functions ≡ length env.old.functions }
+    requires logger { (log : F) (f : _) (e : _) → F.pre log f e }
+    ensures run { (fs : _) → Accounts fs solved.old → LeadsToOneWith (FunctionAnalysed P.keeps_all id func.old (analysis env.old fs)) result func.new env.new solved.new }
+    ensures kept { FunctionPruned func.old env.old func.new env.new }
     ensures faults { P.faults passes.old ≤ P.faults passes.new }
     ensures failed { IsPassFault result → HasFailed (P.faults passes.old) (P.faults passes.new) (P.at_last passes.new) }
 {
     infer_effects(alloc, id, func, env, solved)?;
-    complete(alloc, id, func, env, passes)
+    complete(alloc, id, func, env, passes, debug_logger)
 }

@@ -1,12 +1,13 @@
 //! The inference of a unit.
-ghost use Rattle.std.specs.Prelude.{◌≡◌, ◌≤◌, true, [], IfOk, OnOk};
+ghost use Rattle.std.specs.Prelude.{◌≡◌, ◌≤◌, true, [], IfOk, IsOkAnd, OnOk};
 ghost use Rattle.alias_failures.specs.Failures.{HasFailed};
 ghost use Rattle.alias_rules.specs.Fitting.{function_fits};
 ghost use Rattle.alias_validate.specs.Reports.{with_errors};
 ghost use Rattle.alias_nested.specs.Analysis.{analysis, Accounts, IsPassFault};
+ghost use Rattle.alias_nested.specs.Roots.{RootIsCovered, RootCoversHeap, RootHasCauses, RootListsFlows, IsRanged};
 ghost use Rattle.alias_nested.specs.Units.{root_analysed, all_analysed, unit_analysed, RootLeads, InfersUnit};
 
-use crate::analyse::analyse_created;
+use crate::analyse::analyse_kept;
 use alias_base::List;
 use alias_effects::{Solved, infer_effects_certified};
 use alias_hir::effect::AliasingEffects;
@@ -15,16 +16,13 @@ use alias_hir::error::InferError;
 use alias_hir::hir::HirFunction;
 use alias_hir::report::Report;
 use alias_inner_passes::InnerPasses;
-use alias_range_pass::infer_mutation_aliasing_ranges;
+use alias_range_inference::infer_mutation_aliasing_ranges;
 use alias_rules::check::Checked;
 use alias_validate::{
     validate_locals_not_reassigned_after_render, validate_no_freezing_known_mutable_functions,
 };
 use std::alloc::Global;
 use std::mem;
-
-/// Functions are nested in at most so many levels below the root, as the rules of a unit say.
-const MOST_LEVELS: u32 = 63;
 
 /// What is inferred of a unit.
 #[derive(Drop)]
@@ -49,6 +47,7 @@ fn infer_root(
     requires { function_fits func.old env.old ≡ true }
     ensures run { (fs : _) → Accounts fs solved.old → RootLeads (root_analysed func.old (analysis env.old fs)) result func.new env.new solved.new }
     ensures fits { OnOk result (function_fits func.new (with_errors env.new []) ≡ true) }
+    ensures ranged { OnOk result ((fs : _) → IsOkAnd (root_analysed func.old (analysis env.old fs)) IsRanged) }
     ensures no_fault { IsPassFault result → ⊥ }
 {
     let found = infer_effects_certified(alloc, func, env, false)?;
@@ -71,10 +70,11 @@ fn infer_all<P: InnerPasses>(
     requires keeps_all { P.keeps_all ≡ true }
     ensures run { (fs : _) → Accounts fs solved.old → RootLeads (all_analysed func.old (analysis env.old fs)) result func.new env.new solved.new }
     ensures fits { OnOk result (function_fits func.new (with_errors env.new []) ≡ true) }
+    ensures ranged { OnOk result ((fs : _) → Accounts fs solved.old → IsOkAnd (all_analysed func.old (analysis env.old fs)) IsRanged) }
     ensures faults { P.faults passes.old ≤ P.faults passes.new }
     ensures failed { IsPassFault result → HasFailed (P.faults passes.old) (P.faults passes.new) (P.at_last passes.new) }
 {
-    analyse_created(alloc, MOST_LEVELS, func, env, passes, solved)?;
+    analyse_kept(alloc, func, env, passes, solved)?;
     infer_root(alloc, func, env, solved)
 }
 
@@ -89,10 +89,13 @@ fn take_reports(alloc: Global, env: &mut Environment) -> List<Report>
 /// Infers a unit that keeps the rules: its nested functions, innermost first, and then its root. The passes of the
 /// caller keep everything, as `KeepAll` and `FailingPasses` do. The unit is dropped on `Err`.
 ///
-/// Each function that an instruction creates is taken out of its slot; the functions below it are inferred; the
-/// effects pass, `dead_code_elimination`, the range pass and the two other passes run on it; its summary is stored, its
-/// context places are captured where the summary captures or mutates them, the ranges of its context are reset, and it is
-/// put back. On the root the effects pass, the range pass and both validations run. docs/MODEL.md has the rules.
+/// Nested functions are analysed as `analyse_functions_certified` does it, with no logger. On the root the effects pass, the range
+/// pass and both validations run. docs/MODEL.md has the rules.
+///
+/// On Ok `check_function` holds of the root that is handed out. Each identifier that a legal path of the alias graph joins to a
+/// mutation that the root records has its range end past it; so does, along any path of the root's blocks, each one that reaches
+/// a written object, where the root is forward and makes each place once. There is no range end that the root's range pass set
+/// without such a mutation or an instruction that assigns or stores the identifier, and the summary ends with the root's flows.
 ///
 /// A refusal is the first in this order, and names its function: those of `infer_effects_certified`, or `TooMany`, where no
 /// number is left for a position of the alias graph. `PassFault` comes only where the count of the passes' faults
@@ -105,6 +108,10 @@ pub fn infer_unit<P: InnerPasses>(
     requires { P.keeps_all ≡ true }
     ensures answer { InfersUnit (unit_analysed unit) result }
     ensures fits { IfOk result (λ i. function_fits i.unit.function i.unit.env ≡ true) }
+    ensures cover { IfOk result (λ i. IsOkAnd (unit_analysed unit) (λ a. RootIsCovered a.functions i)) }
+    ensures heap { IfOk result (λ i. IsOkAnd (unit_analysed unit) (λ a. RootCoversHeap a.functions i)) }
+    ensures cause { IfOk result (λ i. IsOkAnd (unit_analysed unit) (λ a. RootHasCauses a.functions i)) }
+    ensures flows { IfOk result (λ i. IsOkAnd (unit_analysed unit) (λ a. RootListsFlows a.functions i)) }
     ensures faults { P.faults passes.old ≤ P.faults passes.new }
     ensures failed { IsPassFault result → HasFailed (P.faults passes.old) (P.faults passes.new) (P.at_last passes.new) }
 {

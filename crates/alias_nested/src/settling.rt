@@ -1,7 +1,7 @@
 //! What is set of a nested function once its summary is known.
 ghost use Rattle.std.specs.Prelude.{◌≡◌, map};
 ghost use Rattle.std.specs.List.{list_any};
-ghost use Rattle.alias_nested.specs.Settling.{takes, is_capture, is_captured, context_settled, summarized, reset, settled};
+ghost use Rattle.alias_nested.specs.Settling.{takes, is_capture, is_captured, context_settled, summarized, reset};
 
 use alias_base::{EvaluationOrder, IdentifierId, List};
 use alias_hir::effect::{AliasingEffect, AliasingEffects};
@@ -72,7 +72,7 @@ fn settle_context(summary: &[AliasingEffect], context: &mut [Place])
 
 /// Stores the summary, and sets the effects of context places: `Capture` where the summary captures or mutates the
 /// identifier, or where it was that already, and else `Read`.
-fn summarize(func: &mut HirFunction, summary: AliasingEffects)
+pub(crate) fn summarize(func: &mut HirFunction, summary: AliasingEffects)
     ensures { func.new ≡ summarized summary func.old }
 {
     settle_context(summary.as_slice(), func.context.as_mut_slice());
@@ -80,7 +80,7 @@ fn summarize(func: &mut HirFunction, summary: AliasingEffects)
 }
 
 /// Takes ranges and scopes of the places' identifiers away.
-fn reset_context(context: &[Place], identifiers: &mut List<Identifier>)
+pub(crate) fn reset_context(context: &[Place], identifiers: &mut List<Identifier>)
     ensures { identifiers.new ≡ reset context.now identifiers.old }
 {
     for place in context {
@@ -92,12 +92,4 @@ fn reset_context(context: &[Place], identifiers: &mut List<Identifier>)
             identifier.scope = None;
         }
     }
-}
-
-/// Sets what follows from the summary of a nested function. Takes no memory.
-pub(crate) fn settle(func: &mut HirFunction, env: &mut Environment, summary: AliasingEffects)
-    ensures { (func.new, env.new) ≡ settled summary (func.old, env.old) }
-{
-    summarize(func, summary);
-    reset_context(func.context.as_slice(), &mut env.identifiers);
 }

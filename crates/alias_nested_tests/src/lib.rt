@@ -1,7 +1,9 @@
-//! Tests of `infer_unit` on units with nested functions: the order in which they are inferred, and at which call a pass
-//! of the caller runs on which function. A crate of its own, so that `alias_nested` is proved once.
+//! Tests of `infer_unit` and of the calls that analyse functions, on units with nested functions: the order in which they are inferred, at which
+//! call a pass of the caller runs on which function, and how often the logger is called. A crate of its own, so that `alias_nested` is proved once.
 #![tactic(auto)]
 
+#[cfg(test)]
+mod analyses;
 #[cfg(test)]
 mod endings;
 #[cfg(test)]

@@ -1,21 +1,57 @@
-use Rattle.std.proofs.Common.{◌≡◌, ◌∙◌, ◌-◌, suc, Err, Some, ap, refl, sym, subst, rules, arith}
+use Rattle.std.proofs.Common.{◌≡◌, ◌∙◌, ◌-◌, suc, Ok, Err, Some, refl, subst, rules, arith}
 use Rattle.std.specs.Prelude.{slice_get, slice_index_or}
 use Rattle.alias_base.specs.declared.ids.FunctionId.{FunctionId}
 use Rattle.alias_hir.specs.declared.error.InferError.{InferError}
-use Rattle.alias_nested.specs.Analysis.{analysis, analysed, slot_analysed, each}
+use Rattle.alias_nested.specs.Analysis.{analysis}
+use Rattle.alias_nested.specs.Answers.{TakenAnalysed, SlotAnalysed, AnalysedWith, Each}
 use Rattle.alias_nested.specs.Created.{created_functions}
 use Rattle.alias_nested.specs.Slots.{emptied}
+use Rattle.alias_nested.proofs.Answering.{leads_with_error, taken_refused, taken_leads, slot_leads}
 use Rattle.alias_nested.proofs.Creating.{created_is_among}
-use Rattle.alias_nested.proofs.Keeping.{still_fits, environment_back}
-use Rattle.alias_nested.proofs.Leading.{item_at, stops_here, all_done, analysed_none, analysed_more, leads_error, at_ok}
+use Rattle.alias_nested.proofs.Keeping.{pruned_self, pruned_through, pruned_fits, pruned_beside, environment_back, not_itself}
+use Rattle.alias_nested.proofs.Leading.{item_at, stops_here, all_done, continues_all, continues_on, analysed_none, analysed_more, leads_error}
 use Rattle.alias_nesting_laws.specs.NestingLaws.{taken_out_fits}
 use Rattle.alias_nesting_laws.specs.SlotLaws.{created_exists}
+use Rattle.alias_pruning_laws.specs.PruningLaws.{function_through}
 use Rattle.alias_nested.proofs.analyse.+nested.Goals as goal
 
 pub analyse_created-returns-then-levels-eq0-clause-run : goal.analyse_created-returns-then-levels-eq0-clause-run
 analyse_created-returns-then-levels-eq0-clause-run g t c =
     let none : c.args.levels ≡ 0 = omega arith in
-    λ fs a. (fs, analysed_none c.args.levels c.args.func.now (analysis c.args.env.now fs) none, a)
+    λ fs a. (fs, analysed_none g.P.InnerPasses.keeps_all c.args.levels c.args.func.now (analysis c.args.env.now fs) none, a)
+
+pub analyse_created-returns-then-levels-eq0-clause-kept : goal.analyse_created-returns-then-levels-eq0-clause-kept
+analyse_created-returns-then-levels-eq0-clause-kept g t c = pruned_self c.args.func.now c.args.env.now c.requires.fits
+
+pub analyse_created-returns-in_err-created-clause-kept : goal.analyse_created-returns-in_err-created-clause-kept
+analyse_created-returns-in_err-created-clause-kept g t c = pruned_self c.args.func.now c.args.env.now c.requires.fits
+
+pub analyse_created-loop-id-init : goal.analyse_created-loop-id-init
+analyse_created-loop-id-init g t c =
+    let k = g.P.InnerPasses.keeps_all in
+    record {
+      run = λ fs a. continues_all (SlotAnalysed k (AnalysedWith k (c.args.levels - 1))) c.as_slice-id-items.result.now c.args.env.now fs c.args.solved.now a;
+      kept = pruned_self c.args.func.now c.args.env.now c.requires.fits;
+      faults = omega arith;
+    }
+
+pub analyse_created-loop-id-preserved : goal.analyse_created-loop-id-preserved
+analyse_created-loop-id-preserved g t c =
+    let k = g.P.InnerPasses.keeps_all in
+    let items = c.as_slice-id-items.result.now in
+    let id : FunctionId = slice_index_or items c.loop-id.id-index (record { 0 = 0 }) in
+    let before = c.loop-id.invariant.faults in
+    let now = c.analyse_slot.ensures.faults in
+    record {
+      run = λ fs a.
+          continues_on (SlotAnalysed k (AnalysedWith k (c.args.levels - 1))) items c.loop-id.id-index id (analysis c.args.env.now fs) c.loop-id.env c.analyse_slot.new.env c.loop-id.solved c.analyse_slot.new.solved
+          (item_at items c.loop-id.id-index (record { 0 = 0 }) c.loop-id-test.true) (c.loop-id.invariant.run fs a) c.in_ok-analyse_slot.ensures.run;
+      kept = pruned_through c.args.env.now c.loop-id.env c.analyse_slot.new.env c.loop-id.invariant.kept c.analyse_slot.ensures.kept;
+      faults = omega arith;
+    }
+
+pub analyse_created-returns-in_err-analyse_slot-clause-kept : goal.analyse_created-returns-in_err-analyse_slot-clause-kept
+analyse_created-returns-in_err-analyse_slot-clause-kept g t c = pruned_through c.args.env.now c.loop-id.env c.analyse_slot.new.env c.loop-id.invariant.kept c.analyse_slot.ensures.kept
 
 pub analyse_created-analyse_slot-requires : goal.analyse_created-analyse_slot-requires
 analyse_created-analyse_slot-requires g t c κs within =
@@ -26,51 +62,79 @@ analyse_created-analyse_slot-requires g t c κs within =
     let id : FunctionId = slice_index_or items c.loop-id.id-index (record { 0 = 0 }) in
     let at : slice_get (created_functions f) c.loop-id.id-index ≡ Some id = subst (λ xs. slice_get xs c.loop-id.id-index ≡ Some id) same (item_at items c.loop-id.id-index (record { 0 = 0 }) c.loop-id-test.true) in
     let among = created_is_among f c.loop-id.id-index id at in
-    let fits = still_fits c.args.env.now env c.loop-id.invariant.kept f c.requires.fits in
-    (omega arith, (within, (created_exists env f id fits among, (λ h is. taken_out_fits env f h (emptied h.returns) id fits among is refl, c.requires.keeps_all))))
+    let fits = pruned_fits c.args.env.now env c.loop-id.invariant.kept f c.requires.fits in
+    (omega arith, (within.0, (within.1, (created_exists env f id fits among, (λ h is. taken_out_fits env f h (emptied h.returns) id fits among is refl, (λ h is. not_itself env f h id fits among is, c.requires.logger))))))
 
 pub analyse_created-returns-in_err-analyse_slot-clause-run : goal.analyse_created-returns-in_err-analyse_slot-clause-run
 analyse_created-returns-in_err-analyse_slot-clause-run g t c =
     let f = c.args.func.now in
+    let k = g.P.InnerPasses.keeps_all in
     let e : InferError = c.in_err-analyse_slot.field-0.0 in
     let same : c.from_residual-in_err-analyse_slot.result ≡ Err e = search rules in
     let more : c.args.levels ≡ suc (c.args.levels - 1) = omega arith in
     let items = c.as_slice-id-items.result.now in
     let all : items ≡ created_functions f = c.as_slice-id-items.ensures ∙ c.in_ok-created.ensures in
     let id : FunctionId = slice_index_or items c.loop-id.id-index (record { 0 = 0 }) in
-    let step = slot_analysed (analysed (c.args.levels - 1)) in
+    let step = SlotAnalysed k (AnalysedWith k (c.args.levels - 1)) in
     λ fs a.
     let so_far = c.loop-id.invariant.run fs a in
-    leads_error _ _ e _ _ same
-    (λ free. analysed_more c.args.levels (c.args.levels - 1) f (analysis c.args.env.now fs) more
-    ∙ ap (λ xs. each step xs (analysis c.args.env.now fs)) (sym all)
-    ∙ so_far.1.rest
-    ∙ stops_here step items c.loop-id.id-index id (item_at items c.loop-id.id-index (record { 0 = 0 }) c.loop-id-test.true) (analysis c.loop-id.env so_far.0) e (c.in_err-analyse_slot.ensures.run so_far.0 so_far.1.accounts free))
+    leads_error (AnalysedWith k c.args.levels f (analysis c.args.env.now fs)) c.from_residual-in_err-analyse_slot.result e c.analyse_slot.new.env c.analyse_slot.new.solved same
+    (λ free. analysed_more k c.args.levels (c.args.levels - 1) f (analysis c.args.env.now fs) (Err e) more
+    (subst (λ xs. Each step xs (analysis c.args.env.now fs) (Err e)) all
+    (so_far.1.rest (Err e)
+    (stops_here step items c.loop-id.id-index id (item_at items c.loop-id.id-index (record { 0 = 0 }) c.loop-id-test.true) (analysis c.loop-id.env so_far.0) e (c.in_err-analyse_slot.ensures.run so_far.0 so_far.1.accounts free)))))
 
 pub analyse_created-returns-clause-run : goal.analyse_created-returns-clause-run
 analyse_created-returns-clause-run g t c =
     let f = c.args.func.now in
+    let k = g.P.InnerPasses.keeps_all in
     let more : c.args.levels ≡ suc (c.args.levels - 1) = omega arith in
     let items = c.as_slice-id-items.result.now in
     let all : items ≡ created_functions f = c.as_slice-id-items.ensures ∙ c.in_ok-created.ensures in
-    let step = slot_analysed (analysed (c.args.levels - 1)) in
+    let step = SlotAnalysed k (AnalysedWith k (c.args.levels - 1)) in
     λ fs a.
     let so_far = c.loop-id.invariant.run fs a in (
       so_far.0,
-      analysed_more c.args.levels (c.args.levels - 1) f (analysis c.args.env.now fs) more
-          ∙ ap (λ xs. each step xs (analysis c.args.env.now fs)) (sym all)
-          ∙ so_far.1.rest
-          ∙ all_done step items c.loop-id.id-index (analysis c.loop-id.env so_far.0) (omega (arith, c.loop-id-test.false)),
+      analysed_more k c.args.levels (c.args.levels - 1) f (analysis c.args.env.now fs) (Ok (analysis c.loop-id.env so_far.0)) more
+          (subst (λ xs. Each step xs (analysis c.args.env.now fs) (Ok (analysis c.loop-id.env so_far.0))) all
+          (so_far.1.rest (Ok (analysis c.loop-id.env so_far.0)) (all_done step items c.loop-id.id-index (analysis c.loop-id.env so_far.0) (omega (arith, c.loop-id-test.false))))),
       so_far.1.accounts,
     )
+
+pub analyse_slot-returns-clause-run : goal.analyse_slot-returns-clause-run
+analyse_slot-returns-clause-run g t c =
+    let k = g.P.InnerPasses.keeps_all in
+    let taken = c.take_out-func in
+    let done = c.analyse_taken-answer in
+    λ fs a.
+    slot_leads k (AnalysedWith k c.args.levels) c.args.id c.args.env.now taken.new.env fs taken.result taken.ensures.func taken.ensures.env done.new.func done.new.env c.put_back.new.env done.new.solved done.result c.put_back.ensures (done.ensures.run fs a)
 
 pub analyse_slot-returns-clause-kept : goal.analyse_slot-returns-clause-kept
 analyse_slot-returns-clause-kept g t c =
     let taken = c.take_out-func in
     let done = c.analyse_taken-answer in
-    at_ok done.result
-    (environment_back c.args.env.now c.args.id taken.result done.new.func (emptied taken.result.returns) taken.new.env done.new.env c.put_back.new.env taken.ensures.func refl taken.ensures.env c.put_back.ensures)
-    done.ensures.kept
+    environment_back c.args.env.now c.args.id taken.result done.new.func taken.new.env done.new.env c.put_back.new.env taken.ensures.func (c.requires.other taken.result taken.ensures.func) taken.ensures.env c.put_back.ensures done.ensures.kept
+
+pub analyse_taken-returns-in_err-analyse_created-clause-run : goal.analyse_taken-returns-in_err-analyse_created-clause-run
+analyse_taken-returns-in_err-analyse_created-clause-run g t c =
+    let e : InferError = c.in_err-analyse_created.field-0.0 in
+    let same : c.from_residual.result ≡ Err e = search rules in
+    λ fs a. leads_with_error (TakenAnalysed g.P.InnerPasses.keeps_all (AnalysedWith g.P.InnerPasses.keeps_all c.args.levels) c.args.id c.args.func.now (analysis c.args.env.now fs)) c.from_residual.result e c.args.func.now c.analyse_created.new.env c.analyse_created.new.solved same (λ free. taken_refused g.P.InnerPasses.keeps_all (AnalysedWith g.P.InnerPasses.keeps_all c.args.levels) c.args.id c.args.func.now (analysis c.args.env.now fs) e (c.in_err-analyse_created.ensures.run fs a free))
+
+pub analyse_taken-returns-in_err-analyse_created-clause-kept : goal.analyse_taken-returns-in_err-analyse_created-clause-kept
+analyse_taken-returns-in_err-analyse_created-clause-kept g t c = pruned_beside c.args.env.now c.analyse_created.new.env c.analyse_created.ensures.kept c.args.func.now c.requires.fits
 
 pub analyse_taken-infer_function-requires-clause-fits : goal.analyse_taken-infer_function-requires-clause-fits
-analyse_taken-infer_function-requires-clause-fits g t c = still_fits c.args.env.now c.analyse_created.new.env c.in_ok-analyse_created.ensures.kept c.args.func.now c.requires.fits
+analyse_taken-infer_function-requires-clause-fits g t c = pruned_fits c.args.env.now c.analyse_created.new.env c.analyse_created.ensures.kept c.args.func.now c.requires.fits
+
+pub analyse_taken-returns-clause-run : goal.analyse_taken-returns-clause-run
+analyse_taken-returns-clause-run g t c =
+    let k = g.P.InnerPasses.keeps_all in
+    λ fs a.
+    let l = c.in_ok-analyse_created.ensures.run fs a in
+    taken_leads k (AnalysedWith k c.args.levels) c.args.id c.args.func.now (analysis c.args.env.now fs) c.infer_function.new.func c.analyse_created.new.env c.infer_function.new.env l.0 c.infer_function.new.solved c.infer_function.result l.1 (c.infer_function.ensures.run l.0 l.2)
+
+pub analyse_taken-returns-clause-kept : goal.analyse_taken-returns-clause-kept
+analyse_taken-returns-clause-kept g t c =
+    function_through c.args.func.now c.args.func.now c.infer_function.new.func c.args.env.now c.analyse_created.new.env c.infer_function.new.env
+    (pruned_beside c.args.env.now c.analyse_created.new.env c.analyse_created.ensures.kept c.args.func.now c.requires.fits) c.infer_function.ensures.kept

@@ -1,6 +1,7 @@
-use Rattle.std.proofs.Common.{◌≡◌, ◌+◌, ◌*◌, ◌-◌, ◌≤◌, drop, length}
-use Rattle.alias_nested.specs.Analysis.{analysis, analysed, slot_analysed, Accounts}
-use Rattle.alias_nested.specs.Fitting.{EnvironmentKept}
+use Rattle.std.proofs.Common.{◌+◌, ◌*◌, ◌-◌, ◌≤◌, drop}
+use Rattle.alias_nested.specs.Analysis.{analysis, Accounts}
+use Rattle.alias_nested.specs.Answers.{SlotAnalysed, AnalysedWith}
+use Rattle.alias_nested.specs.Fitting.{EnvironmentPruned}
 use Rattle.alias_nested.proofs.Leading.{Continues}
 use Rattle.alias_nested.proofs.analyse.+nested.Given as goal
 
@@ -16,8 +17,7 @@ decreases-analyse_taken g l = l.levels * 3 + 1
 -- what is left decides
 abbrev pub invariant-analyse_created-loop-id : goal.invariant-analyse_created-loop-id
 invariant-analyse_created-loop-id g l = record {
-  run : (fs : _) → Accounts fs l.fn.solved → Continues (slot_analysed (analysed (l.levels - 1))) l.id-items (drop l.id-index l.id-items) (analysis l.fn.env fs) l.env l.solved;
-  kept : EnvironmentKept l.fn.env l.env;
-  count : length l.env.functions ≡ length l.fn.env.functions;
+  run : (fs : _) → Accounts fs l.fn.solved → Continues (SlotAnalysed g.P.InnerPasses.keeps_all (AnalysedWith g.P.InnerPasses.keeps_all (l.levels - 1))) l.id-items (drop l.id-index l.id-items) (analysis l.fn.env fs) l.env l.solved;
+  kept : EnvironmentPruned l.fn.env l.env;
   faults : g.P.InnerPasses.faults l.fn.passes ≤ g.P.InnerPasses.faults l.passes;
 }

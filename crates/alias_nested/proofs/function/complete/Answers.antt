@@ -1,7 +1,45 @@
-use Rattle.alias_nested.proofs.Keeping.{kept_as}
+use Rattle.std.proofs.Common.{◌≡◌, Err, rules}
+use Rattle.alias_hir.specs.declared.error.InferError.{InferError}
+use Rattle.alias_nested.specs.Answers.{Completed}
+use Rattle.alias_nested.proofs.Answering.{completes, completes_refused, completes_error}
+use Rattle.alias_nested.proofs.Keeping.{passed_pruned, range_pruned, more_pruned, settled_pruned}
 use Rattle.alias_nested.proofs.function.complete.Goals as goal
+
+pub returns-in_err-run_pass-clause-kept : goal.returns-in_err-run_pass-clause-kept
+returns-in_err-run_pass-clause-kept g c = passed_pruned g.P.InnerPasses.keeps_all c.args.func.now c.args.env.now c.run_pass.new.func c.run_pass.new.env c.run_pass.ensures.passed
+
+pub infer_ranges-requires : goal.infer_ranges-requires
+infer_ranges-requires g c = c.run_pass.ensures.passed.keeps.fits
+
+pub returns-in_err-summary-clause-run : goal.returns-in_err-summary-clause-run
+returns-in_err-summary-clause-run g c =
+    let e : InferError = c.in_err-summary.field-0.0 in
+    let same : c.from_residual-in_err-summary.result ≡ Err e = search rules in
+    completes_error (Completed g.P.InnerPasses.keeps_all c.args.id (c.args.func.now, c.args.env.now)) c.from_residual-in_err-summary.result e c.infer_ranges.new.func c.infer_ranges.new.env same
+    (λ free. completes_refused g.P.InnerPasses.keeps_all c.args.id c.args.func.now c.run_pass.new.func c.args.env.now c.run_pass.new.env c.run_pass.ensures.passed e (c.in_err-summary.ensures.run free))
+
+pub returns-in_err-summary-clause-kept : goal.returns-in_err-summary-clause-kept
+returns-in_err-summary-clause-kept g c =
+    range_pruned g.P.InnerPasses.keeps_all c.args.func.now c.run_pass.new.func c.infer_ranges.new.func c.args.env.now c.run_pass.new.env c.infer_ranges.new.env c.run_pass.ensures.passed c.infer_ranges.ensures.kept
+
+pub returns-in_err-run_pass-2-clause-kept : goal.returns-in_err-run_pass-2-clause-kept
+returns-in_err-run_pass-2-clause-kept g c =
+    let ranged = range_pruned g.P.InnerPasses.keeps_all c.args.func.now c.run_pass.new.func c.infer_ranges.new.func c.args.env.now c.run_pass.new.env c.infer_ranges.new.env c.run_pass.ensures.passed c.infer_ranges.ensures.kept in
+    more_pruned g.P.InnerPasses.keeps_all c.args.func.now c.infer_ranges.new.func c.run_pass-2.new.func c.args.env.now c.infer_ranges.new.env c.run_pass-2.new.env ranged c.run_pass-2.ensures.passed
+
+pub returns-in_err-run_pass-3-clause-kept : goal.returns-in_err-run_pass-3-clause-kept
+returns-in_err-run_pass-3-clause-kept g c =
+    let ranged = range_pruned g.P.InnerPasses.keeps_all c.args.func.now c.run_pass.new.func c.infer_ranges.new.func c.args.env.now c.run_pass.new.env c.infer_ranges.new.env c.run_pass.ensures.passed c.infer_ranges.ensures.kept in
+    let second = more_pruned g.P.InnerPasses.keeps_all c.args.func.now c.infer_ranges.new.func c.run_pass-2.new.func c.args.env.now c.infer_ranges.new.env c.run_pass-2.new.env ranged c.run_pass-2.ensures.passed in
+    more_pruned g.P.InnerPasses.keeps_all c.args.func.now c.run_pass-2.new.func c.run_pass-3.new.func c.args.env.now c.run_pass-2.new.env c.run_pass-3.new.env second c.run_pass-3.ensures.passed
+
+pub returns-clause-run : goal.returns-clause-run
+returns-clause-run g c =
+    completes g.P.InnerPasses.keeps_all c.args.id c.args.func.now c.run_pass.new.func c.args.env.now c.run_pass.new.env c.run_pass.ensures.passed
+    c.infer_ranges.new.func c.run_pass-2.new.func c.run_pass-3.new.func c.settle_logged.new.func c.infer_ranges.new.env c.run_pass-2.new.env c.run_pass-3.new.env c.settle_logged.new.env c.in_ok-summary.summary
+    c.in_ok-summary.ensures.run c.run_pass-2.ensures.passed c.run_pass-3.ensures.passed c.settle_logged.ensures
 
 pub returns-clause-kept : goal.returns-clause-kept
 returns-clause-kept g c =
-    kept_as c.args.func.now c.run_pass.new.func c.infer_ranges.new.func c.run_pass-2.new.func c.run_pass-3.new.func c.settle.new.func c.args.env.now c.run_pass.new.env c.infer_ranges.new.env c.run_pass-2.new.env c.run_pass-3.new.env c.settle.new.env c.in_ok-summary.summary
-    c.run_pass.ensures.same c.in_ok-summary.ensures.kept c.in_ok-summary.ensures.summary c.run_pass-2.ensures.same c.run_pass-3.ensures.same c.settle.ensures
+    settled_pruned g.P.InnerPasses.keeps_all c.args.func.now c.run_pass.new.func c.infer_ranges.new.func c.run_pass-2.new.func c.run_pass-3.new.func c.settle_logged.new.func c.args.env.now c.run_pass.new.env c.infer_ranges.new.env c.run_pass-2.new.env c.run_pass-3.new.env c.settle_logged.new.env c.in_ok-summary.summary
+    c.run_pass.ensures.passed c.infer_ranges.ensures.kept c.in_ok-summary.ensures.summary c.run_pass-2.ensures.passed c.run_pass-3.ensures.passed c.settle_logged.ensures

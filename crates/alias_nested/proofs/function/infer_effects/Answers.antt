@@ -1,13 +1,14 @@
 use Rattle.std.proofs.Common.{◌≡◌, true, false, Err, sym, subst}
 use Rattle.alias_nested.specs.Analysis.{analysis, named, is_free, effects_analysed}
 use Rattle.alias_nested.proofs.Ending.{ended, ended_keeps, effects_lead, accounts_numbered, not_memory, effects_refused}
+use Rattle.alias_nested.proofs.Keeping.{kept_unchanged}
 use Rattle.alias_nested.proofs.function.infer_effects.Goals as goal
 
-pub returns-in_err-push-in-Ok-clause-count : goal.returns-in_err-push-in-Ok-clause-count
-returns-in_err-push-in-Ok-clause-count c =
+pub returns-in_err-push-in-Ok-clause-kept : goal.returns-in_err-push-in-Ok-clause-kept
+returns-in_err-push-in-Ok-clause-kept c =
     let p = c.infer_effects_certified in
     let x = ended c.args.env.now c.args.func.now true c.in-Ok.found p.new.env c.in-Ok.ensures.answer c.in-Ok.ensures.env in
-    (ended_keeps c.args.env.now c.args.func.now true c.in-Ok.found p.new.env x p.new.func c.in-Ok.ensures.recorded c.requires).evolves.count
+    ended_keeps c.args.env.now c.args.func.now true c.in-Ok.found p.new.env x p.new.func c.in-Ok.ensures.recorded c.requires
 
 pub returns-in_ok-push-in-Ok-clause-run : goal.returns-in_ok-push-in-Ok-clause-run
 returns-in_ok-push-in-Ok-clause-run c =
@@ -21,11 +22,10 @@ returns-in_ok-push-in-Ok-clause-kept c =
     let x = ended c.args.env.now c.args.func.now true c.in-Ok.found p.new.env c.in-Ok.ensures.answer c.in-Ok.ensures.env in
     ended_keeps c.args.env.now c.args.func.now true c.in-Ok.found p.new.env x p.new.func c.in-Ok.ensures.recorded c.requires
 
-pub returns-in_ok-push-in-Ok-clause-count : goal.returns-in_ok-push-in-Ok-clause-count
-returns-in_ok-push-in-Ok-clause-count c =
+pub returns-in-Err-clause-kept : goal.returns-in-Err-clause-kept
+returns-in-Err-clause-kept c =
     let p = c.infer_effects_certified in
-    let x = ended c.args.env.now c.args.func.now true c.in-Ok.found p.new.env c.in-Ok.ensures.answer c.in-Ok.ensures.env in
-    (ended_keeps c.args.env.now c.args.func.now true c.in-Ok.found p.new.env x p.new.func c.in-Ok.ensures.recorded c.requires).evolves.count
+    kept_unchanged c.args.func.now p.new.func c.args.env.now p.new.env c.in-Err.ensures.err.0 c.in-Err.ensures.err.1 c.requires
 
 pub returns-in-Err-clause-run : goal.returns-in-Err-clause-run
 returns-in-Err-clause-run c =

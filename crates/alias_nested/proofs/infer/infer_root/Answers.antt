@@ -1,12 +1,13 @@
 use Rattle.std.specs.Prelude.{[]}
 use Rattle.std.proofs.Common.{◌≡◌, ◌∙◌, ap, sym, subst, false, rules, Err}
+use Rattle.alias_hir.specs.declared.env.Environment.{Environment}
 use Rattle.alias_hir.specs.declared.error.InferError.{InferError}
 use Rattle.alias_validate.specs.Reports.{with_errors}
-use Rattle.alias_range_pass.specs.CheckLaws.{checked_fits}
 use Rattle.alias_nested.specs.Analysis.{IsPassFault}
 use Rattle.alias_nested.proofs.Ending.{ended, root_begins, root_refused, root_error, unranged, unvalidated, finished, unfree, accounts_more}
 use Rattle.alias_nested.proofs.Faultless.{faultless_error}
-use Rattle.alias_nested.proofs.Keeping.{root_fits}
+use Rattle.alias_nested.proofs.Keeping.{unreported_fits}
+use Rattle.alias_nested.proofs.Ranging.{root_is_ranged}
 use Rattle.alias_nested.proofs.infer.infer_root.Goals as goal
 
 pub returns-in_err-found-clause-run : goal.returns-in_err-found-clause-run
@@ -14,9 +15,6 @@ returns-in_err-found-clause-run c =
     let e : InferError = c.in_err-found.field-0.0 in
     let same : c.from_residual.result ≡ Err e = search rules in
     λ fs a. root_error _ _ e _ _ _ same (λ free. root_refused c.args.env.now c.args.func.now fs e (c.in_err-found.ensures.answer (unfree e free)))
-
-pub infer_mutation_aliasing_ranges-requires : goal.infer_mutation_aliasing_ranges-requires
-infer_mutation_aliasing_ranges-requires c = checked_fits c.infer_effects_certified.new.func c.infer_effects_certified.new.env c.infer_effects_certified.ensures.fits
 
 pub returns-in_err-summary-clause-run : goal.returns-in_err-summary-clause-run
 returns-in_err-summary-clause-run c =
@@ -62,4 +60,18 @@ returns-clause-fits c =
     let last = c.validate_no_freezing_known_mutable_functions.new.env in
     let one : with_errors first [] ≡ with_errors p.new.env [] = ap (λ e. with_errors e []) c.validate_locals_not_reassigned_after_render.ensures.others in
     let two : with_errors last [] ≡ with_errors first [] = ap (λ e. with_errors e []) c.validate_no_freezing_known_mutable_functions.ensures.others in
-    root_fits c.infer_effects_certified.new.func p.new.func c.infer_effects_certified.new.env p.new.env last c.infer_effects_certified.ensures.fits p.ensures.still p.ensures.kept (two ∙ one)
+    unreported_fits p.new.func p.new.env last p.ensures.fits (two ∙ one)
+
+pub returns-clause-ranged : goal.returns-clause-ranged
+returns-clause-ranged c =
+    let p = c.infer_effects_certified in
+    let r = c.infer_mutation_aliasing_ranges in
+    let x = ended c.args.env.now c.args.func.now false c.in_ok-found.found p.new.env c.in_ok-found.ensures.answer c.in_ok-found.ensures.env in
+    let first = c.validate_locals_not_reassigned_after_render.new.env in
+    let last = c.validate_no_freezing_known_mutable_functions.new.env in
+    let one : first.identifiers ≡ r.new.env.identifiers = ap (λ (e : Environment). e.identifiers) c.validate_locals_not_reassigned_after_render.ensures.others in
+    let two : last.identifiers ≡ first.identifiers = ap (λ (e : Environment). e.identifiers) c.validate_no_freezing_known_mutable_functions.ensures.others in
+    λ fs. root_is_ranged c.args.env.now c.args.func.now c.in_ok-found.found p.new.func c.in_ok-found.ensures.recorded p.new.env c.in_ok-found.ensures.env r.new.env last c.in_ok-summary.summary (two ∙ one) _ r.new.func fs
+    (root_begins c.args.env.now c.args.func.now c.in_ok-found.found p.new.env x p.new.func c.in_ok-found.ensures.recorded fs
+    ∙ finished p.new.func p.new.env _ (record { summary = c.in_ok-summary.summary; after = (r.new.func, r.new.env) }) first last c.in_ok-summary.ensures.pass c.in_ok-validate_locals_not_reassigned_after_render.ensures.reports c.in_ok-validate_no_freezing_known_mutable_functions.ensures.reports)
+    c.in_ok-summary.ensures.cover c.in_ok-summary.ensures.heap c.in_ok-summary.ensures.cause c.in_ok-summary.ensures.flows

@@ -1,0 +1,24 @@
+use Rattle.std.proofs.Common.{◌≡◌, [], Err, rules}
+use Rattle.alias_hir.specs.declared.error.InferError.{InferError}
+use Rattle.alias_nested.specs.Analysis.{analysis, analysed}
+use Rattle.alias_nested.specs.Answers.{Only, AnalysedWith}
+use Rattle.alias_nested.proofs.Answering.{into_error}
+use Rattle.alias_nested.proofs.analyse.analyse_functions.Goals as goal
+
+pub returns-in_err-analyse_functions_certified-clause-answer : goal.returns-in_err-analyse_functions_certified-clause-answer
+returns-in_err-analyse_functions_certified-clause-answer g c =
+    let e : InferError = c.in_err-analyse_functions_certified.field-0.0 in
+    let same : c.from_residual.result ≡ Err e = search rules in
+    into_error (AnalysedWith g.P.InnerPasses.keeps_all 63 c.args.func.now (analysis c.args.env.now [])) c.from_residual.result e c.analyse_functions_certified.new.env same c.in_err-analyse_functions_certified.ensures.answer
+
+pub returns-in_err-analyse_functions_certified-clause-exact : goal.returns-in_err-analyse_functions_certified-clause-exact
+returns-in_err-analyse_functions_certified-clause-exact g c =
+    let e : InferError = c.in_err-analyse_functions_certified.field-0.0 in
+    let same : c.from_residual.result ≡ Err e = search rules in
+    λ keeps_all. into_error (Only (analysed 63 c.args.func.now (analysis c.args.env.now []))) c.from_residual.result e c.analyse_functions_certified.new.env same (c.in_err-analyse_functions_certified.ensures.exact keeps_all)
+
+pub returns-clause-answer : goal.returns-clause-answer
+returns-clause-answer g c = let l = c.in_ok-analyse_functions_certified.ensures.answer in (l.0, l.1)
+
+pub returns-clause-exact : goal.returns-clause-exact
+returns-clause-exact g c = λ keeps_all. let l = c.in_ok-analyse_functions_certified.ensures.exact keeps_all in (l.0, l.1)

@@ -1,0 +1,42 @@
+use Rattle.std.proofs.Common.{◌≡◌, [], Ok, Err, sym, rules}
+use Rattle.alias_hir.specs.declared.error.InferError.{InferError}
+use Rattle.alias_nested.specs.Analysis.{analysis}
+use Rattle.alias_nested.specs.Answers.{AnalysedWith}
+use Rattle.alias_nested.proofs.Answering.{analyses_error, analyses_exactly}
+use Rattle.alias_nested.proofs.Keeping.{pruned_fits}
+use Rattle.alias_nested.proofs.analyse.analyse_functions_certified.Goals as goal
+
+pub returns-in_err-analyse_created-clause-answer : goal.returns-in_err-analyse_created-clause-answer
+returns-in_err-analyse_created-clause-answer g c =
+    let e : InferError = c.in_err-analyse_created.field-0.0 in
+    let same : c.from_residual.result ≡ Err e = search rules in
+    analyses_error (AnalysedWith g.P.InnerPasses.keeps_all 63 c.args.func.now (analysis c.args.env.now [])) c.from_residual.result e c.analyse_created.new.env same (λ free. c.in_err-analyse_created.ensures.run [] (record { same = sym c.new-solved.ensures; solve = tt }) free)
+
+pub returns-in_err-analyse_created-clause-exact : goal.returns-in_err-analyse_created-clause-exact
+returns-in_err-analyse_created-clause-exact g c =
+    λ keeps_all. analyses_exactly g.P.InnerPasses.keeps_all keeps_all 63 c.args.func.now (analysis c.args.env.now []) c.from_residual.result c.analyse_created.new.env (returns-in_err-analyse_created-clause-answer g c)
+
+pub returns-in_err-analyse_created-clause-fits : goal.returns-in_err-analyse_created-clause-fits
+returns-in_err-analyse_created-clause-fits g c = pruned_fits c.args.env.now c.analyse_created.new.env c.analyse_created.ensures.kept c.args.func.now c.requires.fits
+
+pub returns-in_err-analyse_created-clause-slots : goal.returns-in_err-analyse_created-clause-slots
+returns-in_err-analyse_created-clause-slots g c = c.analyse_created.ensures.kept.prunes.slots
+
+pub returns-in_err-analyse_created-clause-count : goal.returns-in_err-analyse_created-clause-count
+returns-in_err-analyse_created-clause-count g c = c.analyse_created.ensures.kept.prunes.count
+
+pub returns-clause-answer : goal.returns-clause-answer
+returns-clause-answer g c = c.in_ok-analyse_created.ensures.run [] (record { same = sym c.new-solved.ensures; solve = tt })
+
+pub returns-clause-exact : goal.returns-clause-exact
+returns-clause-exact g c =
+    λ keeps_all. analyses_exactly g.P.InnerPasses.keeps_all keeps_all 63 c.args.func.now (analysis c.args.env.now []) (Ok c.analyse_created.new.solved) c.analyse_created.new.env (returns-clause-answer g c)
+
+pub returns-clause-fits : goal.returns-clause-fits
+returns-clause-fits g c = pruned_fits c.args.env.now c.analyse_created.new.env c.analyse_created.ensures.kept c.args.func.now c.requires.fits
+
+pub returns-clause-slots : goal.returns-clause-slots
+returns-clause-slots g c = c.analyse_created.ensures.kept.prunes.slots
+
+pub returns-clause-count : goal.returns-clause-count
+returns-clause-count g c = c.analyse_created.ensures.kept.prunes.count

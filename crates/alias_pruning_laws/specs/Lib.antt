@@ -1,0 +1,10 @@
+pub mod BelowLaws
+pub mod FamilyLaws
+pub mod NumberedLaws
+pub mod PassLaws
+pub mod PlaceLaws
+pub mod Pruning
+pub mod PruningLaws
+pub mod PutBackLaws
+pub mod SharingLaws
+pub mod SurvivingLaws
