@@ -1,0 +1,10 @@
+pub mod Answers
+pub mod Kept
+pub mod Legacy
+pub mod Parts
+pub mod Configs
+pub mod Summaries
+pub mod GrowthLaws
+pub mod PartLaws
+pub mod LegacyLaws
+pub mod ConfigLaws
