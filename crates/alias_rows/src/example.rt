@@ -1,9 +1,22 @@
 //! A worked example, and whether a run comes out as it says.
 
 use alias_base::{List, Text};
-use alias_run::run_alias;
+use alias_run::{Detail, Outcome, print_inferred, print_refusal, run_alias};
 use alias_stream::{MemorySink, MemorySource};
 use std::alloc::{AllocError, Global};
+
+/// Runs of an example that fail, each at another place of the whole run.
+#[derive(Clone, Copy)]
+pub enum Table {
+    /// None.
+    Nothing,
+    /// At each read in turn.
+    EachRead,
+    /// At each write in turn.
+    EachWrite,
+    /// With each proper prefix of the input, which is to be no JSON.
+    EachPrefix,
+}
 
 /// A run of the program: what it is given, and what must come.
 #[derive(Drop)]
@@ -20,6 +33,8 @@ pub struct Example {
     pub failing_write: u64,
     pub status: u8,
     pub written: Text,
+    /// Which further runs there are of it.
+    pub table: Table,
 }
 
 impl Example {
@@ -34,8 +49,19 @@ impl Example {
             failing_write: 0,
             status: 0,
             written: Text::new(alloc),
+            table: Table::Nothing,
         })
     }
+}
+
+/// What a run is given beside the words, and how it must end.
+#[derive(Clone, Copy)]
+pub struct Run<'a> {
+    pub input: &'a [u8],
+    pub failing_read: u64,
+    pub failing_write: u64,
+    pub status: u8,
+    pub written: &'a [u8],
 }
 
 fn words_of(alloc: Global, text: &str) -> Result<Vec<Text>, AllocError> {
@@ -46,21 +72,46 @@ fn words_of(alloc: Global, text: &str) -> Result<Vec<Text>, AllocError> {
     Ok(words)
 }
 
-/// Whether the run ends with the status of the example, and writes what it says and nothing else. An `Err` is want
-/// of memory outside the run.
-pub fn passes(alloc: Global, example: &Example) -> Result<bool, AllocError> {
-    let words = words_of(alloc, example.words.as_str())?;
-    let piece = example.piece.max(1);
-    let reads = List::from_slice(alloc, &[example.failing_read])?;
-    let writes = List::from_slice(alloc, &[example.failing_write])?;
-    let bytes = List::from_slice(alloc, example.input.as_str().as_bytes())?;
-    let mut source = MemorySource::new(bytes, piece, reads);
-    let mut sink = MemorySink::new(alloc, piece, writes);
-    let code = run(alloc, words.as_slice(), &mut source, &mut sink);
-    let wrote = sink.bytes() == example.written.as_str().as_bytes();
-    Ok(wrote && code == example.status)
+/// The text of the outcome, by the calls that a host has for it. What the program tells of itself has none.
+fn told(alloc: Global, words: &str, outcome: &Outcome) -> Result<Text, AllocError> {
+    let Some(inferred) = &outcome.inferred else {
+        return print_refusal(alloc, &outcome.status);
+    };
+    let detail = if words == "infer" {
+        Detail::Infer
+    } else if words == "certify" {
+        Detail::Certify
+    } else {
+        Detail::Counts
+    };
+    print_inferred(alloc, inferred, detail)
 }
 
-fn run(alloc: Global, words: &[Text], source: &mut MemorySource, sink: &mut MemorySink) -> u8 {
-    run_alias(alloc, words, source, sink).into_code()
+/// Whether the run ends as it must, and writes what it must and nothing else, which is also the text of its outcome. An `Err` is want of memory outside the run.
+pub fn ends(alloc: Global, example: &Example, run: &Run<'_>) -> Result<bool, AllocError> {
+    let words = words_of(alloc, example.words.as_str())?;
+    let piece = example.piece.max(1);
+    let reads = List::from_slice(alloc, &[run.failing_read])?;
+    let writes = List::from_slice(alloc, &[run.failing_write])?;
+    let bytes = List::from_slice(alloc, run.input)?;
+    let mut source = MemorySource::new(bytes, piece, reads);
+    let mut sink = MemorySink::new(alloc, piece, writes);
+    let outcome = run_alias(alloc, words.as_slice(), &mut source, &mut sink);
+    let told = told(alloc, example.words.as_str(), &outcome)?;
+    let is_told = told.as_str().as_bytes() == run.written;
+    let tells = outcome.inferred.is_some() || (run.status != 0 && run.status != 8);
+    let code = outcome.into_code();
+    Ok(sink.bytes() == run.written && code == run.status && (is_told || !tells))
+}
+
+/// Whether the example's own run ends as it says.
+pub fn passes(alloc: Global, example: &Example) -> Result<bool, AllocError> {
+    let run = Run {
+        input: example.input.as_str().as_bytes(),
+        failing_read: example.failing_read,
+        failing_write: example.failing_write,
+        status: example.status,
+        written: example.written.as_str().as_bytes(),
+    };
+    ends(alloc, example, &run)
 }

@@ -4,23 +4,27 @@
 //! An example is some lines: `example` and its name; `words`; `unit` and the input, or `blanks` and how many blanks
 //! the input has; `status` and the exit status that must come; and `>` and a line for each line that must come, with
 //! `cut` for one that comes without its end. `piece`, `failing_read` and `failing_write` are for streams that go by so
-//! many bytes, or that fail at the call of that number. Other lines are remarks.
+//! many bytes, or that fail at the call of that number. `each read`, `each write` and `each prefix` are for further runs,
+//! which must fail: at each read or write of the whole run in turn, or with each proper prefix of the input. Other lines are
+//! remarks.
 #![tactic(auto)]
 
 mod example;
 mod reading;
+mod table;
 
 use anyhow::Result;
 use example::passes;
 use reading::examples;
 use std::io;
+use table::passes_table;
 
 fn main(rt: HostRuntime) -> Result<()> {
     let alloc = rt.alloc();
     let text = io::read_to_string(alloc, rt.stdin())?;
     let examples = examples(alloc, text.as_str())?;
     for example in &examples {
-        let verdict = if passes(alloc, example)? {
+        let verdict = if passes(alloc, example)? && passes_table(alloc, example)? {
             "passed"
         } else {
             "failed"

@@ -1,8 +1,8 @@
 //! Worked examples from their text.
 
-use crate::example::Example;
+use crate::example::{Example, Table};
 use alias_base::Text;
-use anyhow::{Context, Result};
+use anyhow::{Context, Result, bail};
 use std::alloc::{AllocError, Global};
 
 fn push_line(text: &mut Text, line: &str) -> Result<(), AllocError> {
@@ -15,6 +15,18 @@ fn push_blanks(text: &mut Text, count: usize) -> Result<(), AllocError> {
         text.push_str(" ")?;
     }
     Ok(())
+}
+
+fn table_named(name: &str) -> Result<Table> {
+    if name == "read" {
+        Ok(Table::EachRead)
+    } else if name == "write" {
+        Ok(Table::EachWrite)
+    } else if name == "prefix" {
+        Ok(Table::EachPrefix)
+    } else {
+        bail!("each read, write or prefix")
+    }
 }
 
 /// Takes what a line says of an example. A line that says nothing of one is a remark.
@@ -40,6 +52,8 @@ fn take(example: &mut Example, key: &str, value: &str) -> Result<()> {
         push_line(&mut example.written, value)?;
     } else if key == "cut" {
         example.written.push_str(value)?;
+    } else if key == "each" {
+        example.table = table_named(value)?;
     }
     Ok(())
 }
