@@ -11,6 +11,8 @@ pub mod text;
 
 pub use alias_nested::{Inferred, infer_unit};
 pub use alias_text::Detail;
+pub use alias_text::effects::print_effect;
+pub use alias_text::reports::print_report;
 pub use command::Command;
 pub use outcome::Outcome;
 pub use run::run_alias;
