@@ -1,2 +1,5 @@
 pub mod RefusalLaws
+pub mod ReadsLaws
+pub mod MoreLaws
 pub mod PassLaws
+pub mod LegacyPassLaws

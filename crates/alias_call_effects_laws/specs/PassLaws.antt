@@ -1,44 +1,33 @@
 -- What a host is given, call by call, is what a pass over the environment would be given.
-use Rattle.std.specs.Prelude.{◌≡◌, ℕ, zero, suc, ◌+◌, ◌≤◌, Bool, true, false, cond, ◌&&◌, ◌||◌, ◌==◌, not, nat_lt, List, [], ◌∷◌, ◌++◌, map, length, slice_get, Option, Some, None, Result, Ok, Err, refl, if◌then◌else◌}
-use Rattle.std.specs.List.{list_any}
-use Rattle.std.specs.Option.{option_map_or}
+use Rattle.std.specs.Prelude.{◌≡◌, ℕ, ◌+◌, Bool, true, false, ◌&&◌, ◌||◌, ◌==◌, not, nat_lt, List, [], ◌∷◌, ◌++◌, length, Option, Some, None, Result, Ok, Err, refl, if◌then◌else◌}
 use Rattle.std.proofs.Common.{ap, sym, ◌∙◌, subst, append_assoc, append-nil, length-append, arith}
 use Rattle.std.proofs.lemmas.List.{map-append}
-use Rattle.std.proofs.lemmas.Option.{slice_get_past}
 use Rattle.alias_base.specs.declared.ids.FunctionId.{FunctionId}
 use Rattle.alias_base.specs.declared.ids.IdentifierId.{IdentifierId}
 use Rattle.alias_hir.specs.declared.effect.AliasingEffect.{AliasingEffect}
 use Rattle.alias_hir.specs.declared.effect.AliasingEffect.TheVariants as effect
 use Rattle.alias_hir.specs.declared.effect.ValueReason.{ValueReason}
 use Rattle.alias_hir.specs.declared.env.Environment.{Environment}
-use Rattle.alias_hir.specs.declared.env.Identifier.{Identifier}
-use Rattle.alias_hir.specs.declared.error.Counter.TheVariants.{Identifiers, Diagnostics}
-use Rattle.alias_hir.specs.declared.error.HirError.{HirError}
+use Rattle.alias_hir.specs.declared.error.Counter.TheVariants.{Identifiers}
 use Rattle.alias_hir.specs.declared.error.HirError.TheVariants as hir
 use Rattle.alias_hir.specs.declared.hir.HirFunction.{HirFunction}
 use Rattle.alias_hir.specs.declared.place.Place.{Place}
 use Rattle.alias_hir.specs.declared.place.PlaceOrSpreadOrHole.{PlaceOrSpreadOrHole}
 use Rattle.alias_hir.specs.declared.place.PlaceOrSpreadOrHole.TheVariants as arg
 use Rattle.alias_hir.specs.declared.place.Span.{Span}
-use Rattle.alias_hir.specs.declared.report.DiagnosticId.{DiagnosticId}
-use Rattle.alias_hir.specs.declared.report.Interned.{Interned}
-use Rattle.alias_hir.specs.declared.report.Report.{Report}
 use Rattle.alias_hir.specs.declared.signature.AliasingEffectConfig.{AliasingEffectConfig}
 use Rattle.alias_hir.specs.declared.signature.AliasingEffectConfig.TheVariants as config
 use Rattle.alias_hir.specs.declared.signature.AliasingSignatureConfig.{AliasingSignatureConfig}
 use Rattle.alias_hir.specs.declared.signature.ApplyArgConfig.{ApplyArgConfig}
-use Rattle.alias_hir.specs.declared.types.Ty as ty
-use Rattle.alias_hir.specs.declared.types.Ty.{Ty}
 use Rattle.alias_hir.specs.declared.types.Ty.TheVariants.{Var}
-use Rattle.alias_hir.specs.Diagnostics.{same_identity, same_instance, number_of, with_interned}
-use Rattle.alias_hir.specs.Tables.{fresh_identifier, with_identifier, next_identifier}
-use Rattle.alias_hir.specs.Types.{is_builtin_collection_type, type_at, is_builtin_collection_at}
+use Rattle.alias_hir.specs.Tables.{fresh_identifier, with_identifier}
+use Rattle.alias_hir.specs.Types.{is_builtin_collection_at}
 use Rattle.alias_tables.specs.declared.faults.Refusal.{Refusal}
 use Rattle.alias_tables.specs.declared.faults.Refusal.TheVariants as refusal
 use Rattle.alias_tables.specs.declared.temp_key.TempKey.{TempKey}
 use Rattle.alias_tables.specs.declared.temp_key.TempKey.TheVariants.{Named, Rest}
 use Rattle.alias_tables.specs.declared.temporaries.Temporary.{Temporary}
-use Rattle.alias_tables.specs.Steps.{◌>>=◌, and_then, gives, refuses, each, if_some, collect}
+use Rattle.alias_tables.specs.Steps.{◌>>=◌, and_then, gives, each, if_some}
 use Rattle.alias_tables.specs.Tables.{TableLists, Step, has_room, new_place, temporary, temporary_after, intern_report}
 use Rattle.alias_tables.specs.Temporaries.{temp_like, temporary_of}
 use Rattle.alias_write_back.specs.WriteBack.{with_identifiers}
@@ -47,21 +36,22 @@ use Rattle.alias_calls.specs.declared.call.CallSite.{CallSite}
 use Rattle.alias_calls.specs.declared.call.SummaryNames.{SummaryNames}
 use Rattle.alias_calls.specs.Arguments.{first_of, is_bad_spread_of, is_bad_spread, first_bad}
 use Rattle.alias_calls.specs.Calls.{ConfigCall}
-use Rattle.alias_calls.specs.Configs.{impure_step, with_impures, stands, with_apply, with_config_effect, with_config_effects, config_call, config_list}
+use Rattle.alias_calls.specs.Configs.{impure_step, stands, with_apply, with_config_effect, with_config_effects, config_call, config_list}
 use Rattle.alias_calls.specs.Configs.{with_temporary as with_place}
-use Rattle.alias_calls.specs.Copies.{Collected, with_freezes_unless, with_freezes}
+use Rattle.alias_calls.specs.Copies.{Collected, with_freezes_unless}
 use Rattle.alias_calls.specs.Summaries.{last_spread, summary_names, names_with}
 use Rattle.alias_calls.specs.Summaries.{rest_or_temporary as rest_in_pass}
 use Rattle.alias_call_effects.specs.declared.error.SignatureError.{SignatureError}
-use Rattle.alias_call_effects.specs.declared.error.SignatureError.TheVariants.{TooMany}
 use Rattle.alias_call_effects.specs.declared.named.NamedPlace.{NamedPlace}
 use Rattle.alias_call_effects.specs.declared.summaries.AliasingSignature.{AliasingSignature}
 use Rattle.alias_call_effects.specs.Answers.{signature_error, tables_with, with_reports}
-use Rattle.alias_call_effects.specs.Configs.{with_temporary, effects_called, beside, list_called, lacks_rest, config_called}
-use Rattle.alias_call_effects.specs.Kept.{Kept, kept, numbered, place_of, new_temporary, temporary_or, temporary_at}
+use Rattle.alias_call_effects.specs.Configs.{with_temporary, beside, list_called, lacks_rest, config_called}
+use Rattle.alias_call_effects.specs.Kept.{Kept, kept, numbered, new_temporary, temporary_or, temporary_at}
 use Rattle.alias_call_effects.specs.Parts.{named, names_of, places_of, part_call}
 use Rattle.alias_call_effects.specs.Summaries.{rest_or_temporary, signature_with, signature_of}
 use Rattle.alias_call_effects.specs.Summaries.{names_of as names_alone}
+use Rattle.alias_call_effects_laws.specs.MoreLaws.{asks_with}
+use Rattle.alias_call_effects_laws.specs.ReadsLaws.{onto, ReadsReports, reads_gives, reads_refuses, reads_then, reads_each, reads_collect, reads_report}
 
 -- a host whose environment has an identifier for each temporary of the pass, and which keeps these, and the pass's reports
 abbrev pub host_of : Environment → TableLists → Kept
@@ -121,43 +111,6 @@ module _ (env : Environment) (key : TempKey) (span : Option Span) (t : TableList
   same_temporary : temporary_at key span (host_of env t) ≡ as_host env (temporary env key span t)
   same_temporary = same_temporary_or (temp_like key t.temporaries)
 
--- ---- an identifier of which nothing is known is no array, set or map
-
-var_is_none : is_builtin_collection_type Var ≡ false
-unfolding ty.out-Ty denote.Hole.Carrier.out
-var_is_none = refl
-
-builtin_type_more : (ts : List Ty) (n : ℕ) → option_map_or is_builtin_collection_type (slice_get (ts ++ Var ∷ []) n) false ≡ option_map_or is_builtin_collection_type (slice_get ts n) false
-builtin_type_more [] zero = var_is_none
-builtin_type_more [] (suc n) = refl
-builtin_type_more (t ∷ ts) zero = refl
-builtin_type_more (t ∷ ts) (suc n) = builtin_type_more ts n
-
-builtin_at_more : (env : Environment) (o : Option Identifier) → option_map_or is_builtin_collection_type (type_at (with_identifier env) o) false ≡ option_map_or is_builtin_collection_type (type_at env o) false
-builtin_at_more env None = refl
-builtin_at_more env (Some i) = builtin_type_more env.types i.type_.0
-
-builtin_new : (env : Environment) → option_map_or is_builtin_collection_type (slice_get (env.types ++ Var ∷ []) (length env.types)) false ≡ false
-builtin_new env =
-    builtin_type_more env.types (length env.types)
-    ∙ ap (λ (o : Option Ty). option_map_or is_builtin_collection_type o false) (slice_get_past env.types (length env.types) (omega arith))
-
-builtin_among : (env : Environment) (xs : List Identifier) (y : Identifier) (n : ℕ) → option_map_or is_builtin_collection_type (slice_get env.types y.type_.0) false ≡ false
-    → option_map_or is_builtin_collection_type (type_at env (slice_get (xs ++ y ∷ []) n)) false ≡ option_map_or is_builtin_collection_type (type_at env (slice_get xs n)) false
-builtin_among env [] y zero h = h
-builtin_among env [] y (suc n) h = refl
-builtin_among env (x ∷ xs) y zero h = refl
-builtin_among env (x ∷ xs) y (suc n) h = builtin_among env xs y n h
-
-builtin_with_one : (env : Environment) (x : IdentifierId) → is_builtin_collection_at (with_identifier env) x ≡ is_builtin_collection_at env x
-builtin_with_one env x =
-    builtin_among (with_identifier env) env.identifiers (fresh_identifier (length env.identifiers) (length env.types)) x.0 (builtin_new env)
-    ∙ builtin_at_more env (slice_get env.identifiers x.0)
-
-builtin_with : (ts : List Temporary) (env : Environment) (x : IdentifierId) → is_builtin_collection_at (with_identifiers ts env) x ≡ is_builtin_collection_at env x
-builtin_with [] env x = refl
-builtin_with (t ∷ ts) env x = builtin_with ts (with_identifier env) x ∙ builtin_with_one env x
-
 -- ---- of an environment the effects of a part ask only which identifiers are arrays, sets or maps
 
 module _ (e f : Environment) (same : (x : IdentifierId) → is_builtin_collection_at e x ≡ is_builtin_collection_at f x) where
@@ -210,50 +163,6 @@ module _ (e f : Environment) (same : (x : IdentifierId) → is_builtin_collectio
         ∙ same_after xs (same_effects xs) (with_config_effect f c x out t)
 
 -- ---- of tables the effects of a part read only the reports
-
-abbrev onto : {A : Type 0} → TableLists → Result (A × TableLists) Refusal → Result (A × TableLists) Refusal
-onto t (Ok p) = Ok (p.0, record t { reports = p.1.reports })
-onto t (Err c) = Err c
-
--- the step reads the reports alone, and changes nothing else
-abbrev ReadsReports : {A : Type 0} → Step A → Type 0
-ReadsReports f = (t : TableLists) → f t ≡ onto t (f (tables_with t.reports))
-
-reads_gives : {A : Type 0} (x : A) → ReadsReports (gives x)
-reads_gives x t = refl
-
-reads_refuses : {A : Type 0} (c : Refusal) → ReadsReports {A = A} (refuses c)
-reads_refuses c t = refl
-
-onto_again : {A : Type 0} (t u : TableLists) (r : Result (A × TableLists) Refusal) → onto (record t { reports = u.reports }) r ≡ onto t (onto u r)
-onto_again t u (Ok p) = refl
-onto_again t u (Err c) = refl
-
-reads_next : {A B : Type 0} (t : TableLists) (r : Result (A × TableLists) Refusal) (g : A → Step B) → ((x : A) → ReadsReports (g x)) → and_then (onto t r) g ≡ onto t (and_then r g)
-reads_next t (Ok p) g h = h p.0 (record t { reports = p.1.reports }) ∙ onto_again t p.1 (g p.0 (tables_with p.1.reports)) ∙ ap (onto t) (sym (h p.0 p.1))
-reads_next t (Err c) g h = refl
-
-reads_then : {A B : Type 0} (f : Step A) (g : A → Step B) → ReadsReports f → ((x : A) → ReadsReports (g x)) → ReadsReports (f >>= g)
-reads_then {A} f g hf hg t = ap (λ (r : Result (A × TableLists) Refusal). and_then r g) (hf t) ∙ reads_next t (f (tables_with t.reports)) g hg
-
-reads_each : {X A : Type 0} (f : X → A → Step A) → ((x : X) (a : A) → ReadsReports (f x a)) → (xs : List X) (a : A) → ReadsReports (each f xs a)
-reads_each f h [] a = reads_gives a
-reads_each f h (x ∷ xs) a = reads_then (f x a) (each f xs) (h x a) (reads_each f h xs)
-
-reads_if_some : {A B : Type 0} (o : Option A) (f : A → Step (Option B)) → ((x : A) → ReadsReports (f x)) → ReadsReports (if_some o f)
-reads_if_some None f h = reads_gives None
-reads_if_some (Some x) f h = h x
-
-reads_collect : {X A : Type 0} (f : X → A → Step (Option A)) → ((x : X) (a : A) → ReadsReports (f x a)) → (xs : List X) (a : A) → ReadsReports (collect f xs a)
-reads_collect f h [] a = reads_gives (Some a)
-reads_collect f h (x ∷ xs) a = reads_then (f x a) (λ o. if_some o (collect f xs)) (h x a) (λ o. reads_if_some o (collect f xs) (reads_collect f h xs))
-
-report_if : (b : Bool) (d : DiagnosticId) (es : List Interned) (t : TableLists) → (if b then Ok (d, record t { reports = es }) else Err (refusal.TooMany Diagnostics)) ≡ onto t (if b then Ok (d, tables_with es) else Err (refusal.TooMany Diagnostics))
-report_if true d es t = refl
-report_if false d es t = refl
-
-reads_report : (id : IdentifierId) (r : Report) → ReadsReports (intern_report id r)
-reads_report id r t = report_if _ _ _ t
 
 reads_impure_step : (p : Place) (out : List AliasingEffect) → ReadsReports (impure_step p out)
 unfolding impure_step
@@ -354,7 +263,7 @@ module _ (env : Environment) (config : AliasingSignatureConfig) (site : CallSite
       ap (λ (l : List NamedPlace). listed (part_call config site args l)) (append-nil ns)
       ∙ ap (λ (l : List (List ℕ)). listed (config_call (record config { temporaries = l }) site args (places_of ns))) names
       ∙ ap (λ (l : List Place). listed (config_call config site args l)) places
-      ∙ ap (λ (r : Result (Collected × TableLists) Refusal). beside u.temporaries (with_reports there r)) (same_effects there env (builtin_with u.temporaries env) (config_call config site args ps) config.effects [] (tables_with u.reports))
+      ∙ ap (λ (r : Result (Collected × TableLists) Refusal). beside u.temporaries (with_reports there r)) (same_effects there env (asks_with u.temporaries env).collections (config_call config site args ps) config.effects [] (tables_with u.reports))
       ∙ same_reported u (effects_in_pass ps (tables_with u.reports))
       ∙ ap (as_host env) (sym (reads_effects env (config_call config site args ps) config.effects [] u))
 

@@ -1,18 +1,15 @@
 -- The lists of calls are refused for a spread argument, and where numbers are wanting, and for nothing else.
-use Rattle.std.specs.Prelude.{◌≡◌, ℕ, Bool, true, false, ◌&&◌, not, nat_lt, List, [], ◌∷◌, ◌++◌, length, Option, Some, None, Result, Ok, Err, refl, if◌then◌else◌}
-use Rattle.std.proofs.Common.{ap, sym, ◌∙◌, subst}
+use Rattle.std.specs.Prelude.{◌≡◌, Bool, true, false, ◌&&◌, not, nat_lt, List, [], ◌∷◌, ◌++◌, length, Option, Some, None, Result, Ok, Err, refl, if◌then◌else◌}
+use Rattle.std.proofs.Common.{subst}
 use Rattle.std.specs.Option.{is_some}
-use Rattle.alias_base.specs.declared.ids.FunctionId.{FunctionId}
 use Rattle.alias_base.specs.declared.ids.IdentifierId.{IdentifierId}
 use Rattle.alias_hir.specs.declared.effect.AliasingEffect.{AliasingEffect}
 use Rattle.alias_hir.specs.declared.effect.AliasingEffect.TheVariants as effect
 use Rattle.alias_hir.specs.declared.effect.ValueReason.{ValueReason}
 use Rattle.alias_hir.specs.declared.env.Environment.{Environment}
-use Rattle.alias_hir.specs.declared.error.Counter.TheVariants.{Identifiers, Diagnostics}
-use Rattle.alias_hir.specs.declared.hir.HirFunction.{HirFunction}
+use Rattle.alias_hir.specs.declared.error.Counter.TheVariants.{Diagnostics}
 use Rattle.alias_hir.specs.declared.place.Place.{Place}
 use Rattle.alias_hir.specs.declared.place.PlaceOrSpreadOrHole.{PlaceOrSpreadOrHole}
-use Rattle.alias_hir.specs.declared.place.Span.{Span}
 use Rattle.alias_hir.specs.declared.report.Report.{Report}
 use Rattle.alias_hir.specs.declared.signature.AliasingEffectConfig.{AliasingEffectConfig}
 use Rattle.alias_hir.specs.declared.signature.AliasingEffectConfig.TheVariants as config
@@ -32,10 +29,10 @@ use Rattle.alias_calls.specs.declared.summaries.SummaryEffect.TheVariants.{OfPai
 use Rattle.alias_calls.specs.declared.visits.Visits.{Visits}
 use Rattle.alias_calls.specs.Arguments.{first_bad, has_further, first_of}
 use Rattle.alias_calls.specs.Calls.{ConfigCall, SummaryCall}
-use Rattle.alias_calls.specs.Configs.{impure_step, with_impures, stands, with_apply, with_config_effect, with_config_effects}
+use Rattle.alias_calls.specs.Configs.{impure_step, stands, with_apply, with_config_effect, with_config_effects}
 use Rattle.alias_calls.specs.Copies.{with_freezes_unless, with_freezes}
 use Rattle.alias_calls.specs.Legacy.{return_reason, with_impure, visited, asked, with_still, legacy, ended, all_links, legacy_after, legacy_list}
-use Rattle.alias_calls.specs.Summaries.{stands_for, copied, with_copied, with_copies, with_all_copies, names_list}
+use Rattle.alias_calls.specs.Summaries.{stands_for, copied, with_copied, with_copies, names_list}
 use Rattle.alias_call_effects.specs.Answers.{is_memory, signature_error}
 
 -- where the step is refused, that isn't want of memory to a host

@@ -16,16 +16,20 @@ ghost use Rattle.alias_calls.specs.Configs.{config_list, with_config_effects};
 ghost use Rattle.alias_calls.specs.Legacy.{legacy_list};
 ghost use Rattle.alias_calls.specs.Summaries.{names_list, summary_names};
 ghost use Rattle.alias_call_effects.specs.Configs.{config_called};
+ghost use Rattle.alias_call_effects.specs.Legacy.{legacy_called};
 ghost use Rattle.alias_call_effects.specs.Summaries.{signature_of};
+ghost use Rattle.alias_call_effects_laws.specs.LegacyPassLaws.{environment_alone};
 ghost use Rattle.alias_call_effects_laws.specs.PassLaws.{host_of, as_host, names_given};
 ghost use Rattle.alias_call_effects_laws.specs.RefusalLaws.{IsToldWhy};
 
 use alias_hir::env::Environment;
 
-/// A host whose environment has an identifier for each temporary of a pass, and which keeps these temporaries, is given the
-/// list of an aliasing part and the names of a summary that the pass is given, and is left so again. Does nothing.
+/// A host whose environment has an identifier for each temporary of a pass and the reports of the pass, and which keeps
+/// these temporaries, is given the lists and the names of a summary that the pass is given, and is left so again. Does
+/// nothing.
 pub fn pass_laws(env: &Environment)
     ensures parts { (config : AliasingSignatureConfig) (site : CallSite) (args : List PlaceOrSpreadOrHole) (t : TableLists) → config_called config site args [] (host_of env.now t) ≡ as_host env.now (config_list env.now config site args t) }
+    ensures legacy { (s : FunctionSignature) (site : CallSite) (args : List PlaceOrSpreadOrHole) (u : State) (t : TableLists) → legacy_called s site args u (host_of env.now t).env ≡ environment_alone (as_host env.now (legacy_list env.now s site args u t)) }
     ensures summaries { (f : FunctionId) (function : HirFunction) (effects : List AliasingEffect) (t : TableLists) → names_given (signature_of f function effects (host_of env.now t)) ≡ as_host env.now (summary_names env.now f function t) }
 {
     let _env = env;
