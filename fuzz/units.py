@@ -31,7 +31,6 @@ class Maker:
         self.r = r
         self.types, self.shapes, self.identifiers, self.functions = [], [], [], []
         self.spans = r.random() < 0.5
-        self.order = 0
 
     def chance(self, p):
         return self.r.random() < p
@@ -127,12 +126,12 @@ class Maker:
             return {'kind': kind, 'place': r.choice(known)}
         if kind != 'Apply':
             return {'kind': kind, 'value': r.choice(known)}
-        fresh = '@returns' if self.chance(0.3) else r.choice(known)
+        into = '@returns' if self.chance(0.3) else r.choice(known)
         e = {'kind': kind, 'receiver': r.choice(known), 'function': r.choice(known)}
         if self.chance(0.4):
             e['mutates_function'] = self.chance(0.5)
         e['args'] = [None if self.chance(0.1) else r.choice(known) for _ in range(self.few(3))]
-        e['into'] = fresh
+        e['into'] = into
         return e
 
     def tables(self):
@@ -461,7 +460,7 @@ class Body:
             if self.m.chance(0.7):
                 x = self.m.identifier()
                 t['handler_binding'] = self.m.place(x)
-                self.instructions_of_binding(x)
+                self.declare_binding(x)
         elif kind == 'MaybeThrow':
             t['continuation'] = to()
             handlers = [h for h in self.handlers() if h in numbers]
@@ -474,7 +473,7 @@ class Body:
     def handlers(self):
         return [b['terminal']['handler'] for b in self.blocks if b['terminal']['kind'] == 'Try']
 
-    def instructions_of_binding(self, x):
+    def declare_binding(self, x):
         """Declares the binding in the block of the `Try`, as the compiler does, in most cases."""
         if self.m.chance(0.97):
             self.add({'kind': 'DeclareLocal', 'lvalue': {'kind': 'Catch', 'place': x}})
