@@ -4,7 +4,7 @@ use Rattle.std.specs.Prelude.{not, find, Some, None, if◌then◌else◌}
 use Rattle.std.specs.List.{flat_map, list_any, range_with_len}
 use Rattle.std.specs.Ordering.{nat_cmp}
 use Rattle.std.specs.BTreeSet.{BTreeSet, contains}
-use Rattle.std.proofs.lemmas.Bool.{eqb-true}
+use Rattle.std.proofs.lemmas.Bool.{eqb-true, false_from_ne_true, false≢true}
 use Rattle.std.proofs.lemmas.Bool.Decides.{nat_tests}
 use Rattle.std.proofs.lemmas.Grind.{common_steps}
 use Rattle.std.proofs.lemmas.List.{take_more, take_all}
@@ -14,7 +14,7 @@ use Rattle.alias_hir.specs.declared.hir.HirFunction.{HirFunction}
 use Rattle.alias_rules.specs.ApartLaws.{is_among_each}
 use Rattle.alias_rules.specs.Nesting.{fresh}
 use Rattle.alias_function_rules.specs.Rules.{is_among}
-use Rattle.alias_rules.specs.Sharing.{identifiers_at, context_at, family, inside, others, outside, is_shared, first_in_two}
+use Rattle.alias_rules.specs.Sharing.{identifiers_at, context_at, family, inside, others, outside, leaves, is_shared, first_in_two}
 use Rattle.alias_rules.specs.TreeLaws.{either}
 use Rattle.alias_function_rules.specs.NumberSetLaws.{Has}
 use Rattle.alias_visit.specs.Places.{identifiers_in}
@@ -50,6 +50,18 @@ not_shared false o c h = refl
 not_shared true false c h = refl
 not_shared true true true h = refl
 not_shared true true false h = h refl
+
+itself : (x : ℕ) → nat_eq x x ≡ true
+itself x = grind (arith, nat_tests)
+
+or_true : (a : Bool) → (a || true) ≡ true
+or_true true = refl
+or_true false = refl
+
+same_truth : (a b : Bool) → (a ≡ true → b ≡ true) → (b ≡ true → a ≡ true) → a ≡ b
+same_truth true b f g = sym (f refl)
+same_truth false true f g = g refl
+same_truth false false f g = refl
 
 -- ---- one more is added
 
@@ -102,24 +114,49 @@ held_step env nested ids i x p old new lt o n s =
     n ∙ ap (λ (b : Bool). b || (is_among ids x && p (get_or nested i 0))) o
     ∙ ap (λ (b : Bool). list_any (λ k. is_among (identifiers_at env k) x && p k) (take i nested) || (b && p (get_or nested i 0))) s ∙ sym all
 
--- ---- none of those taken passes
+-- ---- whether one passes
 
-pub none_yet : (t : ℕ → Bool) (ids : List ℕ) (i : ℕ) → i < length ids → ((x : ℕ) → is_among (take i ids) x ≡ true → t x ≡ false) → t (get_or ids i 0) ≡ false
-    → (x : ℕ) → is_among (take (i + 1) ids) x ≡ true → t x ≡ false
-none_yet t ids i lt h g x e =
-    either (is_among (take i ids) x) (get_or ids i 0 == x) (t x ≡ false) (sym (next_taken ids i x lt) ∙ e) (h x) (λ s. ap t (sym (eqb-true (get_or ids i 0) x s)) ∙ g)
+any_next : (t : ℕ → Bool) (ids : List ℕ) (i : ℕ) → i < length ids → list_any t (take (i + 1) ids) ≡ (list_any t (take i ids) || t (get_or ids i 0))
+any_next t ids i lt =
+    ap (list_any t) (take_more ids i 0 lt) ∙ list_any-append t (take i ids) (get_or ids i 0 ∷ []) ∙ ap (λ (b : Bool). list_any t (take i ids) || b) (or_false (t (get_or ids i 0)))
+
+-- none of those taken passes
+pub none_yet : (t : ℕ → Bool) (ids : List ℕ) (i : ℕ) → i < length ids → list_any t (take i ids) ≡ false → t (get_or ids i 0) ≡ false → list_any t (take (i + 1) ids) ≡ false
+none_yet t ids i lt h g = any_next t ids i lt ∙ ap (λ (b : Bool). b || t (get_or ids i 0)) h ∙ g
+
+passes : (t : ℕ → Bool) (xs : List ℕ) (x : ℕ) → is_among xs x ≡ true → t x ≡ true → list_any t xs ≡ true
+passes t [] x e h = let no : false ≡ true = e in cc
+passes t (y ∷ ys) x e h =
+    either (nat_eq x y) (is_among ys x) (list_any t (y ∷ ys) ≡ true) e
+    (λ s. ap (λ (b : Bool). b || list_any t ys) (ap t (sym (eqb-true x y s)) ∙ h))
+    (λ r. ap (λ (b : Bool). t y || b) (passes t ys x r h) ∙ or_true (t y))
+
+-- what is among them doesn't pass where none does
+pub none_passes : (t : ℕ → Bool) (xs : List ℕ) (x : ℕ) → list_any t xs ≡ false → is_among xs x ≡ true → t x ≡ false
+none_passes t xs x h e = false_from_ne_true (t x) (λ y. false≢true (sym h ∙ passes t xs x e y))
+
+any_within : (t : ℕ → Bool) (xs ys : List ℕ) → ((x : ℕ) → is_among xs x ≡ true → is_among ys x ≡ true) → list_any t xs ≡ true → list_any t ys ≡ true
+any_within t [] ys h e = let no : false ≡ true = e in cc
+any_within t (x ∷ xs) ys h e =
+    either (t x) (list_any t xs) (list_any t ys ≡ true) e
+    (λ p. passes t ys x (h x (ap (λ (b : Bool). b || is_among xs x) (itself x))) p)
+    (λ r. any_within t xs ys (λ q m. h q (ap (λ (b : Bool). nat_eq q x || b) m ∙ or_true (nat_eq q x))) r)
+
+-- two lists with the same elements
+pub any_alike : (t : ℕ → Bool) (xs ys : List ℕ) → ((x : ℕ) → is_among xs x ≡ is_among ys x) → list_any t xs ≡ list_any t ys
+any_alike t xs ys h =
+    same_truth (list_any t xs) (list_any t ys) (any_within t xs ys (λ x e. sym (h x) ∙ e)) (any_within t ys xs (λ x e. h x ∙ e))
 
 any_same : (p p' : ℕ → Bool) (xs : List ℕ) → ((k : ℕ) → p k ≡ p' k) → list_any p xs ≡ list_any p' xs
 any_same p p' [] h = refl
 any_same p p' (x ∷ xs) h = rw (h x, any_same p p' xs h) refl
 
 -- the sets test as the lists do
-pub same_leaves : (those context : BTreeSet ℕ) (ts cs held : List ℕ) (r b : Bool) (x : ℕ) → Has those ts → Has context cs
-    → b ≡ (not (contains nat_cmp context x) && (r || list_any (λ k. not (contains nat_cmp those k)) held)) → b ≡ false → (not (is_among cs x) && (r || list_any (λ k. not (is_among ts k)) held)) ≡ false
-same_leaves those context ts cs held r b x ht hc e fails =
-    ap (λ (z : Bool). not z && (r || list_any (λ k. not (is_among ts k)) held)) (sym (hc x))
-    ∙ ap (λ (z : Bool). not (contains nat_cmp context x) && (r || z)) (any_same (λ k. not (is_among ts k)) (λ k. not (contains nat_cmp those k)) held (λ k. ap (λ (z : Bool). not z) (sym (ht k))))
-    ∙ sym e ∙ fails
+pub same_leaves : (those context : BTreeSet ℕ) (ts cs : List ℕ) (root : ℕ → Bool) (holders : ℕ → List ℕ) (x : ℕ) → Has those ts → Has context cs
+    → leaves root holders (contains nat_cmp those) (contains nat_cmp context) x ≡ leaves root holders (is_among ts) (is_among cs) x
+same_leaves those context ts cs root holders x ht hc =
+    ap (λ (z : Bool). not z && (root x || list_any (λ k. not (contains nat_cmp those k)) (holders x))) (hc x)
+    ∙ ap (λ (z : Bool). not (is_among cs x) && (root x || z)) (any_same (λ k. not (contains nat_cmp those k)) (λ k. not (is_among ts k)) (holders x) (λ k. ap (λ (z : Bool). not z) (ht k)))
 
 -- ---- none is shared
 

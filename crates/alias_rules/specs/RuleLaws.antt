@@ -63,7 +63,7 @@ passes_at f (y ∷ ys) (suc i) x h e = passes_at f ys i x (both_pass (f y) (all_
 
 -- ---- what a unit that keeps the rules has
 
-record Parts (u : HirUnit) : Type 0 where
+pub record Parts (u : HirUnit) : Type 0 where
   tables : tables_fit u.env ≡ Ok tt
   numbers : in_unit Numbers u ≡ Ok tt
   entry : in_unit Entry u ≡ Ok tt
@@ -71,6 +71,7 @@ record Parts (u : HirUnit) : Type 0 where
   tree : nesting_is_tree u (nested_in u) ≡ Ok tt
   depth : nesting_not_deep u (nested_in u) ≡ Ok tt
   types : types_fit u.env ≡ Ok tt
+  listed : in_unit Listed u ≡ Ok tt
   once : in_unit ListedOnce u ≡ Ok tt
   handlers : in_unit Handlers u ≡ Ok tt
   phis : in_unit Phis u ≡ Ok tt
@@ -83,7 +84,7 @@ record Parts (u : HirUnit) : Type 0 where
   calls : in_unit Calls u ≡ Ok tt
   values : in_unit ContextValues u ≡ Ok tt
 
-parts_of_rules : (u : HirUnit) → rules_hold u ≡ Ok tt → Parts u
+pub parts_of_rules : (u : HirUnit) → rules_hold u ≡ Ok tt → Parts u
 parts_of_rules u rules =
     let a : (tables_fit u.env ≡ Ok tt) × _ = both_pass (tables_fit u.env) _ rules in
     let b : (in_unit Numbers u ≡ Ok tt) × _ = both_pass (in_unit Numbers u) _ a.1 in
@@ -103,32 +104,36 @@ parts_of_rules u rules =
     let o : (identifiers_apart u.env u.function (nested_in u) ≡ Ok tt) × _ = both_pass (identifiers_apart u.env u.function (nested_in u)) _ k.1 in
     let l : (signatures_fit u.env ≡ Ok tt) × _ = both_pass (signatures_fit u.env) _ o.1 in
     let m : (in_unit Calls u ≡ Ok tt) × _ = both_pass (in_unit Calls u) _ l.1 in
-    record { tables = a.0; numbers = b.0; entry = c.0; successors = d.0; tree = v.0; depth = w.0; types = t.0; once = f.0; handlers = g.0; phis = h.0; orders = i.0; environment = j.0; function = j.1; distinct = k.0; apart = o.0; signatures = l.0; calls = m.0; values = m.1 }
+    record { tables = a.0; numbers = b.0; entry = c.0; successors = d.0; tree = v.0; depth = w.0; types = t.0; listed = e.0; once = f.0; handlers = g.0; phis = h.0; orders = i.0; environment = j.0; function = j.1; distinct = k.0; apart = o.0; signatures = l.0; calls = m.0; values = m.1 }
 
 -- a number at its place
-range_at : (a n k : ℕ) → k < n → slice_get (range_with_len a n) k ≡ Some (a + k)
+pub range_at : (a n k : ℕ) → k < n → slice_get (range_with_len a n) k ≡ Some (a + k)
 range_at a zero k h = absurd (omega arith)
 range_at a (suc n) zero h = let same : a ≡ a + 0 = omega arith in ap (λ (z : ℕ). Some z) same
 range_at a (suc n) (suc k) h =
     let same : (a + 1) + k ≡ a + suc k = omega arith in
     range_at (a + 1) n k (omega arith) ∙ ap (λ (z : ℕ). Some z) same
 
-past_end : {A : Type 0} (xs : List A) (k : ℕ) → length xs ≤ k → slice_get xs k ≡ None
+pub past_end : {A : Type 0} (xs : List A) (k : ℕ) → length xs ≤ k → slice_get xs k ≡ None
 past_end [] k h = refl
 past_end (x ∷ xs) zero h = absurd (omega arith)
 past_end (x ∷ xs) (suc k) h = past_end xs k (omega arith)
 
-lt_or_le : (k n : ℕ) → (k < n) ⊎ (n ≤ k)
+pub lt_or_le : (k n : ℕ) → (k < n) ⊎ (n ≤ k)
 lt_or_le k zero = inr (omega arith)
 lt_or_le zero (suc n) = inl (omega arith)
 lt_or_le (suc k) (suc n) = ⊎_elim (λ (h : k < n). inl (omega arith)) (λ (h : n ≤ k). inr (omega arith)) (lt_or_le k n)
 
 -- each number below n passes
-each_number : {E : Type 0} (f : ℕ → Result ⊤ E) (n k : ℕ) → all_pass f (range_with_len 0 n) ≡ Ok tt → k < n → f k ≡ Ok tt
+pub each_number : {E : Type 0} (f : ℕ → Result ⊤ E) (n k : ℕ) → all_pass f (range_with_len 0 n) ≡ Ok tt → k < n → f k ≡ Ok tt
 each_number f n k h there = let plain : 0 + k ≡ k = omega arith in passes_at f (range_with_len 0 n) k k h (range_at 0 n k there ∙ ap (λ (z : ℕ). Some z) plain)
 
+-- the root keeps a rule that the unit keeps
+pub root_of_rules : (r : Rule) (u : HirUnit) → in_unit r u ≡ Ok tt → rule_holds r u.env None u.function ≡ Ok tt
+root_of_rules r u h = (both_pass (rule_holds r u.env None u.function) _ h).0
+
 -- each nested function keeps a rule that the unit keeps
-nested_of_rules : (r : Rule) (u : HirUnit) (k : ℕ) → in_unit r u ≡ Ok tt → at_function r u.env k ≡ Ok tt
+pub nested_of_rules : (r : Rule) (u : HirUnit) (k : ℕ) → in_unit r u ≡ Ok tt → at_function r u.env k ≡ Ok tt
 nested_of_rules r u k h =
     let all : all_pass (at_function r u.env) (range_with_len 0 (length u.env.functions)) ≡ Ok tt = (both_pass (rule_holds r u.env None u.function) _ h).1 in
     ⊎_elim
@@ -143,7 +148,7 @@ all_nested r env (k ∷ ks) h = rw (h k) (all_nested r env ks h)
 -- the root, and whichever nested functions, keep a rule that the unit keeps
 each_function_of_rules : (r : Rule) (u : HirUnit) (ks : List ℕ) → in_unit r u ≡ Ok tt → each_function r u.env u.function ks ≡ Ok tt
 each_function_of_rules r u ks h =
-    let root : rule_holds r u.env None u.function ≡ Ok tt = (both_pass (rule_holds r u.env None u.function) _ h).0 in
+    let root : rule_holds r u.env None u.function ≡ Ok tt = root_of_rules r u h in
     rw root (all_nested r u.env ks (λ k. nested_of_rules r u k h))
 
 -- ---- the functions below the root are a tree
@@ -168,7 +173,7 @@ created_past env (i ∷ is) k h past =
     = times_both (number_of (created i.value)) (flat_map (λ (i : Instruction). number_of (created i.value)) is) k in omega arith
 
 -- a function creates none past the end of the table
-function_past : (env : Environment) (f : HirFunction) (k : ℕ) → numbers_fit env f ≡ Ok tt → length env.functions ≤ k → times (created_in f) k ≡ 0
+pub function_past : (env : Environment) (f : HirFunction) (k : ℕ) → numbers_fit env f ≡ Ok tt → length env.functions ≤ k → times (created_in f) k ≡ 0
 function_past env f k h past =
     let a = both_pass (all_pass (λ p. place_fits env (param_place p)) f.params) _ h in
     let b = both_pass (all_pass (place_fits env) f.context) _ a.1 in
@@ -184,7 +189,7 @@ functions_past env (f ∷ fs) k h past =
 
 named_past : (u : HirUnit) (k : ℕ) → in_unit Numbers u ≡ Ok tt → length u.env.functions ≤ k → times (naming u) k ≡ 0
 named_past u k h past =
-    let a : times (created_in u.function) k ≡ 0 = function_past u.env u.function k (both_pass (rule_holds Numbers u.env None u.function) _ h).0 past in
+    let a : times (created_in u.function) k ≡ 0 = function_past u.env u.function k (root_of_rules Numbers u h) past in
     let b : times (flat_map created_in u.env.functions) k ≡ 0 = functions_past u.env u.env.functions k (λ j f e. sym (ap (of_function Numbers u.env j) e) ∙ nested_of_rules Numbers u j h) past in
     let c : times (naming u) k ≡ times (created_in u.function) k + times (flat_map created_in u.env.functions) k = times_both (created_in u.function) (flat_map created_in u.env.functions) k in omega arith
 
@@ -193,7 +198,7 @@ named_once u k h there =
     let placed : named_and_reached (naming u) (reached (length u.env.functions) u) k ≡ Ok tt = each_number (named_and_reached (naming u) (reached (length u.env.functions) u)) (length u.env.functions) k h there in
     eqb-true (times (naming u) k) 1 (both_true (times (naming u) k == 1) (is_among (reached (length u.env.functions) u) k) (asked _ (NestingNoTree (Some (record { 0 = k }))) (Ok tt) refl placed)).0
 
-found_within : (u : HirUnit) (k : ℕ) → nesting_not_deep u (nested_in u) ≡ Ok tt → k < length u.env.functions → is_among (reached 63 u) k ≡ true
+pub found_within : (u : HirUnit) (k : ℕ) → nesting_not_deep u (nested_in u) ≡ Ok tt → k < length u.env.functions → is_among (reached 63 u) k ≡ true
 found_within u k h there = asked (is_among (reached 63 u) k) (NestingTooDeep (Some (record { 0 = k }))) (Ok tt) refl (each_number (within_depth (reached 63 u)) (length u.env.functions) k h there)
 
 -- the functions below the root, each of which is created once

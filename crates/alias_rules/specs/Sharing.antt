@@ -1,6 +1,6 @@
 -- No identifier is both in a nested function and outside of it, but for its context.
-use Rattle.std.specs.Prelude.{ℕ, Bool, not, ◌&&◌, filter, find, Result, Ok, Err, ⊤, List, [], ◌∷◌, ◌++◌, Option, None, Some, length, map, slice_get}
-use Rattle.std.specs.List.{flat_map, range_with_len}
+use Rattle.std.specs.Prelude.{ℕ, Bool, not, ◌&&◌, ◌||◌, filter, find, Result, Ok, Err, ⊤, List, [], ◌∷◌, ◌++◌, Option, None, Some, length, map, slice_get}
+use Rattle.std.specs.List.{flat_map, list_any, range_with_len}
 use Rattle.alias_base.specs.Answer.{all_pass}
 use Rattle.alias_hir.specs.declared.env.Environment.{Environment}
 use Rattle.alias_hir.specs.declared.hir.HirFunction.{HirFunction}
@@ -42,6 +42,10 @@ others those nested = filter (λ k. not (is_among those k)) nested
 -- the identifiers in a function, or in those of the nested ones that are neither this one nor below it
 abbrev pub outside : Environment → HirFunction → List ℕ → ℕ → List ℕ
 outside env func nested k = identifiers_in env func ++ flat_map (identifiers_at env) (others (family env k) nested)
+
+-- an identifier leaves those functions: it is none of the context, and the root or a function that is none of those holds it
+abbrev pub leaves : (ℕ → Bool) → (ℕ → List ℕ) → (ℕ → Bool) → (ℕ → Bool) → ℕ → Bool
+leaves root holders those context x = not (context x) && (root x || list_any (λ k. not (those k)) (holders x))
 
 -- x is inside and outside, and not in the context
 abbrev pub is_shared : List ℕ → List ℕ → List ℕ → ℕ → Bool

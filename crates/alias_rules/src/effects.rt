@@ -192,7 +192,8 @@ fn is_apply(effect: &AliasingEffect) -> bool
     matches!(effect, AliasingEffect::Apply { .. })
 }
 
-fn any_call(effects: &[AliasingEffect]) -> bool
+/// Whether one of the effects is `Apply`.
+pub fn any_is_apply(effects: &[AliasingEffect]) -> bool
     ensures { result ≡ list_any is_apply effects.now }
 {
     effects.iter().any(|effect| is_apply(effect))
@@ -202,7 +203,7 @@ fn holds_no_call(summary: &Option<AliasingEffects>) -> bool
     ensures { result ≡ holds_no_call summary.now }
 {
     match summary {
-        Some(effects) => !any_call(effects.as_slice()),
+        Some(effects) => !any_is_apply(effects.as_slice()),
         None => true,
     }
 }

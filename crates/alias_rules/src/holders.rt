@@ -1,12 +1,12 @@
 //! The nested functions that each identifier is in.
-ghost use Rattle.std.specs.Prelude.{◌≡◌, ℕ, Bool, true, false, ◌==◌, ◌&&◌, ◌||◌, ◌++◌, ◌∷◌, [], not, cond, IfOk, OnOk};
+ghost use Rattle.std.specs.Prelude.{◌≡◌, ℕ, Bool, ◌&&◌, ◌||◌, not, IfOk, OnOk};
 ghost use Rattle.std.specs.List.{list_any};
 ghost use Rattle.std.specs.Ordering.{nat_cmp};
 ghost use Rattle.std.specs.BTreeMap.{get};
 ghost use Rattle.std.specs.BTreeSet.{contains};
 ghost use Rattle.alias_base.specs.Find.{list_at};
 ghost use Rattle.alias_function_rules.specs.Rules.{is_among};
-ghost use Rattle.alias_rules.specs.Sharing.{identifiers_at};
+ghost use Rattle.alias_rules.specs.Sharing.{identifiers_at, leaves};
 
 use crate::sharing::push_at;
 use crate::tree::take_fresh;
@@ -86,7 +86,7 @@ fn leaves(
     context: &BTreeSet<u32>,
     identifier: u32,
 ) -> bool
-    ensures { result ≡ (not (contains nat_cmp context.now identifier) && (contains nat_cmp roots.now identifier || list_any (λ k. not (contains nat_cmp those.now k)) (list_at (get nat_cmp holders.now identifier)))) }
+    ensures { result ≡ leaves (contains nat_cmp roots.now) (λ x. list_at (get nat_cmp holders.now x)) (contains nat_cmp those.now) (contains nat_cmp context.now) identifier }
 {
     !context.contains(&identifier)
         && (roots.contains(&identifier) || is_held(holders, those, identifier))
@@ -102,7 +102,7 @@ pub fn any_leaves(
     context: &[u32],
     identifiers: &[u32],
 ) -> Result<bool, AllocError>
-    ensures { IfOk result (λ b. (x : ℕ) → b ≡ false → is_among identifiers.now x ≡ true → (not (is_among context.now x) && (contains nat_cmp roots.now x || list_any (λ k. not (is_among those.now k)) (list_at (get nat_cmp holders.now x)))) ≡ false) }
+    ensures { IfOk result (λ b. b ≡ list_any (leaves (contains nat_cmp roots.now) (λ x. list_at (get nat_cmp holders.now x)) (is_among those.now) (is_among context.now)) identifiers.now) }
 {
     let those = set_of(alloc, those)?;
     let context = set_of(alloc, context)?;

@@ -11,3 +11,4 @@ mod sharing;
 mod tree;
 
 pub use alias_function_rules::fault;
+pub use effects::any_is_apply;

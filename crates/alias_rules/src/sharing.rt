@@ -10,7 +10,7 @@ ghost use Rattle.alias_rules.specs.Nesting.{unless_there};
 ghost use Rattle.alias_hir.specs.declared.place.Place.{Place};
 ghost use Rattle.alias_base.specs.Answer.{Gives};
 ghost use Rattle.alias_function_rules.specs.Fault.{is_memory};
-ghost use Rattle.alias_rules.specs.Sharing.{identifiers_at, context_at, family, inside, others, outside, first_shared, first_in_two, nested_is_apart, identifiers_apart};
+ghost use Rattle.alias_rules.specs.Sharing.{identifiers_at, context_at, family, inside, others, outside, leaves, first_shared, first_in_two, nested_is_apart, identifiers_apart};
 ghost use Rattle.alias_visit.specs.Places.{identifiers_in};
 
 use crate::holders::{any_leaves, holders, once_each};
@@ -211,7 +211,7 @@ fn roots(alloc: Global, env: &Environment, func: &HirFunction) -> Result<BTreeSe
     Ok(set)
 }
 
-/// Whether an identifier may be both in the nested function, or below it, and outside.
+/// Whether an identifier of the nested function, or of one below it, is outside too, and not in its context.
 fn any_shared(
     alloc: Global,
     env: &Environment,
@@ -219,7 +219,7 @@ fn any_shared(
     holders: &BTreeMap<u32, List<u32>>,
     number: u32,
 ) -> Result<bool, AllocError>
-    ensures { IfOk result (λ b. (x : ℕ) → b ≡ false → is_among (inside env.now number) x ≡ true → (not (is_among (context_at env.now number) x) && (contains nat_cmp roots.now x || list_any (λ k. not (is_among (family env.now number) k)) (list_at (get nat_cmp holders.now x)))) ≡ false) }
+    ensures { IfOk result (λ b. b ≡ list_any (leaves (contains nat_cmp roots.now) (λ x. list_at (get nat_cmp holders.now x)) (is_among (family env.now number)) (is_among (context_at env.now number))) (inside env.now number)) }
 {
     let those = family(alloc, env, number)?;
     let inside = inside(alloc, env, &those)?;
