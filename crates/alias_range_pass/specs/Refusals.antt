@@ -1,12 +1,11 @@
 -- What the range pass refuses, before it changes anything.
-use Rattle.std.specs.Prelude.{ℕ, ◌+◌, Bool, true, false, List, [], ◌∷◌, Option, Some, None, Result, Ok, Err, ⊤, if◌then◌else◌, nat_le, length, slice_get, codes}
+use Rattle.std.specs.Prelude.{ℕ, ◌+◌, Bool, false, List, [], ◌∷◌, Option, Some, None, Result, Ok, Err, ⊤, if◌then◌else◌, nat_le, length, slice_get, codes}
 use Rattle.std.specs.List.{list_any}
 use Rattle.std.specs.Option.{option_map_or}
 use Rattle.alias_base.specs.Answer.{◌>>=◌}
 use Rattle.alias_base.specs.declared.ids.BlockId.{BlockId}
 use Rattle.alias_base.specs.declared.ids.InstructionId.{InstructionId}
 use Rattle.alias_hir.specs.declared.effect.AliasingEffect.{AliasingEffect}
-use Rattle.alias_hir.specs.declared.effect.AliasingEffect.TheVariants as effect
 use Rattle.alias_hir.specs.declared.error.Counter.TheVariants.{GraphPositions}
 use Rattle.alias_hir.specs.declared.error.HirError.{HirError}
 use Rattle.alias_hir.specs.declared.error.InferError.{InferError}
@@ -17,15 +16,12 @@ use Rattle.alias_hir.specs.declared.hir.Instruction.{Instruction}
 use Rattle.alias_hir.specs.declared.report.ErrorCategory.TheVariants.{Invariant}
 use Rattle.alias_hir.specs.declared.report.Report.{Report}
 use Rattle.alias_hir.specs.Errors.{infer_error}
+use Rattle.alias_rules.specs.Fitting.{is_apply}
 use Rattle.alias_events.specs.declared.listing.Listing.{Listing}
 use Rattle.alias_events.specs.BlockListings.{listed}
 use Rattle.alias_range_summary.specs.Summaries.{tracked}
 
 -- ---- an Apply that is left
-
-abbrev pub is_apply : AliasingEffect → Bool
-is_apply (effect.Apply receiver function mutates args into signature span) = true
-is_apply e = false
 
 abbrev pub has_apply : Option (List AliasingEffect) → Bool
 has_apply None = false

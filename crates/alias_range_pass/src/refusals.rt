@@ -1,30 +1,17 @@
 //! What the range pass refuses, before it changes anything.
 ghost use Rattle.std.specs.Prelude.{◌≡◌, ◌+◌, nat_le, length, IfOk};
-ghost use Rattle.std.specs.List.{list_any};
 ghost use Rattle.alias_base.specs.Answer.{Gives};
 ghost use Rattle.alias_hir.specs.Errors.{is_memory};
 ghost use Rattle.alias_range_summary.specs.Summaries.{tracked};
-ghost use Rattle.alias_range_pass.specs.Refusals.{is_apply, carries_apply, first_apply, first_apply_of, unreplaced, apply_left_report, recorded};
+ghost use Rattle.alias_range_pass.specs.Refusals.{carries_apply, first_apply, first_apply_of, unreplaced, apply_left_report, recorded};
 
 use alias_base::{InstructionId, List, Text};
 use alias_events::{Listing, list_function};
-use alias_hir::effect::AliasingEffect;
 use alias_hir::error::{Counter, InferError};
 use alias_hir::hir::{HirFunction, Instruction};
 use alias_hir::report::{ErrorCategory, Report};
+use alias_rules::any_is_apply;
 use std::alloc::{AllocError, Global};
-
-fn is_apply(effect: &AliasingEffect) -> bool
-    ensures { result ≡ is_apply effect.now }
-{
-    matches!(effect, AliasingEffect::Apply { .. })
-}
-
-fn any_is_apply(effects: &[AliasingEffect]) -> bool
-    ensures { result ≡ list_any is_apply effects.now }
-{
-    effects.iter().any(|effect| is_apply(effect))
-}
 
 fn carries_apply(instructions: &List<Instruction>, id: InstructionId) -> bool
     ensures { result ≡ carries_apply instructions.now id }
