@@ -13,7 +13,8 @@ use Rattle.alias_hir.specs.declared.error.InferError.TheVariants.{UnreplacedAppl
 use Rattle.alias_hir.specs.declared.hir.BasicBlock.{BasicBlock}
 use Rattle.alias_hir.specs.declared.hir.HirFunction.{HirFunction}
 use Rattle.alias_hir.specs.declared.hir.Instruction.{Instruction}
-use Rattle.alias_range_pass.specs.Refusals.{is_apply, has_apply}
+use Rattle.alias_rules.specs.Fitting.{is_apply}
+use Rattle.alias_range_pass.specs.Refusals.{has_apply}
 
 -- none of the effects is Apply
 abbrev pub NoneIsApply : List AliasingEffect → Type 0

@@ -53,9 +53,9 @@ use Rattle.alias_block.specs.declared.faults.BlockRefusal.{BlockRefusal}
 use Rattle.alias_block.specs.declared.faults.BlockRefusal.TheVariants.{Uninitialized}
 use Rattle.alias_block.specs.declared.recorded.BlockEffects.{BlockEffects}
 use Rattle.alias_block.specs.declared.recorded.InstructionEffects.{InstructionEffects}
-use Rattle.alias_range_pass.specs.Refusals.{is_apply}
+use Rattle.alias_rules.specs.Fitting.{is_apply}
 use Rattle.alias_answer_laws.specs.Applies.{NoneIsApply, NoInstructionRecordsApply, NoTerminalRecordsApply}
-use Rattle.alias_answer_laws.specs.StepLaws.{keeps_effects}
+use Rattle.alias_step_laws.specs.KeepingLaws.{keeps_effects}
 
 -- ---- lists of effects
 

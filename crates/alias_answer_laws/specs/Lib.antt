@@ -1,5 +1,4 @@
 pub mod Applies
-pub mod StepLaws
 pub mod BlockLaws
 pub mod PassLaws
 pub mod FunctionLaws

@@ -8,3 +8,4 @@ pub mod EffectLaws
 pub mod StandingLaws
 pub mod ListLaws
 pub mod StepLaws
+pub mod KeepingLaws

@@ -1,6 +1,5 @@
 pub mod Writes
 pub mod Telling
-pub mod KeepingLaws
 pub mod WriteLaws
 pub mod BlockWrites
 pub mod Solutions

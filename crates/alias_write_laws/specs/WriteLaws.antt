@@ -51,7 +51,7 @@ use Rattle.alias_step.specs.Calls.{call_of, with_missing, apply_by_summary, appl
 use Rattle.alias_step.specs.Instructions.{written_by, check_created, begun, with_result, apply_instruction, intern_told, context_with, apply_signature_with, apply_signature}
 use Rattle.alias_step.specs.Lists.{called_function, list_of_called, signature_of_type, list_of_config}
 use Rattle.alias_step.specs.Operands.{Call}
-use Rattle.alias_write_laws.specs.KeepingLaws.{keeps_raise_plain, keeps_inner_effect, keeps_effect}
+use Rattle.alias_step_laws.specs.KeepingLaws.{keeps_raise_plain, keeps_inner_effect, keeps_effect}
 use Rattle.alias_write_laws.specs.Telling.{LeadsTo, All, Tells, tells_nothing, tells_after, tells_before, tells_each}
 use Rattle.alias_write_laws.specs.Writes.{Write, over_each, write_of, plain_writes, list_writes, summary_writes, inner_call_writes_by, inner_call_writes, inner_writes, legacy_writes, config_writes, compatible_writes, signature_writes, call_writes_by, call_writes, effect_writes, writes_of_effects, writes_with, instruction_writes, is_protected, is_forbidden, is_write_error, has_write_error}
 
@@ -206,7 +206,7 @@ module _ (c : StepContext) where
   tells_raise_plain e s = tells_after Reported (intern e) (λ first. apply_plain c first s) (λ first t. write_of (written_by first) s.state) (λ first. tells_plain first s)
 
   tells_list : (es : List AliasingEffect) (s : StepProgress) → TellsWrites (raise_all_plain c es s) (list_writes c es s)
-  tells_list = tells_each Reported (raise_plain c) plain_writes tells_raise_plain (λ ws. keeps_raise_plain (AllTold ws) (λ e es. all_told_more e ws es) c)
+  tells_list = tells_each Reported (raise_plain c) plain_writes tells_raise_plain (λ ws. keeps_raise_plain (AllTold ws) (λ e other es. all_told_more e ws es) c)
 
   -- ---- calls
 
@@ -226,7 +226,7 @@ module _ (c : StepContext) where
   tells_inner_effect e s = tells_raise_plain e s
 
   tells_inner_effects : (es : List AliasingEffect) (s : StepProgress) → TellsWrites (each (apply_inner_effect c) es s) (over_each (apply_inner_effect c) (inner_writes c) es s)
-  tells_inner_effects = tells_each Reported (apply_inner_effect c) (inner_writes c) tells_inner_effect (λ ws. keeps_inner_effect (AllTold ws) (λ e es. all_told_more e ws es) c)
+  tells_inner_effects = tells_each Reported (apply_inner_effect c) (inner_writes c) tells_inner_effect (λ ws. keeps_inner_effect (AllTold ws) (λ e other es. all_told_more e ws es) c)
 
   tells_by_legacy : (signature : FunctionSignature) (call : Call) (s : StepProgress) → TellsWrites (apply_by_legacy c signature call s) (legacy_writes c signature call s)
   tells_by_legacy signature call s =
@@ -258,7 +258,7 @@ module _ (c : StepContext) where
   tells_effect e s = tells_raise_plain e s
 
   tells_effects : (es : List AliasingEffect) (s : StepProgress) → TellsWrites (apply_effects c es s) (over_each (apply_effect c) (effect_writes c) es s)
-  tells_effects = tells_each Reported (apply_effect c) (effect_writes c) tells_effect (λ ws. keeps_effect (AllTold ws) (λ e es. all_told_more e ws es) c)
+  tells_effects = tells_each Reported (apply_effect c) (effect_writes c) tells_effect (λ ws. keeps_effect (AllTold ws) (λ e other es. all_told_more e ws es) c)
 
   -- ---- instructions
 

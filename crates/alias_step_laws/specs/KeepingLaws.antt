@@ -1,5 +1,5 @@
--- A property of what is recorded that stays as more is recorded stays in each step.
-use Rattle.std.specs.Prelude.{ℕ, Bool, true, false, ◌&&◌, not, List, [], ◌∷◌, ◌++◌, Option, None, Some, if◌then◌else◌}
+-- No step records Apply: a property of what is recorded that stays as an effect other than Apply is recorded stays in each step.
+use Rattle.std.specs.Prelude.{◌≡◌, ℕ, Bool, true, false, ◌&&◌, not, List, [], ◌∷◌, ◌++◌, Option, None, Some, if◌then◌else◌, refl}
 use Rattle.std.proofs.Common.{subst}
 use Rattle.alias_base.specs.declared.ids.FunctionId.{FunctionId}
 use Rattle.alias_base.specs.declared.ids.IdentifierId.{IdentifierId}
@@ -14,6 +14,7 @@ use Rattle.alias_hir.specs.declared.place.Place.{Place}
 use Rattle.alias_hir.specs.declared.report.Report.{Report}
 use Rattle.alias_hir.specs.declared.signature.FunctionSignature.{FunctionSignature}
 use Rattle.alias_hir.specs.Types.{is_ref_at, is_builtin_collection_at}
+use Rattle.alias_rules.specs.Fitting.{is_apply}
 use Rattle.alias_lattice.specs.declared.site.Site.TheVariants.{AssignFrozen, AssignCopy}
 use Rattle.alias_lattice.specs.declared.value.AbstractValue.{AbstractValue}
 use Rattle.alias_lattice.specs.States.{look, does_freeze, given, assigned}
@@ -41,7 +42,7 @@ use Rattle.alias_step.specs.Defaults.{mutate_operand, iterate_operand, capture_o
 use Rattle.alias_step.specs.Lists.{called_function, list_of_called, signature_of_type, list_of_config}
 use Rattle.alias_step.specs.Operands.{Call, same_place, operands}
 
-module _ (P : List AliasingEffect → Type 0) (more : (e : AliasingEffect) (es : List AliasingEffect) → P es → P (es ++ e ∷ [])) where
+module _ (P : List AliasingEffect → Type 0) (more : (e : AliasingEffect) → is_apply e ≡ false → (es : List AliasingEffect) → P es → P (es ++ e ∷ [])) where
   -- what the step has recorded has the property
   abbrev pub Holds : StepProgress → Type 0
   Holds s = P s.recorded
@@ -49,14 +50,14 @@ module _ (P : List AliasingEffect → Type 0) (more : (e : AliasingEffect) (es :
   abbrev pub Keeps : Step StepProgress → Type 0
   Keeps f = Sound Holds f
 
-  holds_more : (e : AliasingEffect) (s : StepProgress) → Holds s → Holds (record_of e s)
-  holds_more e s h = more e s.recorded h
+  pub holds_more : (e : AliasingEffect) → is_apply e ≡ false → (s : StepProgress) → Holds s → Holds (record_of e s)
+  holds_more e other s h = more e other s.recorded h
 
   keeps_gives : (s : StepProgress) → Holds s → Keeps (gives s)
   keeps_gives s h = sound_gives Holds s h
 
-  keeps_records : (e : AliasingEffect) (s : StepProgress) → Holds s → Keeps (gives (record_of e s))
-  keeps_records e s h = keeps_gives (record_of e s) (holds_more e s h)
+  pub keeps_records : (e : AliasingEffect) → is_apply e ≡ false → (s : StepProgress) → Holds s → Keeps (gives (record_of e s))
+  keeps_records e other s h = keeps_gives (record_of e s) (holds_more e other s h)
 
   keeps_then : (f : Step StepProgress) (g : StepProgress → Step StepProgress) → Keeps f → ((s : StepProgress) → Holds s → Keeps (g s)) → Keeps (f >>= g)
   keeps_then f g = sound_then Holds Holds f g
@@ -77,14 +78,14 @@ module _ (P : List AliasingEffect → Type 0) (more : (e : AliasingEffect) (es :
   -- ---- leaves
 
   holds_immutable : (a x : Place) (s : StepProgress) → Holds s → Holds (apply_immutable_capture a x s)
-  holds_immutable a x s h = either (is_constant (kind_at a s)) _ _ h (holds_more (effect.ImmutableCapture a x) (looked_at a s) h)
+  holds_immutable a x s h = either (is_constant (kind_at a s)) _ _ h (holds_more (effect.ImmutableCapture a x) refl (looked_at a s) h)
 
   holds_leaf : (e : AliasingEffect) (s : StepProgress) → Holds s → Holds (apply_leaf e s)
   holds_leaf (effect.ImmutableCapture a x) s h = holds_immutable a x s h
-  holds_leaf (effect.Impure p error) s h = holds_more (effect.Impure p error) s h
-  holds_leaf (effect.MutateFrozen p error) s h = holds_more (effect.MutateFrozen p error) s h
-  holds_leaf (effect.MutateGlobal p error) s h = holds_more (effect.MutateGlobal p error) s h
-  holds_leaf (effect.Render p) s h = holds_more (effect.Render p) s h
+  holds_leaf (effect.Impure p error) s h = holds_more (effect.Impure p error) refl s h
+  holds_leaf (effect.MutateFrozen p error) s h = holds_more (effect.MutateFrozen p error) refl s h
+  holds_leaf (effect.MutateGlobal p error) s h = holds_more (effect.MutateGlobal p error) refl s h
+  holds_leaf (effect.Render p) s h = holds_more (effect.Render p) refl s h
   holds_leaf e s h = h
 
   keeps_raise_leaf : (e : AliasingEffect) (s : StepProgress) → Holds s → Keeps (raise_leaf e s)
@@ -93,7 +94,7 @@ module _ (P : List AliasingEffect → Type 0) (more : (e : AliasingEffect) (es :
   keeps_maybe_alias : (a x : Place) (s : StepProgress) → Holds s → Keeps (apply_maybe_alias a x s)
   keeps_maybe_alias a x s h =
       let u = looked_with_span a (looked_with_span x s) in
-      keeps_if (may_be_frozen (kind_at a s)) _ _ (keeps_raise_leaf (effect.ImmutableCapture a x) u h) (keeps_records (effect.MaybeAlias a x) u h)
+      keeps_if (may_be_frozen (kind_at a s)) _ _ (keeps_raise_leaf (effect.ImmutableCapture a x) u h) (keeps_records (effect.MaybeAlias a x) refl u h)
 
   keeps_aliasing : (e : AliasingEffect) (s : StepProgress) → Holds s → Keeps (apply_aliasing e s)
   keeps_aliasing (effect.MaybeAlias a x) s h = keeps_maybe_alias a x s h
@@ -105,15 +106,15 @@ module _ (P : List AliasingEffect → Type 0) (more : (e : AliasingEffect) (es :
   -- ---- values
 
   keeps_create : (x : Place) (k : ValueKind) (r : ValueReason) (s : StepProgress) → Holds s → Keeps (apply_create x k r s)
-  keeps_create x k r s h = keeps_then (made x.identifier s) _ (keeps_made x.identifier s h) (λ u g. keeps_gives _ (more (effect.Create x k r) u.recorded g))
+  keeps_create x k r s h = keeps_then (made x.identifier s) _ (keeps_made x.identifier s h) (λ u g. keeps_gives _ (more (effect.Create x k r) refl u.recorded g))
 
   keeps_record_create_from : (k : ValueKind) (r : ValueReason) (a x : Place) (s : StepProgress) → Holds s → Keeps (record_create_from k r a x s)
-  keeps_record_create_from Primitive r a x s h = keeps_records (effect.Create x Primitive r) s h
-  keeps_record_create_from Global r a x s h = keeps_records (effect.Create x Global r) s h
-  keeps_record_create_from Frozen r a x s h = keeps_raise_leaf (effect.ImmutableCapture a x) (record_of (effect.Create x Frozen r) s) (holds_more (effect.Create x Frozen r) s h)
-  keeps_record_create_from Mutable r a x s h = keeps_records (effect.CreateFrom a x) s h
-  keeps_record_create_from Context r a x s h = keeps_records (effect.CreateFrom a x) s h
-  keeps_record_create_from MaybeFrozen r a x s h = keeps_records (effect.CreateFrom a x) s h
+  keeps_record_create_from Primitive r a x s h = keeps_records (effect.Create x Primitive r) refl s h
+  keeps_record_create_from Global r a x s h = keeps_records (effect.Create x Global r) refl s h
+  keeps_record_create_from Frozen r a x s h = keeps_raise_leaf (effect.ImmutableCapture a x) (record_of (effect.Create x Frozen r) s) (holds_more (effect.Create x Frozen r) refl s h)
+  keeps_record_create_from Mutable r a x s h = keeps_records (effect.CreateFrom a x) refl s h
+  keeps_record_create_from Context r a x s h = keeps_records (effect.CreateFrom a x) refl s h
+  keeps_record_create_from MaybeFrozen r a x s h = keeps_records (effect.CreateFrom a x) refl s h
 
   keeps_create_from : (a x : Place) (s : StepProgress) → Holds s → Keeps (apply_create_from a x s)
   keeps_create_from a x s h = keeps_then (made x.identifier s) _ (keeps_made x.identifier s h) (λ u g. keeps_record_create_from _ _ a x _ g)
@@ -124,20 +125,20 @@ module _ (P : List AliasingEffect → Type 0) (more : (e : AliasingEffect) (es :
       (keeps_then _ _ (keeps_raise_leaf (effect.ImmutableCapture a x) s h) (λ u g. keeps_gives (with_state (given x.identifier (AssignFrozen a.identifier x.identifier) v u.state) u) g))
       (keeps_if (is_constant v.kind) _ _
       (keeps_gives (with_state (given x.identifier (AssignCopy a.identifier x.identifier) v s.state) s) h)
-      (keeps_records (effect.Assign a x) (with_state (assigned x.identifier a.identifier s.state) s) h))
+      (keeps_records (effect.Assign a x) refl (with_state (assigned x.identifier a.identifier s.state) s) h))
 
   keeps_assign : (a x : Place) (s : StepProgress) → Holds s → Keeps (apply_assign a x s)
   keeps_assign a x s h = keeps_then (made x.identifier s) _ (keeps_made x.identifier s h) (λ u g. keeps_assign_value (look u.state a.identifier) a x (looked_with_span a u) g)
 
-  keeps_link : (e : AliasingEffect) (a x : Place) (s : StepProgress) → Holds s → Keeps (apply_link e a x s)
-  keeps_link e a x s h =
+  keeps_link : (e : AliasingEffect) → is_apply e ≡ false → (a x : Place) (s : StepProgress) → Holds s → Keeps (apply_link e a x s)
+  keeps_link e other a x s h =
       let u = looked_with_span a (looked_with_span x s) in
       keeps_if (may_be_frozen (kind_at a s)) _ _ (keeps_raise_leaf (effect.ImmutableCapture a x) u h)
-      (keeps_if (captures (kind_at a s) (kind_at x s)) _ _ (keeps_records e u h)
+      (keeps_if (captures (kind_at a s) (kind_at x s)) _ _ (keeps_records e other u h)
       (keeps_if (may_alias (kind_at a s) (kind_at x s)) _ _ (keeps_raise_aliasing (effect.MaybeAlias a x) u h) (keeps_gives u h)))
 
   keeps_alias : (a x : Place) (s : StepProgress) → Holds s → Keeps (apply_alias a x s)
-  keeps_alias a x s h = keeps_if (is_made x.identifier s.made) _ _ (keeps_link (effect.Alias a x) a x s h) (sound_refuses Holds (AliasBeforeCreate x.identifier))
+  keeps_alias a x s h = keeps_if (is_made x.identifier s.made) _ _ (keeps_link (effect.Alias a x) refl a x s h) (sound_refuses Holds (AliasBeforeCreate x.identifier))
 
   keeps_frozen_write : (r : Report) (v : Place) (s : StepProgress) → Holds s → Keeps (raise_mutate_frozen r v s)
   keeps_frozen_write r v s h = sound_after Holds (intern_report v.identifier r) _ (λ d. keeps_raise_leaf (effect.MutateFrozen v d) s h)
@@ -159,36 +160,36 @@ module _ (P : List AliasingEffect → Type 0) (more : (e : AliasingEffect) (es :
     keeps_report_hoisted_write (Some access) there v s h = keeps_frozen_write (hoisting_report c.env v.identifier v.span access) v s h
     keeps_report_hoisted_write None there v s h = keeps_report_write there v s h
 
-    keeps_mutation : (k : ValueKind) (there : AbstractValue) (e : AliasingEffect) (v : Place) (s : StepProgress) → Holds s → Keeps (record_mutation c k there e v s)
-    keeps_mutation Mutable there e v s h = keeps_records e s h
-    keeps_mutation Context there e v s h = keeps_records e s h
-    keeps_mutation Primitive there e v s h = keeps_gives s h
-    keeps_mutation Frozen there e v s h = keeps_report_hoisted_write (hoisted_access c v.identifier) there v s h
-    keeps_mutation MaybeFrozen there e v s h = keeps_report_hoisted_write (hoisted_access c v.identifier) there v s h
-    keeps_mutation Global there e v s h = keeps_report_write there v s h
+    keeps_mutation : (k : ValueKind) (there : AbstractValue) (e : AliasingEffect) → is_apply e ≡ false → (v : Place) (s : StepProgress) → Holds s → Keeps (record_mutation c k there e v s)
+    keeps_mutation Mutable there e other v s h = keeps_records e other s h
+    keeps_mutation Context there e other v s h = keeps_records e other s h
+    keeps_mutation Primitive there e other v s h = keeps_gives s h
+    keeps_mutation Frozen there e other v s h = keeps_report_hoisted_write (hoisted_access c v.identifier) there v s h
+    keeps_mutation MaybeFrozen there e other v s h = keeps_report_hoisted_write (hoisted_access c v.identifier) there v s h
+    keeps_mutation Global there e other v s h = keeps_report_write there v s h
 
-    keeps_mutate : (e : AliasingEffect) (v : Place) (s : StepProgress) → Holds s → Keeps (apply_mutate c e v s)
-    keeps_mutate e v s h = keeps_if (is_ref_at c.env v.identifier) _ _ (keeps_gives s h) (keeps_mutation (kind_at v s) (look s.state v.identifier) e v (looked_with_span v s) h)
+    keeps_mutate : (e : AliasingEffect) → is_apply e ≡ false → (v : Place) (s : StepProgress) → Holds s → Keeps (apply_mutate c e v s)
+    keeps_mutate e other v s h = keeps_if (is_ref_at c.env v.identifier) _ _ (keeps_gives s h) (keeps_mutation (kind_at v s) (look s.state v.identifier) e other v (looked_with_span v s) h)
 
-    holds_conditionally : (e : AliasingEffect) (v : Place) (s : StepProgress) → Holds s → Holds (apply_mutate_conditionally c e v s)
-    holds_conditionally e v s h = either (is_ref_at c.env v.identifier) _ _ h (either (is_writable (kind_at v s)) _ _ (holds_more e (looked_with_span v s) h) h)
+    holds_conditionally : (e : AliasingEffect) → is_apply e ≡ false → (v : Place) (s : StepProgress) → Holds s → Holds (apply_mutate_conditionally c e v s)
+    holds_conditionally e other v s h = either (is_ref_at c.env v.identifier) _ _ h (either (is_writable (kind_at v s)) _ _ (holds_more e other (looked_with_span v s) h) h)
 
     holds_freeze : (v : Place) (r : ValueReason) (s : StepProgress) → Holds s → Holds (apply_freeze c v r s)
     holds_freeze v r s h =
-        let g = more (effect.Freeze v r) s.recorded h in
+        let g = more (effect.Freeze v r) refl s.recorded h in
         either (does_freeze s.state v.identifier) _ _ (either (freezes_on c.env.config) _ _ g g) h
 
     keeps_simple : (e : AliasingEffect) (s : StepProgress) → Holds s → Keeps (apply_simple c e s)
     keeps_simple (effect.Create x k r) s h = keeps_create x k r s h
     keeps_simple (effect.CreateFrom a x) s h = keeps_create_from a x s h
     keeps_simple (effect.Assign a x) s h = keeps_assign a x s h
-    keeps_simple (effect.Capture a x) s h = keeps_link (effect.Capture a x) a x s h
+    keeps_simple (effect.Capture a x) s h = keeps_link (effect.Capture a x) refl a x s h
     keeps_simple (effect.Alias a x) s h = keeps_alias a x s h
     keeps_simple (effect.Freeze v r) s h = keeps_gives (apply_freeze c v r s) (holds_freeze v r s h)
-    keeps_simple (effect.Mutate v r) s h = keeps_mutate (effect.Mutate v r) v s h
-    keeps_simple (effect.MutateTransitive v) s h = keeps_mutate (effect.MutateTransitive v) v s h
-    keeps_simple (effect.MutateConditionally v) s h = keeps_gives (apply_mutate_conditionally c (effect.MutateConditionally v) v s) (holds_conditionally (effect.MutateConditionally v) v s h)
-    keeps_simple (effect.MutateTransitiveConditionally v) s h = keeps_gives (apply_mutate_conditionally c (effect.MutateTransitiveConditionally v) v s) (holds_conditionally (effect.MutateTransitiveConditionally v) v s h)
+    keeps_simple (effect.Mutate v r) s h = keeps_mutate (effect.Mutate v r) refl v s h
+    keeps_simple (effect.MutateTransitive v) s h = keeps_mutate (effect.MutateTransitive v) refl v s h
+    keeps_simple (effect.MutateConditionally v) s h = keeps_gives (apply_mutate_conditionally c (effect.MutateConditionally v) v s) (holds_conditionally (effect.MutateConditionally v) refl v s h)
+    keeps_simple (effect.MutateTransitiveConditionally v) s h = keeps_gives (apply_mutate_conditionally c (effect.MutateTransitiveConditionally v) v s) (holds_conditionally (effect.MutateTransitiveConditionally v) refl v s h)
     keeps_simple e s h = keeps_aliasing e s h
 
     keeps_raise_simple : (e : AliasingEffect) (s : StepProgress) → Holds s → Keeps (raise_simple c e s)
@@ -200,7 +201,7 @@ module _ (P : List AliasingEffect → Type 0) (more : (e : AliasingEffect) (es :
     keeps_create_function : (x : Place) (f : FunctionId) (ps : List Place) (s : StepProgress) → Holds s → Keeps (apply_create_function c x f ps s)
     keeps_create_function x f ps s h =
         keeps_then _ _ (keeps_made x.identifier s h) (λ u g.
-        keeps_then _ _ (sound_each Holds _ (keeps_note_read f) (context_of c.env f) _ (holds_more (effect.CreateFunction x f ps) u g)) (λ v i. keeps_capture_each x ps _ i))
+        keeps_then _ _ (sound_each Holds _ (keeps_note_read f) (context_of c.env f) _ (holds_more (effect.CreateFunction x f ps) refl u g)) (λ v i. keeps_capture_each x ps _ i))
 
     keeps_plain : (e : AliasingEffect) (s : StepProgress) → Holds s → Keeps (apply_plain c e s)
     keeps_plain (effect.CreateFunction x f ps) s h = keeps_create_function x f ps s h
