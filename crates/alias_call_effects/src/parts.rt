@@ -3,13 +3,14 @@
 ghost use Rattle.std.specs.Prelude.{◌≡◌, ◌++◌, IfOk, OnOk};
 ghost use Rattle.alias_hir.specs.Diagnostics.{same_text};
 ghost use Rattle.alias_calls.specs.Arguments.{first_of};
-ghost use Rattle.alias_calls.specs.Configs.{or_places, stands_first, stands, inner_argument, inner_arguments};
+ghost use Rattle.alias_calls.specs.Configs.{stands, inner_argument, inner_arguments};
 ghost use Rattle.alias_call_effects.specs.Parts.{place_named, held_part};
 
 use crate::named::NamedPlace;
 use alias_base::{List, Text};
 use alias_calls::CallSite;
 use alias_calls::arguments::standing;
+use alias_calls::configs::{first_of, or_places, stands_first};
 use alias_hir::place::{Place, PlaceOrSpreadOrHole};
 use alias_hir::signature::{AliasingSignatureConfig, ApplyArgConfig};
 use std::alloc::{AllocError, Global};
@@ -41,42 +42,6 @@ fn place_named(name: &Text, named: &[NamedPlace]) -> Option<Place>
     None
 }
 
-/// What a name stands for before the arguments.
-fn stands_first(
-    alloc: Global,
-    config: &AliasingSignatureConfig,
-    site: CallSite,
-    name: &Text,
-) -> Result<List<Place>, AllocError>
-    ensures { IfOk result (λ l. l ≡ stands_first config.now site name.now) }
-{
-    let mut places = List::new(alloc);
-    if is_text(&config.returns, name) {
-        places.push(site.into)?;
-    } else if is_text(&config.receiver, name) {
-        places.push(site.receiver)?;
-    }
-    Ok(places)
-}
-
-/// The one place, or else the others.
-fn or_places(
-    alloc: Global,
-    place: Option<Place>,
-    others: List<Place>,
-) -> Result<List<Place>, AllocError>
-    ensures { IfOk result (λ l. l ≡ or_places place others) }
-{
-    match place {
-        Some(place) => {
-            let mut places = List::new(alloc);
-            places.push(place)?;
-            Ok(places)
-        }
-        None => Ok(others),
-    }
-}
-
 /// What a name stands for: the place of that name, or else what the arguments say.
 #[tactic(auto, using(crate::specs::PartLaws::named_at))]
 pub(crate) fn stands(
@@ -97,15 +62,6 @@ pub(crate) fn stands(
         &mut places,
     )?;
     or_places(alloc, place_named(name, call.named), places)
-}
-
-fn first_of(places: &[Place]) -> Option<Place>
-    ensures { result ≡ first_of places.now }
-{
-    match places {
-        [] => None,
-        [first, ..] => Some(*first),
-    }
 }
 
 /// The first place that a name stands for, if there is one.

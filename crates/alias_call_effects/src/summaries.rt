@@ -4,7 +4,7 @@ ghost use Rattle.std.specs.Prelude.{◌≡◌, ◌<◌, List as Elements, length
 ghost use Rattle.alias_base.specs.Answer.{Gives};
 ghost use Rattle.alias_hir.specs.declared.effect.AliasingEffect.{AliasingEffect as Effect};
 ghost use Rattle.alias_hir.specs.declared.hir.HirFunction.{HirFunction as Function};
-ghost use Rattle.alias_calls.specs.Summaries.{plain_params, last_spread};
+ghost use Rattle.alias_calls.specs.Summaries.{last_spread};
 ghost use Rattle.alias_call_effects.specs.Answers.{Answers, is_memory};
 ghost use Rattle.alias_call_effects.specs.Kept.{kept, HasGrown};
 ghost use Rattle.alias_call_effects.specs.Summaries.{HasSummary, rest_or_temporary, signature_with, signature_of, names_of, signature_list};
@@ -12,12 +12,13 @@ ghost use Rattle.alias_call_effects.specs.Summaries.{HasSummary, rest_or_tempora
 use crate::error::SignatureError;
 use crate::temporaries::temporary_at;
 use alias_base::{FunctionId, IdentifierId, List, TryClone};
+use alias_calls::summaries::{last_spread, plain_params};
 use alias_calls::{
     SummaryCall, SummaryNames, compute_effects_for_aliasing_signature as list_of_names,
 };
 use alias_hir::effect::AliasingEffects;
 use alias_hir::env::Environment;
-use alias_hir::hir::{HirFunction, ParamPattern};
+use alias_hir::hir::HirFunction;
 use alias_hir::interned::InternedReports;
 use alias_hir::place::{Place, PlaceOrSpreadOrHole, Span};
 use alias_tables::{Tables, TempKey, Temporaries};
@@ -31,34 +32,6 @@ pub struct AliasingSignature {
     pub rest: Option<IdentifierId>,
     pub returns: IdentifierId,
     pub effects: AliasingEffects,
-}
-
-/// The plain parameters, in order.
-fn plain_params(alloc: Global, params: &[ParamPattern]) -> Result<List<IdentifierId>, AllocError>
-    ensures { IfOk result (λ l. l ≡ plain_params params.now) }
-{
-    let mut plain = List::new(alloc);
-    for param in params {
-        match param {
-            ParamPattern::Place(place) => plain.push(place.identifier)?,
-            ParamPattern::Spread(_) => {}
-        }
-    }
-    Ok(plain)
-}
-
-/// The last spread parameter.
-fn last_spread(params: &[ParamPattern]) -> Option<IdentifierId>
-    ensures { result ≡ last_spread params.now None }
-{
-    let mut last = None;
-    for param in params {
-        match param {
-            ParamPattern::Place(_) => {}
-            ParamPattern::Spread(spread) => last = Some(spread.place.identifier),
-        }
-    }
-    last
 }
 
 /// The names of the function's summary and its effects, with a rest only where a parameter takes further arguments.

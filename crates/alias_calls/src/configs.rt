@@ -42,8 +42,9 @@ fn name_index(name: &Text, names: &[Text]) -> usize
     index
 }
 
-/// What a name stands for before the arguments.
-fn stands_first(
+/// What a name of an aliasing part stands for before the arguments: the target, or else the receiver, where it is their
+/// name. The one error is want of memory.
+pub fn stands_first(
     alloc: Global,
     config: &AliasingSignatureConfig,
     site: CallSite,
@@ -60,8 +61,8 @@ fn stands_first(
     Ok(places)
 }
 
-/// The one place, or else the others.
-fn or_places(
+/// The one place, or else the others. The one error is want of memory.
+pub fn or_places(
     alloc: Global,
     place: Option<Place>,
     others: List<Place>,
@@ -105,7 +106,8 @@ fn stands(alloc: Global, call: &ConfigCall<'_>, name: &Text) -> Result<List<Plac
     or_places(alloc, place_at(call.temporaries, index), places)
 }
 
-fn first_of(places: &[Place]) -> Option<Place>
+/// The first of the places.
+pub fn first_of(places: &[Place]) -> Option<Place>
     ensures { result ≡ first_of places.now }
 {
     match places {

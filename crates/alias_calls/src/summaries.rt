@@ -31,7 +31,10 @@ pub enum SummaryEffect {
 }
 
 /// The plain parameters, in order.
-fn plain_params(alloc: Global, params: &[ParamPattern]) -> Result<List<IdentifierId>, AllocError>
+pub fn plain_params(
+    alloc: Global,
+    params: &[ParamPattern],
+) -> Result<List<IdentifierId>, AllocError>
     ensures { IfOk result (λ l. l ≡ plain_params params.now) }
 {
     let mut plain = List::new(alloc);
@@ -45,7 +48,7 @@ fn plain_params(alloc: Global, params: &[ParamPattern]) -> Result<List<Identifie
 }
 
 /// The last spread parameter.
-fn last_spread(params: &[ParamPattern]) -> Option<IdentifierId>
+pub fn last_spread(params: &[ParamPattern]) -> Option<IdentifierId>
     ensures { result ≡ last_spread params.now None }
 {
     let mut last = None;
