@@ -116,10 +116,20 @@ fn has_site_of_the_call(state: &InferenceState) -> bool {
         kind: ValueKind::Mutable,
         reason: ValueReason::Other,
     };
-    match state.values_for(IdentifierId(5)) {
-        Some(sites) => sites.get(made).is_some(),
-        None => false,
+    let Some(sites) = state.values_for(IdentifierId(5)) else {
+        return false;
+    };
+    let mut site = sites.next_site(None);
+    for _ in 0..4u32 {
+        if site == Some(made) {
+            return true;
+        }
+        site = match site {
+            Some(site) => sites.next_site(Some(site)),
+            None => None,
+        };
     }
+    false
 }
 
 #[test]

@@ -1,19 +1,17 @@
 -- Entries that change nothing where they are joined in.
-use Rattle.std.specs.Prelude.{◌&&◌, ◌||◌, not, ⊤}
-use Rattle.std.proofs.Common.{◌≡◌, ℕ, ◌+◌, ◌-◌, ◌<◌, ◌++◌, length, get_or, take, drop, Bool, true, false, IsTrue, List, [], ◌∷◌, Option, Some, refl, ap, sym, ◌∙◌, subst, suc, zero, add-one, arith}
+use Rattle.std.specs.Prelude.{◌&&◌, ◌||◌, not}
+use Rattle.std.proofs.Common.{◌≡◌, ℕ, ◌+◌, ◌-◌, ◌<◌, ◌++◌, length, get_or, take, drop, Bool, true, false, List, [], ◌∷◌, Some, refl, ap, sym, ◌∙◌, subst, suc, zero, add-one, arith}
 use Rattle.std.proofs.Math.Dec.{T}
 use Rattle.std.specs.List.{AllByRecursion}
 use Rattle.std.proofs.lemmas.List.{take-append-drop, drop-drop, take_all, length-drop}
 use Rattle.std.specs.declared.cmp.Ordering.{Ordering}
-use Rattle.std.specs.declared.cmp.Ordering.TheVariants.{Equal}
 use Rattle.std.specs.Cmp.{IsTotalOrder}
-use Rattle.std.specs.FinMap.{find, put, get, is_sorted, get-from_sorted}
+use Rattle.std.specs.FinMap.{find, put, is_sorted, get-from_sorted}
 use Rattle.alias_lattice.specs.Maps.{below_option, join_value, entries_below}
 use Rattle.alias_lattice.specs.ListMaps.{list_map, joined_list, list_grew}
-use Rattle.alias_lattice.specs.Chunks.{entries_of, chunk_at}
 use Rattle.alias_lattice.specs.Covers.{IsBeside, IsCovered, AreCovered}
 use Rattle.alias_lattice.proofs.Slots.{is_slot, find_slot}
-use Rattle.alias_lattice.proofs.ChunkSlots.{found_front, found_in, sorted_rear}
+use Rattle.alias_lattice.proofs.ChunkSlots.{found_front}
 use Rattle.alias_lattice.proofs.Belows.{joined_append, grew_append, below_append, put_found}
 
 -- the elements from an index on

@@ -146,11 +146,7 @@ pub(crate) fn value_at<K: PlainKey, V: Lattice + Drop>(
         return None;
     }
     let entry = &items[slot];
-    if key.cmp(&entry.0).is_eq() {
-        Some(&entry.1)
-    } else {
-        None
-    }
+    if key == entry.0 { Some(&entry.1) } else { None }
 }
 
 /// The slot of the key, or else the one that it would take. Halves the list until it is found.

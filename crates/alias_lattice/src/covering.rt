@@ -36,7 +36,7 @@ pub(crate) fn join_of<V: Lattice + Drop>(first: &V, second: &V) -> Result<V, All
 fn is_beside<K: PlainKey, V: Lattice + Drop>(entry: &(K, V), other: &(K, V)) -> bool
     ensures { IsTrue result → IsBeside K.cmp V.join V.below entry.now other.now }
 {
-    entry.0.cmp(&other.0).is_eq() && is_within(&entry.1, &other.1)
+    entry.0 == other.0 && is_within(&entry.1, &other.1)
 }
 
 /// How many of the first entries the others cover, each the one beside it.

@@ -1,6 +1,6 @@
 //! Maps to a lattice.
 
-ghost use Rattle.std.specs.Prelude.{◌≡◌, [], ◌∷◌, not, IfOk, IfSome, OnOk, OnErr, Option, Some, None, MatchOption};
+ghost use Rattle.std.specs.Prelude.{◌≡◌, [], not, IfOk, OnOk, OnErr, Option, Some, None, MatchOption};
 ghost use Rattle.std.proofs.Math.Dec.{T};
 ghost use Rattle.std.specs.FinMap.{is_sorted, find, put};
 ghost use Rattle.alias_lattice.specs.Maps.{below_option, join_value, entries_below};
@@ -58,12 +58,7 @@ impl<K: PlainKey, V: Lattice + Drop> Lattice for LatticeMap<K, V> {
     }
 
     fn is_below(&self, other: &Self) -> bool {
-        match (self.only_entry(), other.only_entry()) {
-            (Some(entry), Some(there)) => {
-                entry.0.cmp(&there.0).is_eq() && entry.1.is_below(&there.1)
-            }
-            _ => are_below(self.chunks(), other.chunks()),
-        }
+        are_below(self.chunks(), other.chunks())
     }
 
     fn try_clone(&self) -> Result<Self, AllocError> {
@@ -91,19 +86,6 @@ impl<K: PlainKey, V: Lattice + Drop> LatticeMap<K, V> {
         ensures sorted { T (is_sorted K.cmp self.now) }
     {
         self.chunks.as_slice()
-    }
-
-    /// The one entry, where there is one alone.
-    pub(crate) fn only_entry(&self) -> Option<&(K, V)>
-        ensures { IfSome result (λ e. self.now ≡ e.now ∷ []) }
-    {
-        match self.chunks() {
-            [chunk] => match chunk.entries() {
-                [entry] => Some(entry),
-                _ => None,
-            },
-            _ => None,
-        }
     }
 
     /// The entries from the cursor on, within one chunk. What is found in them is found in the map.

@@ -13,7 +13,7 @@ use crate::lattice::Lattice;
 use crate::map::LatticeMap;
 use crate::reasons::ReasonSet;
 use crate::site::Site;
-use crate::site_set::SiteSet;
+use crate::site_set::{Members, SiteSet};
 use crate::value::AbstractValue;
 use alias_hir::effect::{ValueKind, ValueReason};
 use std::alloc::AllocError;
@@ -120,7 +120,10 @@ fn value_over_sites(
 }
 
 /// The join of the values of the sites.
-fn value_over(values: &LatticeMap<Site, AbstractValue>, sites: &SiteSet) -> Option<AbstractValue>
+fn value_over(
+    values: &LatticeMap<Site, AbstractValue>,
+    sites: &LatticeMap<Site, ()>,
+) -> Option<AbstractValue>
     ensures { result ≡ value_over values.now sites.now None }
 {
     let mut value = None;
@@ -132,6 +135,26 @@ fn value_over(values: &LatticeMap<Site, AbstractValue>, sites: &SiteSet) -> Opti
     value
 }
 
+/// The site's value, if it has one.
+fn value_of_site(values: &LatticeMap<Site, AbstractValue>, site: Site) -> Option<AbstractValue>
+    ensures { result ≡ find site_cmp site values.now }
+{
+    values.get(site).copied()
+}
+
+/// The join of the values of the sites of a set.
+fn value_over_set(
+    values: &LatticeMap<Site, AbstractValue>,
+    sites: &SiteSet,
+) -> Option<AbstractValue>
+    ensures { result ≡ value_over values.now sites.now None }
+{
+    match sites.members() {
+        Members::One(site) => value_of_site(values, *site),
+        Members::Many(sites) => value_over(values, sites),
+    }
+}
+
 /// The join of the values of the sites, or Mutable {Other} where none has one.
 pub(crate) fn value_of_sites(
     values: &LatticeMap<Site, AbstractValue>,
@@ -139,7 +162,7 @@ pub(crate) fn value_of_sites(
 ) -> AbstractValue
     ensures { result ≡ look_at values.now (Some sites.now) }
 {
-    match value_over(values, sites) {
+    match value_over_set(values, sites) {
         Some(value) => value,
         None => mutable_other(),
     }
@@ -169,7 +192,7 @@ fn freezes_value(value: Option<AbstractValue>) -> bool
 pub(crate) fn freezes_sites(values: &LatticeMap<Site, AbstractValue>, sites: &SiteSet) -> bool
     ensures { result ≡ does_freeze_at values.now (Some sites.now) }
 {
-    freezes_value(value_over(values, sites))
+    freezes_value(value_over_set(values, sites))
 }
 
 /// Sets the value of each of the sites.
@@ -189,15 +212,12 @@ fn set_each(
 /// Sets the value of each of the sites. An `Err` leaves the values unchanged.
 fn set_all(
     values: &mut LatticeMap<Site, AbstractValue>,
-    sites: &SiteSet,
+    sites: &LatticeMap<Site, ()>,
     value: &AbstractValue,
 ) -> Result<(), AllocError>
     ensures set { OnOk result (values.new ≡ all_set value.now sites.now values.old) }
     ensures err { OnErr result (values.new ≡ values.old) }
 {
-    if let Some((site, _)) = sites.only_entry() {
-        return values.set(*site, *value);
-    }
     let mut changed = values.try_clone()?;
     let chunks = sites.chunks();
     for chunk in chunks {
@@ -205,6 +225,21 @@ fn set_all(
     }
     *values = changed;
     Ok(())
+}
+
+/// Sets the value of each of the sites of a set. An `Err` leaves the values unchanged.
+fn set_all_in(
+    values: &mut LatticeMap<Site, AbstractValue>,
+    sites: &SiteSet,
+    value: &AbstractValue,
+) -> Result<(), AllocError>
+    ensures set { OnOk result (values.new ≡ all_set value.now sites.now values.old) }
+    ensures err { OnErr result (values.new ≡ values.old) }
+{
+    match sites.members() {
+        Members::One(site) => values.set(*site, *value),
+        Members::Many(sites) => set_all(values, sites, value),
+    }
 }
 
 /// Sets the sites to the value, where their kind is Context, Mutable or MaybeFrozen. An `Err` leaves the values
@@ -220,7 +255,7 @@ pub(crate) fn freeze_sites(
 {
     let acts = freezes_sites(values, sites);
     if acts {
-        set_all(values, sites, value)?;
+        set_all_in(values, sites, value)?;
     }
     Ok(acts)
 }

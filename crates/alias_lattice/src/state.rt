@@ -12,7 +12,7 @@ use crate::look::{Look, MissingLook};
 use crate::map::{LatticeMap, set_both};
 use crate::reasons::ReasonSet;
 use crate::site::Site;
-use crate::site_set::{SiteSet, one_site, union_over};
+use crate::site_set::{SiteSet, union_over};
 use crate::site_values::{freeze_sites, freezes_sites, mutable_other, value_of_sites};
 use crate::value::AbstractValue;
 use alias_base::{BlockMap, IdentifierId};
@@ -77,7 +77,7 @@ impl InferenceState {
         ensures ok { OnOk result (self.new ≡ defined place site self.old) }
         ensures err { OnErr result (self.new ≡ self.old) }
     {
-        let set = one_site(self.alloc, site)?;
+        let set = SiteSet::single(self.alloc, site);
         self.define_all(place, set)
     }
 
@@ -91,7 +91,7 @@ impl InferenceState {
         ensures ok { OnOk result (self.new ≡ given place site value self.old) }
         ensures err { OnErr result (self.new ≡ self.old) }
     {
-        let set = one_site(self.alloc, site)?;
+        let set = SiteSet::single(self.alloc, site);
         set_both(
             &mut self.values,
             site,
