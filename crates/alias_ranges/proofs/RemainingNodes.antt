@@ -114,7 +114,8 @@ changed_at g i q f = ⊎_elim
     differ : (a b : ℕ) → (a ≡ b → ⊥) → (a == b) ≡ false
     differ a b h = grind arith
 
-put_at : (g : Nodes) (i q : IdentifierId) (n : Node) → node_at (with_node g i n) q ≡ cond (same_id q i) (Some n) (node_at g q)
+-- where a node more is looked for
+pub put_at : (g : Nodes) (i q : IdentifierId) (n : Node) → node_at (with_node g i n) q ≡ cond (same_id q i) (Some n) (node_at g q)
 put_at [] i q n = refl
 put_at (p ∷ g) i q n = elim (same_id i p.0) as (λ b. same_id i p.0 ≡ b → node_at (if b then (p.0, n) ∷ g else p ∷ with_node g i n) q ≡ cond (same_id q i) (Some n) (node_at (p ∷ g) q)) [
   | true ↦ λ is. let ids : p.0 ≡ i = id_is p.0 i (sym (eqb_is i.0 p.0.0 is)) in

@@ -13,6 +13,7 @@ mod pushes;
 mod render;
 mod reports;
 mod scratch;
+mod search;
 mod seen;
 mod seen_table;
 pub mod steps;

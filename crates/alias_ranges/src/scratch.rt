@@ -1,12 +1,12 @@
 //! What the walks of a graph write while they run.
-ghost use Rattle.std.specs.Prelude.{◌≡◌, ◌+◌, ◌*◌, ◌≤◌, [], vec_capacity, OnOk, replicate};
+ghost use Rattle.std.specs.Prelude.{◌≡◌, ◌*◌, ◌≤◌, [], vec_len, vec_capacity, OnOk, replicate};
 ghost use Rattle.alias_ranges.specs.Seen.{nothing_seen};
 
 use crate::seen_table::SeenTable;
 use crate::types::Pending;
 use std::alloc::{AllocError, Global};
 
-/// The entries that a walk has yet to visit, and what it has seen. Each walk takes over the room of the one before.
+/// The links that a walk has yet to follow, and what it has seen. Each walk takes over the room of the one before.
 #[derive(Drop)]
 pub(crate) struct Scratch {
     pub(crate) stack: Vec<Pending>,
@@ -22,17 +22,15 @@ impl Scratch {
         }
     }
 
-    /// Begins a walk over so many nodes and links: nothing is seen, and the stack is empty, with room for all that
-    /// is pushed where the lists of the nodes have each link twice.
-    pub(crate) fn begin(&mut self, nodes: usize, links: usize) -> Result<(), AllocError>
+    /// Begins a walk over so many nodes: nothing is seen, and the stack is empty, with room for the five lists of
+    /// each node, eight times.
+    pub(crate) fn begin(&mut self, nodes: usize) -> Result<(), AllocError>
         ensures stack { OnOk result (self.new.stack.items ≡ []) }
-        ensures room { OnOk result (1 + 16 * links ≤ vec_capacity self.new.stack) }
+        ensures empty { OnOk result (vec_len self.new.stack ≡ 0) }
+        ensures room { OnOk result (40 * nodes ≤ vec_capacity self.new.stack) }
         ensures seen { OnOk result (self.new.seen ≡ replicate nodes nothing_seen) }
     {
-        let Some(room) = links.checked_mul(16) else {
-            return Err(AllocError);
-        };
-        let Some(room) = room.checked_add(1) else {
+        let Some(room) = nodes.checked_mul(40) else {
             return Err(AllocError);
         };
         self.stack.clear();

@@ -1,6 +1,6 @@
 //! What a walk has seen, for each node.
 ghost use Rattle.std.specs.Prelude.{◌≡◌, ℕ, ◌+◌, ◌<◌, ◌≤◌, [], length, OnOk, slice_index_or, slice_set, replicate};
-ghost use Rattle.alias_ranges.specs.Seen.{nothing_seen, see};
+ghost use Rattle.alias_ranges.specs.Seen.{nothing_seen, is_seen, see};
 ghost use Rattle.alias_ranges.specs.SeenRows.{AllBefore};
 
 use crate::seen::Seen;
@@ -100,6 +100,17 @@ impl SeenTable {
         } else {
             Seen::nothing()
         }
+    }
+
+    /// Whether the walk has expanded an entry at a slot that covers this one.
+    #[inline(always)]
+    #[tactic(auto, using(crate::proofs::Rows::this_row_covers, crate::proofs::Rows::other_row_covers))]
+    pub(crate) fn covers(&self, slot: usize, entry: Entry) -> bool
+        requires { slot < length self.now }
+        ensures { result ≡ is_seen (slice_index_or self.now slot nothing_seen) entry }
+    {
+        let row = &self.rows[slot];
+        row.walk == self.walk && row.seen.covers(entry)
     }
 
     /// Notes an entry at a slot.
