@@ -80,7 +80,8 @@ taken : (b : Bool) (k j : ℕ) → (let r : Result ℕ HirError = if b then Ok (
 taken true k j h = cc
 taken false k j h = cc
 
-next_is : (k j : ℕ) → position_after k ≡ Ok j → j ≡ k + 1
+-- the position that is taken next
+pub next_is : (k j : ℕ) → position_after k ≡ Ok j → j ≡ k + 1
 next_is k j h = taken (nat_lt k 4294967295) k j h
 
 before_up : (k j : ℕ) → j ≡ k + 1 → (ms : List RecordedMutation) → AllOf (StandsBefore k) ms → AllOf (StandsBefore j) ms

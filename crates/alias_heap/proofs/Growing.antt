@@ -1,5 +1,5 @@
 -- Each event that makes a new node, or none, lets the graph grow, and a link that it adds stands in the lists of both ends.
-use Rattle.std.proofs.Common.{◌≡◌, ℕ, ◌<◌, ◌≤◌, ⊎_elim, true, false, cond, ◌&&◌, ◌||◌, ◌==◌, List, [], ◌∷◌, ◌++◌, Option, Some, None, is_some, option_map, if◌then◌else◌, refl, ap, sym, ◌∙◌, subst, inl, inr, ◌⊎◌, arith}
+use Rattle.std.proofs.Common.{◌≡◌, ℕ, ◌<◌, ◌≤◌, ⊎_elim, true, false, cond, ◌&&◌, ◌||◌, List, [], ◌∷◌, ◌++◌, Option, Some, None, is_some, option_map, refl, ap, sym, ◌∙◌, subst, inl, inr, ◌⊎◌, arith}
 use Rattle.std.proofs.lemmas.Bool.{cases_eq}
 use Rattle.alias_base.specs.declared.ids.IdentifierId.{IdentifierId}
 use Rattle.alias_ranges.specs.declared.types.EdgeKind.TheVariants.{Capture, Alias, MaybeAlias}
@@ -12,6 +12,7 @@ use Rattle.alias_ranges.proofs.Covering.{eqb_is, eqb_itself}
 use Rattle.alias_ranges.proofs.Effects.{changed_here, changed_apart}
 use Rattle.alias_ranges.proofs.Legality.{in_left, in_right, in_either}
 use Rattle.alias_ranges.proofs.Reaching.{id_is}
+use Rattle.alias_ranges.proofs.RemainingNodes.{put_at}
 use Rattle.alias_ranges.proofs.Within.{same_changed, created_more}
 use Rattle.alias_heap.proofs.Linking.{LinkKind, CreatedLink, CaptureLink, AliasLink, MaybeLink, edge_kind, sources_of, Joins, NodeGrows, Grows, node_same, grows_same, grows_on, node_of}
 
@@ -176,21 +177,10 @@ module _ (k : LinkKind) (g : Nodes) (p : ℕ) (a x : IdentifierId) where
 -- ---- a node more
 
 put_apart : (g : Nodes) (i q : IdentifierId) (n : Node) → same_id q i ≡ false → node_at (with_node g i n) q ≡ node_at g q
-put_apart [] i q n h = ap (λ b. cond b (Some n) None) h
-put_apart (p ∷ g) i q n h = elim (same_id i p.0) as (λ b. same_id i p.0 ≡ b → node_at (if b then (p.0, n) ∷ g else p ∷ with_node g i n) q ≡ cond (same_id q p.0) (Some p.1) (node_at g q)) [
-  | true ↦ λ is.
-      let ids : i.0 ≡ p.0.0 = eqb_is i.0 p.0.0 is in
-      let no : same_id q p.0 ≡ false = ap (λ (z : ℕ). q.0 == z) (sym ids) ∙ h in
-      ap (λ b. cond b (Some n) (node_at g q)) no ∙ ap (λ b. cond b (Some p.1) (node_at g q)) (sym no)
-  | false ↦ λ is. ap (cond (same_id q p.0) (Some p.1)) (put_apart g i q n h)
-] refl
+put_apart g i q n h = put_at g i q n ∙ ap (λ b. cond b (Some n) (node_at g q)) h
 
 put_here : (g : Nodes) (i : IdentifierId) (n : Node) → node_at (with_node g i n) i ≡ Some n
-put_here [] i n = ap (λ b. cond b (Some n) None) (eqb_itself i.0)
-put_here (p ∷ g) i n = elim (same_id i p.0) as (λ b. same_id i p.0 ≡ b → node_at (if b then (p.0, n) ∷ g else p ∷ with_node g i n) i ≡ Some n) [
-  | true ↦ λ is. ap (λ b. cond b (Some n) (node_at g i)) is
-  | false ↦ λ is. ap (λ b. cond b (Some p.1) (node_at (with_node g i n) i)) is ∙ put_here g i n
-] refl
+put_here g i n = put_at g i i n ∙ ap (λ b. cond b (Some n) (node_at g i)) (eqb_itself i.0)
 
 no_sources : (value : NodeValue) (k : LinkKind) (l : Source) → IsOneOf l (sources_of k (fresh value)) → ⊥
 no_sources value CreatedLink l i = i

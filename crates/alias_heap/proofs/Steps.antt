@@ -1,13 +1,11 @@
 -- Each step of a listing lets the graph grow, and takes positions that are new.
-use Rattle.std.proofs.Common.{◌≡◌, ℕ, ◌+◌, ◌<◌, ◌≤◌, Bool, true, false, ◌||◌, if◌then◌else◌, List, [], ◌∷◌, ◌++◌, Option, Some, None, nat_lt, slice_get, slice_set, refl, ap, sym, ◌∙◌, subst, arith, le_refl, le_trans, append_assoc, append-nil}
-use Rattle.std.specs.Prelude.{Result, Ok, Err}
+use Rattle.std.proofs.Common.{◌≡◌, ℕ, ◌+◌, ◌<◌, ◌≤◌, true, false, ◌||◌, List, [], ◌∷◌, ◌++◌, Option, Some, None, slice_get, slice_set, refl, ap, sym, ◌∙◌, subst, arith, le_refl, le_trans, append_assoc, append-nil}
+use Rattle.std.specs.Prelude.{Result, Ok}
 use Rattle.std.specs.Option.{option_map_or}
 use Rattle.std.proofs.lemmas.List.Sums.{fold_push}
 use Rattle.alias_base.specs.Answer.{◌>>=◌}
 use Rattle.alias_base.specs.declared.ids.IdentifierId.{IdentifierId}
-use Rattle.alias_hir.specs.declared.error.Counter.TheVariants.{GraphPositions}
 use Rattle.alias_hir.specs.declared.error.HirError.{HirError}
-use Rattle.alias_hir.specs.declared.error.HirError.TheVariants.{TooMany}
 use Rattle.alias_ranges.specs.declared.events.GraphEvent.{GraphEvent}
 use Rattle.alias_ranges.specs.declared.events.GraphEvent.TheVariants as event
 use Rattle.alias_ranges.specs.declared.types.EdgeKind.TheVariants.{Capture, Alias, MaybeAlias}
@@ -19,7 +17,7 @@ use Rattle.alias_ranges.proofs.Within.{created_more}
 use Rattle.alias_events.specs.BlockListings.{pending_at, pending_more}
 use Rattle.alias_events.specs.declared.listing.Listing.{Listing}
 use Rattle.alias_events.specs.Fitting.{AllOf}
-use Rattle.alias_events.specs.FitLaws.{all_at, all_set, all_push, went_on}
+use Rattle.alias_events.specs.FitLaws.{all_at, all_set, all_push, next_is, went_on}
 use Rattle.alias_events.specs.Listings.{position_after}
 use Rattle.alias_events.specs.Recording.{graph_listed}
 use Rattle.alias_heap.specs.Making.{is_among}
@@ -220,14 +218,6 @@ pub step_pending : (done : List IdentifierId) (l : Listing) → Keeping done l �
 step_pending done l kp k = step_all done (pending_at l.pending k) l kp (waiting l.next l.pending k (slice_get l.pending k) kp.waits refl)
 
 -- ---- answers
-
-taken : (b : Bool) (n j : ℕ) → (let r : Result ℕ HirError = if b then Ok (n + 1) else Err (TooMany GraphPositions) in r ≡ Ok j) → j ≡ n + 1
-taken true n j h = cc
-taken false n j h = cc
-
--- the position that is taken next
-pub next_is : (n j : ℕ) → position_after n ≡ Ok j → j ≡ n + 1
-next_is n j h = taken (nat_lt n 4294967295) n j h
 
 pub okay_is : (l m : Listing) → (let r : Result Listing HirError = Ok l in r ≡ Ok m) → l ≡ m
 okay_is l m h = cc

@@ -14,6 +14,7 @@ use Rattle.alias_hir.specs.declared.hir.HirFunction.{HirFunction}
 use Rattle.alias_hir.specs.declared.hir.Instruction.{Instruction}
 use Rattle.alias_function_rules.specs.Rules.{is_among, first_missing, missing, listed_instructions, instructions_listed, first_again, twice, none_listed_twice}
 use Rattle.alias_rules.specs.Nesting.{number_of, created_in, times}
+use Rattle.alias_rules.specs.RuleLaws.{range_at}
 use Rattle.alias_rules.specs.TreeLaws.{times_cons, times_both, counted}
 use Rattle.alias_nesting_laws.specs.FittingLaws.{first_among, later_among}
 use Rattle.alias_nested.specs.Created.{one_of, created_by, created_by_all, created_functions}
@@ -105,14 +106,6 @@ once_again seen (x ∷ xs) k h =
             | false ↦ λ s t. let rest : times xs k ≤ 1 = once_again (x ∷ seen) xs k g in omega arith
           ] refl c
     ] h
-
--- a number at its place
-pub range_at : (a n k : ℕ) → k < n → slice_get (range_with_len a n) k ≡ Some (a + k)
-range_at a zero k h = absurd (omega arith)
-range_at a (suc n) zero h = let same : a ≡ a + 0 = omega arith in ap (λ (z : ℕ). Some z) same
-range_at a (suc n) (suc k) h =
-    let same : (a + 1) + k ≡ a + suc k = omega arith in
-    range_at (a + 1) n k (omega arith) ∙ ap (λ (z : ℕ). Some z) same
 
 not_found : (b : Bool) (y : ℕ) (o : Option ℕ) → cond b (Some y) o ≡ None → (b ≡ false) × (o ≡ None)
 not_found true y o h = cc

@@ -7,6 +7,7 @@ use Rattle.alias_hir.specs.declared.env.Unit.{Unit as HirUnit}
 use Rattle.alias_hir.specs.declared.hir.HirFunction.{HirFunction}
 use Rattle.alias_rules.specs.Functions.{rules_hold}
 use Rattle.alias_rules.specs.Nesting.{times}
+use Rattle.alias_rules.specs.RuleLaws.{lt_or_le}
 use Rattle.alias_lattice.specs.States.{State}
 use Rattle.alias_flow.specs.Machine.{VisitLog, End}
 use Rattle.alias_flow.specs.Machine as end
@@ -24,7 +25,7 @@ use Rattle.alias_nested.specs.Created.{created_functions}
 use Rattle.alias_nested.specs.Units.{RootAnalysis, validated, root_finished, root_analysed, all_analysed, UnitAnalysis, handed_out, unit_analysed}
 use Rattle.alias_order_laws.specs.Order.{innermost_first, nested_innermost_first, functions_of}
 use Rattle.alias_order_laws.proofs.Ordering.{went, done, Apart, Done, goes_over}
-use Rattle.alias_order_laws.proofs.Unit.{lt_or_le, order_once, order_past}
+use Rattle.alias_order_laws.proofs.Unit.{order_once, order_past}
 
 -- the solution of the effects pass names no function
 end_names_none : (env : Environment) (f : HirFunction) (x : End (VisitLog State) TableLists BlockEffects BlockRefusal) (e : PassEnd) → answer_of env f x ≡ Ok e → e.solved.function ≡ None

@@ -1,68 +1,34 @@
 -- The order of a unit that keeps the rules has each nested function once.
-use Rattle.std.specs.Prelude.{◌≡◌, ◌⊎◌, ℕ, ◌==◌, nat_lt, Bool, true, false, cond, List, [], ◌∷◌, ◌++◌, Option, Some, None, Result, Ok, ⊤, length, slice_get, if◌then◌else◌}
-use Rattle.std.specs.List.{flat_map, range_with_len}
-use Rattle.std.proofs.Common.{zero, suc, refl, ap, ◌∙◌, subst, arith, ◌+◌, ◌<◌, ◌≤◌, inl, inr, ⊎_elim}
-use Rattle.std.proofs.lemmas.Bool.Decides.{nat_tests}
+use Rattle.std.specs.Prelude.{◌≡◌, ℕ, true, false, List, [], ◌∷◌, ◌++◌, Option, Some, None, Ok, length, slice_get, if◌then◌else◌}
+use Rattle.std.specs.List.{flat_map}
+use Rattle.std.proofs.Common.{zero, suc, refl, ap, ◌∙◌, subst, arith, ◌+◌, ◌<◌, ◌≤◌}
 use Rattle.std.proofs.lemmas.List.{map-append}
-use Rattle.alias_base.specs.Answer.{all_pass}
 use Rattle.alias_base.specs.AnswerLaws.{both_pass}
 use Rattle.alias_base.specs.declared.ids.FunctionId.{FunctionId}
-use Rattle.alias_hir.specs.Parts.{param_place}
-use Rattle.alias_hir.specs.Values.{created}
 use Rattle.alias_hir.specs.declared.env.Environment.{Environment}
 use Rattle.alias_hir.specs.declared.env.Unit.{Unit as HirUnit}
 use Rattle.alias_hir.specs.declared.hir.HirFunction.{HirFunction}
-use Rattle.alias_hir.specs.declared.hir.Instruction.{Instruction}
-use Rattle.alias_function_rules.specs.Rules.{is_among, tables_fit, types_fit, place_fits, created_fits, instruction_fits, numbers_fit}
-use Rattle.alias_function_rules.specs.declared.fault.Table.TheVariants.{Functions}
-use Rattle.alias_function_rules.specs.declared.fault.UnitFault.TheVariants.{IdOutOfRange, NestingTooDeep}
-use Rattle.alias_rules.specs.Functions.{rule_holds, of_function, at_function, nested_in, in_unit, rules_hold}
-use Rattle.alias_rules.specs.Nesting.{number_of, created_in, created_of, created_at, next_level, tree_below, fresh, reached_from, reached, times, within_depth, nesting_is_tree, nesting_not_deep}
-use Rattle.alias_rules.specs.RuleLaws.{passes_at, rules_make_function_fit}
-use Rattle.alias_rules.specs.TreeLaws.{times_cons, times_both, counted}
-use Rattle.alias_rules.specs.declared.rules.Rule.{Rule}
+use Rattle.alias_function_rules.specs.Rules.{is_among, tables_fit, types_fit}
+use Rattle.alias_rules.specs.Functions.{of_function, nested_in, in_unit, rules_hold}
+use Rattle.alias_rules.specs.Nesting.{created_in, created_of, created_at, next_level, tree_below, fresh, reached_from, reached, times, nesting_is_tree, nesting_not_deep}
+use Rattle.alias_rules.specs.RuleLaws.{root_of_rules, nested_of_rules, function_past, found_within, rules_make_function_fit}
+use Rattle.alias_rules.specs.TreeLaws.{times_both, counted}
 use Rattle.alias_rules.specs.declared.rules.Rule.TheVariants.{Numbers, Entry, Successors, Listed, ListedOnce}
 use Rattle.alias_nesting_laws.specs.ClosureLaws.{Among, Closed, tree_closed}
 use Rattle.alias_nesting_laws.specs.FittingLaws.{Fitted, fitted, first_among, later_among}
 use Rattle.alias_nesting_laws.specs.PartLaws.{among_cases, append_cases}
-use Rattle.alias_nesting_laws.specs.SlotLaws.{where_asked}
 use Rattle.alias_pruning_laws.specs.BelowLaws.{Source, source_of, below_are, below_distinct}
 use Rattle.alias_nested.specs.Created.{created_functions}
 use Rattle.alias_order_laws.specs.Order.{created_by_slot, innermost_first, nested_innermost_first, numbers}
 use Rattle.alias_order_laws.proofs.Counting.{flat_times, total_same, zero_total, numbers_innermost_first, listed_same, tree_times}
-use Rattle.alias_order_laws.proofs.Creating.{once_again, range_at, created_as_often}
+use Rattle.alias_order_laws.proofs.Creating.{once_again, created_as_often}
 
 -- ---- the rules of a unit
-
-past_end : {A : Type 0} (xs : List A) (k : ℕ) → length xs ≤ k → slice_get xs k ≡ None
-past_end [] k h = refl
-past_end (x ∷ xs) zero h = absurd (omega arith)
-past_end (x ∷ xs) (suc k) h = past_end xs k (omega arith)
-
-pub lt_or_le : (k n : ℕ) → (k < n) ⊎ (n ≤ k)
-lt_or_le k zero = inr (omega arith)
-lt_or_le zero (suc n) = inl (omega arith)
-lt_or_le (suc k) (suc n) = ⊎_elim (λ (h : k < n). inl (omega arith)) (λ (h : n ≤ k). inr (omega arith)) (lt_or_le k n)
-
--- each number below n passes
-each_number : {E : Type 0} (f : ℕ → Result ⊤ E) (n k : ℕ) → all_pass f (range_with_len 0 n) ≡ Ok tt → k < n → f k ≡ Ok tt
-each_number f n k h there = let plain : 0 + k ≡ k = omega arith in passes_at f (range_with_len 0 n) k k h (range_at 0 n k there ∙ ap (λ (z : ℕ). Some z) plain)
-
-root_of_rule : (r : Rule) (u : HirUnit) → in_unit r u ≡ Ok tt → rule_holds r u.env None u.function ≡ Ok tt
-root_of_rule r u h = (both_pass (rule_holds r u.env None u.function) _ h).0
-
-nested_of_rule : (r : Rule) (u : HirUnit) (k : ℕ) → in_unit r u ≡ Ok tt → at_function r u.env k ≡ Ok tt
-nested_of_rule r u k h =
-    let all : all_pass (at_function r u.env) (range_with_len 0 (length u.env.functions)) ≡ Ok tt = (both_pass (rule_holds r u.env None u.function) _ h).1 in
-    ⊎_elim
-    (λ (there : k < length u.env.functions). each_number (at_function r u.env) (length u.env.functions) k all there)
-    (λ (past : length u.env.functions ≤ k). ap (of_function r u.env k) (past_end u.env.functions k past))
-    (lt_or_le k (length u.env.functions))
 
 record Parts (u : HirUnit) : Type 0 where
   numbers : in_unit Numbers u ≡ Ok tt
   depth : nesting_not_deep u (nested_in u) ≡ Ok tt
-  all_listed : in_unit Listed u ≡ Ok tt
+  listed : in_unit Listed u ≡ Ok tt
   once : in_unit ListedOnce u ≡ Ok tt
 
 parts_of_rules : (u : HirUnit) → rules_hold u ≡ Ok tt → Parts u
@@ -76,35 +42,9 @@ parts_of_rules u rules =
     let t : (types_fit u.env ≡ Ok tt) × _ = both_pass (types_fit u.env) _ w.1 in
     let e : (in_unit Listed u ≡ Ok tt) × _ = both_pass (in_unit Listed u) _ t.1 in
     let f : (in_unit ListedOnce u ≡ Ok tt) × _ = both_pass (in_unit ListedOnce u) _ e.1 in
-    record { numbers = b.0; depth = w.0; all_listed = e.0; once = f.0 }
+    record { numbers = b.0; depth = w.0; listed = e.0; once = f.0 }
 
 -- ---- no number past the table
-
-number_past : (env : Environment) (o : Option FunctionId) (k : ℕ) → created_fits env o ≡ Ok tt → length env.functions ≤ k → times (number_of o) k ≡ 0
-number_past env None k h past = refl
-number_past env (Some f) k h past =
-    let below : nat_lt f.0 (length env.functions) ≡ true = where_asked (nat_lt f.0 (length env.functions)) (IdOutOfRange Functions f.0) (Ok tt) refl h in
-    let other : (f.0 == k) ≡ false = grind (arith, nat_tests) in
-    times_cons f.0 [] k ∙ ap (λ (b : Bool). cond b 1 0 + times [] k) other
-
-created_past : (env : Environment) (is : List Instruction) (k : ℕ) → all_pass (instruction_fits env) is ≡ Ok tt → length env.functions ≤ k
-    → times (flat_map (λ (i : Instruction). number_of (created i.value)) is) k ≡ 0
-created_past env [] k h past = refl
-created_past env (i ∷ is) k h past =
-    let p : (instruction_fits env i ≡ Ok tt) × (all_pass (instruction_fits env) is ≡ Ok tt) = both_pass (instruction_fits env i) (all_pass (instruction_fits env) is) h in
-    let q = both_pass (place_fits env i.lvalue) _ p.0 in
-    let r = both_pass (created_fits env (created i.value)) _ q.1 in
-    let a : times (number_of (created i.value)) k ≡ 0 = number_past env (created i.value) k r.0 past in
-    let b : times (flat_map (λ (i : Instruction). number_of (created i.value)) is) k ≡ 0 = created_past env is k p.1 past in
-    let c : times (flat_map (λ (i : Instruction). number_of (created i.value)) (i ∷ is)) k ≡ times (number_of (created i.value)) k + times (flat_map (λ (i : Instruction). number_of (created i.value)) is) k
-    = times_both (number_of (created i.value)) (flat_map (λ (i : Instruction). number_of (created i.value)) is) k in omega arith
-
-function_past : (env : Environment) (f : HirFunction) (k : ℕ) → numbers_fit env f ≡ Ok tt → length env.functions ≤ k → times (created_in f) k ≡ 0
-function_past env f k h past =
-    let a = both_pass (all_pass (λ p. place_fits env (param_place p)) f.params) _ h in
-    let b = both_pass (all_pass (place_fits env) f.context) _ a.1 in
-    let c = both_pass (place_fits env f.returns) _ b.1 in
-    created_past env f.instructions k (both_pass (all_pass (instruction_fits env) f.instructions) _ c.1).0 past
 
 slot_past : (env : Environment) (n : ℕ) (o : Option HirFunction) (k : ℕ) → of_function Numbers env n o ≡ Ok tt → length env.functions ≤ k → times (created_of o) k ≡ 0
 slot_past env n None k h past = refl
@@ -175,10 +115,10 @@ module _ (u : HirUnit) (rules : rules_hold u ≡ Ok tt) where
 
   -- the function in a slot creates by its blocks what its instructions create, and so does the root
   pub slots_as_often : (k j : ℕ) → times (created_numbers u.env.functions k) j ≡ times (created_at u.env k) j
-  slots_as_often k j = slot_as_often u.env k (slice_get u.env.functions k) (nested_of_rule Listed u k parts.all_listed) (nested_of_rule ListedOnce u k parts.once) j
+  slots_as_often k j = slot_as_often u.env k (slice_get u.env.functions k) (nested_of_rules Listed u k parts.listed) (nested_of_rules ListedOnce u k parts.once) j
 
   pub root_as_often : (j : ℕ) → times (numbers (created_functions u.function)) j ≡ times (created_in u.function) j
-  root_as_often j = created_as_often None u.function (root_of_rule Listed u parts.all_listed) (root_of_rule ListedOnce u parts.once) j
+  root_as_often j = created_as_often None u.function (root_of_rules Listed u parts.listed) (root_of_rules ListedOnce u parts.once) j
 
   -- each number is in the order as often as among the functions below the root
   order_times : (j : ℕ) → times (numbers (nested_innermost_first u)) j ≡ times fits.below j
@@ -195,10 +135,10 @@ module _ (u : HirUnit) (rules : rules_hold u ≡ Ok tt) where
   order_past k past =
       let a : times fits.below k ≡ times (created_in u.function ++ flat_map (created_at u.env) fits.below) k = ap (λ zs. times zs k) (below_are u.env u.function fits.below fits.tree) in
       let b : times (created_in u.function ++ flat_map (created_at u.env) fits.below) k ≡ times (created_in u.function) k + times (flat_map (created_at u.env) fits.below) k = times_both (created_in u.function) (flat_map (created_at u.env) fits.below) k in
-      let c : times (created_in u.function) k ≡ 0 = function_past u.env u.function k (root_of_rule Numbers u parts.numbers) past in
+      let c : times (created_in u.function) k ≡ 0 = function_past u.env u.function k (root_of_rules Numbers u parts.numbers) past in
       let d : times (flat_map (created_at u.env) fits.below) k ≡ 0
       = flat_times (created_at u.env) fits.below k
-      ∙ total_same (λ x. times (created_at u.env x) k) (λ x. 0) (λ x. slot_past u.env x (slice_get u.env.functions x) k (nested_of_rule Numbers u x parts.numbers) past) fits.below
+      ∙ total_same (λ x. times (created_at u.env x) k) (λ x. 0) (λ x. slot_past u.env x (slice_get u.env.functions x) k (nested_of_rules Numbers u x parts.numbers) past) fits.below
       ∙ zero_total fits.below in
       let e : times (numbers (nested_innermost_first u)) k ≡ times fits.below k = order_times k in
       omega arith
@@ -206,8 +146,7 @@ module _ (u : HirUnit) (rules : rules_hold u ≡ Ok tt) where
   pub order_once : (k : ℕ) → k < length u.env.functions → times (numbers (nested_innermost_first u)) k ≡ 1
   order_once k there =
       let closed : Closed u.env [] (created_in u.function) fits.below = tree_closed u.env 63 [] (created_in u.function) fits.below fits.tree in
-      let found : is_among (reached 63 u) k ≡ true
-      = where_asked (is_among (reached 63 u) k) (NestingTooDeep (Some (record { 0 = k }))) (Ok tt) refl (each_number (within_depth (reached 63 u)) (length u.env.functions) k parts.depth there) in
+      let found : is_among (reached 63 u) k ≡ true = found_within u k parts.depth there in
       let among : is_among fits.below k ≡ true
       = reached_among 63 u.env [] (created_in u.function) fits.below closed.has_found closed.has_level (λ x h. closed.closed x h refl) k found in
       let least : 1 ≤ times fits.below k = counted fits.below k among in
