@@ -1,2 +1,5 @@
 mod Counting
 mod Escaping
+mod Looking
+mod Parsing
+mod Unknown

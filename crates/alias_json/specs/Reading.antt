@@ -1,7 +1,8 @@
 -- How JSON data are read, and what is told of them.
-use Rattle.std.specs.Prelude.{ℕ, ◌+◌, ◌^◌, ◌==◌, Bool, false, ◌||◌, nat_eq, List, [], ◌∷◌, Result, Ok, ⊤, nat_lt, is_some, if◌then◌else◌}
+use Rattle.std.specs.Prelude.{ℕ, ◌+◌, ◌^◌, ◌==◌, Bool, false, ◌||◌, nat_eq, List, [], ◌∷◌, Option, None, Some, Result, Ok, ⊤, nat_lt, is_some, if◌then◌else◌}
 use Rattle.serde_json.specs.Data.{Num, unsigned, negative, float, Data, null, boolean, number, string, array, object, Items, no_items, item, Members, no_members, member}
-use Rattle.std.specs.Cmp.Lexicographic.{pointwise}
+use Rattle.std.specs.Cmp.Lexicographic.{pointwise, slice_cmp}
+use Rattle.std.specs.Ordering.{nat_cmp, match_ordering}
 use Rattle.serde_json.specs.Find.{get, as_array, as_object, as_str}
 use Rattle.alias_json.specs.Pointer.{at_key}
 use Rattle.alias_json.specs.Fault.{refusal}
@@ -80,6 +81,23 @@ text_is a b = pointwise nat_eq a b
 abbrev pub is_known : List (List ℕ) → List ℕ → Bool
 is_known [] key = false
 is_known (k ∷ ks) key = text_is key k || is_known ks key
+
+abbrev pub lesser : List ℕ → List ℕ → List ℕ
+lesser one other = match_ordering (slice_cmp nat_cmp one other) one one other
+
+abbrev pub or_lesser : Option (List ℕ) → List ℕ → List ℕ
+or_lesser None key = key
+or_lesser (Some least) key = lesser least key
+
+-- the least of `least`, if there is one, and of the keys that aren't known
+abbrev pub least_unknown : List (List ℕ) → List (List ℕ) → Option (List ℕ) → Option (List ℕ)
+least_unknown known [] least = least
+least_unknown known (k ∷ ks) least = least_unknown known ks (if is_known known k then least else Some (or_lesser least k))
+
+-- the fault of a key that isn't known, if there is one
+abbrev pub if_unknown : List ℕ → Option (List ℕ) → Result ⊤ ValueFault
+if_unknown p None = Ok tt
+if_unknown p (Some k) = refusal (at_key p k) Unknown
 
 -- no key but these
 abbrev pub members_known : List (List ℕ) → List ℕ → Members → Result ⊤ ValueFault

@@ -1,8 +1,8 @@
 -- A step of the loop over the entries of a map.
 use Rattle.std.proofs.Common.{Bor, refl, sym, ◌∙◌, ap, subst, ◌≡◌, ℕ, ◌+◌, ◌<◌, List, ◌∷◌, drop, get_or, length, suc, add-one, drop-cons}
 use Rattle.std.specs.Prelude.{Result, Ok, Err, IsErrAnd}
-use Rattle.serde_json.specs.View.{view, items_view}
-use Rattle.serde_json.specs.declared.value.Value.{Value}
+use Rattle.alias_json.specs.Tree.{view, items_view}
+use Rattle.alias_json.specs.declared.tree.Tree.{Tree}
 use Rattle.alias_base.specs.Answer.{◌>>=◌, Gives}
 use Rattle.alias_base.specs.Find.{with_value}
 use Rattle.alias_base.specs.declared.ids.BlockId.{BlockId}
@@ -19,7 +19,7 @@ use Rattle.alias_read.specs.Entries.{ReadsEntry, entry_items_at}
 pub pointer-index : (above : Bor Path) (i : ℕ) → pointer (Index above i) ≡ at_index (pointer above.now) i
 pointer-index above i = ap pointer (sym (rolls-Index above i)) ∙ fold-roll-Path (List ℕ) pointer_step (Path-F.Index above i)
 
-module _ {V : Type 0} (f : ReadsEntry V) (p : List ℕ) (vs : List Value) (i : ℕ) (v : Value) (found : List (BlockId × V)) (q : List ℕ) (here : q ≡ at_index p i) where
+module _ {V : Type 0} (f : ReadsEntry V) (p : List ℕ) (vs : List Tree) (i : ℕ) (v : Tree) (found : List (BlockId × V)) (q : List ℕ) (here : q ≡ at_index p i) where
   entry_first : i < length vs → v ≡ get_or vs i v
       → entry_items_at f p i found (items_view (drop i vs)) ≡ (f found q (view v) >>= (λ (e : BlockId × V). entry_items_at f p (i + 1) (with_value found e.0 e.1) (items_view (drop (i + 1) vs))))
   entry_first h is =

@@ -1,8 +1,8 @@
 -- A step of the loop over the shapes.
 use Rattle.std.proofs.Common.{refl, sym, ◌∙◌, ap, ◌≡◌, ℕ, ◌+◌, ◌<◌, List, [], ◌∷◌, ◌++◌, drop, get_or, length, suc, add-one, drop-cons}
 use Rattle.std.specs.Prelude.{Result, Ok, Err}
-use Rattle.serde_json.specs.View.{view, items_view}
-use Rattle.serde_json.specs.declared.value.Value.{Value}
+use Rattle.alias_json.specs.Tree.{view, items_view}
+use Rattle.alias_json.specs.declared.tree.Tree.{Tree}
 use Rattle.alias_base.specs.Answer.{◌>>=◌, Gives}
 use Rattle.alias_hir.specs.declared.signature.Shape.{Shape}
 use Rattle.alias_json.specs.declared.fault.ValueFault.{ValueFault}
@@ -10,7 +10,7 @@ use Rattle.alias_json.specs.Fault.{is_memory}
 use Rattle.alias_json.specs.Pointer.{at_index}
 use Rattle.alias_read.specs.Shapes.{shape_at, shape_items_at}
 
-module _ (p : List ℕ) (vs : List Value) (i : ℕ) (v : Value) (found : List Shape) (q : List ℕ) (here : q ≡ at_index p i) where
+module _ (p : List ℕ) (vs : List Tree) (i : ℕ) (v : Tree) (found : List Shape) (q : List ℕ) (here : q ≡ at_index p i) where
   shapes_first : i < length vs → v ≡ get_or vs i v
       → shape_items_at p i found (items_view (drop i vs)) ≡ (shape_at found q (view v) >>= (λ (s : Shape). shape_items_at p (i + 1) (found ++ s ∷ []) (items_view (drop (i + 1) vs))))
   shapes_first h is =

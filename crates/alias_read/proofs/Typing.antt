@@ -1,5 +1,5 @@
 -- How the type at the key `return_type` is read, and that it nests less deep.
-use Rattle.std.proofs.Common.{refl, ap, sym, subst, ◌∙◌, ◌≡◌, ◌<◌, ◌≤◌, ℕ, suc, max, List, arith}
+use Rattle.std.proofs.Common.{refl, ap, sym, subst, ◌∙◌, ◌≡◌, ◌<◌, ◌≤◌, ℕ, max, List, arith}
 use Rattle.std.specs.Prelude.{Result, Ok, Err, IsErrAnd, Option, Some, None, ⊤, codes}
 use Rattle.std.specs.Ordering.{nat_cmp, match_ordering}
 use Rattle.std.specs.declared.cmp.Ordering.{Ordering}

@@ -1,5 +1,5 @@
 -- The calls, and the instructions that create a function, that JSON data spell.
-use Rattle.std.specs.Prelude.{ℕ, List, [], ◌∷◌, Ok, codes}
+use Rattle.std.specs.Prelude.{List, [], ◌∷◌, Ok, codes}
 use Rattle.alias_base.specs.Answer.{◌>>=◌}
 use Rattle.alias_hir.specs.declared.value.InstructionValue.{InstructionValue}
 use Rattle.alias_hir.specs.declared.value.InstructionValue.TheVariants as value

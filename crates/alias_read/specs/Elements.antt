@@ -1,5 +1,5 @@
 -- The elements, properties and JSX parts that JSON data spell.
-use Rattle.std.specs.Prelude.{ℕ, List, [], ◌∷◌, Option, Some, None, Result, Ok, codes, ⊤, if◌then◌else◌}
+use Rattle.std.specs.Prelude.{ℕ, List, [], ◌∷◌, Option, Some, None, Ok, codes, ⊤, if◌then◌else◌}
 use Rattle.alias_base.specs.Answer.{◌>>=◌}
 use Rattle.alias_hir.specs.declared.place.Place.{Place}
 use Rattle.alias_hir.specs.declared.value.ArrayElement.{ArrayElement}
@@ -17,7 +17,6 @@ use Rattle.alias_hir.specs.declared.value.JsxAttribute.TheVariants as attribute
 use Rattle.alias_json.specs.Fault.{refusal}
 use Rattle.alias_json.specs.Reading.{Reads, text_at, object_at, known_keys, is_text, has_key, text_is}
 use Rattle.alias_read.specs.Json.{option_at, required, optional}
-use Rattle.alias_json.specs.declared.fault.ValueFault.{ValueFault}
 use Rattle.alias_json.specs.declared.fault.TextRule.TheVariants.{Name}
 use Rattle.alias_read.specs.Places.{place_at, spread_at, place_or_spread}
 

@@ -1,5 +1,5 @@
 -- The instructions, blocks and functions that JSON data spell.
-use Rattle.std.specs.Prelude.{ℕ, List, [], ◌∷◌, None, Ok, ⊤, codes}
+use Rattle.std.specs.Prelude.{[], ◌∷◌, None, Ok, ⊤, codes}
 use Rattle.alias_base.specs.Answer.{◌>>=◌}
 use Rattle.alias_base.specs.declared.ids.InstructionId.{InstructionId}
 use Rattle.alias_hir.specs.declared.place.Place.{Place}

@@ -1,5 +1,5 @@
 -- The places that JSON data spell, and what may stand where a place may.
-use Rattle.std.specs.Prelude.{ℕ, false, List, [], ◌∷◌, Option, Some, None, Result, Ok, codes, if◌then◌else◌}
+use Rattle.std.specs.Prelude.{ℕ, false, [], ◌∷◌, Option, Some, None, Ok, codes, if◌then◌else◌}
 use Rattle.alias_base.specs.Answer.{◌>>=◌}
 use Rattle.alias_hir.specs.declared.place.Span.{Span}
 use Rattle.alias_hir.specs.declared.place.Place.{Place}

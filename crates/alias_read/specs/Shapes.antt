@@ -1,8 +1,8 @@
 -- The shapes that JSON data spell, no two of one name.
-use Rattle.std.specs.Prelude.{ℕ, ◌+◌, ◌++◌, Bool, List, [], ◌∷◌, Result, Ok, ⊤, codes, if◌then◌else◌}
+use Rattle.std.specs.Prelude.{ℕ, ◌+◌, ◌++◌, List, [], ◌∷◌, Result, Ok, ⊤, codes, if◌then◌else◌}
 use Rattle.std.specs.Option.{is_some}
 use Rattle.alias_base.specs.Answer.{◌>>=◌}
-use Rattle.serde_json.specs.Data.{Data, null, boolean, number, string, array, object, Items, no_items, item}
+use Rattle.serde_json.specs.Data.{null, boolean, number, string, array, object, Items, no_items, item}
 use Rattle.alias_hir.specs.declared.signature.Shape.{Shape}
 use Rattle.alias_hir.specs.ShapeNames.{shape_named as named}
 use Rattle.alias_json.specs.Pointer.{at_key, at_index}

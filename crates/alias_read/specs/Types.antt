@@ -1,5 +1,5 @@
 -- The types that JSON data spell.
-use Rattle.std.specs.Prelude.{ℕ, false, List, [], ◌∷◌, Option, None, Result, Ok, codes}
+use Rattle.std.specs.Prelude.{ℕ, List, [], ◌∷◌, Option, Result, Ok, codes}
 use Rattle.std.specs.Ordering.{nat_cmp, match_ordering}
 use Rattle.std.specs.Cmp.Lexicographic.{slice_cmp}
 use Rattle.alias_base.specs.Answer.{◌>>=◌}
@@ -8,7 +8,7 @@ use Rattle.alias_hir.specs.declared.types.Ty.{Ty}
 use Rattle.alias_hir.specs.declared.types.Ty.TheVariants as ty
 use Rattle.alias_json.specs.Pointer.{at_key}
 use Rattle.alias_json.specs.Fault.{refusal}
-use Rattle.alias_json.specs.Reading.{Reads, text_at, object_at, known_keys}
+use Rattle.alias_json.specs.Reading.{Reads, text_at, known_keys}
 use Rattle.alias_read.specs.Json.{required, optional, flag}
 use Rattle.alias_json.specs.Names.{named_at}
 use Rattle.alias_json.specs.declared.fault.ValueFault.{ValueFault}

@@ -1,6 +1,6 @@
 //! Reads calls, and the instructions that create a function.
 ghost use Rattle.std.specs.Prelude.{◌≡◌, Result};
-ghost use Rattle.serde_json.specs.View.{view};
+ghost use Rattle.alias_json.specs.Tree.{view};
 ghost use Rattle.alias_base.specs.Answer.{Gives};
 ghost use Rattle.alias_json.specs.Pointer.{pointer};
 ghost use Rattle.alias_json.specs.Fault.{is_memory};
@@ -11,8 +11,7 @@ use crate::value_kinds::{CallKind, FunctionKind};
 use alias_base::{FunctionId, List};
 use alias_hir::place::{Place, PlaceOrSpread};
 use alias_hir::value::{InstructionValue, LoweredFunction};
-use alias_json::{Path, ValueFault, known_keys};
-use serde_json::Value;
+use alias_json::{Path, Tree, ValueFault, known_keys};
 use std::alloc::Global;
 
 fn call_with(kind: CallKind, callee: Place, args: List<PlaceOrSpread>) -> InstructionValue
@@ -29,7 +28,7 @@ pub fn call(
     alloc: Global,
     kind: CallKind,
     path: &Path,
-    value: &Value,
+    value: &Tree,
 ) -> Result<InstructionValue, ValueFault>
     ensures { Gives is_memory (call_at kind (pointer path.now) (view value.now)) result }
 {
@@ -40,11 +39,7 @@ pub fn call(
 }
 
 /// Reads a call of a method.
-pub fn method_call(
-    alloc: Global,
-    path: &Path,
-    value: &Value,
-) -> Result<InstructionValue, ValueFault>
+pub fn method_call(alloc: Global, path: &Path, value: &Tree) -> Result<InstructionValue, ValueFault>
     ensures { Gives is_memory (method_call_at (pointer path.now) (view value.now)) result }
 {
     let receiver = required(alloc, path, "receiver", value)?;
@@ -77,7 +72,7 @@ pub fn function_value(
     alloc: Global,
     kind: FunctionKind,
     path: &Path,
-    value: &Value,
+    value: &Tree,
 ) -> Result<InstructionValue, ValueFault>
     ensures { Gives is_memory (function_value_at kind (pointer path.now) (view value.now)) result }
 {

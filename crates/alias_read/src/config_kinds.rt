@@ -3,8 +3,7 @@ ghost use Rattle.alias_json.specs.Names.{named_at};
 ghost use Rattle.alias_read.specs.Signatures.{config_effect_names};
 
 use crate::json::FromJson;
-use alias_json::{Path, ValueFault, by_name};
-use serde_json::Value;
+use alias_json::{Path, Tree, ValueFault, by_name};
 use std::alloc::Global;
 
 /// The kinds that go from one value to another.
@@ -53,11 +52,7 @@ impl FromJson for ConfigEffectKind {
     ghost reads = { named_at config_effect_names };
 
     #[tactic(auto, unfolding(crate::specs::Signatures::config_effect_names))]
-    fn from_json(
-        alloc: Global,
-        path: &Path,
-        value: &Value,
-    ) -> Result<ConfigEffectKind, ValueFault> {
+    fn from_json(alloc: Global, path: &Path, value: &Tree) -> Result<ConfigEffectKind, ValueFault> {
         by_name(alloc, &CONFIG_EFFECTS, path, value)
     }
 }

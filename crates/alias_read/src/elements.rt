@@ -1,6 +1,6 @@
 //! Reads elements, properties and the parts of JSX.
 ghost use Rattle.std.specs.Prelude.{◌≡◌, Result};
-ghost use Rattle.serde_json.specs.View.{view};
+ghost use Rattle.alias_json.specs.Tree.{view};
 ghost use Rattle.alias_base.specs.Answer.{Gives};
 ghost use Rattle.alias_json.specs.Pointer.{pointer};
 ghost use Rattle.alias_json.specs.Fault.{is_memory};
@@ -13,11 +13,10 @@ use alias_hir::value::{
     ArrayElement, ArrayPatternElement, JsxAttribute, JsxTag, ObjectProperty,
     ObjectPropertyOrSpread, PropertyLiteral,
 };
-use alias_json::{Path, TextRule, ValueFault, known_keys, object, refused};
-use serde_json::Value;
+use alias_json::{Path, TextRule, Tree, ValueFault, known_keys, object, refused};
 use std::alloc::Global;
 
-fn hole(alloc: Global, path: &Path, value: &Value) -> Result<(), ValueFault>
+fn hole(alloc: Global, path: &Path, value: &Tree) -> Result<(), ValueFault>
     ensures { Gives is_memory (hole_at (pointer path.now) (view value.now)) result }
 {
     match value.as_str() {
@@ -30,7 +29,7 @@ fn hole(alloc: Global, path: &Path, value: &Value) -> Result<(), ValueFault>
 impl FromJson for ArrayElement {
     ghost reads = { array_element_at };
 
-    fn from_json(alloc: Global, path: &Path, value: &Value) -> Result<ArrayElement, ValueFault> {
+    fn from_json(alloc: Global, path: &Path, value: &Tree) -> Result<ArrayElement, ValueFault> {
         if value.is_string() {
             hole(alloc, path, value)?;
             Ok(ArrayElement::Hole)
@@ -49,7 +48,7 @@ impl FromJson for ArrayPatternElement {
     fn from_json(
         alloc: Global,
         path: &Path,
-        value: &Value,
+        value: &Tree,
     ) -> Result<ArrayPatternElement, ValueFault> {
         if value.is_string() {
             hole(alloc, path, value)?;
@@ -63,7 +62,7 @@ impl FromJson for ArrayPatternElement {
     }
 }
 
-fn keyed(alloc: Global, path: &Path, value: &Value) -> Result<ObjectPropertyOrSpread, ValueFault>
+fn keyed(alloc: Global, path: &Path, value: &Tree) -> Result<ObjectPropertyOrSpread, ValueFault>
     ensures { Gives is_memory (keyed_at (pointer path.now) (view value.now)) result }
 {
     let computed = optional(alloc, path, "computed", value)?;
@@ -79,7 +78,7 @@ impl FromJson for ObjectPropertyOrSpread {
     fn from_json(
         alloc: Global,
         path: &Path,
-        value: &Value,
+        value: &Tree,
     ) -> Result<ObjectPropertyOrSpread, ValueFault> {
         object(alloc, path, value)?;
         if value.get("spread").is_some() {
@@ -103,7 +102,7 @@ fn literal_of(name: Option<Text>) -> PropertyLiteral
 impl FromJson for PropertyLiteral {
     ghost reads = { literal_at };
 
-    fn from_json(alloc: Global, path: &Path, value: &Value) -> Result<PropertyLiteral, ValueFault> {
+    fn from_json(alloc: Global, path: &Path, value: &Tree) -> Result<PropertyLiteral, ValueFault> {
         Ok(literal_of(Option::<Text>::from_json(alloc, path, value)?))
     }
 }
@@ -120,7 +119,7 @@ fn tag_of(place: Option<Place>) -> JsxTag
 impl FromJson for JsxTag {
     ghost reads = { tag_at };
 
-    fn from_json(alloc: Global, path: &Path, value: &Value) -> Result<JsxTag, ValueFault> {
+    fn from_json(alloc: Global, path: &Path, value: &Tree) -> Result<JsxTag, ValueFault> {
         Ok(tag_of(Option::<Place>::from_json(alloc, path, value)?))
     }
 }
@@ -128,7 +127,7 @@ impl FromJson for JsxTag {
 impl FromJson for JsxAttribute {
     ghost reads = { attribute_at };
 
-    fn from_json(alloc: Global, path: &Path, value: &Value) -> Result<JsxAttribute, ValueFault> {
+    fn from_json(alloc: Global, path: &Path, value: &Tree) -> Result<JsxAttribute, ValueFault> {
         if value.is_object() {
             let spread = SpreadPattern::from_json(alloc, path, value)?;
             let place = spread.place;

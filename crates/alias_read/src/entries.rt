@@ -2,7 +2,7 @@
 ghost use Rattle.std.specs.Prelude.{◌≡◌, [], ℕ, List, Result};
 ghost use Rattle.alias_base.specs.declared.ids.BlockId.{BlockId};
 ghost use Rattle.serde_json.specs.Data.{Data};
-ghost use Rattle.serde_json.specs.View.{view, items_view};
+ghost use Rattle.alias_json.specs.Tree.{view, items_view};
 ghost use Rattle.alias_json.specs.Pointer.{pointer};
 ghost use Rattle.alias_base.specs.Answer.{Gives};
 ghost use Rattle.alias_json.specs.Fault.{is_memory};
@@ -11,14 +11,13 @@ ghost use Rattle.alias_json.specs.declared.fault.ValueFault.{ValueFault};
 
 use crate::json::FromJson;
 use alias_base::{BlockId, BlockMap};
-use alias_json::{Path, TextRule, ValueFault, refused};
-use serde_json::Value;
+use alias_json::{Path, TextRule, Tree, ValueFault, refused};
 use std::alloc::Global;
 
 impl FromJson for BlockId {
     ghost reads = { block_id_at };
 
-    fn from_json(alloc: Global, path: &Path, value: &Value) -> Result<BlockId, ValueFault> {
+    fn from_json(alloc: Global, path: &Path, value: &Tree) -> Result<BlockId, ValueFault> {
         Ok(BlockId(u32::from_json(alloc, path, value)?))
     }
 }
@@ -33,7 +32,7 @@ pub trait FromEntry {
         alloc: Global,
         path: &Path,
         found: &BlockMap<Self>,
-        value: &Value,
+        value: &Tree,
     ) -> Result<(BlockId, Self), ValueFault>
         ensures { Gives is_memory (reads_entry found.now (pointer path.now) (view value.now)) result };
 }
@@ -56,9 +55,9 @@ pub fn new_block<V>(
 impl<V: FromEntry + Drop> FromJson for BlockMap<V> {
     ghost reads = { entries_at V.reads_entry };
 
-    fn from_json(alloc: Global, path: &Path, value: &Value) -> Result<BlockMap<V>, ValueFault> {
+    fn from_json(alloc: Global, path: &Path, value: &Tree) -> Result<BlockMap<V>, ValueFault> {
         match value.as_array() {
-            Some(values) => entries(alloc, path, values.as_slice()),
+            Some(values) => entries(alloc, path, values),
             None => refused(alloc, path, TextRule::Kind),
         }
     }
@@ -67,7 +66,7 @@ impl<V: FromEntry + Drop> FromJson for BlockMap<V> {
 fn entries<V: FromEntry + Drop>(
     alloc: Global,
     path: &Path,
-    values: &[Value],
+    values: &[Tree],
 ) -> Result<BlockMap<V>, ValueFault>
     ensures { Gives is_memory (entry_items_at V.reads_entry (pointer path.now) 0 [] (items_view values.now)) result }
 {

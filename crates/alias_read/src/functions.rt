@@ -1,6 +1,6 @@
 //! Reads instructions, blocks and functions.
 ghost use Rattle.std.specs.Prelude.{◌≡◌, Result};
-ghost use Rattle.serde_json.specs.View.{view};
+ghost use Rattle.alias_json.specs.Tree.{view};
 ghost use Rattle.alias_base.specs.Answer.{Gives};
 ghost use Rattle.alias_json.specs.Pointer.{pointer};
 ghost use Rattle.alias_json.specs.Fault.{is_memory};
@@ -11,14 +11,13 @@ use crate::json::{FromJson, element, flag, list_of, optional, required};
 use alias_base::{BlockId, BlockMap, EvaluationOrder, InstructionId, List};
 use alias_hir::hir::{BasicBlock, Hir, HirFunction, Instruction, Phi};
 use alias_hir::place::Place;
-use alias_json::{Path, ValueFault, array_of, known_keys, object};
-use serde_json::Value;
+use alias_json::{Path, Tree, ValueFault, array_of, known_keys, object};
 use std::alloc::Global;
 
 impl FromJson for Instruction {
     ghost reads = { instruction_at };
 
-    fn from_json(alloc: Global, path: &Path, value: &Value) -> Result<Instruction, ValueFault> {
+    fn from_json(alloc: Global, path: &Path, value: &Tree) -> Result<Instruction, ValueFault> {
         object(alloc, path, value)?;
         let id = required(alloc, path, "id", value)?;
         let lvalue = required(alloc, path, "lvalue", value)?;
@@ -38,7 +37,7 @@ impl FromJson for Instruction {
 impl FromJson for InstructionId {
     ghost reads = { instruction_id_at };
 
-    fn from_json(alloc: Global, path: &Path, value: &Value) -> Result<InstructionId, ValueFault> {
+    fn from_json(alloc: Global, path: &Path, value: &Tree) -> Result<InstructionId, ValueFault> {
         Ok(InstructionId(u32::from_json(alloc, path, value)?))
     }
 }
@@ -50,7 +49,7 @@ impl FromEntry for Place {
         alloc: Global,
         path: &Path,
         found: &BlockMap<Place>,
-        value: &Value,
+        value: &Tree,
     ) -> Result<(BlockId, Place), ValueFault> {
         array_of(alloc, path, 2, value)?;
         let block = element(alloc, path, 0, value)?;
@@ -67,7 +66,7 @@ impl FromEntry for Place {
 impl FromJson for Phi {
     ghost reads = { phi_at };
 
-    fn from_json(alloc: Global, path: &Path, value: &Value) -> Result<Phi, ValueFault> {
+    fn from_json(alloc: Global, path: &Path, value: &Tree) -> Result<Phi, ValueFault> {
         object(alloc, path, value)?;
         let place = required(alloc, path, "place", value)?;
         let operands = required(alloc, path, "operands", value)?;
@@ -83,7 +82,7 @@ impl FromEntry for BasicBlock {
         alloc: Global,
         path: &Path,
         found: &BlockMap<BasicBlock>,
-        value: &Value,
+        value: &Tree,
     ) -> Result<(BlockId, BasicBlock), ValueFault> {
         object(alloc, path, value)?;
         let id = required(alloc, path, "id", value)?;
@@ -110,7 +109,7 @@ impl FromEntry for BasicBlock {
     }
 }
 
-fn function_keys(alloc: Global, path: &Path, value: &Value) -> Result<(), ValueFault>
+fn function_keys(alloc: Global, path: &Path, value: &Tree) -> Result<(), ValueFault>
     ensures { Gives is_memory (function_keys (pointer path.now) (view value.now)) result }
 {
     known_keys(
@@ -134,7 +133,7 @@ fn function_keys(alloc: Global, path: &Path, value: &Value) -> Result<(), ValueF
 impl FromJson for HirFunction {
     ghost reads = { function_at };
 
-    fn from_json(alloc: Global, path: &Path, value: &Value) -> Result<HirFunction, ValueFault> {
+    fn from_json(alloc: Global, path: &Path, value: &Tree) -> Result<HirFunction, ValueFault> {
         object(alloc, path, value)?;
         let fn_type = required(alloc, path, "fn_type", value)?;
         let params = list_of(alloc, path, "params", value)?;

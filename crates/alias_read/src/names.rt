@@ -7,8 +7,7 @@ use alias_hir::effect::{ValueKind, ValueReason};
 use alias_hir::hir::FunctionType;
 use alias_hir::place::Effect;
 use alias_hir::value::InstructionKind;
-use alias_json::{Path, ValueFault, by_name};
-use serde_json::Value;
+use alias_json::{Path, Tree, ValueFault, by_name};
 use std::alloc::Global;
 
 static EFFECTS: [(&str, Effect); 8] = [
@@ -29,7 +28,7 @@ impl FromJson for Effect {
     ghost reads = { named_at effect_names };
 
     #[tactic(auto, unfolding(crate::specs::Names::effect_names))]
-    fn from_json(alloc: Global, path: &Path, value: &Value) -> Result<Effect, ValueFault> {
+    fn from_json(alloc: Global, path: &Path, value: &Tree) -> Result<Effect, ValueFault> {
         by_name(alloc, &EFFECTS, path, value)
     }
 }
@@ -47,7 +46,7 @@ impl FromJson for ValueKind {
     ghost reads = { named_at value_kind_names };
 
     #[tactic(auto, unfolding(crate::specs::Names::value_kind_names))]
-    fn from_json(alloc: Global, path: &Path, value: &Value) -> Result<ValueKind, ValueFault> {
+    fn from_json(alloc: Global, path: &Path, value: &Tree) -> Result<ValueKind, ValueFault> {
         by_name(alloc, &VALUE_KINDS, path, value)
     }
 }
@@ -74,7 +73,7 @@ impl FromJson for ValueReason {
     ghost reads = { named_at value_reason_names };
 
     #[tactic(auto, unfolding(crate::specs::Names::value_reason_names))]
-    fn from_json(alloc: Global, path: &Path, value: &Value) -> Result<ValueReason, ValueFault> {
+    fn from_json(alloc: Global, path: &Path, value: &Tree) -> Result<ValueReason, ValueFault> {
         by_name(alloc, &VALUE_REASONS, path, value)
     }
 }
@@ -94,7 +93,7 @@ impl FromJson for InstructionKind {
     ghost reads = { named_at instruction_kind_names };
 
     #[tactic(auto, unfolding(crate::specs::Names::instruction_kind_names))]
-    fn from_json(alloc: Global, path: &Path, value: &Value) -> Result<InstructionKind, ValueFault> {
+    fn from_json(alloc: Global, path: &Path, value: &Tree) -> Result<InstructionKind, ValueFault> {
         by_name(alloc, &INSTRUCTION_KINDS, path, value)
     }
 }
@@ -109,7 +108,7 @@ impl FromJson for FunctionType {
     ghost reads = { named_at function_type_names };
 
     #[tactic(auto, unfolding(crate::specs::Names::function_type_names))]
-    fn from_json(alloc: Global, path: &Path, value: &Value) -> Result<FunctionType, ValueFault> {
+    fn from_json(alloc: Global, path: &Path, value: &Tree) -> Result<FunctionType, ValueFault> {
         by_name(alloc, &FUNCTION_TYPES, path, value)
     }
 }

@@ -1,6 +1,6 @@
 //! Reads array and object expressions and JSX.
 ghost use Rattle.std.specs.Prelude.{◌≡◌, Result};
-ghost use Rattle.serde_json.specs.View.{view};
+ghost use Rattle.alias_json.specs.Tree.{view};
 ghost use Rattle.alias_base.specs.Answer.{Gives};
 ghost use Rattle.alias_json.specs.Pointer.{pointer};
 ghost use Rattle.alias_json.specs.Fault.{is_memory};
@@ -8,15 +8,14 @@ ghost use Rattle.alias_read.specs.Objects.{array_expression_at, object_expressio
 
 use crate::json::{list_of, required};
 use alias_hir::value::InstructionValue;
-use alias_json::{Path, ValueFault, known_keys};
-use serde_json::Value;
+use alias_json::{Path, Tree, ValueFault, known_keys};
 use std::alloc::Global;
 
 /// Reads an array expression.
 pub fn array_expression(
     alloc: Global,
     path: &Path,
-    value: &Value,
+    value: &Tree,
 ) -> Result<InstructionValue, ValueFault>
     ensures { Gives is_memory (array_expression_at (pointer path.now) (view value.now)) result }
 {
@@ -29,7 +28,7 @@ pub fn array_expression(
 pub fn object_expression(
     alloc: Global,
     path: &Path,
-    value: &Value,
+    value: &Tree,
 ) -> Result<InstructionValue, ValueFault>
     ensures { Gives is_memory (object_expression_at (pointer path.now) (view value.now)) result }
 {
@@ -42,7 +41,7 @@ pub fn object_expression(
 pub fn jsx_expression(
     alloc: Global,
     path: &Path,
-    value: &Value,
+    value: &Tree,
 ) -> Result<InstructionValue, ValueFault>
     ensures { Gives is_memory (jsx_expression_at (pointer path.now) (view value.now)) result }
 {

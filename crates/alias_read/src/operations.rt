@@ -1,6 +1,6 @@
 //! Reads the instructions that are a kind and places alone.
 ghost use Rattle.std.specs.Prelude.{◌≡◌, Result};
-ghost use Rattle.serde_json.specs.View.{view};
+ghost use Rattle.alias_json.specs.Tree.{view};
 ghost use Rattle.alias_base.specs.Answer.{Gives};
 ghost use Rattle.alias_json.specs.Pointer.{pointer};
 ghost use Rattle.alias_json.specs.Fault.{is_memory};
@@ -11,8 +11,7 @@ use crate::value_kinds::{OnePlaceKind, PlaceListKind, PlainKind, TwoPlacesKind};
 use alias_base::List;
 use alias_hir::place::Place;
 use alias_hir::value::InstructionValue;
-use alias_json::{Path, ValueFault, known_keys};
-use serde_json::Value;
+use alias_json::{Path, Tree, ValueFault, known_keys};
 use std::alloc::Global;
 
 fn plain_with(kind: PlainKind) -> InstructionValue
@@ -33,7 +32,7 @@ pub fn plain(
     alloc: Global,
     kind: PlainKind,
     path: &Path,
-    value: &Value,
+    value: &Tree,
 ) -> Result<InstructionValue, ValueFault>
     ensures { Gives is_memory (plain_at kind (pointer path.now) (view value.now)) result }
 {
@@ -82,7 +81,7 @@ pub fn one_place(
     alloc: Global,
     kind: OnePlaceKind,
     path: &Path,
-    value: &Value,
+    value: &Tree,
 ) -> Result<InstructionValue, ValueFault>
     ensures { Gives is_memory (one_place_at kind (pointer path.now) (view value.now)) result }
 {
@@ -150,7 +149,7 @@ pub fn two_places(
     alloc: Global,
     kind: TwoPlacesKind,
     path: &Path,
-    value: &Value,
+    value: &Tree,
 ) -> Result<InstructionValue, ValueFault>
     ensures { Gives is_memory (two_places_at kind (pointer path.now) (view value.now)) result }
 {
@@ -187,7 +186,7 @@ pub fn place_list(
     alloc: Global,
     kind: PlaceListKind,
     path: &Path,
-    value: &Value,
+    value: &Tree,
 ) -> Result<InstructionValue, ValueFault>
     ensures { Gives is_memory (place_list_at kind (pointer path.now) (view value.now)) result }
 {

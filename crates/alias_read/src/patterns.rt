@@ -1,6 +1,6 @@
 //! Reads the variables of declarations and stores.
 ghost use Rattle.std.specs.Prelude.{◌≡◌, Result};
-ghost use Rattle.serde_json.specs.View.{view};
+ghost use Rattle.alias_json.specs.Tree.{view};
 ghost use Rattle.alias_base.specs.Answer.{Gives};
 ghost use Rattle.alias_json.specs.Pointer.{pointer};
 ghost use Rattle.alias_json.specs.Fault.{is_memory};
@@ -8,14 +8,13 @@ ghost use Rattle.alias_read.specs.Patterns.{lvalue_at, array_pattern_at, object_
 
 use crate::json::{FromJson, required};
 use alias_hir::value::{ArrayPattern, LValue, LValuePattern, ObjectPattern, Pattern};
-use alias_json::{Path, ValueFault, known_keys, object};
-use serde_json::Value;
+use alias_json::{Path, Tree, ValueFault, known_keys, object};
 use std::alloc::Global;
 
 impl FromJson for LValue {
     ghost reads = { lvalue_at };
 
-    fn from_json(alloc: Global, path: &Path, value: &Value) -> Result<LValue, ValueFault> {
+    fn from_json(alloc: Global, path: &Path, value: &Tree) -> Result<LValue, ValueFault> {
         object(alloc, path, value)?;
         let kind = required(alloc, path, "kind", value)?;
         let place = required(alloc, path, "place", value)?;
@@ -24,7 +23,7 @@ impl FromJson for LValue {
     }
 }
 
-fn array_pattern(alloc: Global, path: &Path, value: &Value) -> Result<Pattern, ValueFault>
+fn array_pattern(alloc: Global, path: &Path, value: &Tree) -> Result<Pattern, ValueFault>
     ensures { Gives is_memory (array_pattern_at (pointer path.now) (view value.now)) result }
 {
     let items = required(alloc, path, "array", value)?;
@@ -32,7 +31,7 @@ fn array_pattern(alloc: Global, path: &Path, value: &Value) -> Result<Pattern, V
     Ok(Pattern::Array(ArrayPattern { items }))
 }
 
-fn object_pattern(alloc: Global, path: &Path, value: &Value) -> Result<Pattern, ValueFault>
+fn object_pattern(alloc: Global, path: &Path, value: &Tree) -> Result<Pattern, ValueFault>
     ensures { Gives is_memory (object_pattern_at (pointer path.now) (view value.now)) result }
 {
     let properties = required(alloc, path, "object", value)?;
@@ -43,7 +42,7 @@ fn object_pattern(alloc: Global, path: &Path, value: &Value) -> Result<Pattern, 
 impl FromJson for Pattern {
     ghost reads = { pattern_at };
 
-    fn from_json(alloc: Global, path: &Path, value: &Value) -> Result<Pattern, ValueFault> {
+    fn from_json(alloc: Global, path: &Path, value: &Tree) -> Result<Pattern, ValueFault> {
         object(alloc, path, value)?;
         if value.get("array").is_some() || value.get("object").is_none() {
             array_pattern(alloc, path, value)
@@ -56,7 +55,7 @@ impl FromJson for Pattern {
 impl FromJson for LValuePattern {
     ghost reads = { lvalue_pattern_at };
 
-    fn from_json(alloc: Global, path: &Path, value: &Value) -> Result<LValuePattern, ValueFault> {
+    fn from_json(alloc: Global, path: &Path, value: &Tree) -> Result<LValuePattern, ValueFault> {
         object(alloc, path, value)?;
         let kind = required(alloc, path, "kind", value)?;
         let pattern = required(alloc, path, "pattern", value)?;

@@ -1,6 +1,6 @@
 //! Reads places, and what may stand where a place may.
 ghost use Rattle.std.specs.Prelude.{◌≡◌, Result};
-ghost use Rattle.serde_json.specs.View.{view};
+ghost use Rattle.alias_json.specs.Tree.{view};
 ghost use Rattle.alias_base.specs.Answer.{Gives};
 ghost use Rattle.alias_json.specs.Pointer.{pointer};
 ghost use Rattle.alias_json.specs.Fault.{is_memory};
@@ -10,14 +10,13 @@ use crate::json::{FromJson, element, required};
 use alias_base::IdentifierId;
 use alias_hir::hir::ParamPattern;
 use alias_hir::place::{Effect, Place, PlaceOrSpread, Span, SpreadPattern};
-use alias_json::{Path, ValueFault, array_of, known_keys, object};
-use serde_json::Value;
+use alias_json::{Path, Tree, ValueFault, array_of, known_keys, object};
 use std::alloc::Global;
 
 impl FromJson for Span {
     ghost reads = { span_at };
 
-    fn from_json(alloc: Global, path: &Path, value: &Value) -> Result<Span, ValueFault> {
+    fn from_json(alloc: Global, path: &Path, value: &Tree) -> Result<Span, ValueFault> {
         array_of(alloc, path, 2, value)?;
         let start = element(alloc, path, 0, value)?;
         let end = element(alloc, path, 1, value)?;
@@ -36,7 +35,7 @@ fn place_of(number: u32, span: Option<Span>) -> Place
     }
 }
 
-fn spanned(alloc: Global, path: &Path, value: &Value) -> Result<Place, ValueFault>
+fn spanned(alloc: Global, path: &Path, value: &Tree) -> Result<Place, ValueFault>
     ensures { Gives is_memory (spanned_at (pointer path.now) (view value.now)) result }
 {
     array_of(alloc, path, 3, value)?;
@@ -46,7 +45,7 @@ fn spanned(alloc: Global, path: &Path, value: &Value) -> Result<Place, ValueFaul
     Ok(place_of(identifier, Some(Span { start, end })))
 }
 
-fn unspanned(alloc: Global, path: &Path, value: &Value) -> Result<Place, ValueFault>
+fn unspanned(alloc: Global, path: &Path, value: &Tree) -> Result<Place, ValueFault>
     ensures { Gives is_memory (unspanned_at (pointer path.now) (view value.now)) result }
 {
     Ok(place_of(u32::from_json(alloc, path, value)?, None))
@@ -55,7 +54,7 @@ fn unspanned(alloc: Global, path: &Path, value: &Value) -> Result<Place, ValueFa
 impl FromJson for Place {
     ghost reads = { place_at };
 
-    fn from_json(alloc: Global, path: &Path, value: &Value) -> Result<Place, ValueFault> {
+    fn from_json(alloc: Global, path: &Path, value: &Tree) -> Result<Place, ValueFault> {
         if value.is_array() {
             spanned(alloc, path, value)
         } else {
@@ -67,7 +66,7 @@ impl FromJson for Place {
 impl FromJson for SpreadPattern {
     ghost reads = { spread_at };
 
-    fn from_json(alloc: Global, path: &Path, value: &Value) -> Result<SpreadPattern, ValueFault> {
+    fn from_json(alloc: Global, path: &Path, value: &Tree) -> Result<SpreadPattern, ValueFault> {
         object(alloc, path, value)?;
         let place = required(alloc, path, "spread", value)?;
         known_keys(alloc, path, &["spread"], value)?;
@@ -78,7 +77,7 @@ impl FromJson for SpreadPattern {
 impl FromJson for PlaceOrSpread {
     ghost reads = { argument_at };
 
-    fn from_json(alloc: Global, path: &Path, value: &Value) -> Result<PlaceOrSpread, ValueFault> {
+    fn from_json(alloc: Global, path: &Path, value: &Tree) -> Result<PlaceOrSpread, ValueFault> {
         if value.is_object() {
             let spread = SpreadPattern::from_json(alloc, path, value)?;
             Ok(PlaceOrSpread::Spread(spread))
@@ -91,7 +90,7 @@ impl FromJson for PlaceOrSpread {
 impl FromJson for ParamPattern {
     ghost reads = { param_at };
 
-    fn from_json(alloc: Global, path: &Path, value: &Value) -> Result<ParamPattern, ValueFault> {
+    fn from_json(alloc: Global, path: &Path, value: &Tree) -> Result<ParamPattern, ValueFault> {
         if value.is_object() {
             let spread = SpreadPattern::from_json(alloc, path, value)?;
             Ok(ParamPattern::Spread(spread))

@@ -1,6 +1,6 @@
 //! Reads shapes, no two of one name.
 ghost use Rattle.std.specs.Prelude.{◌≡◌, [], Result, codes};
-ghost use Rattle.serde_json.specs.View.{view, items_view};
+ghost use Rattle.alias_json.specs.Tree.{view, items_view};
 ghost use Rattle.alias_base.specs.Answer.{Gives};
 ghost use Rattle.alias_json.specs.Pointer.{pointer};
 ghost use Rattle.alias_json.specs.Fault.{is_memory};
@@ -11,12 +11,11 @@ use crate::json::{flag, optional, required};
 use alias_base::Text;
 use alias_hir::shapes::Shapes;
 use alias_hir::signature::Shape;
-use alias_json::{Path, TextRule, ValueFault, known_keys, object, refused};
-use serde_json::Value;
+use alias_json::{Path, TextRule, Tree, ValueFault, known_keys, object, refused};
 use std::alloc::Global;
 
 /// The shapes of the key `shapes`, which may be absent.
-pub fn shapes_of(alloc: Global, path: &Path, value: &Value) -> Result<Shapes, ValueFault>
+pub fn shapes_of(alloc: Global, path: &Path, value: &Tree) -> Result<Shapes, ValueFault>
     ensures { Gives is_memory (given_or shapes_at [] (pointer path.now) (codes "shapes") (view value.now)) result }
 {
     let here = Path::Key {
@@ -26,13 +25,13 @@ pub fn shapes_of(alloc: Global, path: &Path, value: &Value) -> Result<Shapes, Va
     match value.get("shapes") {
         None => Ok(Shapes::new(alloc)),
         Some(found) => match found.as_array() {
-            Some(values) => shapes(alloc, &here, values.as_slice()),
+            Some(values) => shapes(alloc, &here, values),
             None => refused(alloc, &here, TextRule::Kind),
         },
     }
 }
 
-fn shapes(alloc: Global, path: &Path, values: &[Value]) -> Result<Shapes, ValueFault>
+fn shapes(alloc: Global, path: &Path, values: &[Tree]) -> Result<Shapes, ValueFault>
     ensures { Gives is_memory (shape_items_at (pointer path.now) 0 [] (items_view values.now)) result }
 {
     let mut found = Shapes::new(alloc);
@@ -48,7 +47,7 @@ fn shapes(alloc: Global, path: &Path, values: &[Value]) -> Result<Shapes, ValueF
 }
 
 /// A shape that has the name of none of these.
-fn shape_of(alloc: Global, found: &Shapes, path: &Path, value: &Value) -> Result<Shape, ValueFault>
+fn shape_of(alloc: Global, found: &Shapes, path: &Path, value: &Tree) -> Result<Shape, ValueFault>
     ensures { Gives is_memory (shape_at found.now (pointer path.now) (view value.now)) result }
 {
     object(alloc, path, value)?;
@@ -61,7 +60,7 @@ fn shape_of(alloc: Global, found: &Shapes, path: &Path, value: &Value) -> Result
     shape_named(alloc, id, path, value)
 }
 
-fn shape_named(alloc: Global, id: Text, path: &Path, value: &Value) -> Result<Shape, ValueFault>
+fn shape_named(alloc: Global, id: Text, path: &Path, value: &Tree) -> Result<Shape, ValueFault>
     ensures { Gives is_memory (shape_named id (pointer path.now) (view value.now)) result }
 {
     let hook = flag(alloc, path, "hook", value)?;

@@ -1,6 +1,6 @@
 //! Reads signatures.
 ghost use Rattle.std.specs.Prelude.{◌≡◌, Result};
-ghost use Rattle.serde_json.specs.View.{view};
+ghost use Rattle.alias_json.specs.Tree.{view};
 ghost use Rattle.alias_base.specs.Answer.{Gives};
 ghost use Rattle.alias_json.specs.Pointer.{pointer};
 ghost use Rattle.alias_json.specs.Fault.{is_memory};
@@ -13,8 +13,7 @@ use alias_base::Text;
 use alias_hir::signature::{
     AliasingEffectConfig, AliasingSignatureConfig, ApplyArgConfig, FunctionSignature,
 };
-use alias_json::{Path, ValueFault, known_keys, object};
-use serde_json::Value;
+use alias_json::{Path, Tree, ValueFault, known_keys, object};
 use std::alloc::Global;
 
 fn apply_arg_of(name: Option<Text>) -> ApplyArgConfig
@@ -29,7 +28,7 @@ fn apply_arg_of(name: Option<Text>) -> ApplyArgConfig
 impl FromJson for ApplyArgConfig {
     ghost reads = { apply_arg_at };
 
-    fn from_json(alloc: Global, path: &Path, value: &Value) -> Result<ApplyArgConfig, ValueFault> {
+    fn from_json(alloc: Global, path: &Path, value: &Tree) -> Result<ApplyArgConfig, ValueFault> {
         Ok(apply_arg_of(Option::<Text>::from_json(alloc, path, value)?))
     }
 }
@@ -50,7 +49,7 @@ fn flow(
     alloc: Global,
     kind: FlowKind,
     path: &Path,
-    value: &Value,
+    value: &Tree,
 ) -> Result<AliasingEffectConfig, ValueFault>
     ensures { Gives is_memory (flow_at kind (pointer path.now) (view value.now)) result }
 {
@@ -60,7 +59,7 @@ fn flow(
     Ok(flow_with(kind, from, into))
 }
 
-fn freeze(alloc: Global, path: &Path, value: &Value) -> Result<AliasingEffectConfig, ValueFault>
+fn freeze(alloc: Global, path: &Path, value: &Tree) -> Result<AliasingEffectConfig, ValueFault>
     ensures { Gives is_memory (freeze_at (pointer path.now) (view value.now)) result }
 {
     let frozen = required(alloc, path, "value", value)?;
@@ -72,7 +71,7 @@ fn freeze(alloc: Global, path: &Path, value: &Value) -> Result<AliasingEffectCon
     })
 }
 
-fn create(alloc: Global, path: &Path, value: &Value) -> Result<AliasingEffectConfig, ValueFault>
+fn create(alloc: Global, path: &Path, value: &Tree) -> Result<AliasingEffectConfig, ValueFault>
     ensures { Gives is_memory (create_at (pointer path.now) (view value.now)) result }
 {
     let into = required(alloc, path, "into", value)?;
@@ -86,7 +85,7 @@ fn create(alloc: Global, path: &Path, value: &Value) -> Result<AliasingEffectCon
     })
 }
 
-fn impure(alloc: Global, path: &Path, value: &Value) -> Result<AliasingEffectConfig, ValueFault>
+fn impure(alloc: Global, path: &Path, value: &Tree) -> Result<AliasingEffectConfig, ValueFault>
     ensures { Gives is_memory (impure_at (pointer path.now) (view value.now)) result }
 {
     let place = required(alloc, path, "place", value)?;
@@ -94,7 +93,7 @@ fn impure(alloc: Global, path: &Path, value: &Value) -> Result<AliasingEffectCon
     Ok(AliasingEffectConfig::Impure { place })
 }
 
-fn mutate(alloc: Global, path: &Path, value: &Value) -> Result<AliasingEffectConfig, ValueFault>
+fn mutate(alloc: Global, path: &Path, value: &Tree) -> Result<AliasingEffectConfig, ValueFault>
     ensures { Gives is_memory (mutate_at (pointer path.now) (view value.now)) result }
 {
     let mutated = required(alloc, path, "value", value)?;
@@ -105,7 +104,7 @@ fn mutate(alloc: Global, path: &Path, value: &Value) -> Result<AliasingEffectCon
 fn mutate_transitive(
     alloc: Global,
     path: &Path,
-    value: &Value,
+    value: &Tree,
 ) -> Result<AliasingEffectConfig, ValueFault>
     ensures { Gives is_memory (mutate_transitive_at (pointer path.now) (view value.now)) result }
 {
@@ -114,7 +113,7 @@ fn mutate_transitive(
     Ok(AliasingEffectConfig::MutateTransitiveConditionally { value: mutated })
 }
 
-fn apply(alloc: Global, path: &Path, value: &Value) -> Result<AliasingEffectConfig, ValueFault>
+fn apply(alloc: Global, path: &Path, value: &Tree) -> Result<AliasingEffectConfig, ValueFault>
     ensures { Gives is_memory (apply_at (pointer path.now) (view value.now)) result }
 {
     let receiver = required(alloc, path, "receiver", value)?;
@@ -148,7 +147,7 @@ fn config_effect_of_kind(
     alloc: Global,
     kind: ConfigEffectKind,
     path: &Path,
-    value: &Value,
+    value: &Tree,
 ) -> Result<AliasingEffectConfig, ValueFault>
     ensures { Gives is_memory (config_effect_of_kind kind (pointer path.now) (view value.now)) result }
 {
@@ -169,7 +168,7 @@ impl FromJson for AliasingEffectConfig {
     fn from_json(
         alloc: Global,
         path: &Path,
-        value: &Value,
+        value: &Tree,
     ) -> Result<AliasingEffectConfig, ValueFault> {
         object(alloc, path, value)?;
         let kind = required(alloc, path, "kind", value)?;
@@ -183,7 +182,7 @@ impl FromJson for AliasingSignatureConfig {
     fn from_json(
         alloc: Global,
         path: &Path,
-        value: &Value,
+        value: &Tree,
     ) -> Result<AliasingSignatureConfig, ValueFault> {
         object(alloc, path, value)?;
         let receiver = required(alloc, path, "receiver", value)?;
@@ -216,7 +215,7 @@ impl FromJson for AliasingSignatureConfig {
     }
 }
 
-fn signature_keys(alloc: Global, path: &Path, value: &Value) -> Result<(), ValueFault>
+fn signature_keys(alloc: Global, path: &Path, value: &Tree) -> Result<(), ValueFault>
     ensures { Gives is_memory (known_keys signature_keys (pointer path.now) (view value.now)) result }
 {
     known_keys(
@@ -245,7 +244,7 @@ impl FromJson for FunctionSignature {
     fn from_json(
         alloc: Global,
         path: &Path,
-        value: &Value,
+        value: &Tree,
     ) -> Result<FunctionSignature, ValueFault> {
         object(alloc, path, value)?;
         let positional_params = list_of(alloc, path, "positional_params", value)?;

@@ -1,6 +1,6 @@
 //! Reads declarations and stores.
 ghost use Rattle.std.specs.Prelude.{◌≡◌, Result};
-ghost use Rattle.serde_json.specs.View.{view};
+ghost use Rattle.alias_json.specs.Tree.{view};
 ghost use Rattle.alias_base.specs.Answer.{Gives};
 ghost use Rattle.alias_json.specs.Pointer.{pointer};
 ghost use Rattle.alias_json.specs.Fault.{is_memory};
@@ -10,8 +10,7 @@ use crate::json::required;
 use crate::value_kinds::{DeclareKind, StoreKind};
 use alias_hir::place::Place;
 use alias_hir::value::{InstructionValue, LValue};
-use alias_json::{Path, ValueFault, known_keys};
-use serde_json::Value;
+use alias_json::{Path, Tree, ValueFault, known_keys};
 use std::alloc::Global;
 
 fn declare_with(kind: DeclareKind, lvalue: LValue) -> InstructionValue
@@ -28,7 +27,7 @@ pub fn declare(
     alloc: Global,
     kind: DeclareKind,
     path: &Path,
-    value: &Value,
+    value: &Tree,
 ) -> Result<InstructionValue, ValueFault>
     ensures { Gives is_memory (declare_at kind (pointer path.now) (view value.now)) result }
 {
@@ -51,7 +50,7 @@ pub fn store(
     alloc: Global,
     kind: StoreKind,
     path: &Path,
-    value: &Value,
+    value: &Tree,
 ) -> Result<InstructionValue, ValueFault>
     ensures { Gives is_memory (store_at kind (pointer path.now) (view value.now)) result }
 {
@@ -62,11 +61,7 @@ pub fn store(
 }
 
 /// Reads a destructuring.
-pub fn destructure(
-    alloc: Global,
-    path: &Path,
-    value: &Value,
-) -> Result<InstructionValue, ValueFault>
+pub fn destructure(alloc: Global, path: &Path, value: &Tree) -> Result<InstructionValue, ValueFault>
     ensures { Gives is_memory (destructure_at (pointer path.now) (view value.now)) result }
 {
     let lvalue = required(alloc, path, "lvalue", value)?;
@@ -82,7 +77,7 @@ pub fn destructure(
 pub fn store_global(
     alloc: Global,
     path: &Path,
-    value: &Value,
+    value: &Tree,
 ) -> Result<InstructionValue, ValueFault>
     ensures { Gives is_memory (store_global_at (pointer path.now) (view value.now)) result }
 {
@@ -99,7 +94,7 @@ pub fn store_global(
 pub fn property_store(
     alloc: Global,
     path: &Path,
-    value: &Value,
+    value: &Tree,
 ) -> Result<InstructionValue, ValueFault>
     ensures { Gives is_memory (property_store_at (pointer path.now) (view value.now)) result }
 {
@@ -118,7 +113,7 @@ pub fn property_store(
 pub fn computed_store(
     alloc: Global,
     path: &Path,
-    value: &Value,
+    value: &Tree,
 ) -> Result<InstructionValue, ValueFault>
     ensures { Gives is_memory (computed_store_at (pointer path.now) (view value.now)) result }
 {

@@ -1,6 +1,6 @@
 //! Reads identifiers, and what is asked of the inference.
 ghost use Rattle.std.specs.Prelude.{◌≡◌, Result};
-ghost use Rattle.serde_json.specs.View.{view};
+ghost use Rattle.alias_json.specs.Tree.{view};
 ghost use Rattle.alias_base.specs.Answer.{Gives};
 ghost use Rattle.alias_json.specs.Pointer.{pointer};
 ghost use Rattle.alias_json.specs.Fault.{is_memory};
@@ -9,11 +9,10 @@ ghost use Rattle.alias_read.specs.Tables.{promoted_at, name_at, identifier_at, c
 use crate::json::{FromJson, flag, optional, required};
 use alias_base::{DeclarationId, EvaluationOrder, Text, TypeId};
 use alias_hir::env::{Config, Identifier, IdentifierName, MutableRange};
-use alias_json::{Path, ValueFault, known_keys, object};
-use serde_json::Value;
+use alias_json::{Path, Tree, ValueFault, known_keys, object};
 use std::alloc::Global;
 
-fn promoted(alloc: Global, path: &Path, value: &Value) -> Result<IdentifierName, ValueFault>
+fn promoted(alloc: Global, path: &Path, value: &Tree) -> Result<IdentifierName, ValueFault>
     ensures { Gives is_memory (promoted_at (pointer path.now) (view value.now)) result }
 {
     object(alloc, path, value)?;
@@ -25,7 +24,7 @@ fn promoted(alloc: Global, path: &Path, value: &Value) -> Result<IdentifierName,
 impl FromJson for IdentifierName {
     ghost reads = { name_at };
 
-    fn from_json(alloc: Global, path: &Path, value: &Value) -> Result<IdentifierName, ValueFault> {
+    fn from_json(alloc: Global, path: &Path, value: &Tree) -> Result<IdentifierName, ValueFault> {
         if value.is_string() {
             Ok(IdentifierName::Named(Text::from_json(alloc, path, value)?))
         } else {
@@ -37,7 +36,7 @@ impl FromJson for IdentifierName {
 impl FromJson for Identifier {
     ghost reads = { identifier_at };
 
-    fn from_json(alloc: Global, path: &Path, value: &Value) -> Result<Identifier, ValueFault> {
+    fn from_json(alloc: Global, path: &Path, value: &Tree) -> Result<Identifier, ValueFault> {
         object(alloc, path, value)?;
         let declaration = required(alloc, path, "declaration", value)?;
         let type_ = required(alloc, path, "type", value)?;
@@ -67,7 +66,7 @@ const NO_IMPURE: &str = "validate_no_impure_functions_in_render";
 impl FromJson for Config {
     ghost reads = { config_at };
 
-    fn from_json(alloc: Global, path: &Path, value: &Value) -> Result<Config, ValueFault> {
+    fn from_json(alloc: Global, path: &Path, value: &Tree) -> Result<Config, ValueFault> {
         object(alloc, path, value)?;
         let enable_validations = flag(alloc, path, "enable_validations", value)?;
         let preserve = flag(alloc, path, PRESERVE, value)?;

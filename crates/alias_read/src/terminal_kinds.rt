@@ -3,8 +3,7 @@ ghost use Rattle.alias_json.specs.Names.{named_at};
 ghost use Rattle.alias_read.specs.TerminalKinds.{terminal_names};
 
 use crate::json::FromJson;
-use alias_json::{Path, ValueFault, by_name};
-use serde_json::Value;
+use alias_json::{Path, Tree, ValueFault, by_name};
 use std::alloc::Global;
 
 /// The kinds whose only field is the block that control goes on to.
@@ -79,7 +78,7 @@ impl FromJson for TerminalKind {
     ghost reads = { named_at terminal_names };
 
     #[tactic(auto, unfolding(crate::specs::TerminalKinds::terminal_names))]
-    fn from_json(alloc: Global, path: &Path, value: &Value) -> Result<TerminalKind, ValueFault> {
+    fn from_json(alloc: Global, path: &Path, value: &Tree) -> Result<TerminalKind, ValueFault> {
         by_name(alloc, &TERMINALS, path, value)
     }
 }

@@ -1,6 +1,6 @@
 //! Reads terminals.
 ghost use Rattle.std.specs.Prelude.{◌≡◌, Result};
-ghost use Rattle.serde_json.specs.View.{view};
+ghost use Rattle.alias_json.specs.Tree.{view};
 ghost use Rattle.alias_base.specs.Answer.{Gives};
 ghost use Rattle.alias_json.specs.Pointer.{pointer};
 ghost use Rattle.alias_json.specs.Fault.{is_memory};
@@ -11,14 +11,13 @@ use crate::terminal_kinds::{BranchKind, ExitKind, JumpKind, TerminalKind};
 use alias_base::{BlockId, EvaluationOrder};
 use alias_hir::place::Place;
 use alias_hir::terminal::{SwitchCase, Terminal};
-use alias_json::{Path, ValueFault, known_keys, object};
-use serde_json::Value;
+use alias_json::{Path, Tree, ValueFault, known_keys, object};
 use std::alloc::Global;
 
 impl FromJson for EvaluationOrder {
     ghost reads = { order_at };
 
-    fn from_json(alloc: Global, path: &Path, value: &Value) -> Result<EvaluationOrder, ValueFault> {
+    fn from_json(alloc: Global, path: &Path, value: &Tree) -> Result<EvaluationOrder, ValueFault> {
         Ok(EvaluationOrder(u32::from_json(alloc, path, value)?))
     }
 }
@@ -26,7 +25,7 @@ impl FromJson for EvaluationOrder {
 impl FromJson for Terminal {
     ghost reads = { terminal_at };
 
-    fn from_json(alloc: Global, path: &Path, value: &Value) -> Result<Terminal, ValueFault> {
+    fn from_json(alloc: Global, path: &Path, value: &Tree) -> Result<Terminal, ValueFault> {
         object(alloc, path, value)?;
         let kind = required(alloc, path, "kind", value)?;
         let id = required(alloc, path, "id", value)?;
@@ -39,7 +38,7 @@ fn terminal_of_kind(
     kind: TerminalKind,
     id: EvaluationOrder,
     path: &Path,
-    value: &Value,
+    value: &Tree,
 ) -> Result<Terminal, ValueFault>
     ensures { Gives is_memory (terminal_of_kind kind id (pointer path.now) (view value.now)) result }
 {
@@ -94,7 +93,7 @@ fn jump_of(
     kind: JumpKind,
     id: EvaluationOrder,
     path: &Path,
-    value: &Value,
+    value: &Tree,
 ) -> Result<Terminal, ValueFault>
     ensures { Gives is_memory (jump_at kind id (pointer path.now) (view value.now)) result }
 {
@@ -134,7 +133,7 @@ fn branch_of(
     kind: BranchKind,
     id: EvaluationOrder,
     path: &Path,
-    value: &Value,
+    value: &Tree,
 ) -> Result<Terminal, ValueFault>
     ensures { Gives is_memory (branch_at kind id (pointer path.now) (view value.now)) result }
 {
@@ -153,7 +152,7 @@ fn branch_of(
 impl FromJson for SwitchCase {
     ghost reads = { case_at };
 
-    fn from_json(alloc: Global, path: &Path, value: &Value) -> Result<SwitchCase, ValueFault> {
+    fn from_json(alloc: Global, path: &Path, value: &Tree) -> Result<SwitchCase, ValueFault> {
         object(alloc, path, value)?;
         let test = optional(alloc, path, "test", value)?;
         let block = required(alloc, path, "block", value)?;
@@ -166,7 +165,7 @@ fn switch(
     alloc: Global,
     id: EvaluationOrder,
     path: &Path,
-    value: &Value,
+    value: &Tree,
 ) -> Result<Terminal, ValueFault>
     ensures { Gives is_memory (switch_at id (pointer path.now) (view value.now)) result }
 {
@@ -194,7 +193,7 @@ fn exit_of(
     kind: ExitKind,
     id: EvaluationOrder,
     path: &Path,
-    value: &Value,
+    value: &Tree,
 ) -> Result<Terminal, ValueFault>
     ensures { Gives is_memory (exit_at kind id (pointer path.now) (view value.now)) result }
 {
@@ -207,7 +206,7 @@ fn unreachable(
     alloc: Global,
     id: EvaluationOrder,
     path: &Path,
-    value: &Value,
+    value: &Tree,
 ) -> Result<Terminal, ValueFault>
     ensures { Gives is_memory (unreachable_at id (pointer path.now) (view value.now)) result }
 {
@@ -219,7 +218,7 @@ fn try_(
     alloc: Global,
     id: EvaluationOrder,
     path: &Path,
-    value: &Value,
+    value: &Tree,
 ) -> Result<Terminal, ValueFault>
     ensures { Gives is_memory (try_at id (pointer path.now) (view value.now)) result }
 {
@@ -244,7 +243,7 @@ fn maybe_throw(
     alloc: Global,
     id: EvaluationOrder,
     path: &Path,
-    value: &Value,
+    value: &Tree,
 ) -> Result<Terminal, ValueFault>
     ensures { Gives is_memory (maybe_throw_at id (pointer path.now) (view value.now)) result }
 {

@@ -3,8 +3,7 @@ ghost use Rattle.alias_json.specs.Names.{named_at};
 ghost use Rattle.alias_read.specs.Types.{type_names};
 
 use crate::json::FromJson;
-use alias_json::{Path, ValueFault, by_name};
-use serde_json::Value;
+use alias_json::{Path, Tree, ValueFault, by_name};
 use std::alloc::Global;
 
 /// The kinds of types that have no further key.
@@ -56,7 +55,7 @@ impl FromJson for TypeKind {
     ghost reads = { named_at type_names };
 
     #[tactic(auto, unfolding(crate::specs::Types::type_names))]
-    fn from_json(alloc: Global, path: &Path, value: &Value) -> Result<TypeKind, ValueFault> {
+    fn from_json(alloc: Global, path: &Path, value: &Tree) -> Result<TypeKind, ValueFault> {
         by_name(alloc, &TYPES, path, value)
     }
 }

@@ -1,6 +1,6 @@
 //! Reads types.
 ghost use Rattle.std.specs.Prelude.{◌≡◌, Result};
-ghost use Rattle.serde_json.specs.View.{view};
+ghost use Rattle.alias_json.specs.Tree.{view};
 ghost use Rattle.alias_base.specs.Answer.{Gives};
 ghost use Rattle.alias_json.specs.Pointer.{pointer};
 ghost use Rattle.alias_json.specs.Fault.{is_memory};
@@ -10,8 +10,7 @@ use crate::json::{FromJson, flag, optional, required};
 use crate::type_kinds::{LeafKind, PlainType, TypeKind};
 use alias_base::{Boxed, Text};
 use alias_hir::types::Ty;
-use alias_json::{Path, TextRule, ValueFault, known_keys, object, refused};
-use serde_json::Value;
+use alias_json::{Path, TextRule, Tree, ValueFault, known_keys, object, refused};
 use std::alloc::Global;
 
 fn plain_type(kind: PlainType) -> Ty
@@ -30,7 +29,7 @@ fn plain_type_of(
     alloc: Global,
     kind: PlainType,
     path: &Path,
-    value: &Value,
+    value: &Tree,
 ) -> Result<Ty, ValueFault>
     ensures { Gives is_memory (plain_type_at kind (pointer path.now) (view value.now)) result }
 {
@@ -38,7 +37,7 @@ fn plain_type_of(
     Ok(plain_type(kind))
 }
 
-fn object_type(alloc: Global, path: &Path, value: &Value) -> Result<Ty, ValueFault>
+fn object_type(alloc: Global, path: &Path, value: &Tree) -> Result<Ty, ValueFault>
     ensures { Gives is_memory (object_type_at (pointer path.now) (view value.now)) result }
 {
     let shape_id = optional(alloc, path, "shape_id", value)?;
@@ -46,7 +45,7 @@ fn object_type(alloc: Global, path: &Path, value: &Value) -> Result<Ty, ValueFau
     Ok(Ty::Object { shape_id })
 }
 
-fn phi_type(alloc: Global, path: &Path, value: &Value) -> Result<Ty, ValueFault>
+fn phi_type(alloc: Global, path: &Path, value: &Tree) -> Result<Ty, ValueFault>
     ensures { Gives is_memory (phi_type_at (pointer path.now) (view value.now)) result }
 {
     let jsx_operand = flag(alloc, path, "jsx_operand", value)?;
@@ -54,7 +53,7 @@ fn phi_type(alloc: Global, path: &Path, value: &Value) -> Result<Ty, ValueFault>
     Ok(Ty::Phi { jsx_operand })
 }
 
-fn leaf_type(alloc: Global, kind: LeafKind, path: &Path, value: &Value) -> Result<Ty, ValueFault>
+fn leaf_type(alloc: Global, kind: LeafKind, path: &Path, value: &Tree) -> Result<Ty, ValueFault>
     ensures { Gives is_memory (leaf_type_at kind (pointer path.now) (view value.now)) result }
 {
     match kind {
@@ -69,7 +68,7 @@ fn function_type(
     shape_id: Option<Text>,
     return_type: Ty,
     path: &Path,
-    value: &Value,
+    value: &Tree,
 ) -> Result<Ty, ValueFault>
     ensures { Gives is_memory (function_type_of shape_id return_type (pointer path.now) (view value.now)) result }
 {
@@ -80,7 +79,7 @@ fn function_type(
     })
 }
 
-fn read_type(alloc: Global, path: &Path, value: &Value) -> Result<Ty, ValueFault>
+fn read_type(alloc: Global, path: &Path, value: &Tree) -> Result<Ty, ValueFault>
     ensures { Gives is_memory (type_at (pointer path.now) (view value.now)) result }
 {
     object(alloc, path, value)?;
@@ -107,7 +106,7 @@ fn read_type(alloc: Global, path: &Path, value: &Value) -> Result<Ty, ValueFault
 impl FromJson for Ty {
     ghost reads = { type_at };
 
-    fn from_json(alloc: Global, path: &Path, value: &Value) -> Result<Ty, ValueFault> {
+    fn from_json(alloc: Global, path: &Path, value: &Tree) -> Result<Ty, ValueFault> {
         read_type(alloc, path, value)
     }
 }

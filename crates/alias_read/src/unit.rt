@@ -1,6 +1,6 @@
 //! Reads a whole unit.
 ghost use Rattle.std.specs.Prelude.{◌≡◌, [], Result, IfOk, IfErr, codes};
-ghost use Rattle.serde_json.specs.View.{view};
+ghost use Rattle.alias_json.specs.Tree.{view};
 ghost use Rattle.alias_base.specs.Answer.{Gives};
 ghost use Rattle.alias_json.specs.Pointer.{pointer};
 ghost use Rattle.alias_json.specs.Fault.{is_memory};
@@ -15,9 +15,11 @@ use alias_base::List;
 use alias_hir::env::{Config, Environment, Unit};
 use alias_hir::hir::{ContextValue, HirFunction};
 use alias_hir::interned::InternedReports;
-use alias_json::{Path, TextRule, ValueFault, array_of, known_keys, object, refused};
-use serde_json::Value;
-use std::alloc::{AllocError, Global};
+use alias_json::{
+    Path, Scratch, TextRule, Tree, TreeFault, ValueFault, array_of, known_keys, object, read_tree,
+    refused,
+};
+use std::alloc::Global;
 
 /// The formats of units. The second says what the context places of the root are.
 #[derive(Clone, Copy)]
@@ -39,7 +41,7 @@ fn format_numbered(alloc: Global, path: &Path, number: u32) -> Result<Format, Va
 impl FromJson for Format {
     ghost reads = { format_at };
 
-    fn from_json(alloc: Global, path: &Path, value: &Value) -> Result<Format, ValueFault> {
+    fn from_json(alloc: Global, path: &Path, value: &Tree) -> Result<Format, ValueFault> {
         let number = u32::from_json(alloc, path, value)?;
         format_numbered(alloc, path, number)
     }
@@ -48,7 +50,7 @@ impl FromJson for Format {
 impl FromJson for ContextValue {
     ghost reads = { context_value_at };
 
-    fn from_json(alloc: Global, path: &Path, value: &Value) -> Result<ContextValue, ValueFault> {
+    fn from_json(alloc: Global, path: &Path, value: &Tree) -> Result<ContextValue, ValueFault> {
         object(alloc, path, value)?;
         let kind = required(alloc, path, "kind", value)?;
         let reasons = list_of(alloc, path, "reasons", value)?;
@@ -61,7 +63,7 @@ fn context_values(
     alloc: Global,
     count: usize,
     path: &Path,
-    value: &Value,
+    value: &Tree,
 ) -> Result<List<ContextValue>, ValueFault>
     ensures { Gives is_memory (context_values_at count (pointer path.now) (view value.now)) result }
 {
@@ -73,7 +75,7 @@ fn second_values(
     alloc: Global,
     count: usize,
     path: &Path,
-    value: &Value,
+    value: &Tree,
 ) -> Result<List<ContextValue>, ValueFault>
     ensures { Gives is_memory (given_or (context_values_at count) [] (pointer path.now) (codes "context_values") (view value.now)) result }
 {
@@ -92,7 +94,7 @@ fn root_values(
     format: Format,
     root: &HirFunction,
     path: &Path,
-    value: &Value,
+    value: &Tree,
 ) -> Result<List<ContextValue>, ValueFault>
     ensures { Gives is_memory (root_values_at format root.now (pointer path.now) (view value.now)) result }
 {
@@ -123,7 +125,7 @@ const SECOND_KEYS: [&str; 8] = [
     "context_values",
 ];
 
-fn unit_keys(alloc: Global, format: Format, path: &Path, value: &Value) -> Result<(), ValueFault>
+fn unit_keys(alloc: Global, format: Format, path: &Path, value: &Tree) -> Result<(), ValueFault>
     ensures { Gives is_memory (unit_keys format (pointer path.now) (view value.now)) result }
 {
     match format {
@@ -141,7 +143,7 @@ fn with_context_values(root: HirFunction, context_values: List<ContextValue>) ->
     }
 }
 
-fn environment(alloc: Global, path: &Path, value: &Value) -> Result<Environment, ValueFault>
+fn environment(alloc: Global, path: &Path, value: &Tree) -> Result<Environment, ValueFault>
     ensures { Gives is_memory (environment_at (pointer path.now) (view value.now)) result }
 {
     let config = given_or(alloc, path, "config", value, Config::default())?;
@@ -165,7 +167,7 @@ fn rooted(
     format: Format,
     env: Environment,
     path: &Path,
-    value: &Value,
+    value: &Tree,
 ) -> Result<Unit, ValueFault>
     ensures { Gives is_memory (rooted_at format env (pointer path.now) (view value.now)) result }
 {
@@ -181,7 +183,7 @@ fn rooted(
 impl FromJson for Unit {
     ghost reads = { unit_at };
 
-    fn from_json(alloc: Global, path: &Path, value: &Value) -> Result<Unit, ValueFault> {
+    fn from_json(alloc: Global, path: &Path, value: &Tree) -> Result<Unit, ValueFault> {
         object(alloc, path, value)?;
         let format = required(alloc, path, "format", value)?;
         let env = environment(alloc, path, value)?;
@@ -195,14 +197,10 @@ pub fn read_unit(alloc: Global, bytes: &[u8]) -> Result<Unit, TextFault>
     ensures unit { IfOk result (λ u. UnitReading bytes.now u) }
     ensures none { IfErr result (λ e. ¬ IsMemory e → NoUnit bytes.now) }
 {
-    match Value::from_slice(alloc, bytes) {
-        Ok(value) => Ok(Unit::from_json(alloc, &Path::Root, &value)?),
-        Err(e) => {
-            if e.is_memory() {
-                Err(TextFault::Memory(AllocError))
-            } else {
-                Err(TextFault::NotJson)
-            }
-        }
+    let mut scratch = Scratch::new(alloc);
+    match read_tree(alloc, bytes, &mut scratch) {
+        Ok(tree) => Ok(Unit::from_json(alloc, &Path::Root, &tree)?),
+        Err(TreeFault::NotJson) => Err(TextFault::NotJson),
+        Err(TreeFault::Memory(e)) => Err(TextFault::Memory(e)),
     }
 }

@@ -3,8 +3,7 @@ ghost use Rattle.alias_json.specs.Names.{named_at};
 ghost use Rattle.alias_read.specs.ValueKinds.{instruction_value_names};
 
 use crate::json::FromJson;
-use alias_json::{Path, ValueFault, by_name};
-use serde_json::Value;
+use alias_json::{Path, Tree, ValueFault, by_name};
 use std::alloc::Global;
 
 /// The kinds that have no further key.
@@ -247,7 +246,7 @@ impl FromJson for InstructionValueKind {
     fn from_json(
         alloc: Global,
         path: &Path,
-        value: &Value,
+        value: &Tree,
     ) -> Result<InstructionValueKind, ValueFault> {
         by_name(alloc, &INSTRUCTION_VALUES, path, value)
     }

@@ -1,6 +1,6 @@
 //! Reads what an instruction computes.
 ghost use Rattle.std.specs.Prelude.{◌≡◌, Result};
-ghost use Rattle.serde_json.specs.View.{view};
+ghost use Rattle.alias_json.specs.Tree.{view};
 ghost use Rattle.alias_base.specs.Answer.{Gives};
 ghost use Rattle.alias_json.specs.Pointer.{pointer};
 ghost use Rattle.alias_json.specs.Fault.{is_memory};
@@ -13,18 +13,13 @@ use crate::operations::{one_place, place_list, plain, two_places};
 use crate::stores::{computed_store, declare, destructure, property_store, store, store_global};
 use crate::value_kinds::InstructionValueKind;
 use alias_hir::value::InstructionValue;
-use alias_json::{Path, ValueFault, object};
-use serde_json::Value;
+use alias_json::{Path, Tree, ValueFault, object};
 use std::alloc::Global;
 
 impl FromJson for InstructionValue {
     ghost reads = { instruction_value_at };
 
-    fn from_json(
-        alloc: Global,
-        path: &Path,
-        value: &Value,
-    ) -> Result<InstructionValue, ValueFault> {
+    fn from_json(alloc: Global, path: &Path, value: &Tree) -> Result<InstructionValue, ValueFault> {
         object(alloc, path, value)?;
         let kind = required(alloc, path, "kind", value)?;
         value_of_kind(alloc, kind, path, value)
@@ -35,7 +30,7 @@ fn value_of_kind(
     alloc: Global,
     kind: InstructionValueKind,
     path: &Path,
-    value: &Value,
+    value: &Tree,
 ) -> Result<InstructionValue, ValueFault>
     ensures { Gives is_memory (value_of_kind kind (pointer path.now) (view value.now)) result }
 {

@@ -1,5 +1,5 @@
 use Rattle.std.proofs.Common.{◌≡◌, [], drop}
-use Rattle.serde_json.specs.View.{items_view}
+use Rattle.alias_json.specs.Tree.{items_view}
 use Rattle.alias_json.specs.Pointer.{pointer}
 use Rattle.alias_read.specs.Entries.{entry_items_at}
 use Rattle.alias_read.proofs.entries.entries.Given as goal

@@ -1,7 +1,7 @@
 use Rattle.std.proofs.Common.{◌≡◌, ◌<◌, codes, Some, sym, rules}
 use Rattle.serde_json.specs.Data.{depth}
 use Rattle.serde_json.specs.Find.{get}
-use Rattle.serde_json.specs.View.{view}
+use Rattle.alias_json.specs.Tree.{view}
 use Rattle.alias_json.specs.Pointer.{pointer}
 use Rattle.alias_read.proofs.Members.{pointer-key}
 use Rattle.alias_read.proofs.Typing.{depth_get, type_missing, type_fault, type_found}

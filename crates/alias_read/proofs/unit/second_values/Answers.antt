@@ -1,5 +1,5 @@
 use Rattle.std.proofs.Common.{[], codes}
-use Rattle.serde_json.specs.View.{view}
+use Rattle.alias_json.specs.Tree.{view}
 use Rattle.alias_json.specs.Pointer.{pointer}
 use Rattle.alias_read.specs.Units.{context_values_at}
 use Rattle.alias_read.proofs.Members.{pointer-key, given_found}

@@ -1,0 +1,33 @@
+-- The data that a tree stands for.
+use Rattle.std.specs.Prelude.{ℕ, List, [], ◌∷◌, map}
+use Rattle.std.specs.Borrow.{Bor}
+use Rattle.serde_json.specs.Data.{Data, null, boolean, number, string, array, object, Items, Members, no_members, put}
+use Rattle.serde_json.specs.View.{number_view, items_of}
+use Rattle.alias_json.specs.declared.tree.Tree.{Tree, fold-Tree}
+use Rattle.alias_json.specs.declared.tree.Tree.TheOpen.{Tree-F}
+
+-- the members go in one after another, so the last value of a key stays
+abbrev pub put_all : List (Bor (List ℕ) × Data) → Members → Members
+put_all [] found = found
+put_all (m ∷ ms) found = put_all ms (put m.0.now m.1 found)
+
+-- one level, with each value inside already seen as its data
+abbrev pub view_step : Tree-F Data → Data
+view_step Tree-F.Null = null
+view_step (Tree-F.Bool b) = boolean b
+view_step (Tree-F.Number x) = number (number_view x)
+view_step (Tree-F.Text s) = string s.now
+view_step (Tree-F.Array v) = array (items_of v.items)
+view_step (Tree-F.Object v) = object (put_all v.items no_members)
+
+abbrev pub view : Tree → Data
+view = fold-Tree Data view_step
+
+abbrev pub items_view : List Tree → Items
+items_view ts = items_of (map view ts)
+
+abbrev pub with_members : List (Bor (List ℕ) × Tree) → Members → Members
+with_members ms found = put_all (map (λ m. (m.0, view m.1)) ms) found
+
+abbrev pub members_view : List (Bor (List ℕ) × Tree) → Members
+members_view ms = with_members ms no_members
