@@ -33,6 +33,10 @@ IsChecked u (Unfit fault) i = (rules_hold u ≡ Err fault) × (i ≡ None)
 IsChecked u Memory i = i ≡ None
 IsChecked u status i = (rules_hold u ≡ Ok tt) × IsInferred u status i
 
+-- what a unit leads to that is known to keep the rules
+abbrev pub IsKept : HirUnit → Status → Option Inferred → Type 0
+IsKept u status i = (rules_hold u ≡ Ok tt) × IsInferred u status i
+
 -- what the bytes of the whole input lead to: they are no JSON, or JSON of no unit, or that of one
 abbrev pub IsJudged : List ℕ → Status → Option Inferred → Type 0
 IsJudged bytes NotJson i = ReadsUnit bytes (Err text.NotJson) × (i ≡ None)
@@ -48,13 +52,13 @@ IsRead known failed TooLong i = IfKnown known (λ all. greatest_input < length a
 IsRead known failed Memory i = i ≡ None
 IsRead known failed status i = (bytes : List ℕ) × IsAllOf known bytes × (length bytes ≤ greatest_input) × IsJudged bytes status i
 
--- What the words and a source lead to, before anything is written: `asked` is the command of the words, where they are one. A made unit is checked as
--- each unit is.
+-- What the words and a source lead to, before anything is written: `asked` is the command of the words, where they are one. A made unit keeps the rules, so
+-- none of them refuses it.
 unfoldable pub IsFound : Option Command → Option (List ℕ) → Type 0 → Status → Option Inferred → Type 0
 IsFound None known failed status i = (status ≡ Words) × (i ≡ None)
 IsFound (Some Infer) known failed status i = IsRead known failed status i
 IsFound (Some Certify) known failed status i = IsRead known failed status i
-IsFound (Some (Made seed size)) known failed status i = IsChecked (made_unit seed size) status i
+IsFound (Some (Made seed size)) known failed status i = IsKept (made_unit seed size) status i
 IsFound (Some Help) known failed status i = (status ≡ Done) × (i ≡ None)
 IsFound (Some Version) known failed status i = (status ≡ Done) × (i ≡ None)
 
