@@ -14,5 +14,4 @@ pub mod Memoization
 pub mod Globals
 pub mod Known
 pub mod Signatures
-pub mod Built
 pub mod SignatureLaws

@@ -4,14 +4,12 @@ use Rattle.std.proofs.Common.{inl, inr}
 use Rattle.std.specs.List.{AllByRecursion, flat_map}
 use Rattle.alias_base.specs.declared.ids.FunctionId.{FunctionId}
 use Rattle.alias_base.specs.declared.ids.TypeId.{TypeId}
-use Rattle.alias_facts.specs.Hoisted.{Accesses, is_hoisting}
-use Rattle.alias_facts.specs.Spreads.{is_spread}
+use Rattle.alias_facts.specs.Hoisted.{is_hoisting}
 use Rattle.alias_hir.specs.Effects.{effect_places, error_of, function_of, signature_of as type_of_call}
 use Rattle.alias_hir.specs.Parts.{optional_place, arg_places, apply_arg_places, element_places, property_places, item_places, places_in_pattern, tag_places, attribute_places}
 use Rattle.alias_hir.specs.Types.{is_primitive_at, is_builtin_collection_at, returns_jsx_at}
 use Rattle.alias_hir.specs.Values.{places_of, created as created_function}
 use Rattle.alias_hir.specs.declared.effect.AliasingEffect.{AliasingEffect}
-use Rattle.alias_hir.specs.declared.effect.AliasingEffect.TheVariants as effect
 use Rattle.alias_hir.specs.declared.effect.AliasingEffect.TheVariants.{CreateFrom, Capture, Alias, Render, MutateTransitiveConditionally, Assign}
 use Rattle.alias_hir.specs.declared.effect.ValueKind.TheVariants as kind
 use Rattle.alias_hir.specs.declared.env.Environment.{Environment}
@@ -32,26 +30,25 @@ use Rattle.alias_hir.specs.declared.value.InstructionValue.TheVariants as value
 use Rattle.alias_hir.specs.declared.value.JsxAttribute.{JsxAttribute}
 use Rattle.alias_hir.specs.declared.value.JsxAttribute.TheVariants as attribute
 use Rattle.alias_hir.specs.declared.value.JsxTag.{JsxTag}
-use Rattle.alias_hir.specs.declared.value.LValue.{LValue}
 use Rattle.alias_hir.specs.declared.value.ObjectPropertyOrSpread.{ObjectPropertyOrSpread}
 use Rattle.alias_hir.specs.declared.value.ObjectPropertyOrSpread.TheVariants as property
 use Rattle.alias_hir.specs.declared.value.Pattern.{Pattern}
 use Rattle.alias_hir.specs.declared.value.Pattern.TheVariants as pattern
-use Rattle.alias_visit.specs.Operands.{context_at, operands_of}
+use Rattle.alias_visit.specs.Operands.{context_at}
 use Rattle.alias_visit.specs.Places.{created_places}
 use Rattle.alias_signature.specs.Created.{created}
 use Rattle.alias_signature.specs.Objects.{property_effects, object_expression_effects}
-use Rattle.alias_signature.specs.Iterators.{iteration_effects, get_iterator_effects}
+use Rattle.alias_signature.specs.Iterators.{iteration_effects}
 use Rattle.alias_signature.specs.Arrays.{element_effects}
 use Rattle.alias_signature.specs.Calls.{type_id_of, argument, call_effects}
 use Rattle.alias_signature.specs.Functions.{captured_by, captured, function_effects}
 use Rattle.alias_signature.specs.Jsx.{jsx_operand_effects, jsx_effects, attribute_effects, render_effects}
-use Rattle.alias_signature.specs.Patterns.{target_effects, rest_effects, item_effects, target_property_effects, pattern_effects}
+use Rattle.alias_signature.specs.Patterns.{rest_effects, item_effects, target_property_effects, pattern_effects}
 use Rattle.alias_signature.specs.Contexts.{is_hoisted_at, is_reassigning, binding_effect}
 use Rattle.alias_signature.specs.Memoization.{frozen}
 use Rattle.alias_signature.specs.Globals.{global_effects}
 use Rattle.alias_signature.specs.Known.{Known}
-use Rattle.alias_signature.specs.Signatures.{signature_of_value, signature_of, built_signature_of_value}
+use Rattle.alias_signature.specs.Signatures.{signature_of_value, signature_of}
 
 -- the function that the effect creates, and the type that has the signature of a call
 abbrev pub Named : Type 0
@@ -262,52 +259,6 @@ module _ (P : Place → Type 0) (Q : Option DiagnosticId → Type 0) (none : Q N
   signature_speaks k l span value.MetaProperty p ps cs q n = (((p, tt), (none, nothing)), tt)
   signature_speaks k l span value.Primitive p ps cs q n = (((p, tt), (none, nothing)), tt)
   signature_speaks k l span value.RegExpLiteral p ps cs q n = (((p, tt), (none, nothing)), tt)
-
-  -- ---- the six kinds that the steps know by now
-
-  pub built_signature_speaks : (env : Environment) (l : Place) (v : InstructionValue) → P l → AllByRecursion P (places_of v) → AllByRecursion S (built_signature_of_value env l v)
-  built_signature_speaks env l (value.ObjectExpression properties) p ps = object_speaks l p properties ps
-  built_signature_speaks env l (value.PropertyLoad object) p ps = property_load_speaks (is_primitive_at env l.identifier) l object p ps.0
-  built_signature_speaks env l (value.PropertyStore object property v) p ps = (((ps.0, tt), (none, nothing)), (((ps.1.0, (ps.0, tt)), (none, nothing)), (((p, tt), (none, nothing)), tt)))
-  built_signature_speaks env l (value.LoadLocal place) p ps = (((ps.0, (p, tt)), (none, nothing)), tt)
-  built_signature_speaks env l (value.StoreLocal variable v) p ps = (((ps.1.0, (ps.0, tt)), (none, nothing)), (((ps.1.0, (p, tt)), (none, nothing)), tt))
-  built_signature_speaks env l value.Primitive p ps = (((p, tt), (none, nothing)), tt)
-  built_signature_speaks env l (value.ArrayExpression elements) p ps = tt
-  built_signature_speaks env l (value.Await v) p ps = tt
-  built_signature_speaks env l (value.NewExpression callee args) p ps = tt
-  built_signature_speaks env l (value.CallExpression callee args) p ps = tt
-  built_signature_speaks env l (value.MethodCall receiver property args) p ps = tt
-  built_signature_speaks env l (value.PropertyDelete object) p ps = tt
-  built_signature_speaks env l (value.ComputedDelete object property) p ps = tt
-  built_signature_speaks env l (value.ComputedLoad object property) p ps = tt
-  built_signature_speaks env l (value.ComputedStore object property v) p ps = tt
-  built_signature_speaks env l (value.FunctionExpression lowered) p ps = tt
-  built_signature_speaks env l (value.ObjectMethod lowered) p ps = tt
-  built_signature_speaks env l (value.GetIterator collection) p ps = tt
-  built_signature_speaks env l (value.IteratorNext iterator collection) p ps = tt
-  built_signature_speaks env l (value.NextPropertyOf v) p ps = tt
-  built_signature_speaks env l (value.JsxExpression tag props children) p ps = tt
-  built_signature_speaks env l (value.JsxFragment children) p ps = tt
-  built_signature_speaks env l (value.DeclareLocal variable) p ps = tt
-  built_signature_speaks env l (value.Destructure variable v) p ps = tt
-  built_signature_speaks env l (value.LoadContext place) p ps = tt
-  built_signature_speaks env l (value.DeclareContext variable) p ps = tt
-  built_signature_speaks env l (value.StoreContext variable v) p ps = tt
-  built_signature_speaks env l (value.PostfixUpdate variable v) p ps = tt
-  built_signature_speaks env l (value.PrefixUpdate variable v) p ps = tt
-  built_signature_speaks env l (value.StoreGlobal name v) p ps = tt
-  built_signature_speaks env l (value.TypeCastExpression v) p ps = tt
-  built_signature_speaks env l value.LoadGlobal p ps = tt
-  built_signature_speaks env l (value.StartMemoize deps) p ps = tt
-  built_signature_speaks env l (value.FinishMemoize decl) p ps = tt
-  built_signature_speaks env l (value.TaggedTemplateExpression tag) p ps = tt
-  built_signature_speaks env l (value.BinaryExpression left right) p ps = tt
-  built_signature_speaks env l (value.TemplateLiteral subexprs) p ps = tt
-  built_signature_speaks env l (value.UnaryExpression v) p ps = tt
-  built_signature_speaks env l value.Debugger p ps = tt
-  built_signature_speaks env l value.JSXText p ps = tt
-  built_signature_speaks env l value.MetaProperty p ps = tt
-  built_signature_speaks env l value.RegExpLiteral p ps = tt
 
 -- ---- what the clause of `signature_of` says
 

@@ -1,5 +1,5 @@
 -- The signature of an instruction: the effects that it has before the state is looked at, in order.
-use Rattle.std.specs.Prelude.{Bool, true, false, List, [], ◌∷◌, ◌++◌, Option, None, Some, Result, Ok, Err}
+use Rattle.std.specs.Prelude.{true, false, List, ◌++◌, Option, None, Some, Result, Ok}
 use Rattle.alias_base.specs.Answer.{◌>>=◌}
 use Rattle.alias_base.specs.declared.ids.IdentifierId.{IdentifierId}
 use Rattle.alias_facts.specs.declared.facts.FunctionFacts.{FunctionFacts}
@@ -100,18 +100,3 @@ env_after_signature env i = with_told env (told_of i.value i.span)
 abbrev pub compute_signature_for_instruction : Environment → FunctionFacts → Instruction → Result (List AliasingEffect) HirError
 compute_signature_for_instruction env facts i =
     error_of_told env.interned (told_of i.value i.span) >>= (λ (error : Option DiagnosticId). Ok (signature_of (known (env_after_signature env i) facts error) i))
-
--- ---- the six kinds that the steps know by now
-
--- by the kind of the instruction whose result is l; a kind that isn't built has no effects yet
-abbrev pub built_signature_of_value : Environment → Place → InstructionValue → List AliasingEffect
-built_signature_of_value env l (ObjectExpression properties) = object_expression_effects l properties
-built_signature_of_value env l (PropertyLoad object) = property_load_effects env l object
-built_signature_of_value env l (PropertyStore object property v) = property_store_effects l object v None
-built_signature_of_value env l (LoadLocal place) = load_local_effects l place
-built_signature_of_value env l (StoreLocal variable v) = store_local_effects l variable v
-built_signature_of_value env l Primitive = primitive_effects l
-built_signature_of_value env l v = []
-
-abbrev pub compute_built_signature : Environment → Instruction → List AliasingEffect
-compute_built_signature env i = built_signature_of_value env i.lvalue i.value

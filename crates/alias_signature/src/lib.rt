@@ -3,7 +3,6 @@
 #![tactic(auto)]
 
 mod arrays;
-mod built;
 mod calls;
 mod contexts;
 mod creating;
@@ -20,7 +19,6 @@ mod patterns;
 mod signatures;
 mod stores;
 
-pub use built::{compute_built_signature, unit_is_built};
 pub use globals::{globals_report, told_of};
 pub use known::Known;
 pub use signatures::{compute_signature_for_instruction, signature_of};

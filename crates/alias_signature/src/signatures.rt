@@ -1,5 +1,5 @@
 //! The signature of an instruction, by its kind.
-ghost use Rattle.std.specs.Prelude.{◌≡◌, ◌++◌, OnOk, OnErr, IfOk};
+ghost use Rattle.std.specs.Prelude.{◌≡◌, ◌++◌, ◌⊎◌, OnOk, OnErr, IfOk};
 ghost use Rattle.alias_base.specs.Answer.{Gives};
 ghost use Rattle.alias_hir.specs.Errors.{is_hir_memory};
 ghost use Rattle.alias_signature.specs.Globals.{told_of};
@@ -259,7 +259,8 @@ fn signature_with(
 
 /// The signature of an instruction: the effects that it has whatever the state is, in order. docs/MODEL.md has a row for
 /// each kind. A write of a global variable is told: its report is interned first, and is one of the effects'.
-/// `TooMany` comes exactly where no number is left for that report. After an `Err` the report may have been interned.
+/// `TooMany` comes exactly where no number is left for that report. After an `Err` the environment is as it was, or has
+/// that report more: memory was wanting after it was interned.
 pub fn compute_signature_for_instruction(
     alloc: Global,
     env: &mut Environment,
@@ -268,6 +269,7 @@ pub fn compute_signature_for_instruction(
 ) -> Result<AliasingEffects, HirError>
     ensures effects { Gives is_hir_memory (compute_signature_for_instruction env.old facts.now instruction.now) result }
     ensures ok { OnOk result (env.new ≡ env_after_signature env.old instruction.now) }
+    ensures err { OnErr result ((env.new ≡ env.old) ⊎ (env.new ≡ env_after_signature env.old instruction.now)) }
 {
     let error = intern_told(alloc, env, instruction)?;
     let effects = signature_with(alloc, env, facts, error, instruction)?;
