@@ -1,4 +1,4 @@
--- A key that is put into a set of what was made goes last, where it wasn't made.
+-- A key that is put into a set of what was made goes last, where it wasn't made, and else the set stays.
 use Rattle.std.proofs.Common.{◌≡◌, Bool, true, false, ◌==◌, ◌||◌, List, [], ◌∷◌, ◌++◌, refl, ap, sym, ◌∙◌, if◌then◌else◌}
 use Rattle.std.specs.List.{list_any}
 use Rattle.std.proofs.lemmas.Bool.{eq-eqb, eqb-true}
@@ -18,4 +18,8 @@ either_way k (y ∷ ys) =
 
 pub goes_last : (k : IdentifierId) (ks old new : List IdentifierId) → ks ≡ old → new ≡ (if list_any (λ (y : IdentifierId). k.0 == y.0) ks then ks else ks ++ k ∷ []) → is_made k old ≡ false → new ≡ old ++ k ∷ []
 goes_last k ks old new o e h =
+    e ∙ ap (λ xs. if list_any (λ (y : IdentifierId). k.0 == y.0) xs then xs else xs ++ k ∷ []) o ∙ ap (λ t. if t then old else old ++ k ∷ []) (either_way k old ∙ h)
+
+pub stays : (k : IdentifierId) (ks old new : List IdentifierId) → ks ≡ old → new ≡ (if list_any (λ (y : IdentifierId). k.0 == y.0) ks then ks else ks ++ k ∷ []) → is_made k old ≡ true → new ≡ old
+stays k ks old new o e h =
     e ∙ ap (λ xs. if list_any (λ (y : IdentifierId). k.0 == y.0) xs then xs else xs ++ k ∷ []) o ∙ ap (λ t. if t then old else old ++ k ∷ []) (either_way k old ∙ h)

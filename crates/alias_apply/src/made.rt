@@ -1,5 +1,5 @@
 //! The identifiers that an instruction has made.
-ghost use Rattle.std.specs.Prelude.{◌≡◌, ◌++◌, ◌∷◌, [], false, OnOk, OnErr};
+ghost use Rattle.std.specs.Prelude.{◌≡◌, ◌++◌, ◌∷◌, [], true, false, OnOk, OnErr};
 
 use alias_base::IdentifierId;
 use indexmap::IndexSet;
@@ -40,9 +40,10 @@ impl MadeIdentifiers {
         self.set.contains(&identifier)
     }
 
-    /// Appends an identifier that isn't among them. After an `Err` nothing has changed.
+    /// Appends an identifier, where it isn't among them yet; else nothing changes. After an `Err` nothing has changed.
     pub fn push(&mut self, identifier: IdentifierId) -> Result<(), AllocError>
         ensures ok { OnOk result (is_made identifier self.old ≡ false → self.new ≡ self.old ++ identifier ∷ []) }
+        ensures there { OnOk result (is_made identifier self.old ≡ true → self.new ≡ self.old) }
         ensures err { OnErr result (self.new ≡ self.old) }
     {
         self.set.insert(identifier)?;
