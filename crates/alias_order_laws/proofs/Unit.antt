@@ -3,17 +3,16 @@ use Rattle.std.specs.Prelude.{◌≡◌, ℕ, true, false, List, [], ◌∷◌, 
 use Rattle.std.specs.List.{flat_map}
 use Rattle.std.proofs.Common.{zero, suc, refl, ap, ◌∙◌, subst, arith, ◌+◌, ◌<◌, ◌≤◌}
 use Rattle.std.proofs.lemmas.List.{map-append}
-use Rattle.alias_base.specs.AnswerLaws.{both_pass}
 use Rattle.alias_base.specs.declared.ids.FunctionId.{FunctionId}
 use Rattle.alias_hir.specs.declared.env.Environment.{Environment}
 use Rattle.alias_hir.specs.declared.env.Unit.{Unit as HirUnit}
 use Rattle.alias_hir.specs.declared.hir.HirFunction.{HirFunction}
-use Rattle.alias_function_rules.specs.Rules.{is_among, tables_fit, types_fit}
-use Rattle.alias_rules.specs.Functions.{of_function, nested_in, in_unit, rules_hold}
-use Rattle.alias_rules.specs.Nesting.{created_in, created_of, created_at, next_level, tree_below, fresh, reached_from, reached, times, nesting_is_tree, nesting_not_deep}
-use Rattle.alias_rules.specs.RuleLaws.{root_of_rules, nested_of_rules, function_past, found_within, rules_make_function_fit}
+use Rattle.alias_function_rules.specs.Rules.{is_among}
+use Rattle.alias_rules.specs.Functions.{of_function, rules_hold}
+use Rattle.alias_rules.specs.Nesting.{created_in, created_of, created_at, next_level, tree_below, fresh, reached_from, reached, times}
+use Rattle.alias_rules.specs.RuleLaws.{Parts, parts_of_rules, root_of_rules, nested_of_rules, function_past, found_within, rules_make_function_fit}
 use Rattle.alias_rules.specs.TreeLaws.{times_both, counted}
-use Rattle.alias_rules.specs.declared.rules.Rule.TheVariants.{Numbers, Entry, Successors, Listed, ListedOnce}
+use Rattle.alias_rules.specs.declared.rules.Rule.TheVariants.{Numbers, Listed, ListedOnce}
 use Rattle.alias_nesting_laws.specs.ClosureLaws.{Among, Closed, tree_closed}
 use Rattle.alias_nesting_laws.specs.FittingLaws.{Fitted, fitted, first_among, later_among}
 use Rattle.alias_nesting_laws.specs.PartLaws.{among_cases, append_cases}
@@ -22,27 +21,6 @@ use Rattle.alias_nested.specs.Created.{created_functions}
 use Rattle.alias_order_laws.specs.Order.{created_by_slot, innermost_first, nested_innermost_first, numbers}
 use Rattle.alias_order_laws.proofs.Counting.{flat_times, total_same, zero_total, numbers_innermost_first, listed_same, tree_times}
 use Rattle.alias_order_laws.proofs.Creating.{once_again, created_as_often}
-
--- ---- the rules of a unit
-
-record Parts (u : HirUnit) : Type 0 where
-  numbers : in_unit Numbers u ≡ Ok tt
-  depth : nesting_not_deep u (nested_in u) ≡ Ok tt
-  listed : in_unit Listed u ≡ Ok tt
-  once : in_unit ListedOnce u ≡ Ok tt
-
-parts_of_rules : (u : HirUnit) → rules_hold u ≡ Ok tt → Parts u
-parts_of_rules u rules =
-    let a : (tables_fit u.env ≡ Ok tt) × _ = both_pass (tables_fit u.env) _ rules in
-    let b : (in_unit Numbers u ≡ Ok tt) × _ = both_pass (in_unit Numbers u) _ a.1 in
-    let c : (in_unit Entry u ≡ Ok tt) × _ = both_pass (in_unit Entry u) _ b.1 in
-    let d : (in_unit Successors u ≡ Ok tt) × _ = both_pass (in_unit Successors u) _ c.1 in
-    let v : (nesting_is_tree u (nested_in u) ≡ Ok tt) × _ = both_pass (nesting_is_tree u (nested_in u)) _ d.1 in
-    let w : (nesting_not_deep u (nested_in u) ≡ Ok tt) × _ = both_pass (nesting_not_deep u (nested_in u)) _ v.1 in
-    let t : (types_fit u.env ≡ Ok tt) × _ = both_pass (types_fit u.env) _ w.1 in
-    let e : (in_unit Listed u ≡ Ok tt) × _ = both_pass (in_unit Listed u) _ t.1 in
-    let f : (in_unit ListedOnce u ≡ Ok tt) × _ = both_pass (in_unit ListedOnce u) _ e.1 in
-    record { numbers = b.0; depth = w.0; listed = e.0; once = f.0 }
 
 -- ---- no number past the table
 

@@ -64,25 +64,25 @@ passes_at f (y ∷ ys) (suc i) x h e = passes_at f ys i x (both_pass (f y) (all_
 -- ---- what a unit that keeps the rules has
 
 pub record Parts (u : HirUnit) : Type 0 where
-  tables : tables_fit u.env ≡ Ok tt
-  numbers : in_unit Numbers u ≡ Ok tt
-  entry : in_unit Entry u ≡ Ok tt
-  successors : in_unit Successors u ≡ Ok tt
-  tree : nesting_is_tree u (nested_in u) ≡ Ok tt
-  depth : nesting_not_deep u (nested_in u) ≡ Ok tt
-  types : types_fit u.env ≡ Ok tt
-  listed : in_unit Listed u ≡ Ok tt
-  once : in_unit ListedOnce u ≡ Ok tt
-  handlers : in_unit Handlers u ≡ Ok tt
-  phis : in_unit Phis u ≡ Ok tt
-  orders : in_unit Orders u ≡ Ok tt
-  environment : environment_is_uninferred u.env ≡ true
-  function : function_is_uninferred u.function ≡ true
-  distinct : in_unit Distinct u ≡ Ok tt
-  apart : identifiers_apart u.env u.function (nested_in u) ≡ Ok tt
-  signatures : signatures_fit u.env ≡ Ok tt
-  calls : in_unit Calls u ≡ Ok tt
-  values : in_unit ContextValues u ≡ Ok tt
+  pub tables : tables_fit u.env ≡ Ok tt
+  pub numbers : in_unit Numbers u ≡ Ok tt
+  pub entry : in_unit Entry u ≡ Ok tt
+  pub successors : in_unit Successors u ≡ Ok tt
+  pub tree : nesting_is_tree u (nested_in u) ≡ Ok tt
+  pub depth : nesting_not_deep u (nested_in u) ≡ Ok tt
+  pub types : types_fit u.env ≡ Ok tt
+  pub listed : in_unit Listed u ≡ Ok tt
+  pub once : in_unit ListedOnce u ≡ Ok tt
+  pub handlers : in_unit Handlers u ≡ Ok tt
+  pub phis : in_unit Phis u ≡ Ok tt
+  pub orders : in_unit Orders u ≡ Ok tt
+  pub environment : environment_is_uninferred u.env ≡ true
+  pub function : function_is_uninferred u.function ≡ true
+  pub distinct : in_unit Distinct u ≡ Ok tt
+  pub apart : identifiers_apart u.env u.function (nested_in u) ≡ Ok tt
+  pub signatures : signatures_fit u.env ≡ Ok tt
+  pub calls : in_unit Calls u ≡ Ok tt
+  pub values : in_unit ContextValues u ≡ Ok tt
 
 pub parts_of_rules : (u : HirUnit) → rules_hold u ≡ Ok tt → Parts u
 parts_of_rules u rules =
