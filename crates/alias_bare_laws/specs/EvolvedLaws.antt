@@ -17,8 +17,11 @@ use Rattle.alias_rules.specs.RuleLaws.{fitting_tree, fitting_rules}
 use Rattle.alias_rules.specs.Sharing.{identifiers_of, identifiers_at, context_of, context_at, inside, outside, first_shared, in_two, nested_is_apart, identifiers_apart}
 use Rattle.alias_rules.specs.declared.rules.Rule.{Rule}
 use Rattle.alias_rules.specs.declared.rules.Rule.TheVariants.{Numbers, Entry, Successors, ListedOnce, Handlers, Phis, Orders, Distinct, Calls, ContextValues}
+use Rattle.alias_nesting_laws.specs.FittingLaws.{then_pass, together}
+use Rattle.alias_nesting_laws.specs.RootLaws.{passes_on}
+use Rattle.alias_nesting_laws.specs.StandInLaws.{all_weaker}
 use Rattle.alias_tables.specs.GrowingLaws.{grows_self}
-use Rattle.alias_block_laws.specs.FitLaws.{together, all_weaker, then_pass, passes_on, Wider, rule_kept, fits_kept}
+use Rattle.alias_block_laws.specs.FitLaws.{Wider, rule_kept, fits_kept}
 use Rattle.alias_block_laws.specs.IdentifierLaws.{keeps_identifier}
 use Rattle.alias_block_laws.specs.WiderLaws.{all_same, shared_same}
 use Rattle.alias_bare_laws.specs.Bare.{bare}

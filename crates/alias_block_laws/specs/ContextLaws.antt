@@ -1,9 +1,8 @@
 -- What a function that fits speaks of is in the tables of its environment.
-use Rattle.std.specs.Prelude.{◌≡◌, ℕ, Bool, true, false, ◌&&◌, ◌||◌, nat_eq, nat_lt, List, [], ◌∷◌, length, slice_get, Option, Some, None, option_map, Result, Ok, Err, ⊤, refl, if◌then◌else◌}
+use Rattle.std.specs.Prelude.{◌≡◌, ℕ, true, false, ◌||◌, nat_lt, List, [], ◌∷◌, length, slice_get, Option, Some, None, option_map, Ok, refl}
 use Rattle.std.specs.List.{AllByRecursion, flat_map, list_all}
 use Rattle.std.specs.Option.{option_map_or}
-use Rattle.std.proofs.Common.{ap, ◌∙◌, eq-eqb}
-use Rattle.std.proofs.lemmas.Bool.{eqb-true}
+use Rattle.std.proofs.Common.{ap, eq-eqb}
 use Rattle.alias_base.specs.Answer.{all_pass}
 use Rattle.alias_base.specs.AnswerLaws.{both_true, both_pass}
 use Rattle.alias_base.specs.declared.ids.BlockId.{BlockId}
@@ -23,47 +22,21 @@ use Rattle.alias_hir.specs.declared.place.Place.{Place}
 use Rattle.alias_hir.specs.declared.value.InstructionValue.{InstructionValue}
 use Rattle.alias_hir.specs.declared.value.InstructionValue.TheVariants as value
 use Rattle.alias_function_rules.specs.Rules.{is_among, place_fits, created_fits, identifier_fits, instruction_fits, block_fits, numbers_fit, tables_fit}
-use Rattle.alias_function_rules.specs.declared.fault.UnitFault.{UnitFault}
 use Rattle.alias_rules.specs.Fitting.{place_within_tables, function_within_tables, type_within_tables, named_within_tables, summary_within_tables, effect_within_tables, recorded_within_tables, effects_within_tables, holds_no_call, effects_fit, effects_fit_at, reports_no_invariant, function_fits}
 use Rattle.alias_rules.specs.Functions.{of_function, at_function, each_function}
 use Rattle.alias_rules.specs.Nesting.{number_of, created_in, tree_below}
 use Rattle.alias_rules.specs.RuleLaws.{fitting_tree, fitting_rules, passes_at}
 use Rattle.alias_rules.specs.declared.rules.Rule.TheVariants.{Numbers}
+use Rattle.alias_nesting_laws.specs.FittingLaws.{pass_among, together, true_among}
+use Rattle.alias_nesting_laws.specs.SlotLaws.{where_asked}
 use Rattle.alias_freezing.specs.Contexts.{context_in}
 use Rattle.alias_signature.specs.Calls.{type_id_of}
 use Rattle.alias_signature.specs.SignatureLaws.{names_by_kind}
 use Rattle.alias_step_laws.specs.StepLaws.{InstructionWithin}
 use Rattle.alias_step_laws.specs.Within.{FunctionWithin, CreatedWithin, NamesWithin}
-use Rattle.alias_block_laws.specs.ClosureLaws.{Among, among_front, among_rest, Closed, tree_closed}
+use Rattle.alias_nesting_laws.specs.ClosureLaws.{Among, among_front, among_rest, Closed, tree_closed}
 
 -- ---- parts
-
-pub where_asked : (b : Bool) (f : UnitFault) (ok : Result ⊤ UnitFault) → ok ≡ Ok tt → (if b then ok else Err f) ≡ Ok tt → b ≡ true
-where_asked true f ok o e = refl
-where_asked false f ok o e = cc
-
-together : (a b : Bool) → a ≡ true → b ≡ true → (a && b) ≡ true
-together true b h k = k
-together false b h k = cc
-
--- what passes for each of the numbers passes for one of them
-pub pass_among : {E : Type 0} (f : ℕ → Result ⊤ E) (ks : List ℕ) (k : ℕ) → all_pass f ks ≡ Ok tt → is_among ks k ≡ true → f k ≡ Ok tt
-pass_among f [] k h i = cc
-pass_among f (x ∷ xs) k h i =
-    let b : (f x ≡ Ok tt) × (all_pass f xs ≡ Ok tt) = both_pass (f x) (all_pass f xs) h in
-    elim (nat_eq k x) as (λ c. nat_eq k x ≡ c → (c || is_among xs k) ≡ true → f k ≡ Ok tt) [
-      | true ↦ λ e j. ap f (eqb-true k x e) ∙ b.0
-      | false ↦ λ e j. pass_among f xs k b.1 j
-    ] refl i
-
-pub true_among : (p : ℕ → Bool) (ks : List ℕ) (k : ℕ) → list_all p ks ≡ true → is_among ks k ≡ true → p k ≡ true
-true_among p [] k h i = cc
-true_among p (x ∷ xs) k h i =
-    let b = both_true (p x) (list_all p xs) h in
-    elim (nat_eq k x) as (λ c. nat_eq k x ≡ c → (c || is_among xs k) ≡ true → p k ≡ true) [
-      | true ↦ λ e j. ap p (eqb-true k x e) ∙ b.0
-      | false ↦ λ e j. true_among p xs k b.1 j
-    ] refl i
 
 module _ (env : Environment) where
   pub place_of : (p : Place) → place_fits env p ≡ Ok tt → place_within_tables env p ≡ true

@@ -4,7 +4,7 @@ use Rattle.std.specs.List.{list_all}
 use Rattle.std.specs.Option.{option_map_or}
 use Rattle.std.proofs.Common.{zero, suc, ap, sym, ◌∙◌, arith}
 use Rattle.std.proofs.lemmas.Bool.{ltb-true, lt-ltb}
-use Rattle.alias_base.specs.Answer.{◌>>=◌, all_pass}
+use Rattle.alias_base.specs.Answer.{all_pass}
 use Rattle.alias_base.specs.AnswerLaws.{both_true, both_pass}
 use Rattle.alias_base.specs.declared.ids.BlockId.{BlockId}
 use Rattle.alias_base.specs.declared.ids.FunctionId.{FunctionId}
@@ -31,33 +31,14 @@ use Rattle.alias_rules.specs.RuleLaws.{fitting_tree, fitting_rules}
 use Rattle.alias_rules.specs.Sharing.{identifiers_apart}
 use Rattle.alias_rules.specs.declared.rules.Rule.{Rule}
 use Rattle.alias_rules.specs.declared.rules.Rule.TheVariants.{Numbers, Entry, Successors, Listed, ListedOnce, Handlers, Phis, Orders, Distinct, Calls, ContextValues}
+use Rattle.alias_nesting_laws.specs.FittingLaws.{then_pass, together}
+use Rattle.alias_nesting_laws.specs.RootLaws.{passes_on, then_passes}
+use Rattle.alias_nesting_laws.specs.SlotLaws.{where_asked}
+use Rattle.alias_nesting_laws.specs.StandInLaws.{all_weaker, both_weaker}
 use Rattle.alias_tables.specs.GrowingLaws.{Grows}
 use Rattle.alias_step_laws.specs.InternLaws.{still_interned}
-use Rattle.alias_block_laws.specs.ContextLaws.{where_asked}
 
 -- ---- lists and steps
-
-pub together : (a b : Bool) → a ≡ true → b ≡ true → (a && b) ≡ true
-together true b h k = k
-together false b h k = cc
-
-pub all_weaker : {X : Type 0} (p q : X → Bool) → ((x : X) → p x ≡ true → q x ≡ true) → (xs : List X) → list_all p xs ≡ true → list_all q xs ≡ true
-all_weaker p q f [] h = refl
-all_weaker p q f (x ∷ xs) h = let b = both_true (p x) (list_all p xs) h in together (q x) (list_all q xs) (f x b.0) (all_weaker p q f xs b.1)
-
-both_weaker : (a b c d : Bool) → (a ≡ true → c ≡ true) → (b ≡ true → d ≡ true) → (a && b) ≡ true → (c && d) ≡ true
-both_weaker a b c d f g h = let p = both_true a b h in together c d (f p.0) (g p.1)
-
-pub then_pass : {E : Type 0} (r s : Result ⊤ E) → r ≡ Ok tt → s ≡ Ok tt → (r >>= (λ _. s)) ≡ Ok tt
-then_pass (Ok tt) s p q = q
-then_pass (Err e) s p q = cc
-
-then_passes : {E : Type 0} (r s r2 s2 : Result ⊤ E) → (r ≡ Ok tt → r2 ≡ Ok tt) → (s ≡ Ok tt → s2 ≡ Ok tt) → (r >>= (λ _. s)) ≡ Ok tt → (r2 >>= (λ _. s2)) ≡ Ok tt
-then_passes r s r2 s2 f g h = let b = both_pass r s h in then_pass r2 s2 (f b.0) (g b.1)
-
-pub passes_on : {A E : Type 0} (f g : A → Result ⊤ E) → ((x : A) → f x ≡ Ok tt → g x ≡ Ok tt) → (xs : List A) → all_pass f xs ≡ Ok tt → all_pass g xs ≡ Ok tt
-passes_on f g h [] e = refl
-passes_on f g h (x ∷ xs) e = then_passes (f x) (all_pass f xs) (g x) (all_pass g xs) (h x) (passes_on f g h xs) e
 
 pub fits_if : (b c : Bool) (f g : UnitFault) → (b ≡ true → c ≡ true) → ◌≡◌ {A = Result ⊤ UnitFault} (if b then Ok tt else Err f) (Ok tt) → ◌≡◌ {A = Result ⊤ UnitFault} (if c then Ok tt else Err g) (Ok tt)
 fits_if b c f g h e = ap (λ d. if d then Ok tt else Err g) (h (where_asked b f (Ok tt) refl e))

@@ -37,14 +37,16 @@ use Rattle.alias_rules.specs.Functions.{of_function, at_function}
 use Rattle.alias_rules.specs.Nesting.{created_of, tree_below}
 use Rattle.alias_rules.specs.Sharing.{identifiers_of, identifiers_at, context_at, family, inside, others, outside, first_shared, is_shared, in_two, nested_is_apart, identifiers_apart}
 use Rattle.alias_rules.specs.declared.rules.Rule.TheVariants.{Numbers}
+use Rattle.alias_nesting_laws.specs.FittingLaws.{pass_among, then_pass, together}
+use Rattle.alias_nesting_laws.specs.RootLaws.{passes_on}
 use Rattle.alias_freezing.specs.Contexts.{context_in}
 use Rattle.alias_visit.specs.Places.{created_places, instruction_places, phi_places, block_places, places_in, identifiers_in}
 use Rattle.alias_tables.specs.GrowingLaws.{grows_self}
 use Rattle.alias_step_laws.specs.StepLaws.{InstructionWithin}
 use Rattle.alias_step_laws.specs.Within.{CreatedWithin}
-use Rattle.alias_block_laws.specs.ClosureLaws.{Among, among_neither}
-use Rattle.alias_block_laws.specs.ContextLaws.{places_of_pass, place_of, numbers_of, pass_among, instructions_there, Fits, fits_has}
-use Rattle.alias_block_laws.specs.FitLaws.{together, then_pass, passes_on, fits_if, still_below, Wider, Keeps}
+use Rattle.alias_nesting_laws.specs.ClosureLaws.{Among, among_neither}
+use Rattle.alias_block_laws.specs.ContextLaws.{places_of_pass, place_of, numbers_of, instructions_there, Fits, fits_has}
+use Rattle.alias_block_laws.specs.FitLaws.{fits_if, still_below, Wider, Keeps}
 use Rattle.alias_block_laws.specs.WiderLaws.{of_kept, fit_kept, shared_same}
 
 -- ---- lists

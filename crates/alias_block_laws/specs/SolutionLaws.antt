@@ -1,9 +1,8 @@
 -- What a sequence of visits leads to, where tables grow: what steps keep of tables and states is kept, and what they say of a record stays said.
 use Rattle.std.specs.Prelude.{◌≡◌, ℕ, Bool, true, false, if◌then◌else◌, List, [], ◌∷◌, length, Option, Some, None, replicate, slice_index_or, slice_set, refl}
-use Rattle.std.specs.List.{AllByRecursion}
 use Rattle.std.proofs.Common.{zero, suc, subst}
-use Rattle.alias_lattice.specs.Flows.{Flow, Outcome, Stepped, Refused}
-use Rattle.alias_flow.specs.Machine.{Rules, VisitLog, SolverState, Run, Going, Stopped, End, Solved, Fault, NotSettled, after, ending, up, joined, send, send_all, visited, outcome_after, visit_at, visit, turn, round, any_dirty, rounds, start, solution, dirty}
+use Rattle.alias_lattice.specs.Flows.{Outcome, Stepped, Refused}
+use Rattle.alias_flow.specs.Machine.{Rules, VisitLog, SolverState, Run, Going, Stopped, End, Solved, NotSettled, after, ending, up, joined, send, send_all, visited, outcome_after, visit_at, visit, turn, round, any_dirty, rounds, start, solution, dirty}
 use Rattle.alias_flow.specs.RecordingLaws.{HoldsOf, AllHold}
 
 none_hold : {X : Type 0} (q : X → Type 0) (n : ℕ) → AllHold q (replicate n None)

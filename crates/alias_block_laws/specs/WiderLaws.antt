@@ -2,7 +2,7 @@
 use Rattle.std.specs.Prelude.{◌≡◌, ℕ, Bool, true, false, not, ◌==◌, List, [], ◌∷◌, ◌++◌, length, map, slice_get, slice_set, Option, Some, None, Result, Ok, Err, ⊤, refl, if◌then◌else◌}
 use Rattle.std.specs.List.{flat_map}
 use Rattle.std.specs.Option.{option_map_or}
-use Rattle.std.proofs.Common.{zero, suc, ap, sym, ◌∙◌, subst, arith}
+use Rattle.std.proofs.Common.{zero, suc, ap, sym, ◌∙◌, arith}
 use Rattle.std.proofs.lemmas.List.{length-map, map-append}
 use Rattle.alias_base.specs.Answer.{◌>>=◌, all_pass}
 use Rattle.alias_base.specs.AnswerLaws.{both_true, both_pass}
@@ -27,12 +27,14 @@ use Rattle.alias_rules.specs.Nesting.{created_of, created_at, next_level, fresh,
 use Rattle.alias_rules.specs.Sharing.{identifiers_of, identifiers_at, context_of, context_at, family, inside, others, outside, first_shared, in_two, nested_is_apart, identifiers_apart}
 use Rattle.alias_rules.specs.declared.rules.Rule.{Rule}
 use Rattle.alias_rules.specs.declared.rules.Rule.TheVariants.{Numbers, Entry, Successors, Listed, ListedOnce, Handlers, Phis, Orders, Distinct, Calls, ContextValues}
+use Rattle.alias_nesting_laws.specs.FittingLaws.{then_pass, together}
+use Rattle.alias_nesting_laws.specs.SlotLaws.{at_set, length_set}
 use Rattle.alias_visit.specs.Places.{created_places, instruction_places, block_places, identifiers_in}
 use Rattle.alias_tables.specs.GrowingLaws.{Grows, grows_self}
 use Rattle.alias_tables.specs.declared.reads.ContextRead.{ContextRead}
 use Rattle.alias_step_laws.specs.InternLaws.{says_invariant}
 use Rattle.alias_write_back.specs.WriteBack.{read_place, with_context_read, with_read}
-use Rattle.alias_block_laws.specs.FitLaws.{together, then_pass, Wider, rule_kept, effects_kept, Keeps}
+use Rattle.alias_block_laws.specs.FitLaws.{Wider, rule_kept, effects_kept, Keeps}
 
 -- ---- the same functions
 
@@ -112,18 +114,6 @@ module _ (env : Environment) (l : List Interned) (grows : Grows env.interned l) 
   }
 
 -- ---- context places that are only read
-
-at_set : {X : Type 0} (P : Option X → Option X → Type 0) (f g : X) → ((o : Option X) → P o o) → P (Some f) (Some g) → (xs : List X) (n k : ℕ) → slice_get xs n ≡ Some f → P (slice_get xs k) (slice_get (slice_set xs n g) k)
-at_set P f g same set [] n k e = cc
-at_set P f g same set (x ∷ xs) zero zero e = let is : x ≡ f = cc in subst (λ z. P (Some z) (Some g)) (sym is) set
-at_set P f g same set (x ∷ xs) zero (suc k) e = same (slice_get xs k)
-at_set P f g same set (x ∷ xs) (suc n) zero e = same (Some x)
-at_set P f g same set (x ∷ xs) (suc n) (suc k) e = at_set P f g same set xs n k e
-
-length_set : {X : Type 0} (xs : List X) (n : ℕ) (x : X) → length (slice_set xs n x) ≡ length xs
-length_set [] n x = refl
-length_set (y ∷ ys) zero x = refl
-length_set (y ∷ ys) (suc n) x = let e = length_set ys n x in omega arith
 
 abbrev ids : List Place → List ℕ
 ids ps = map (λ (p : Place). p.identifier.0) ps

@@ -16,6 +16,8 @@ use Rattle.alias_hir.specs.declared.place.Place.{Place}
 use Rattle.alias_hir.specs.declared.report.DiagnosticId.{DiagnosticId}
 use Rattle.alias_hir.specs.declared.report.Interned.{Interned}
 use Rattle.alias_rules.specs.Fitting.{place_within_tables, error_within_tables, function_within_tables, type_within_tables, named_within_tables, summary_within_tables, effect_within_tables, recorded_within_tables, function_fits}
+use Rattle.alias_nesting_laws.specs.FittingLaws.{together}
+use Rattle.alias_nesting_laws.specs.StandInLaws.{all_weaker}
 use Rattle.alias_tables.specs.GrowingLaws.{Grows, grows_self}
 use Rattle.alias_tables.specs.Tables.{TableLists}
 use Rattle.alias_tables.specs.declared.reads.ContextRead.{ContextRead}
@@ -23,7 +25,7 @@ use Rattle.alias_tables.specs.declared.temporaries.Temporary.{Temporary}
 use Rattle.alias_write_back.specs.WriteBack.{with_identifiers, with_read, with_reads, with_tables}
 use Rattle.alias_step_laws.specs.TableLaws.{grows_on}
 use Rattle.alias_step_laws.specs.Within.{PlaceWithin, ErrorWithin, CreatedWithin, EffectWithin, EffectsWithin, TablesWithin}
-use Rattle.alias_block_laws.specs.FitLaws.{together, all_weaker, Wider, function_kept, type_kept, named_kept, Keeps, fits_kept}
+use Rattle.alias_block_laws.specs.FitLaws.{Wider, function_kept, type_kept, named_kept, Keeps, fits_kept}
 use Rattle.alias_block_laws.specs.IdentifierLaws.{keeps_identifier}
 use Rattle.alias_block_laws.specs.WiderLaws.{keeps_reports, keeps_read}
 

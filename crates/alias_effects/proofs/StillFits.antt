@@ -25,6 +25,7 @@ use Rattle.alias_flow.specs.RecordingLaws.{AllHold}
 use Rattle.alias_rules.specs.Fitting.{effect_within_tables, recorded_within_tables, effects_within_tables, holds_no_call, effects_fit, effects_fit_at, reports_no_invariant, function_rules, function_fits}
 use Rattle.alias_rules.specs.RecordedLaws.{fits_with_other_effects}
 use Rattle.alias_rules.specs.RuleLaws.{fitting_tree}
+use Rattle.alias_nesting_laws.specs.FittingLaws.{together}
 use Rattle.alias_tables.specs.GrowingLaws.{grows_self}
 use Rattle.alias_tables.specs.Tables.{TableLists}
 use Rattle.alias_write_back.specs.WriteBack.{tables_of, with_tables}
@@ -41,7 +42,6 @@ use Rattle.alias_step_laws.specs.Within.{EffectsWithin, FunctionWithin, TablesWi
 use Rattle.alias_step_laws.specs.FunctionSiteLaws.{has_join}
 use Rattle.alias_step_laws.specs.TableLaws.{all_appended}
 use Rattle.alias_block_laws.specs.BlockLaws.{BlockEffectsWithin, StateWithin, block_effects_grow, block_inferred}
-use Rattle.alias_block_laws.specs.FitLaws.{together}
 use Rattle.alias_block_laws.specs.EntryLaws.{context_within, return_within, has_initial_state}
 use Rattle.alias_block_laws.specs.SolutionLaws.{StepKeeps, solution_stands}
 use Rattle.alias_block_laws.specs.WrittenLaws.{fits_with_tables, all_effects_written}

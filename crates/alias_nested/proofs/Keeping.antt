@@ -7,7 +7,7 @@ use Rattle.alias_bare_laws.specs.Bare.{but_places, without_range, but_ranges_and
 use Rattle.alias_bare_laws.specs.BareLaws.{bare_of_places, bare_of_effects, fits_with_other_places}
 use Rattle.alias_bare_laws.specs.EvolvedLaws.{evolves_self, fits_evolved}
 use Rattle.alias_bare_laws.specs.RangedLaws.{evolves_with_contexts, evolves_alike, tables_alike_fit}
-use Rattle.alias_block_laws.specs.FitLaws.{Wider, together}
+use Rattle.alias_block_laws.specs.FitLaws.{Wider}
 use Rattle.alias_effects.proofs.RecordedDiffers.{recorded_differs}
 use Rattle.alias_effects.proofs.StillFits.{pass_end_fits}
 use Rattle.alias_effects.specs.Inference.{pass_end, env_after}
@@ -25,7 +25,7 @@ use Rattle.alias_nested.specs.Answers.{IsPassed}
 use Rattle.alias_nested.specs.Slots.{emptied}
 use Rattle.alias_nested.proofs.Evolving.{pass_evolves}
 use Rattle.alias_nesting_laws.specs.Slots.{with_function}
-use Rattle.alias_nesting_laws.specs.FittingLaws.{fitted}
+use Rattle.alias_nesting_laws.specs.FittingLaws.{fitted, together}
 use Rattle.alias_function_rules.specs.Rules.{is_among}
 use Rattle.alias_rules.specs.Nesting.{created_in, created_of}
 use Rattle.alias_nesting_laws.specs.PartLaws.{absent}

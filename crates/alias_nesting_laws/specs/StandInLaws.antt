@@ -38,7 +38,7 @@ pub all_weaker : {X : Type 0} (p q : X → Bool) → ((x : X) → p x ≡ true �
 all_weaker p q f [] h = refl
 all_weaker p q f (x ∷ xs) h = let b = both_true (p x) (list_all p xs) h in together (q x) (list_all q xs) (f x b.0) (all_weaker p q f xs b.1)
 
-both_weaker : (a b c d : Bool) → (a ≡ true → c ≡ true) → (b ≡ true → d ≡ true) → (a && b) ≡ true → (c && d) ≡ true
+pub both_weaker : (a b c d : Bool) → (a ≡ true → c ≡ true) → (b ≡ true → d ≡ true) → (a && b) ≡ true → (c && d) ≡ true
 both_weaker a b c d f g h = let p = both_true a b h in together c d (f p.0) (g p.1)
 
 -- ---- the environment with the function that stands in

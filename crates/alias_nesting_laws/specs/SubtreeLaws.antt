@@ -20,7 +20,7 @@ taken_both : (o : Option ℕ) (r : Option (List ℕ)) (ks : List ℕ) → (if is
 taken_both None r ks h = (refl, h)
 taken_both (Some x) r ks h = cc
 
-tree_parts : (n : ℕ) (env : Environment) (found level ks : List ℕ) → tree_from (suc n) env found level ≡ Some ks → (first_again [] (found ++ level) ≡ None) × (tree_from n env (found ++ level) (next_level env level) ≡ Some ks)
+pub tree_parts : (n : ℕ) (env : Environment) (found level ks : List ℕ) → tree_from (suc n) env found level ≡ Some ks → (first_again [] (found ++ level) ≡ None) × (tree_from n env (found ++ level) (next_level env level) ≡ Some ks)
 unfolding tree_from
 tree_parts n env found level ks h = taken_both (first_again [] (found ++ level)) (tree_from n env (found ++ level) (next_level env level)) ks h
 
@@ -28,11 +28,11 @@ tree_step : (n : ℕ) (env : Environment) (found level : List ℕ) → first_aga
 unfolding tree_from
 tree_step n env found level e = ap (λ (o : Option ℕ). if is_none o then tree_from n env (found ++ level) (next_level env level) else None) e
 
-tree_end : (env : Environment) (found level : List ℕ) → tree_from zero env found level ≡ ended found level
+pub tree_end : (env : Environment) (found level : List ℕ) → tree_from zero env found level ≡ ended found level
 unfolding tree_from
 tree_end env found level = refl
 
-ended_parts : (found level ks : List ℕ) → ended found level ≡ Some ks → (level ≡ []) × (found ≡ ks)
+pub ended_parts : (found level ks : List ℕ) → ended found level ≡ Some ks → (level ≡ []) × (found ≡ ks)
 ended_parts found [] ks h = let same : found ≡ ks = cc in (refl, same)
 ended_parts found (x ∷ xs) ks h = none_left (length (x ∷ xs) == 0) refl h
   where

@@ -6,7 +6,7 @@ use Rattle.std.proofs.Common.{zero, suc, ap, sym, subst, ◌∙◌, arith}
 use Rattle.std.proofs.lemmas.List.{length-map}
 use Rattle.alias_base.specs.AnswerLaws.{both_true}
 use Rattle.alias_base.specs.declared.ids.FunctionId.{FunctionId}
-use Rattle.alias_block_laws.specs.FitLaws.{Wider, all_weaker, named_kept}
+use Rattle.alias_block_laws.specs.FitLaws.{Wider, named_kept}
 use Rattle.alias_function_rules.specs.Rules.{is_among, values_fit}
 use Rattle.alias_function_rules.specs.declared.fault.UnitFault.TheVariants as fault
 use Rattle.alias_hir.specs.Diagnostics.{summary}
@@ -19,7 +19,7 @@ use Rattle.alias_nesting_laws.specs.FittingLaws.{is_asked, fitted}
 use Rattle.alias_nesting_laws.specs.PartLaws.{Part, part_among}
 use Rattle.alias_nesting_laws.specs.SlotLaws.{length_set, set_other, set_there}
 use Rattle.alias_nesting_laws.specs.Slots.{with_function}
-use Rattle.alias_nesting_laws.specs.StandInLaws.{rule_same, at_same}
+use Rattle.alias_nesting_laws.specs.StandInLaws.{rule_same, at_same, all_weaker}
 use Rattle.alias_range_places.specs.Keeping.{but_effect}
 use Rattle.alias_rules.specs.Fitting.{named_within_tables, effect_within_tables, recorded_within_tables, effects_within_tables, holds_no_call, effects_fit, effects_fit_at}
 use Rattle.alias_rules.specs.Functions.{rule_holds, of_function, at_function}

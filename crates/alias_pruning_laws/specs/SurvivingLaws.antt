@@ -4,7 +4,7 @@ use Rattle.std.specs.List.{list_all}
 use Rattle.alias_base.specs.AnswerLaws.{both_true}
 use Rattle.alias_base.specs.declared.ids.BlockId.{BlockId}
 use Rattle.alias_base.specs.declared.ids.FunctionId.{FunctionId}
-use Rattle.alias_block_laws.specs.FitLaws.{Wider, together, all_weaker, named_kept}
+use Rattle.alias_block_laws.specs.FitLaws.{Wider, named_kept}
 use Rattle.alias_hir.specs.Diagnostics.{summary}
 use Rattle.alias_hir.specs.Effects.{function_of}
 use Rattle.alias_hir.specs.Terminals.{terminal_effects}
@@ -14,6 +14,8 @@ use Rattle.alias_hir.specs.declared.hir.BasicBlock.{BasicBlock}
 use Rattle.alias_hir.specs.declared.hir.HirFunction.{HirFunction}
 use Rattle.alias_hir.specs.declared.hir.Instruction.{Instruction}
 use Rattle.alias_rules.specs.Fitting.{named_within_tables, summary_within_tables, effect_within_tables, recorded_within_tables, effects_within_tables, holds_no_call, effects_fit}
+use Rattle.alias_nesting_laws.specs.FittingLaws.{together}
+use Rattle.alias_nesting_laws.specs.StandInLaws.{all_weaker}
 
 -- the summary of a function names entries of the tables
 abbrev pub SummaryNames : Environment → FunctionId → Type 0
