@@ -310,16 +310,18 @@ module _ (env : Environment) (func : HirFunction) (is_function_expression : Bool
         recorded_case recorded n e.0 e.1 (entry_at xs n) h' refl k (λ i. z n i ∙ get_or-replicate (length es) n None None (slice_get_within es n e h))
 
   -- what the solver leaves of the flow over positions solves the function's flow over blocks
-  pub solved_over : (w : SolverState (VisitLog State) TableLists BlockEffects) → length w.progress.joined_input ≡ length es → length w.recorded ≡ length es
+  pub solved_over : (w : SolverState (VisitLog State) TableLists BlockEffects) → w.tables ≡ left → length w.progress.joined_input ≡ length es → length w.recorded ≡ length es
       → IsSolution state_below under left (entry_at w.progress.joined_input) → RecordsSteps under left (entry_at w.progress.joined_input) w.recorded → KeepsOthers (entry_at w.progress.joined_input) (replicate (length es) None) w.recorded
       → (IsForward (numbered (context_of env func is_function_expression)) → AreJoins state_below under StateProper left (entry_at w.progress.joined_input))
       → IsSolved env func is_function_expression (solved_of func w)
-  solved_over w long recorded_long sol k z joins =
+  solved_over w tables_are long recorded_long sol k z joins =
       let r = recorded_from env func is_function_expression in
       let keeps = keeps_recorded w.progress.joined_input w.recorded k z in
       record {
         in_order = entries_in_order es w.progress.joined_input;
         solution = solution_over w.progress.joined_input sol;
+        first = ap (λ (t : TableLists). t.first) tables_are;
+        temporaries = ap (λ (t : TableLists). t.temporaries) tables_are;
         effects = recorded_over (λ (e : BlockEffects). e.instructions) instructions_recorded refl (λ e. refl) r es w.progress.joined_input w.recorded long recorded_long keeps;
         terminal_effects = recorded_over (λ (e : BlockEffects). e.terminal) terminal_recorded refl (λ e. refl) r es w.progress.joined_input w.recorded long recorded_long keeps;
         joins = λ f. joins_over w.progress.joined_input long (joins (forward_under w.progress.joined_input f));

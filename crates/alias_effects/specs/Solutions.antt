@@ -55,12 +55,15 @@ module _ (env : Environment) (func : HirFunction) (is_function_expression : Bool
   abbrev pub recorded_from : BlockEntry → BlockEffects
   recorded_from e = effects_recorded (flow.step tables e.block e.state)
 
-  -- the entry states solve the flow of the function, and what is handed out is what the blocks record from them
+  -- the entry states solve the flow of the function under the tables that its visits leave, and what is handed out is of these tables, and what the blocks record from these states
   pub record IsSolved (s : Solved) : Type 0 where
     -- entry states stand in the stored order of their blocks
     pub in_order : IsSubsequence (map (λ (e : BlockEntry). e.block) s.entries) (keys_of func.body.blocks)
     -- each reached block has one, the initial state is below the entry's, and each block steps to a state below that of each successor
     pub solution : IsSolution state_below flow tables (entry_state s.entries)
+    -- the first effects and the temporaries are those of these tables
+    pub first : s.first ≡ tables.first
+    pub temporaries : s.temporaries ≡ tables.temporaries
     -- the effects are those that the steps record
     pub effects : s.effects ≡ flat_map (λ (e : BlockEntry). (recorded_from e).instructions) s.entries
     pub terminal_effects : s.terminal_effects ≡ flat_map (λ (e : BlockEntry). (recorded_from e).terminal) s.entries

@@ -70,7 +70,7 @@ module _ (env : Environment) (func : HirFunction) (s : Solved) (after : Environm
 
 -- a solution that is noted
 numbered_solves : (env : Environment) (func : HirFunction) (b : Bool) (id : FunctionId) (s : Solved) → IsSolved env func b s → IsSolved env func b (numbered id s)
-numbered_solves env func b id s h = record { in_order = h.in_order; solution = h.solution; effects = h.effects; terminal_effects = h.terminal_effects; joins = h.joins }
+numbered_solves env func b id s h = record { in_order = h.in_order; solution = h.solution; first = h.first; temporaries = h.temporaries; effects = h.effects; terminal_effects = h.terminal_effects; joins = h.joins }
 
 pub accounts_more : (fs : List Analysed) (before after : List Solved) (x : Analysed) → Accounts fs before → after ≡ before ++ x.solved ∷ [] → SolvesItsFlow x → Accounts (fs ++ x ∷ []) after
 accounts_more fs before after x a more h = record {
