@@ -1,6 +1,7 @@
 mod Counting
 mod Creating
 mod Innermost
+mod Levels
 mod Ordering
 mod Solving
 mod Staying

@@ -1,10 +1,14 @@
-//! The order of the analysis.
+//! The order of the analysis, and how deep it goes.
 
 ghost use Rattle.std.specs.Prelude.{◌≡◌, ℕ, ◌<◌, ◌≤◌, true, List, ◌++◌, ◌∷◌, [], length, map, Some, None, Ok};
+ghost use Rattle.alias_hir.specs.declared.env.Environment.{Environment};
 ghost use Rattle.alias_hir.specs.declared.env.Unit.{Unit as HirUnit};
+ghost use Rattle.alias_hir.specs.declared.hir.HirFunction.{HirFunction};
 ghost use Rattle.alias_function_rules.specs.Rules.{is_among};
+ghost use Rattle.alias_rules.specs.Fitting.{function_fits};
 ghost use Rattle.alias_rules.specs.Functions.{rules_hold};
 ghost use Rattle.alias_rules.specs.Nesting.{times, created_at};
+ghost use Rattle.alias_validate.specs.Levels.{is_within};
 ghost use Rattle.alias_nested.specs.Units.{UnitAnalysis, unit_analysed};
 ghost use Rattle.alias_order_laws.specs.Order.{numbers, nested_innermost_first, functions_of};
 
@@ -16,4 +20,10 @@ pub fn order_laws()
     ensures once { (u : HirUnit) (k : ℕ) → rules_hold u ≡ Ok tt → k < length u.env.functions → times (numbers (nested_innermost_first u)) k ≡ 1 }
     ensures only { (u : HirUnit) (k : ℕ) → rules_hold u ≡ Ok tt → length u.env.functions ≤ k → times (numbers (nested_innermost_first u)) k ≡ 0 }
     ensures innermost { (u : HirUnit) (xs ys : List ℕ) (k j : ℕ) → rules_hold u ≡ Ok tt → numbers (nested_innermost_first u) ≡ xs ++ k ∷ ys → is_among (created_at u.env k) j ≡ true → is_among xs j ≡ true }
+{}
+
+/// A function that keeps the rules with those below it, which is what `check_function` asks, is nested on at most 64 levels with them, so the first
+/// validation, which walks 64 levels, walks all of them. Does nothing.
+pub fn level_laws()
+    ensures levels { (f : HirFunction) (env : Environment) → function_fits f env ≡ true → is_within 64 env f ≡ true }
 {}
