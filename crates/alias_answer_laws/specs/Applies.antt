@@ -1,5 +1,5 @@
--- That no Apply is left among what is recorded, and answers that aren't UnreplacedApply.
-use Rattle.std.specs.Prelude.{◌≡◌, Bool, true, false, List, Result, Ok, Err, ⊤}
+-- That no Apply is left among what is recorded, and answers that don't say that one is.
+use Rattle.std.specs.Prelude.{◌≡◌, false, List, Result}
 use Rattle.std.specs.List.{AllByRecursion, list_any}
 use Rattle.alias_base.specs.declared.ids.BlockId.{BlockId}
 use Rattle.alias_block.specs.declared.recorded.InstructionEffects.{InstructionEffects}
@@ -9,12 +9,12 @@ use Rattle.alias_hir.specs.Terminals.{terminal_effects}
 use Rattle.alias_hir.specs.declared.effect.AliasingEffect.{AliasingEffect}
 use Rattle.alias_hir.specs.declared.env.Environment.{Environment}
 use Rattle.alias_hir.specs.declared.error.InferError.{InferError}
-use Rattle.alias_hir.specs.declared.error.InferError.TheVariants.{UnreplacedApply}
 use Rattle.alias_hir.specs.declared.hir.BasicBlock.{BasicBlock}
 use Rattle.alias_hir.specs.declared.hir.HirFunction.{HirFunction}
 use Rattle.alias_hir.specs.declared.hir.Instruction.{Instruction}
 use Rattle.alias_rules.specs.Fitting.{is_apply}
 use Rattle.alias_range_pass.specs.Refusals.{has_apply}
+use Rattle.alias_answer_laws.specs.Avoiding.{is_unreplaced, Avoids}
 
 -- none of the effects is Apply
 abbrev pub NoneIsApply : List AliasingEffect → Type 0
@@ -44,16 +44,6 @@ TerminalsLackApply f = AllByRecursion (λ (b : BlockId × BasicBlock). has_apply
 abbrev pub NestedLackApply : Environment → Type 0
 NestedLackApply env = AllByRecursion InstructionsLackApply env.functions
 
--- an Apply is said to be left
-abbrev pub is_unreplaced : InferError → Bool
-is_unreplaced (UnreplacedApply i report) = true
-is_unreplaced e = false
-
 -- no Apply is said to be left, and what is answered has the property
 abbrev pub Leads : {A : Type 0} → (A → Type 0) → Result A InferError → Type 0
-Leads P (Ok x) = P x
-Leads P (Err e) = is_unreplaced e ≡ false
-
--- of the answer no more is said
-abbrev pub Answered : {A : Type 0} → A → Type 0
-Answered x = ⊤
+Leads P r = Avoids is_unreplaced P r

@@ -5,7 +5,6 @@ use Rattle.std.specs.Map.{keys_of}
 use Rattle.std.specs.Option.{option_map_or}
 use Rattle.std.proofs.Common.{zero, suc, subst}
 use Rattle.indexmap.specs.IndexMap.{set_value_at}
-use Rattle.alias_base.specs.Answer.{◌>>=◌}
 use Rattle.alias_base.specs.Find.{same_block}
 use Rattle.alias_base.specs.declared.ids.BlockId.{BlockId}
 use Rattle.alias_base.specs.declared.ids.EvaluationOrder.{EvaluationOrder}
@@ -15,11 +14,8 @@ use Rattle.alias_hir.specs.Terminals.{terminal_effects, with_terminal_effects}
 use Rattle.alias_hir.specs.Values.{created}
 use Rattle.alias_hir.specs.declared.effect.AliasingEffect.{AliasingEffect}
 use Rattle.alias_hir.specs.declared.env.Environment.{Environment}
-use Rattle.alias_hir.specs.declared.error.Counter.TheVariants.{GraphPositions}
-use Rattle.alias_hir.specs.declared.error.HirError.{HirError}
-use Rattle.alias_hir.specs.declared.error.HirError.TheVariants as hir
 use Rattle.alias_hir.specs.declared.error.InferError.{InferError}
-use Rattle.alias_hir.specs.declared.error.InferError.TheVariants.{UnreplacedApply, TooMany}
+use Rattle.alias_hir.specs.declared.error.InferError.TheVariants.{UnreplacedApply}
 use Rattle.alias_hir.specs.declared.hir.BasicBlock.{BasicBlock}
 use Rattle.alias_hir.specs.declared.hir.HirFunction.{HirFunction}
 use Rattle.alias_hir.specs.declared.hir.Instruction.{Instruction}
@@ -48,14 +44,11 @@ use Rattle.alias_events.specs.Recording.{graph_listed}
 use Rattle.alias_events.specs.declared.listing.RecordedMutation.{RecordedMutation}
 use Rattle.alias_events.specs.declared.listing.RecordedRender.{RecordedRender}
 use Rattle.alias_ranges.specs.Nodes.{Nodes}
-use Rattle.alias_answer_laws.specs.Applies.{NoneIsApply, NoInstructionRecordsApply, NoTerminalRecordsApply, RecordsNoApply, InstructionsLackApply, TerminalsLackApply, NestedLackApply, is_unreplaced, Leads, Answered}
+use Rattle.alias_answer_laws.specs.Applies.{NoneIsApply, NoInstructionRecordsApply, NoTerminalRecordsApply, RecordsNoApply, InstructionsLackApply, TerminalsLackApply, NestedLackApply, Leads}
+use Rattle.alias_answer_laws.specs.Avoiding.{is_unreplaced, Answered, avoids_then, listing_avoids, room_avoids}
 use Rattle.alias_answer_laws.specs.PassLaws.{EndsPlain, pass_plain}
 
 -- ---- answers
-
-pub leads_then : {A B : Type 0} (P : A → Type 0) (Q : B → Type 0) (r : Result A InferError) (g : A → Result B InferError) → Leads P r → ((x : A) → P x → Leads Q (g x)) → Leads Q (r >>= g)
-leads_then P Q (Ok x) g h k = k x h
-leads_then P Q (Err e) g h k = h
 
 pub led_to : {A : Type 0} (P : A → Type 0) (r : Result A InferError) (x : A) → Leads P r → r ≡ Ok x → P x
 led_to P r x h e = subst (Leads P) e h
@@ -157,20 +150,11 @@ replaced_leads : (o : Option InstructionId) → o ≡ None → Leads (Answered {
 replaced_leads None h = tt
 replaced_leads (Some i) h = cc
 
-listing_leads : (r : Result Listing HirError) → Leads (Answered {A = Listing}) (listing_or r)
-listing_leads (Ok l) = tt
-listing_leads (Err (hir.TooMany which)) = refl
-listing_leads (Err (hir.Memory e)) = refl
-
-room_leads : (b : Bool) → (let r : Result ⊤ InferError = if b then Ok tt else Err (TooMany GraphPositions) in Leads (Answered {A = ⊤}) r)
-room_leads true = tt
-room_leads false = refl
-
 listed_leads : (f : HirFunction) → InstructionsLackApply f → Leads (Answered {A = Listing}) (recorded f)
 listed_leads f h =
-    leads_then (Answered {A = ⊤}) (Answered {A = Listing}) (none_unreplaced (unreplaced f)) _ (replaced_leads (unreplaced f) (none_in_blocks f.instructions f.body.blocks h)) (λ r q.
-    leads_then (Answered {A = Listing}) (Answered {A = Listing}) (listing_or (listed f)) _ (listing_leads (listed f)) (λ l p.
-    leads_then (Answered {A = ⊤}) (Answered {A = Listing}) (positions_left l.next (length (tracked f))) _ (room_leads (nat_le (l.next + length (tracked f)) 4294967295)) (λ s t. tt)))
+    avoids_then is_unreplaced (Answered {A = ⊤}) (Answered {A = Listing}) (none_unreplaced (unreplaced f)) _ (replaced_leads (unreplaced f) (none_in_blocks f.instructions f.body.blocks h)) (λ r q.
+    avoids_then is_unreplaced (Answered {A = Listing}) (Answered {A = Listing}) (listing_or (listed f)) _ (listing_avoids (listed f)).0 (λ l p.
+    avoids_then is_unreplaced (Answered {A = ⊤}) (Answered {A = Listing}) (positions_left l.next (length (tracked f))) _ (room_avoids (nat_le (l.next + length (tracked f)) 4294967295)).0 (λ s t. tt)))
 
 -- ---- what the range pass leaves
 
@@ -234,7 +218,7 @@ RangesPlain r = BothLackApply r.after
 -- the range pass finds no Apply left, and leaves none
 pub ranges_plain : (b : Bool) (f : HirFunction) (env : Environment) → InstructionsLackApply f → NestedLackApply env → Leads RangesPlain (range_pass b f env)
 ranges_plain b f env h n =
-    leads_then (Answered {A = Listing}) RangesPlain (recorded f) _ (listed_leads f h) (λ l p.
+    avoids_then is_unreplaced (Answered {A = Listing}) RangesPlain (recorded f) _ (listed_leads f h) (λ l p.
     let w : Walked = mutations_done (records b env) l env in
     let walked : NestedLackApply w.1 = walks_lack (records b env) l.mutations (graph_listed l, env_reported (records b env) l env) n in
     blocks_lack b (length f.body.blocks) 0 (function_captured w.0 f, renders_done (records b env) l w) (h, rendered_lacks (records b env) l w walked))
@@ -242,4 +226,4 @@ ranges_plain b f env h n =
 -- where no instruction carries Apply, the range pass doesn't say that one is left
 pub none_left : (b : Bool) (f : HirFunction) (env : Environment) → InstructionsLackApply f → (i : InstructionId) (report : Report) → range_pass b f env ≢ Err (UnreplacedApply i report)
 none_left b f env h =
-    never_left (Answered {A = Ranged}) (range_pass b f env) (leads_then (Answered {A = Listing}) (Answered {A = Ranged}) (recorded f) (λ l. Ok (ranged b f env l)) (listed_leads f h) (λ l p. tt))
+    never_left (Answered {A = Ranged}) (range_pass b f env) (avoids_then is_unreplaced (Answered {A = Listing}) (Answered {A = Ranged}) (recorded f) (λ l. Ok (ranged b f env l)) (listed_leads f h) (λ l p. tt))

@@ -1,5 +1,5 @@
 -- No inference of a unit says that an operand has no effect.
-use Rattle.std.specs.Prelude.{◌≡◌, ◌≢◌, ◌⊎◌, ℕ, ◌+◌, Bool, true, false, List, [], ◌∷◌, Option, Some, None, Result, Ok, Err, ⊤, if◌then◌else◌, length, option_map, slice_get, slice_set, refl}
+use Rattle.std.specs.Prelude.{◌≡◌, ◌≢◌, ◌⊎◌, ℕ, ◌+◌, Bool, true, false, List, [], ◌∷◌, Option, Some, None, Result, Err, ⊤, if◌then◌else◌, length, option_map, slice_get, slice_set, refl}
 use Rattle.std.specs.List.{AllByRecursion}
 use Rattle.std.specs.Option.{option_map_or}
 use Rattle.std.proofs.Common.{zero, suc, inl, inr, ap, sym, ◌∙◌, subst, arith}
@@ -12,12 +12,8 @@ use Rattle.alias_hir.specs.Values.{created}
 use Rattle.alias_hir.specs.declared.effect.AliasingEffect.{AliasingEffect}
 use Rattle.alias_hir.specs.declared.env.Environment.{Environment}
 use Rattle.alias_hir.specs.declared.env.Unit.{Unit as HirUnit}
-use Rattle.alias_hir.specs.declared.error.HirError.{HirError}
-use Rattle.alias_hir.specs.declared.error.HirError.TheVariants as hir
 use Rattle.alias_hir.specs.declared.error.InferError.{InferError}
-use Rattle.alias_hir.specs.declared.error.InferError.TheVariants as error
-use Rattle.alias_hir.specs.declared.error.InferError.TheVariants.{EffectsNotInferred, UnreplacedApply, TooMany}
-use Rattle.alias_hir.specs.declared.error.Counter.TheVariants.{GraphPositions}
+use Rattle.alias_hir.specs.declared.error.InferError.TheVariants.{EffectsNotInferred}
 use Rattle.alias_hir.specs.declared.hir.BasicBlock.{BasicBlock}
 use Rattle.alias_hir.specs.declared.hir.HirFunction.{HirFunction}
 use Rattle.alias_hir.specs.declared.hir.Instruction.{Instruction}
@@ -27,16 +23,13 @@ use Rattle.alias_lattice.specs.States.{State}
 use Rattle.alias_flow.specs.Machine.{VisitLog, End}
 use Rattle.alias_flow.specs.Machine as end
 use Rattle.alias_tables.specs.Tables.{TableLists}
-use Rattle.alias_tables.specs.declared.faults.Refusal.{Refusal}
-use Rattle.alias_tables.specs.declared.faults.Refusal.TheVariants as refused
 use Rattle.alias_tables.specs.declared.reads.ContextRead.{ContextRead}
 use Rattle.alias_tables.specs.declared.temporaries.Temporary.{Temporary}
 use Rattle.alias_write_back.specs.WriteBack.{with_identifiers, with_context_read, with_read, with_reads}
 use Rattle.alias_block.specs.Contexts.{context_of}
 use Rattle.alias_block.specs.declared.faults.BlockRefusal.{BlockRefusal}
-use Rattle.alias_block.specs.declared.faults.BlockRefusal.TheVariants as block
 use Rattle.alias_block.specs.declared.recorded.BlockEffects.{BlockEffects}
-use Rattle.alias_effects.specs.Inference.{instruction_refusal, refusal, block_at, answer_of, pass_end, end_tables, env_after}
+use Rattle.alias_effects.specs.Inference.{block_at, answer_of, pass_end, end_tables, env_after}
 use Rattle.alias_effects.specs.Numbered.{visits_end}
 use Rattle.alias_effects.specs.Recording.{with_effects_of}
 use Rattle.alias_effects.specs.declared.output.PassEnd.{PassEnd}
@@ -57,14 +50,14 @@ use Rattle.alias_range_summary.specs.Summaries.{tracked}
 use Rattle.alias_range_summary.specs.Walking.{Walked, after_mutation, after_mutations, after_render, after_renders, env_reported, mutations_done, renders_done}
 use Rattle.alias_nesting_laws.specs.SlotLaws.{set_other, set_there}
 use Rattle.alias_nesting_laws.specs.Slots.{with_function}
-use Rattle.alias_nested.specs.Analysis.{named, naming, Analysis, analysis, each, effects_analysed, completed, completed_with, function_analysed, taken_analysed, found_analysed, slot_analysed, analysed}
+use Rattle.alias_nested.specs.Analysis.{naming, Analysis, analysis, each, effects_analysed, completed, completed_with, function_analysed, taken_analysed, found_analysed, slot_analysed, analysed}
 use Rattle.alias_nested.specs.Created.{created_functions}
 use Rattle.alias_nested.specs.Slots.{emptied}
 use Rattle.alias_nested.specs.Units.{RootAnalysis, validated, root_analysed, all_analysed, UnitAnalysis, unit_analysed, InfersUnit}
 use Rattle.alias_nested.specs.declared.infer.Inferred.{Inferred}
-use Rattle.alias_answer_laws.specs.Applies.{Answered}
+use Rattle.alias_answer_laws.specs.Avoiding.{is_not_inferred, Answered, avoids_then, avoids_on, avoids_naming, named_alike, block_refused, listing_avoids, room_avoids}
 use Rattle.alias_answer_laws.specs.KnownFunctionLaws.{FunctionKnown, function_known, SameListing, listing_through, same_functions, placed_lists_same, effects_lists_same}
-use Rattle.alias_answer_laws.specs.KnownWalkLaws.{is_not_inferred, Comes, comes_then, Passes, WalkKnown, validated_passes}
+use Rattle.alias_answer_laws.specs.KnownWalkLaws.{Comes, Passes, WalkKnown, validated_passes}
 
 -- ---- environments whose functions keep what they create, and operands with effects
 
@@ -194,10 +187,6 @@ slots_back fs gs n f e g at h k j =
           subst (SlotKeeps (slice_get fs j)) (sym (set_other gs n j g other)) (subst (λ o. SlotKeeps o (slice_get gs j)) (set_other fs n j e other) (k j))
     ]
 
-comes_same : {A : Type 0} (P Q : A → Type 0) (r : Result A InferError) → ((x : A) → P x → Q x) → Comes P r → Comes Q r
-comes_same P Q (Ok x) f h = f x h
-comes_same P Q (Err e) f h = h
-
 -- ---- the environment after the effects pass
 
 read_keeps : (r : ContextRead) (fs : List HirFunction) (o : Option HirFunction) → slice_get fs r.function.0 ≡ o → SlotsKeep fs (option_map_or (λ (f : HirFunction). slice_set fs r.function.0 (with_context_read r.place f)) o fs)
@@ -217,20 +206,9 @@ after_keeps env e =
     let t = end_tables e in
     slots_through env.functions (with_identifiers t.temporaries env).functions (env_after env e).functions (identified_keeps t.temporaries env) (reads_keep t.reads (with_identifiers t.temporaries env).functions)
 
-instruction_comes : (i : InstructionId) (c : Refusal) → is_not_inferred (instruction_refusal i c) ≡ false
-instruction_comes i (refused.Reinitialized x) = refl
-instruction_comes i (refused.AliasBeforeCreate x) = refl
-instruction_comes i (refused.IncompatibleLibrary report) = refl
-instruction_comes i (refused.SpreadArgument span report) = refl
-instruction_comes i (refused.TooMany which) = refl
-
-block_comes : (env : Environment) (b : BlockId) (c : BlockRefusal) → is_not_inferred (refusal env b c) ≡ false
-block_comes env b (block.Instruction i c) = instruction_comes i c
-block_comes env b (block.Uninitialized m) = refl
-
 end_comes : (env : Environment) (f : HirFunction) (r : End (VisitLog State) TableLists BlockEffects BlockRefusal) → Passes (answer_of env f r)
 end_comes env f (end.Solved w) = tt
-end_comes env f (end.Fault n c) = block_comes env (block_at f.body.blocks n) c
+end_comes env f (end.Fault n c) = (block_refused env (block_at f.body.blocks n) c).1
 end_comes env f (end.NotSettled visits) = refl
 
 pass_comes : (env : Environment) (f : HirFunction) (b : Bool) → Passes (pass_end env f b)
@@ -287,20 +265,11 @@ replaced_comes : (o : Option InstructionId) → Passes (none_unreplaced o)
 replaced_comes None = tt
 replaced_comes (Some i) = refl
 
-listing_comes : (r : Result Listing HirError) → Passes (listing_or r)
-listing_comes (Ok l) = tt
-listing_comes (Err (hir.TooMany which)) = refl
-listing_comes (Err (hir.Memory e)) = refl
-
-room_comes : (b : Bool) → (let r : Result ⊤ InferError = if b then Ok tt else Err (TooMany GraphPositions) in Passes r)
-room_comes true = tt
-room_comes false = refl
-
 listed_comes : (f : HirFunction) → Passes (recorded f)
 listed_comes f =
-    comes_then (Answered {A = ⊤}) (Answered {A = Listing}) (none_unreplaced (unreplaced f)) _ (replaced_comes (unreplaced f)) (λ r q.
-    comes_then (Answered {A = Listing}) (Answered {A = Listing}) (listing_or (listed f)) _ (listing_comes (listed f)) (λ l p.
-    comes_then (Answered {A = ⊤}) (Answered {A = Listing}) (positions_left l.next (length (tracked f))) _ (room_comes _) (λ s t. tt)))
+    avoids_then is_not_inferred (Answered {A = ⊤}) (Answered {A = Listing}) (none_unreplaced (unreplaced f)) _ (replaced_comes (unreplaced f)) (λ r q.
+    avoids_then is_not_inferred (Answered {A = Listing}) (Answered {A = Listing}) (listing_or (listed f)) _ (listing_avoids (listed f)).1 (λ l p.
+    avoids_then is_not_inferred (Answered {A = ⊤}) (Answered {A = Listing}) (positions_left l.next (length (tracked f))) _ (room_avoids _).1 (λ s t. tt)))
 
 -- the function has operands with effects, creates what it did, and the environment keeps its own
 abbrev pub Finished : HirFunction → Environment → Placed → Type 0
@@ -308,7 +277,7 @@ Finished f env s = FunctionKnown s.0 × SameListing f s.0 × SlotsKeep env.funct
 
 range_comes : (b : Bool) (f : HirFunction) (env : Environment) → Comes (λ (r : Ranged). Finished f env r.after) (range_pass b f env)
 range_comes b f env =
-    comes_then (Answered {A = Listing}) (λ (r : Ranged). Finished f env r.after) (recorded f) _ (listed_comes f) (λ l p.
+    avoids_then is_not_inferred (Answered {A = Listing}) (λ (r : Ranged). Finished f env r.after) (recorded f) _ (listed_comes f) (λ l p.
     let w : Walked = mutations_done (records b env) l env in
     let begun : Placed = (function_captured w.0 f, renders_done (records b env) l w) in
     let after : Placed = function_placed b begun in
@@ -319,19 +288,6 @@ range_comes b f env =
 
 -- ---- nested functions
 
-named_comes : (id : FunctionId) (e : InferError) → is_not_inferred e ≡ false → is_not_inferred (named id e) ≡ false
-named_comes id (error.NotSettled f visits report) h = refl
-named_comes id (error.Uninitialized f block identifier span report) h = refl
-named_comes id (error.Reinitialized f instruction identifier) h = refl
-named_comes id (error.AliasBeforeCreate f instruction identifier) h = refl
-named_comes id (error.IncompatibleLibrary f instruction report) h = refl
-named_comes id (error.SpreadArgument f instruction span report) h = refl
-named_comes id e h = h
-
-naming_comes : {A : Type 0} (P : A → Type 0) (id : FunctionId) (r : Result A InferError) → Comes P r → Comes P (naming id r)
-naming_comes P id (Ok x) h = h
-naming_comes P id (Err e) h = named_comes id e h
-
 abbrev FinishedWith : HirFunction → Environment → HirFunction × Analysis → Type 0
 FinishedWith f env s = Finished f env (s.0, s.1.env)
 
@@ -341,12 +297,12 @@ finished_through f g env more s p k h = (h.0, listing_through f g s.0 p h.1, slo
 function_comes : (id : FunctionId) (f : HirFunction) (a : Analysis) → Comes (FinishedWith f a.env) (function_analysed id f a)
 function_comes id f a =
     let Effects : HirFunction × Analysis → Type 0 = λ s. SameListing f s.0 × SlotsKeep a.env.functions s.1.env.functions in
-    comes_then Effects (FinishedWith f a.env) (effects_analysed id f a) (completed_with id)
-    (comes_then (Answered {A = PassEnd}) Effects (naming id (pass_end a.env f true)) _ (naming_comes (Answered {A = PassEnd}) id (pass_end a.env f true) (pass_comes a.env f true)) (λ e p. (effects_lists_same e.solved f, after_keeps a.env e)))
+    avoids_then is_not_inferred Effects (FinishedWith f a.env) (effects_analysed id f a) (completed_with id)
+    (avoids_then is_not_inferred (Answered {A = PassEnd}) Effects (naming id (pass_end a.env f true)) _ (avoids_naming is_not_inferred (Answered {A = PassEnd}) id (pass_end a.env f true) (λ e. (named_alike id e).1) (pass_comes a.env f true)) (λ e p. (effects_lists_same e.solved f, after_keeps a.env e)))
     (λ s p.
     let Done : Placed → Type 0 = Finished s.0 s.1.env in
-    comes_then Done (FinishedWith f a.env) (completed id s.0 s.1.env) _
-    (comes_then (λ (r : Ranged). Done r.after) Done (naming id (range_pass true s.0 s.1.env)) _ (naming_comes (λ (r : Ranged). Done r.after) id (range_pass true s.0 s.1.env) (range_comes true s.0 s.1.env)) (λ r q. (q.0, record { listed = q.1.listed; creates = q.1.creates }, q.2)))
+    avoids_then is_not_inferred Done (FinishedWith f a.env) (completed id s.0 s.1.env) _
+    (avoids_then is_not_inferred (λ (r : Ranged). Done r.after) Done (naming id (range_pass true s.0 s.1.env)) _ (avoids_naming is_not_inferred (λ (r : Ranged). Done r.after) id (range_pass true s.0 s.1.env) (λ e. (named_alike id e).1) (range_comes true s.0 s.1.env)) (λ r q. (q.0, record { listed = q.1.listed; creates = q.1.creates }, q.2)))
     (λ c q. finished_through f s.0 a.env s.1.env c p.0 p.1 q))
 
 -- the environment keeps its functions, and those that the function creates are known on so many levels
@@ -376,14 +332,14 @@ module _ (n : ℕ) (below : HirFunction → Analysis → Result Analysis InferEr
 
   taken_comes : (id : FunctionId) (f : HirFunction) (a : Analysis) → Comes (TakenDone f a) (taken_analysed below id f a)
   taken_comes id f a =
-      comes_then (BelowDone n f a) (TakenDone f a) (below f a) (function_analysed id f) (done f a) (λ b p.
-      comes_same (FinishedWith f b.env) (TakenDone f a) (function_analysed id f b) (λ s q. (finished_through f f a.env b.env (s.0, s.1.env) (same_listing f) p.0 q, below_keeps n b.env s.1.env f s.0 q.2 q.1 p.1)) (function_comes id f b))
+      avoids_then is_not_inferred (BelowDone n f a) (TakenDone f a) (below f a) (function_analysed id f) (done f a) (λ b p.
+      avoids_on is_not_inferred (FinishedWith f b.env) (TakenDone f a) (function_analysed id f b) (λ s q. (finished_through f f a.env b.env (s.0, s.1.env) (same_listing f) p.0 q, below_keeps n b.env s.1.env f s.0 q.2 q.1 p.1)) (function_comes id f b))
 
   found_comes : (id : FunctionId) (a : Analysis) (o : Option HirFunction) → slice_get a.env.functions id.0 ≡ o → Comes (SlotDone (suc n) id a) (found_analysed below id a o)
   found_comes id a None e = (slots_self a.env.functions, subst (WalkKnown (suc n) a.env) (sym e) (no_walk (suc n) a.env))
   found_comes id a (Some f) e =
       let out : Analysis = record a { env = with_function id (emptied f.returns) a.env } in
-      comes_then (TakenDone f out) (SlotDone (suc n) id a) (taken_analysed below id f out) _ (taken_comes id f out) (λ s p.
+      avoids_then is_not_inferred (TakenDone f out) (SlotDone (suc n) id a) (taken_analysed below id f out) _ (taken_comes id f out) (λ s p.
       let back : Environment = with_function id s.0 s.1.env in
       let empty : SlotKeeps (Some (emptied f.returns)) (slice_get s.1.env.functions id.0)
       = subst (λ o. SlotKeeps o (slice_get s.1.env.functions id.0)) (got_set a.env.functions id.0 f (emptied f.returns) e) (p.0.2 id.0) in
@@ -403,8 +359,8 @@ EachDone n ids a b = SlotsKeep a.env.functions b.env.functions × AllByRecursion
 each_comes : (n : ℕ) (step : FunctionId → Analysis → Result Analysis InferError) → ((id : FunctionId) (a : Analysis) → Comes (SlotDone n id a) (step id a)) → (ids : List FunctionId) (a : Analysis) → Comes (EachDone n ids a) (each step ids a)
 each_comes n step h [] a = (slots_self a.env.functions, tt)
 each_comes n step h (id ∷ ids) a =
-    comes_then (SlotDone n id a) (EachDone n (id ∷ ids) a) (step id a) (each step ids) (h id a) (λ b p.
-    comes_same (EachDone n ids b) (EachDone n (id ∷ ids) a) (each step ids b)
+    avoids_then is_not_inferred (SlotDone n id a) (EachDone n (id ∷ ids) a) (step id a) (each step ids) (h id a) (λ b p.
+    avoids_on is_not_inferred (EachDone n ids b) (EachDone n (id ∷ ids) a) (each step ids b)
     (λ c q. (slots_through a.env.functions b.env.functions c.env.functions p.0 q.0, (walk_keeps n b.env c.env q.0 (slice_get b.env.functions id.0) (slice_get c.env.functions id.0) (q.0 id.0) p.1, q.1)))
     (each_comes n step h ids b))
 
@@ -417,19 +373,19 @@ analysed_comes (suc n) f a = each_comes (suc n) (slot_analysed (analysed n)) (sl
 
 root_comes : (f : HirFunction) (a : Analysis) → BelowKnown 63 a.env f → Passes (root_analysed f a)
 root_comes f a h =
-    comes_then (Answered {A = PassEnd}) (Answered {A = RootAnalysis}) (pass_end a.env f false) _ (pass_comes a.env f false) (λ e p.
+    avoids_then is_not_inferred (Answered {A = PassEnd}) (Answered {A = RootAnalysis}) (pass_end a.env f false) _ (pass_comes a.env f false) (λ e p.
     let g : HirFunction = with_effects_of e.solved f in
     let more : Environment = env_after a.env e in
-    comes_then (λ (r : Ranged). Finished g more r.after) (Answered {A = RootAnalysis}) (range_pass false g more) _ (range_comes false g more) (λ r q.
+    avoids_then is_not_inferred (λ (r : Ranged). Finished g more r.after) (Answered {A = RootAnalysis}) (range_pass false g more) _ (range_comes false g more) (λ r q.
     let all : Finished f a.env r.after = finished_through f g a.env more r.after (effects_lists_same e.solved f) (after_keeps a.env e) q in
-    comes_then (Answered {A = Environment}) (Answered {A = RootAnalysis}) (validated r.after.0 r.after.1) _
+    avoids_then is_not_inferred (Answered {A = Environment}) (Answered {A = RootAnalysis}) (validated r.after.0 r.after.1) _
     (validated_passes r.after.0 r.after.1 (own_walk 63 r.after.1 r.after.0 all.0 (below_keeps 63 a.env r.after.1 f r.after.0 all.2 all.1 h))) (λ n s. tt)))
 
 unit_comes : (u : HirUnit) → Passes (unit_analysed u)
 unit_comes u =
     let a : Analysis = analysis u.env [] in
-    comes_then (Answered {A = RootAnalysis}) (Answered {A = UnitAnalysis}) (all_analysed u.function a) _
-    (comes_then (BelowDone 63 u.function a) (Answered {A = RootAnalysis}) (analysed 63 u.function a) (root_analysed u.function) (analysed_comes 63 u.function a) (λ b p. root_comes u.function b p.1)) (λ r s. tt)
+    avoids_then is_not_inferred (Answered {A = RootAnalysis}) (Answered {A = UnitAnalysis}) (all_analysed u.function a) _
+    (avoids_then is_not_inferred (BelowDone 63 u.function a) (Answered {A = RootAnalysis}) (analysed 63 u.function a) (root_analysed u.function) (analysed_comes 63 u.function a) (λ b p. root_comes u.function b p.1)) (λ r s. tt)
 
 not_uninferred : (x : IdentifierId) (X : Type 0) → is_not_inferred (EffectsNotInferred x) ≡ false → X
 not_uninferred x X h = cc

@@ -25,28 +25,17 @@ use Rattle.alias_validate.specs.InstructionSteps.{plain_step}
 use Rattle.alias_validate.specs.Marking.{is_unknown, mark_of}
 use Rattle.alias_validate.specs.OperandMarks.{ReassigningFunctions, Seen, first_mark, marked_operand, operand, checked, other_step}
 use Rattle.alias_validate.specs.Reassigning.{Below, created_step, value_step, instruction_step, instruction_steps, block_step, block_steps, context_reassignment, reassigned_reports, with_reassigned}
-use Rattle.alias_validate.specs.Walks.{and_then, each, ended}
+use Rattle.alias_validate.specs.Walks.{each, ended}
 use Rattle.alias_validate.specs.declared.outcome.Shared.{Shared}
 use Rattle.alias_validate.specs.declared.outcome.WalkOutcome.{WalkOutcome}
-use Rattle.alias_validate.specs.declared.outcome.WalkOutcome.TheVariants.{Continue, End}
 use Rattle.alias_visit.specs.Operands.{owned_operands, lvalue_ids}
-use Rattle.alias_answer_laws.specs.Applies.{Answered}
+use Rattle.alias_answer_laws.specs.Avoiding.{is_not_inferred, Answered, Avoids, avoids_then, avoids_and_then}
 use Rattle.alias_answer_laws.specs.KnownValueLaws.{IsKnown, OperandsKnown}
 use Rattle.alias_answer_laws.specs.KnownFunctionLaws.{KnownAt, IdsKnown, listed_in, FunctionKnown}
 
--- an operand is said to have no effect
-abbrev pub is_not_inferred : InferError → Bool
-is_not_inferred (EffectsNotInferred x) = true
-is_not_inferred e = false
-
 -- no operand is said to have no effect, and what is answered has the property
 abbrev pub Comes : {A : Type 0} → (A → Type 0) → Result A InferError → Type 0
-Comes P (Ok x) = P x
-Comes P (Err e) = is_not_inferred e ≡ false
-
-pub comes_then : {A B : Type 0} (P : A → Type 0) (Q : B → Type 0) (r : Result A InferError) (g : A → Result B InferError) → Comes P r → ((x : A) → P x → Comes Q (g x)) → Comes Q (r >>= g)
-comes_then P Q (Ok x) g h k = k x h
-comes_then P Q (Err e) g h k = h
+Comes P r = Avoids is_not_inferred P r
 
 -- no operand is said to have no effect
 abbrev pub Passes : {A : Type 0} → Result A InferError → Type 0
@@ -61,15 +50,11 @@ WalkKnown (suc n) env (Some f) = FunctionKnown f × AllByRecursion (λ (id : Fun
 -- ---- parts of walks
 
 passes_then : {A B : Type 0} (r : Result A InferError) (g : A → Result B InferError) → Passes r → ((x : A) → Passes (g x)) → Passes (r >>= g)
-passes_then {A} {B} r g h k = comes_then (Answered {A = A}) (Answered {A = B}) r g h (λ x q. k x)
-
-passes_and_then : {S : Type 0} (f : S → Result (S × WalkOutcome) InferError) (s : S) (o : WalkOutcome) → Passes (f s) → Passes (and_then f s o)
-passes_and_then f s Continue h = h
-passes_and_then f s (End p) h = tt
+passes_then {A} {B} r g h k = avoids_then is_not_inferred (Answered {A = A}) (Answered {A = B}) r g h (λ x q. k x)
 
 passes_each : {S X : Type 0} (f : S → X → Result (S × WalkOutcome) InferError) (Q : X → Type 0) → ((s : S) (x : X) → Q x → Passes (f s x)) → (xs : List X) → AllByRecursion Q xs → (s : S) → Passes (each f s xs)
 passes_each f Q h [] q s = tt
-passes_each f Q h (x ∷ xs) q s = passes_then (f s x) _ (h s x q.0) (λ r. passes_and_then (λ t. each f t xs) r.0 r.1 (passes_each f Q h xs q.1 r.0))
+passes_each f Q h (x ∷ xs) q s = passes_then (f s x) _ (h s x q.0) (λ r. avoids_and_then is_not_inferred (λ t. each f t xs) r.0 r.1 (passes_each f Q h xs q.1 r.0))
 
 pub both_parts : {X : Type 0} (P : X → Type 0) (xs ys : List X) → AllByRecursion P (xs ++ ys) → AllByRecursion P xs × AllByRecursion P ys
 both_parts P [] ys h = (tt, h)
@@ -146,7 +131,7 @@ module _ (env : Environment) (n : ℕ) (below : Below) (passes : (async : Bool) 
     block_passes s x h =
         passes_then (instruction_steps env below b async f s x.1.instructions) _
         (passes_each (λ t (i : InstructionId). instruction_step env below b async t (slice_get f.instructions i.0)) IdWalk (λ t i q. instruction_passes b async t (slice_get f.instructions i.0) q.0 q.1) x.1.instructions h s)
-        (λ r. passes_and_then (λ (t : Seen). Ok (t, ended (first_mark t.0 (terminal_places x.1.terminal)))) r.0 r.1 tt)
+        (λ r. avoids_and_then is_not_inferred (λ (t : Seen). Ok (t, ended (first_mark t.0 (terminal_places x.1.terminal)))) r.0 r.1 tt)
 
     blocks_pass : (s : Seen) → AllByRecursion BlockWalk f.body.blocks → Passes (block_steps env below b async f s f.body.blocks)
     blocks_pass s h = passes_each (λ t (x : BlockId × BasicBlock). block_step env below b async f t x.1) BlockWalk block_passes f.body.blocks h s

@@ -1,3 +1,4 @@
+pub mod Avoiding
 pub mod Applies
 pub mod BlockLaws
 pub mod PassLaws

@@ -1,9 +1,8 @@
 -- What the effects pass records of a function holds no Apply, and refused it isn't for an Apply that is left.
-use Rattle.std.specs.Prelude.{◌≡◌, ℕ, Bool, false, List, [], ◌∷◌, Option, Some, None, length, replicate, slice_get, refl}
+use Rattle.std.specs.Prelude.{◌≡◌, ℕ, Bool, List, [], ◌∷◌, Option, Some, None, length, replicate, slice_get, refl}
 use Rattle.std.specs.List.{flat_map}
 use Rattle.std.proofs.Common.{zero, suc, subst}
 use Rattle.alias_base.specs.declared.ids.BlockId.{BlockId}
-use Rattle.alias_base.specs.declared.ids.InstructionId.{InstructionId}
 use Rattle.alias_hir.specs.declared.env.Environment.{Environment}
 use Rattle.alias_hir.specs.declared.hir.BasicBlock.{BasicBlock}
 use Rattle.alias_hir.specs.declared.hir.HirFunction.{HirFunction}
@@ -13,22 +12,20 @@ use Rattle.alias_flow.specs.Machine.{SolverState, VisitLog, End}
 use Rattle.alias_flow.specs.Machine as end
 use Rattle.alias_flow.specs.RecordingLaws.{AllHold, solution_keeps}
 use Rattle.alias_tables.specs.Tables.{TableLists}
-use Rattle.alias_tables.specs.declared.faults.Refusal.{Refusal}
-use Rattle.alias_tables.specs.declared.faults.Refusal.TheVariants as refused
 use Rattle.alias_write_back.specs.WriteBack.{tables_of}
 use Rattle.alias_block.specs.Blocks.{infer_block}
 use Rattle.alias_block.specs.Contexts.{BlockContext, context_of}
 use Rattle.alias_block.specs.Recorded.{no_effects}
 use Rattle.alias_block.specs.declared.faults.BlockRefusal.{BlockRefusal}
-use Rattle.alias_block.specs.declared.faults.BlockRefusal.TheVariants as block
 use Rattle.alias_block.specs.declared.recorded.BlockEffects.{BlockEffects}
 use Rattle.alias_block.specs.declared.recorded.InstructionEffects.{InstructionEffects}
 use Rattle.alias_block.specs.declared.recorded.TerminalEffects.{TerminalEffects}
-use Rattle.alias_effects.specs.Inference.{instruction_refusal, refusal, block_at, instructions_recorded, terminal_recorded, answer_of, pass_end}
+use Rattle.alias_effects.specs.Inference.{block_at, instructions_recorded, terminal_recorded, answer_of, pass_end}
 use Rattle.alias_effects.specs.Numbered.{step_at, numbered, visits_end}
 use Rattle.alias_effects.specs.PassLaws.{outcome_is}
 use Rattle.alias_effects.specs.declared.output.PassEnd.{PassEnd}
-use Rattle.alias_answer_laws.specs.Applies.{NoneIsApply, NoInstructionRecordsApply, NoTerminalRecordsApply, RecordsNoApply, is_unreplaced, Leads}
+use Rattle.alias_answer_laws.specs.Applies.{NoneIsApply, NoInstructionRecordsApply, NoTerminalRecordsApply, RecordsNoApply, Leads}
+use Rattle.alias_answer_laws.specs.Avoiding.{block_refused}
 use Rattle.alias_answer_laws.specs.BlockLaws.{BlockPlain, all_more, block_plain}
 
 -- ---- visits
@@ -53,19 +50,6 @@ terminals_of_all [] h = tt
 terminals_of_all (None ∷ rs) h = terminals_of_all rs h.1
 terminals_of_all (Some r ∷ rs) h = all_more (λ (t : TerminalEffects). NoneIsApply t.effects) r.terminal (flat_map terminal_recorded rs) h.0.1 (terminals_of_all rs h.1)
 
--- ---- refusals
-
-instruction_refused : (i : InstructionId) (c : Refusal) → is_unreplaced (instruction_refusal i c) ≡ false
-instruction_refused i (refused.Reinitialized x) = refl
-instruction_refused i (refused.AliasBeforeCreate x) = refl
-instruction_refused i (refused.IncompatibleLibrary report) = refl
-instruction_refused i (refused.SpreadArgument span report) = refl
-instruction_refused i (refused.TooMany which) = refl
-
-block_refused : (env : Environment) (b : BlockId) (c : BlockRefusal) → is_unreplaced (refusal env b c) ≡ false
-block_refused env b (block.Instruction i c) = instruction_refused i c
-block_refused env b (block.Uninitialized m) = refl
-
 -- ---- the pass
 
 -- what is recorded at the end of a pass
@@ -75,7 +59,7 @@ EndsPlain e = RecordsNoApply e.solved
 answered_plain : (env : Environment) (f : HirFunction) (r : End (VisitLog State) TableLists BlockEffects BlockRefusal)
     → ((w : SolverState (VisitLog State) TableLists BlockEffects) → r ≡ end.Solved w → AllHold BlockPlain w.recorded) → Leads EndsPlain (answer_of env f r)
 answered_plain env f (end.Solved w) h = let all = h w refl in (instructions_of_all w.recorded all, terminals_of_all w.recorded all)
-answered_plain env f (end.Fault n c) h = block_refused env (block_at f.body.blocks n) c
+answered_plain env f (end.Fault n c) h = (block_refused env (block_at f.body.blocks n) c).0
 answered_plain env f (end.NotSettled visits) h = refl
 
 -- the effects pass records no Apply, and says of none that it is left

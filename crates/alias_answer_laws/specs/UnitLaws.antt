@@ -1,26 +1,22 @@
 -- No inference of a unit that keeps the rules says that an Apply is left.
-use Rattle.std.specs.Prelude.{◌≡◌, ◌≢◌, ℕ, Bool, true, false, List, [], ◌∷◌, Option, Some, None, Result, Ok, Err, ⊤, is_none, if◌then◌else◌, slice_get, slice_set, refl}
+use Rattle.std.specs.Prelude.{◌≡◌, ◌≢◌, ℕ, true, false, List, [], ◌∷◌, Option, Some, None, Result, Ok, Err, is_none, slice_get, slice_set, refl}
 use Rattle.std.specs.List.{AllByRecursion, list_all}
 use Rattle.std.specs.Option.{option_map_or}
 use Rattle.std.proofs.Common.{zero, suc, subst}
-use Rattle.alias_base.specs.AnswerLaws.{both_true, both_pass}
+use Rattle.alias_base.specs.AnswerLaws.{both_true}
 use Rattle.alias_base.specs.declared.ids.FunctionId.{FunctionId}
 use Rattle.alias_base.specs.declared.ids.InstructionId.{InstructionId}
 use Rattle.alias_hir.specs.declared.effect.AliasingEffect.{AliasingEffect}
 use Rattle.alias_hir.specs.declared.env.Environment.{Environment}
 use Rattle.alias_hir.specs.declared.env.Unit.{Unit as HirUnit}
 use Rattle.alias_hir.specs.declared.error.InferError.{InferError}
-use Rattle.alias_hir.specs.declared.error.InferError.TheVariants as error
 use Rattle.alias_hir.specs.declared.error.InferError.TheVariants.{UnreplacedApply}
 use Rattle.alias_hir.specs.declared.hir.HirFunction.{HirFunction}
 use Rattle.alias_hir.specs.declared.hir.Instruction.{Instruction}
 use Rattle.alias_hir.specs.declared.report.Report.{Report}
-use Rattle.alias_function_rules.specs.Rules.{instruction_is_uninferred, function_is_uninferred, environment_is_uninferred, nothing_inferred, tables_fit, types_fit}
-use Rattle.alias_function_rules.specs.declared.fault.UnitFault.{UnitFault}
-use Rattle.alias_function_rules.specs.declared.fault.UnitFault.TheVariants.{SomethingInferred}
-use Rattle.alias_rules.specs.Functions.{in_unit, nested_in, rules_hold}
-use Rattle.alias_rules.specs.Nesting.{nesting_is_tree, nesting_not_deep}
-use Rattle.alias_rules.specs.declared.rules.Rule.TheVariants.{Numbers, Entry, Successors, Listed, ListedOnce, Handlers, Phis, Orders}
+use Rattle.alias_function_rules.specs.Rules.{instruction_is_uninferred, function_is_uninferred, environment_is_uninferred}
+use Rattle.alias_rules.specs.Functions.{rules_hold}
+use Rattle.alias_rules.specs.RuleLaws.{parts_of_rules}
 use Rattle.alias_tables.specs.declared.reads.ContextRead.{ContextRead}
 use Rattle.alias_tables.specs.declared.temporaries.Temporary.{Temporary}
 use Rattle.alias_write_back.specs.WriteBack.{with_identifiers, with_context_read, with_read, with_reads}
@@ -30,13 +26,14 @@ use Rattle.alias_effects.specs.declared.output.PassEnd.{PassEnd}
 use Rattle.alias_range_pass.specs.Passes.{range_pass}
 use Rattle.alias_range_pass.specs.Refusals.{has_apply}
 use Rattle.alias_nesting_laws.specs.Slots.{with_function}
-use Rattle.alias_nested.specs.Analysis.{named, naming, Analysis, analysis, each, effects_analysed, completed, completed_with, function_analysed, taken_analysed, found_analysed, slot_analysed, analysed, most_levels}
+use Rattle.alias_nested.specs.Analysis.{naming, Analysis, analysis, each, effects_analysed, completed, completed_with, function_analysed, taken_analysed, found_analysed, slot_analysed, analysed, most_levels}
 use Rattle.alias_nested.specs.Created.{created_functions}
 use Rattle.alias_nested.specs.Slots.{emptied}
 use Rattle.alias_nested.specs.Units.{RootAnalysis, validated, root_analysed, all_analysed, UnitAnalysis, unit_analysed, InfersUnit}
 use Rattle.alias_nested.specs.declared.infer.Inferred.{Inferred}
-use Rattle.alias_answer_laws.specs.Applies.{InstructionsLackApply, NestedLackApply, is_unreplaced, Leads, Answered}
-use Rattle.alias_answer_laws.specs.FunctionLaws.{leads_then, never_left, set_all, got_all, instructions_without_apply, RangesPlain, ranges_plain}
+use Rattle.alias_answer_laws.specs.Applies.{InstructionsLackApply, NestedLackApply, Leads}
+use Rattle.alias_answer_laws.specs.Avoiding.{is_unreplaced, Answered, avoids_then, avoids_naming, named_alike}
+use Rattle.alias_answer_laws.specs.FunctionLaws.{never_left, set_all, got_all, instructions_without_apply, RangesPlain, ranges_plain}
 use Rattle.alias_answer_laws.specs.PassLaws.{EndsPlain, pass_plain}
 use Rattle.alias_answer_laws.specs.ValidationLaws.{Says, validated_says}
 
@@ -60,21 +57,6 @@ after_lacks env e h =
     let t = end_tables e in
     reads_lack t.reads (with_identifiers t.temporaries env).functions (identified_lacks t.temporaries env h)
 
--- ---- refusals that name their function
-
-named_says : (id : FunctionId) (e : InferError) → is_unreplaced e ≡ false → is_unreplaced (named id e) ≡ false
-named_says id (error.NotSettled f visits report) h = refl
-named_says id (error.Uninitialized f block identifier span report) h = refl
-named_says id (error.Reinitialized f instruction identifier) h = refl
-named_says id (error.AliasBeforeCreate f instruction identifier) h = refl
-named_says id (error.IncompatibleLibrary f instruction report) h = refl
-named_says id (error.SpreadArgument f instruction span report) h = refl
-named_says id e h = h
-
-naming_leads : {A : Type 0} (P : A → Type 0) (id : FunctionId) (r : Result A InferError) → Leads P r → Leads P (naming id r)
-naming_leads P id (Ok x) h = h
-naming_leads P id (Err e) h = named_says id e h
-
 -- ---- nested functions
 
 -- no instruction below carries Apply
@@ -90,32 +72,32 @@ TakenAlone s = InstructionsLackApply s.0 × NestedLackApply s.1
 
 effects_lead : (id : FunctionId) (f : HirFunction) (a : Analysis) → InstructionsLackApply f → Nested a → Leads Taken (effects_analysed id f a)
 effects_lead id f a h n =
-    leads_then EndsPlain Taken (naming id (pass_end a.env f true)) _ (naming_leads EndsPlain id (pass_end a.env f true) (pass_plain a.env f true))
+    avoids_then is_unreplaced EndsPlain Taken (naming id (pass_end a.env f true)) _ (avoids_naming is_unreplaced EndsPlain id (pass_end a.env f true) (λ e. (named_alike id e).0) (pass_plain a.env f true))
     (λ e p. (instructions_without_apply e.solved f p h, after_lacks a.env e n))
 
 completed_leads : (id : FunctionId) (f : HirFunction) (env : Environment) → InstructionsLackApply f → NestedLackApply env → Leads TakenAlone (completed id f env)
 completed_leads id f env h n =
-    leads_then RangesPlain TakenAlone (naming id (range_pass true f env)) _ (naming_leads RangesPlain id (range_pass true f env) (ranges_plain true f env h n)) (λ r p. p)
+    avoids_then is_unreplaced RangesPlain TakenAlone (naming id (range_pass true f env)) _ (avoids_naming is_unreplaced RangesPlain id (range_pass true f env) (λ e. (named_alike id e).0) (ranges_plain true f env h n)) (λ r p. p)
 
 completed_with_leads : (id : FunctionId) (s : HirFunction × Analysis) → Taken s → Leads Taken (completed_with id s)
-completed_with_leads id s h = leads_then TakenAlone Taken (completed id s.0 s.1.env) _ (completed_leads id s.0 s.1.env h.0 h.1) (λ c p. p)
+completed_with_leads id s h = avoids_then is_unreplaced TakenAlone Taken (completed id s.0 s.1.env) _ (completed_leads id s.0 s.1.env h.0 h.1) (λ c p. p)
 
 function_leads : (id : FunctionId) (f : HirFunction) (a : Analysis) → InstructionsLackApply f → Nested a → Leads Taken (function_analysed id f a)
-function_leads id f a h n = leads_then Taken Taken (effects_analysed id f a) (completed_with id) (effects_lead id f a h n) (completed_with_leads id)
+function_leads id f a h n = avoids_then is_unreplaced Taken Taken (effects_analysed id f a) (completed_with id) (effects_lead id f a h n) (completed_with_leads id)
 
 each_leads : {X : Type 0} (step : X → Analysis → Result Analysis InferError) → ((x : X) (a : Analysis) → Nested a → Leads Nested (step x a)) → (xs : List X) (a : Analysis) → Nested a → Leads Nested (each step xs a)
 each_leads step h [] a n = n
-each_leads step h (x ∷ xs) a n = leads_then Nested Nested (step x a) (each step xs) (h x a n) (each_leads step h xs)
+each_leads step h (x ∷ xs) a n = avoids_then is_unreplaced Nested Nested (step x a) (each step xs) (h x a n) (each_leads step h xs)
 
 module _ (below : HirFunction → Analysis → Result Analysis InferError) (lead : (f : HirFunction) (a : Analysis) → Nested a → Leads Nested (below f a)) where
   taken_leads : (id : FunctionId) (f : HirFunction) (a : Analysis) → InstructionsLackApply f → Nested a → Leads Taken (taken_analysed below id f a)
-  taken_leads id f a h n = leads_then Nested Taken (below f a) (function_analysed id f) (lead f a n) (λ b m. function_leads id f b h m)
+  taken_leads id f a h n = avoids_then is_unreplaced Nested Taken (below f a) (function_analysed id f) (lead f a n) (λ b m. function_leads id f b h m)
 
   found_leads : (id : FunctionId) (a : Analysis) (o : Option HirFunction) → slice_get a.env.functions id.0 ≡ o → Nested a → Leads Nested (found_analysed below id a o)
   found_leads id a None e n = n
   found_leads id a (Some f) e n =
       let out : Analysis = record a { env = with_function id (emptied f.returns) a.env } in
-      leads_then Taken Nested (taken_analysed below id f out) _
+      avoids_then is_unreplaced Taken Nested (taken_analysed below id f out) _
       (taken_leads id f out (got_all InstructionsLackApply a.env.functions id.0 f e n) (set_all InstructionsLackApply a.env.functions id.0 (emptied f.returns) tt n))
       (λ s p. set_all InstructionsLackApply s.1.env.functions id.0 s.0 p.0 p.1)
 
@@ -131,38 +113,12 @@ analysed_leads (suc n) f a h = each_leads (slot_analysed (analysed n)) (slot_lea
 
 root_says : (f : HirFunction) (a : Analysis) → InstructionsLackApply f → Nested a → Says (root_analysed f a)
 root_says f a h n =
-    leads_then EndsPlain (Answered {A = RootAnalysis}) (pass_end a.env f false) _ (pass_plain a.env f false) (λ e p.
+    avoids_then is_unreplaced EndsPlain (Answered {A = RootAnalysis}) (pass_end a.env f false) _ (pass_plain a.env f false) (λ e p.
     let g : HirFunction = with_effects_of e.solved f in
-    leads_then RangesPlain (Answered {A = RootAnalysis}) (range_pass false g (env_after a.env e)) _ (ranges_plain false g (env_after a.env e) (instructions_without_apply e.solved f p h) (after_lacks a.env e n)) (λ r q.
-    leads_then (Answered {A = Environment}) (Answered {A = RootAnalysis}) (validated r.after.0 r.after.1) _ (validated_says r.after.0 r.after.1) (λ more s. tt)))
+    avoids_then is_unreplaced RangesPlain (Answered {A = RootAnalysis}) (range_pass false g (env_after a.env e)) _ (ranges_plain false g (env_after a.env e) (instructions_without_apply e.solved f p h) (after_lacks a.env e n)) (λ r q.
+    avoids_then is_unreplaced (Answered {A = Environment}) (Answered {A = RootAnalysis}) (validated r.after.0 r.after.1) _ (validated_says r.after.0 r.after.1) (λ more s. tt)))
 
 -- ---- a unit in which nothing is inferred
-
-when_ok : (b : Bool) → (let r : Result ⊤ UnitFault = if b then Ok tt else Err SomethingInferred in r ≡ Ok tt) → b ≡ true
-when_ok true h = refl
-when_ok false h = cc
-
-record Uninferred (u : HirUnit) : Type 0 where
-  environment : environment_is_uninferred u.env ≡ true
-  function : function_is_uninferred u.function ≡ true
-
-uninferred_by_rules : (u : HirUnit) → rules_hold u ≡ Ok tt → Uninferred u
-uninferred_by_rules u rules =
-    let a : (tables_fit u.env ≡ Ok tt) × _ = both_pass (tables_fit u.env) _ rules in
-    let b : (in_unit Numbers u ≡ Ok tt) × _ = both_pass (in_unit Numbers u) _ a.1 in
-    let c : (in_unit Entry u ≡ Ok tt) × _ = both_pass (in_unit Entry u) _ b.1 in
-    let d : (in_unit Successors u ≡ Ok tt) × _ = both_pass (in_unit Successors u) _ c.1 in
-    let v : (nesting_is_tree u (nested_in u) ≡ Ok tt) × _ = both_pass (nesting_is_tree u (nested_in u)) _ d.1 in
-    let w : (nesting_not_deep u (nested_in u) ≡ Ok tt) × _ = both_pass (nesting_not_deep u (nested_in u)) _ v.1 in
-    let t : (types_fit u.env ≡ Ok tt) × _ = both_pass (types_fit u.env) _ w.1 in
-    let e : (in_unit Listed u ≡ Ok tt) × _ = both_pass (in_unit Listed u) _ t.1 in
-    let f : (in_unit ListedOnce u ≡ Ok tt) × _ = both_pass (in_unit ListedOnce u) _ e.1 in
-    let g : (in_unit Handlers u ≡ Ok tt) × _ = both_pass (in_unit Handlers u) _ f.1 in
-    let h : (in_unit Phis u ≡ Ok tt) × _ = both_pass (in_unit Phis u) _ g.1 in
-    let i : (in_unit Orders u ≡ Ok tt) × _ = both_pass (in_unit Orders u) _ h.1 in
-    let n : (nothing_inferred u.env u.function ≡ Ok tt) × _ = both_pass (nothing_inferred u.env u.function) _ i.1 in
-    let j = both_true (environment_is_uninferred u.env) (function_is_uninferred u.function) (when_ok _ n.0) in
-    record { environment = j.0; function = j.1 }
 
 nothing_carried : (o : Option (List AliasingEffect)) → is_none o ≡ true → has_apply o ≡ false
 nothing_carried None h = refl
@@ -188,9 +144,9 @@ environment_lacks env h = functions_lack env.functions (both_true _ (list_all fu
 
 unit_says : (u : HirUnit) → rules_hold u ≡ Ok tt → Says (unit_analysed u)
 unit_says u rules =
-    let p = uninferred_by_rules u rules in
-    leads_then (Answered {A = RootAnalysis}) (Answered {A = UnitAnalysis}) (all_analysed u.function (analysis u.env [])) _
-    (leads_then Nested (Answered {A = RootAnalysis}) (analysed most_levels u.function (analysis u.env [])) (root_analysed u.function) (analysed_leads most_levels u.function (analysis u.env []) (environment_lacks u.env p.environment))
+    let p = parts_of_rules u rules in
+    avoids_then is_unreplaced (Answered {A = RootAnalysis}) (Answered {A = UnitAnalysis}) (all_analysed u.function (analysis u.env [])) _
+    (avoids_then is_unreplaced Nested (Answered {A = RootAnalysis}) (analysed most_levels u.function (analysis u.env [])) (root_analysed u.function) (analysed_leads most_levels u.function (analysis u.env []) (environment_lacks u.env p.environment))
     (λ a n. root_says u.function a (function_lacks u.function p.function) n)) (λ r s. tt)
 
 -- the inference of a unit that keeps the rules never says that an Apply is left

@@ -20,29 +20,24 @@ use Rattle.alias_validate.specs.InstructionSteps.{plain_step}
 use Rattle.alias_validate.specs.Marking.{is_unknown}
 use Rattle.alias_validate.specs.OperandMarks.{ReassigningFunctions, Seen, first_mark, operand, checked, other_step}
 use Rattle.alias_validate.specs.Reassigning.{Below, created_step, value_step, instruction_step, instruction_steps, block_step, block_steps, context_reassignment, reassigned_reports, with_reassigned}
-use Rattle.alias_validate.specs.Walks.{and_then, each, ended}
+use Rattle.alias_validate.specs.Walks.{each, ended}
 use Rattle.alias_validate.specs.declared.outcome.Shared.{Shared}
 use Rattle.alias_validate.specs.declared.outcome.WalkOutcome.{WalkOutcome}
-use Rattle.alias_validate.specs.declared.outcome.WalkOutcome.TheVariants.{Continue, End}
 use Rattle.alias_visit.specs.Operands.{lvalue_ids}
 use Rattle.alias_nested.specs.Units.{validated}
-use Rattle.alias_answer_laws.specs.Applies.{is_unreplaced, Leads, Answered}
-use Rattle.alias_answer_laws.specs.FunctionLaws.{leads_then}
+use Rattle.alias_answer_laws.specs.Applies.{Leads}
+use Rattle.alias_answer_laws.specs.Avoiding.{is_unreplaced, Answered, avoids_then, avoids_and_then}
 
 -- the answer says of no Apply that it is left
 abbrev pub Says : {A : Type 0} → Result A InferError → Type 0
 Says {A} r = Leads (Answered {A = A}) r
 
 says_then : {A B : Type 0} (r : Result A InferError) (g : A → Result B InferError) → Says r → ((x : A) → Says (g x)) → Says (r >>= g)
-says_then {A} {B} r g h k = leads_then (Answered {A = A}) (Answered {A = B}) r g h (λ x q. k x)
-
-says_and_then : {S : Type 0} (f : S → Result (S × WalkOutcome) InferError) (s : S) (o : WalkOutcome) → Says (f s) → Says (and_then f s o)
-says_and_then f s Continue h = h
-says_and_then f s (End p) h = tt
+says_then {A} {B} r g h k = avoids_then is_unreplaced (Answered {A = A}) (Answered {A = B}) r g h (λ x q. k x)
 
 says_each : {S X : Type 0} (f : S → X → Result (S × WalkOutcome) InferError) → ((s : S) (x : X) → Says (f s x)) → (xs : List X) (s : S) → Says (each f s xs)
 says_each f h [] s = tt
-says_each f h (x ∷ xs) s = says_then (f s x) _ (h s x) (λ r. says_and_then (λ t. each f t xs) r.0 r.1 (says_each f h xs r.0))
+says_each f h (x ∷ xs) s = says_then (f s x) _ (h s x) (λ r. avoids_and_then is_unreplaced (λ t. each f t xs) r.0 r.1 (says_each f h xs r.0))
 
 -- ---- instructions
 
@@ -83,7 +78,7 @@ module _ (env : Environment) where
     block_says b async f s x =
         says_then (instruction_steps env below b async f s x.instructions) _
         (says_each (λ t (i : InstructionId). instruction_step env below b async t (slice_get f.instructions i.0)) (λ t i. instruction_says b async t (slice_get f.instructions i.0)) x.instructions s)
-        (λ r. says_and_then (λ (t : Seen). Ok (t, ended (first_mark t.0 (terminal_places x.terminal)))) r.0 r.1 tt)
+        (λ r. avoids_and_then is_unreplaced (λ (t : Seen). Ok (t, ended (first_mark t.0 (terminal_places x.terminal)))) r.0 r.1 tt)
 
     blocks_say : (b async : Bool) (f : HirFunction) (bs : List (BlockId × BasicBlock)) (s : Seen) → Says (block_steps env below b async f s bs)
     blocks_say b async f bs s = says_each (λ t (x : BlockId × BasicBlock). block_step env below b async f t x.1) (λ t x. block_says b async f t x.1) bs s
