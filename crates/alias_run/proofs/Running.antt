@@ -20,7 +20,7 @@ use Rattle.alias_text.specs.declared.detail.Detail.TheVariants as detail
 use Rattle.alias_nested.specs.declared.infer.Inferred.{Inferred}
 use Rattle.alias_run.specs.declared.outcome.Outcome.{Outcome}
 use Rattle.alias_rules.specs.Functions.{rules_hold}
-use Rattle.alias_run.specs.Findings.{IsInferred, IsChecked, IsKept, IsJudged, IsRead, IsFound, Leaves, greatest_input}
+use Rattle.alias_run.specs.Findings.{IsInferred, IsChecked, IsFit, IsJudged, IsRead, IsFound, Leaves, greatest_input}
 use Rattle.alias_run.specs.Inferences.{solved_tell}
 use Rattle.alias_run.specs.Runs.{IsRun, IsInferredOf, IsUnitOf, IsDone, IsHeadline}
 use Rattle.alias_run.specs.Statuses.{text_status, write_status}
@@ -33,14 +33,14 @@ ended_as status = record { status = status; inferred = None }
 -- ---- units
 
 -- a unit that keeps the rules is refused by none
-pub checked_kept : (u : HirUnit) (status : Status) (i : Option Inferred) → rules_hold u ≡ Ok tt → IsChecked u status i → IsKept u status i
-checked_kept u (Unfit fault) i k h = let no : Ok tt ≡ Err fault = sym k ∙ h.0 in absurd (cc)
-checked_kept u Memory i k h = (k, subst (IsInferred u Memory) (sym h) tt)
-checked_kept u status i k h = h
+pub checked_fit : (u : HirUnit) (status : Status) (i : Option Inferred) → rules_hold u ≡ Ok tt → IsChecked u status i → IsFit u status i
+checked_fit u (Unfit fault) i k h = let no : Ok tt ≡ Err fault = sym k ∙ h.0 in absurd (cc)
+checked_fit u Memory i k h = (k, subst (IsInferred u Memory) (sym h) tt)
+checked_fit u status i k h = h
 
 -- memory ran out before there was a unit
-pub ran_out_kept : (u : HirUnit) (o : Outcome) → o ≡ ended_as Memory → rules_hold u ≡ Ok tt → IsKept u o.status o.inferred
-ran_out_kept u o is k = subst (λ (z : Outcome). IsKept u z.status z.inferred) (sym is) (k, tt)
+pub ran_out_fit : (u : HirUnit) (o : Outcome) → o ≡ ended_as Memory → rules_hold u ≡ Ok tt → IsFit u o.status o.inferred
+ran_out_fit u o is k = subst (λ (z : Outcome). IsFit u z.status z.inferred) (sym is) (k, tt)
 
 none_inferred : (u : HirUnit) (i : Option Inferred) → IsInferred u Memory i → i ≡ None
 none_inferred u None h = refl
@@ -163,7 +163,7 @@ module _ (known : Option (List ℕ)) (read_failed write_failed : Type 0) (held h
       let k = j.2.1 in
       (j.0, k.0, known_unit known f.0 j.0 f.1 j.1, j.2.0, k.1, k.2, solved_tell k.0 k.2, a)
 
-  done_made : (made : HirUnit) (i : Option Inferred) → IsKept made Done i → Adds held (result_or_line detail.Counts Done i) held' → IsInferredOf (λ u. u ≡ made) detail.Counts held held' i
+  done_made : (made : HirUnit) (i : Option Inferred) → IsFit made Done i → Adds held (result_or_line detail.Counts Done i) held' → IsInferredOf (λ u. u ≡ made) detail.Counts held held' i
   done_made made None f a = f.1
   done_made made (Some x) f a = let k = f.1 in (made, k.0, refl, f.0, k.1, k.2, solved_tell k.0 k.2, a)
 

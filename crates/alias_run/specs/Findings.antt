@@ -33,9 +33,9 @@ IsChecked u (Unfit fault) i = (rules_hold u ≡ Err fault) × (i ≡ None)
 IsChecked u Memory i = i ≡ None
 IsChecked u status i = (rules_hold u ≡ Ok tt) × IsInferred u status i
 
--- what a unit leads to that is known to keep the rules
-abbrev pub IsKept : HirUnit → Status → Option Inferred → Type 0
-IsKept u status i = (rules_hold u ≡ Ok tt) × IsInferred u status i
+-- what a unit leads to that is known to be fit, which is to say that it keeps the rules
+abbrev pub IsFit : HirUnit → Status → Option Inferred → Type 0
+IsFit u status i = (rules_hold u ≡ Ok tt) × IsInferred u status i
 
 -- what the bytes of the whole input lead to: they are no JSON, or JSON of no unit, or that of one
 abbrev pub IsJudged : List ℕ → Status → Option Inferred → Type 0
@@ -58,7 +58,7 @@ unfoldable pub IsFound : Option Command → Option (List ℕ) → Type 0 → Sta
 IsFound None known failed status i = (status ≡ Words) × (i ≡ None)
 IsFound (Some Infer) known failed status i = IsRead known failed status i
 IsFound (Some Certify) known failed status i = IsRead known failed status i
-IsFound (Some (Made seed size)) known failed status i = IsKept (made_unit seed size) status i
+IsFound (Some (Made seed size)) known failed status i = IsFit (made_unit seed size) status i
 IsFound (Some Help) known failed status i = (status ≡ Done) × (i ≡ None)
 IsFound (Some Version) known failed status i = (status ≡ Done) × (i ≡ None)
 

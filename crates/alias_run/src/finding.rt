@@ -3,7 +3,7 @@ ghost use Rattle.std.specs.Prelude.{◌≡◌, ◌≤◌, true, false};
 ghost use Rattle.alias_stream.specs.Streams.{HasFailed};
 ghost use Rattle.alias_made.specs.Units.{made_unit as unit_of};
 ghost use Rattle.alias_run.specs.Commands.{reads, IsSized};
-ghost use Rattle.alias_run.specs.Findings.{IsFound, IsRead, IsJudged, IsChecked, IsInferred, IsKept, Leaves};
+ghost use Rattle.alias_run.specs.Findings.{IsFound, IsRead, IsJudged, IsChecked, IsInferred, IsFit, Leaves};
 
 use crate::command::Command;
 use crate::outcome::{Outcome, done, ended};
@@ -64,7 +64,7 @@ fn infer_source<S: Source>(alloc: Global, source: &mut S) -> Outcome
 fn infer_made(alloc: Global, seed: u64, size: u32) -> Outcome
     requires some { 1 ≤ size }
     requires limit { size ≤ 1000 }
-    ensures { IsKept (unit_of seed size) result.status result.inferred }
+    ensures { IsFit (unit_of seed size) result.status result.inferred }
 {
     match made_unit(alloc, seed, size) {
         Ok(unit) => judge_unit(alloc, unit),
