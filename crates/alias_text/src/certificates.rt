@@ -174,8 +174,8 @@ fn push_variables(out: &mut Text, state: &InferenceState) -> Result<(), AllocErr
     Ok(())
 }
 
-/// Appends a line for the value of each site and for the set of each identifier. An `Err` is want of memory, and
-/// leaves what was appended before it.
+/// Appends a line for the value of each site and for the set of each identifier. An `Err` is want of memory:
+/// `out` may then hold a part of it.
 pub(crate) fn push_state(out: &mut Text, state: &InferenceState) -> Result<(), AllocError>
     ensures { OnOk result (out.new ≡ out.old ++ state_lines state.now) }
 {
@@ -192,8 +192,7 @@ fn push_blocks(out: &mut Text, blocks: &[BlockId]) -> Result<(), AllocError>
     Ok(())
 }
 
-/// Appends the line of the blocks that were visited. An `Err` is want of memory, and leaves what was appended
-/// before it.
+/// Appends the line of the blocks that were visited. An `Err` is want of memory: `out` may then hold a part of it.
 pub(crate) fn push_visits(out: &mut Text, visits: &[BlockId]) -> Result<(), AllocError>
     ensures { OnOk result (out.new ≡ out.old ++ visits_line visits.now) }
 {
@@ -271,8 +270,8 @@ fn push_temporaries(
     Ok(())
 }
 
-/// Appends a line for each first effect, and then for each temporary. An `Err` is want of memory, and leaves what was
-/// appended before it.
+/// Appends a line for each first effect, and then for each temporary. An `Err` is want of memory: `out` may
+/// then hold a part of it.
 pub(crate) fn push_tables(alloc: Global, out: &mut Text, solved: &Solved) -> Result<(), AllocError>
     ensures { OnOk result (out.new ≡ out.old ++ table_lines solved.now) }
 {

@@ -176,8 +176,8 @@ fn push_create_function(
     push_places(out, captures)
 }
 
-/// Appends the effect: its name, and then its fields in their order. An `Err` is want of memory, and leaves
-/// what was appended before it.
+/// Appends the effect: its name, and then its fields in their order. An `Err` is want of memory: `out` may then
+/// hold a part of it.
 pub fn push_effect(out: &mut Text, effect: &AliasingEffect) -> Result<(), AllocError>
     ensures { OnOk result (out.new ≡ out.old ++ effect_text effect.now) }
 {

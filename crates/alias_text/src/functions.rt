@@ -89,8 +89,7 @@ fn push_terminal(out: &mut Text, terminal: &Terminal) -> Result<(), AllocError>
     }
 }
 
-/// Appends the line that stands over a block's lines. An `Err` is want of memory, and leaves what was appended
-/// before it.
+/// Appends the line that stands over a block's lines. An `Err` is want of memory: `out` may then hold a part of it.
 pub fn push_block_head(out: &mut Text, block: BlockId) -> Result<(), AllocError>
     ensures { OnOk result (out.new ≡ out.old ++ block_head block) }
 {
@@ -100,7 +99,7 @@ pub fn push_block_head(out: &mut Text, block: BlockId) -> Result<(), AllocError>
 }
 
 /// Appends the lines of the effects of the block's instructions in the block's order, and those of its terminal: none
-/// where the block isn't there. An `Err` is want of memory, and leaves what was appended before it.
+/// where the block isn't there. An `Err` is want of memory: `out` may then hold a part of it.
 pub fn push_block_lines(
     out: &mut Text,
     func: &HirFunction,
@@ -121,8 +120,7 @@ pub fn push_block_lines(
     }
 }
 
-/// Appends `root`, or the number of a nested function. An `Err` is want of memory, and leaves what was
-/// appended before it.
+/// Appends `root`, or the number of a nested function. An `Err` is want of memory: `out` may then hold a part of it.
 pub fn push_function_name(out: &mut Text, function: Option<FunctionId>) -> Result<(), AllocError>
     ensures { OnOk result (out.new ≡ out.old ++ function_name function) }
 {
@@ -132,8 +130,8 @@ pub fn push_function_name(out: &mut Text, function: Option<FunctionId>) -> Resul
     }
 }
 
-/// Appends the line that stands over a function's blocks. An `Err` is want of memory, and leaves what was
-/// appended before it.
+/// Appends the line that stands over a function's blocks. An `Err` is want of memory: `out` may then hold a
+/// part of it.
 pub fn push_function_head(out: &mut Text, function: Option<FunctionId>) -> Result<(), AllocError>
     ensures { OnOk result (out.new ≡ out.old ++ function_head function) }
 {

@@ -135,7 +135,7 @@ fn push_listing(
 /// function, for each block that is reached a line and those of its effects, and those of the summary, of which
 /// `summary` is the root's; then the mutable ranges, and the reports. `Certify` has besides the visits, the entry
 /// states, the first effects and the temporaries, and `Counts` only how many there are. docs/FORMAT.md has the form of
-/// the lines. An `Err` is want of memory, and leaves what was appended before it.
+/// the lines. An `Err` is want of memory: `out` may then hold a part of it.
 pub fn push_result(
     alloc: Global,
     out: &mut Text,
