@@ -1,10 +1,10 @@
 //! Small environments, and effects in a word and two numbers.
 
-use alias_base::{DeclarationId, EvaluationOrder, IdentifierId, List, Text, TypeId};
+use alias_base::{DeclarationId, EvaluationOrder, IdentifierId, Text, TypeId};
 use alias_call_effects::SignatureError;
 use alias_hir::effect::{AliasingEffect, AliasingEffects};
 use alias_hir::env::{Environment, Identifier, IdentifierName, MutableRange};
-use alias_hir::place::{Effect, Place, PlaceOrSpreadOrHole, Span};
+use alias_hir::place::{Effect, Place, PlaceOrSpreadOrHole, Span, SpreadPattern};
 use alias_hir::types::Ty;
 use std::alloc::{AllocError, Global};
 
@@ -40,24 +40,30 @@ fn identifier(alloc: Global, number: u32) -> Result<Identifier, AllocError> {
     })
 }
 
-/// Four identifiers of which nothing is known but that 2 is named `x`.
-pub fn environment(alloc: Global) -> Result<Environment, AllocError> {
-    let mut env = Environment::new(alloc);
+fn add_four_identifiers(alloc: Global, env: &mut Environment) -> Result<(), AllocError> {
     env.types.push(Ty::Var)?;
     for number in 0..4u32 {
         env.identifiers.push(identifier(alloc, number)?)?;
     }
+    Ok(())
+}
+
+/// Four identifiers of which nothing is known but that 2 is named `x`.
+pub fn environment(alloc: Global) -> Result<Environment, AllocError> {
+    let mut env = Environment::new(alloc);
+    add_four_identifiers(alloc, &mut env)?;
     Ok(env)
 }
 
-/// The one argument.
-pub fn arguments(
-    alloc: Global,
-    argument: PlaceOrSpreadOrHole,
-) -> Result<List<PlaceOrSpreadOrHole>, AllocError> {
-    let mut args = List::new(alloc);
-    args.push(argument)?;
-    Ok(args)
+/// The argument `...x` at the span that no other place has.
+pub fn spread_argument() -> PlaceOrSpreadOrHole {
+    let plain = place(2);
+    PlaceOrSpreadOrHole::Spread(SpreadPattern {
+        place: Place {
+            span: Some(SPAN),
+            ..plain
+        },
+    })
 }
 
 /// The form of an effect, and its source and target, or its one place and its report's number.

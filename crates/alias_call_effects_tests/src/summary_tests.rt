@@ -2,7 +2,7 @@
 
 ghost use Rattle.std.specs.Prelude.{◌<◌, length, slice_get, IfOk, IfSome, IsSome};
 
-use crate::making::{arguments, environment, gave, place};
+use crate::making::{environment, gave, place};
 use alias_base::{BlockId, BlockMap, FunctionId, IdentifierId, List};
 use alias_call_effects::{
     AliasingSignature, SignatureError, Temporaries, build_signature_from_function_expression,
@@ -15,9 +15,7 @@ use alias_hir::place::{PlaceOrSpreadOrHole, SpreadPattern};
 use std::alloc::{AllocError, Global};
 use std::test::Fail;
 
-/// Its summary writes its parameter 2 and its context place, and captures the first in what it returns.
-fn summary(alloc: Global) -> Result<AliasingEffects, AllocError> {
-    let mut effects = List::new(alloc);
+fn add_effects(effects: &mut AliasingEffects) -> Result<(), AllocError> {
     for number in 1..3u32 {
         effects.push(AliasingEffect::Mutate {
             value: place(number),
@@ -28,16 +26,22 @@ fn summary(alloc: Global) -> Result<AliasingEffects, AllocError> {
         from: place(2),
         into: place(3),
     })?;
+    Ok(())
+}
+
+/// Its summary writes its parameter 2 and its context place, and captures the first in what it returns.
+fn summary(alloc: Global) -> Result<AliasingEffects, AllocError> {
+    let mut effects = List::new(alloc);
+    add_effects(&mut effects)?;
     Ok(effects)
 }
 
 fn function(alloc: Global, param: ParamPattern) -> Result<HirFunction, AllocError>
     ensures { IfOk result (λ f. IsSome f.aliasing_effects) }
 {
-    let mut params = List::new(alloc);
-    params.push(param)?;
-    let mut context = List::new(alloc);
-    context.push(place(1))?;
+    let params = List::from_slice(alloc, &[param])?;
+    let context = List::from_slice(alloc, &[place(1)])?;
+    let effects = summary(alloc)?;
     Ok(HirFunction {
         fn_type: FunctionType::Other,
         params,
@@ -51,16 +55,25 @@ fn function(alloc: Global, param: ParamPattern) -> Result<HirFunction, AllocErro
         instructions: List::new(alloc),
         is_async: false,
         span: None,
-        aliasing_effects: Some(summary(alloc)?),
+        aliasing_effects: Some(effects),
     })
+}
+
+/// That function alone.
+fn functions(alloc: Global, param: ParamPattern) -> Result<List<HirFunction>, AllocError>
+    ensures { IfOk result (λ fs. (0 < length fs) × IfSome (slice_get fs 0) (λ f. IsSome f.aliasing_effects)) }
+{
+    let function = function(alloc, param)?;
+    let mut functions = List::new(alloc);
+    functions.push(function)?;
+    Ok(functions)
 }
 
 /// A small environment with that function.
 fn environment_with(alloc: Global, param: ParamPattern) -> Result<Environment, AllocError>
     ensures { IfOk result (λ env. (0 < length env.functions) × IfSome (slice_get env.functions 0) (λ f. IsSome f.aliasing_effects)) }
 {
-    let mut functions = List::new(alloc);
-    functions.push(function(alloc, param)?)?;
+    let functions = functions(alloc, param)?;
     let mut env = environment(alloc)?;
     env.functions = functions;
     Ok(env)
@@ -104,27 +117,53 @@ fn builds(
     }
 }
 
+/// Whether the function with this parameter has these names, and how many identifiers its environment has then.
+fn built(
+    alloc: Global,
+    param: ParamPattern,
+    temporaries: &mut Temporaries,
+    names: (usize, u32, u32),
+) -> Result<(bool, usize), AllocError> {
+    let mut env = environment_with(alloc, param)?;
+    let has_names = builds(alloc, &mut env, temporaries, names);
+    Ok((has_names, env.identifiers.len()))
+}
+
+/// The same of two environments after one another, where the parameter is a place.
+fn built_again(
+    alloc: Global,
+    temporaries: &mut Temporaries,
+) -> Result<([bool; 2], [usize; 2]), AllocError> {
+    let param = ParamPattern::Place(place(2));
+    let (first, before) = built(alloc, param, temporaries, (1, 4, 3))?;
+    let (second, after) = built(alloc, param, temporaries, (1, 4, 3))?;
+    Ok(([first, second], [before, after]))
+}
+
+fn built_twice(alloc: Global) -> Result<([bool; 2], [usize; 2]), AllocError> {
+    let mut temporaries = Temporaries::new(alloc);
+    built_again(alloc, &mut temporaries)
+}
+
 #[test]
 fn a_function_without_a_rest_gets_one(rt: HostRuntime) -> Result<(), Fail> {
-    let alloc = rt.alloc();
-    let mut temporaries = Temporaries::new(alloc);
-    let mut env = environment_with(alloc, ParamPattern::Place(place(2)))?;
-    assert!(rt; builds(alloc, &mut env, &mut temporaries, (1, 4, 3)));
-    assert!(rt; env.identifiers.len() == 5);
-    let mut other = environment_with(alloc, ParamPattern::Place(place(2)))?;
-    assert!(rt; builds(alloc, &mut other, &mut temporaries, (1, 4, 3)));
-    assert!(rt; other.identifiers.len() == 4);
+    let (named, identifiers) = built_twice(rt.alloc())?;
+    assert_eq!(rt; named, [true; 2]);
+    assert_eq!(rt; identifiers, [5, 4]);
     Ok(())
+}
+
+fn built_of_a_spread(alloc: Global) -> Result<(bool, usize), AllocError> {
+    let param = ParamPattern::Spread(SpreadPattern { place: place(2) });
+    let mut temporaries = Temporaries::new(alloc);
+    built(alloc, param, &mut temporaries, (0, 2, 3))
 }
 
 #[test]
 fn a_spread_parameter_is_the_rest(rt: HostRuntime) -> Result<(), Fail> {
-    let alloc = rt.alloc();
-    let spread = SpreadPattern { place: place(2) };
-    let mut env = environment_with(alloc, ParamPattern::Spread(spread))?;
-    let mut temporaries = Temporaries::new(alloc);
-    assert!(rt; builds(alloc, &mut env, &mut temporaries, (0, 2, 3)));
-    assert!(rt; env.identifiers.len() == 4);
+    let (named, identifiers) = built_of_a_spread(rt.alloc())?;
+    assert!(rt; named);
+    assert!(rt; identifiers == 4);
     Ok(())
 }
 
@@ -134,32 +173,44 @@ fn signature(
     params: List<IdentifierId>,
     rest: Option<IdentifierId>,
 ) -> Result<AliasingSignature, AllocError> {
+    let effects = summary(alloc)?;
     Ok(AliasingSignature {
         params,
         rest,
         returns: IdentifierId(3),
-        effects: summary(alloc)?,
+        effects,
     })
+}
+
+/// Whether a call of the function with the rest 2 lists what is described.
+fn rest_lists(
+    alloc: Global,
+    args: &[PlaceOrSpreadOrHole],
+    want: &[(&'static str, u32, u32)],
+) -> Result<bool, AllocError> {
+    let signature = signature(alloc, List::new(alloc), Some(IdentifierId(2)))?;
+    let env = environment(alloc)?;
+    Ok(gave(&listed(alloc, &env, &signature, args), want))
 }
 
 #[test]
 fn further_arguments_stand_for_the_rest(rt: HostRuntime) -> Result<(), Fail> {
-    let alloc = rt.alloc();
-    let env = environment(alloc)?;
-    let signature = signature(alloc, List::new(alloc), Some(IdentifierId(2)))?;
-    let args = arguments(alloc, PlaceOrSpreadOrHole::Place(place(0)))?;
+    let args = [PlaceOrSpreadOrHole::Place(place(0))];
     let wanted = [("Mutate", 1, 0), ("Mutate", 0, 0), ("Capture", 0, 0)];
-    assert!(rt; gave(&listed(alloc, &env, &signature, args.as_slice()), &wanted));
+    assert!(rt; rest_lists(rt.alloc(), &args, &wanted)?);
     Ok(())
+}
+
+/// Whether a call of the function with the parameter 2 gives no list.
+fn parameter_gives_none(alloc: Global, args: &[PlaceOrSpreadOrHole]) -> Result<bool, AllocError> {
+    let params = List::from_slice(alloc, &[IdentifierId(2)])?;
+    let signature = signature(alloc, params, None)?;
+    let env = environment(alloc)?;
+    Ok(matches!(&listed(alloc, &env, &signature, args), Ok(None)))
 }
 
 #[test]
 fn a_call_without_the_parameter_gives_none(rt: HostRuntime) -> Result<(), Fail> {
-    let alloc = rt.alloc();
-    let env = environment(alloc)?;
-    let mut params = List::new(alloc);
-    params.push(IdentifierId(2))?;
-    let signature = signature(alloc, params, None)?;
-    assert!(rt; matches!(&listed(alloc, &env, &signature, &[]), Ok(None)));
+    assert!(rt; parameter_gives_none(rt.alloc(), &[])?);
     Ok(())
 }

@@ -1,5 +1,6 @@
 //! Tests of `check_unit`, of interned reports and of the passes of the caller, on units built by hand. A crate of its
-//! own, so that the crates below are proved once.
+//! own, so that the crates below are proved once. What owns an environment or a function has few exits: each lays out
+//! its drop.
 #![tactic(auto)]
 
 #[cfg(test)]
