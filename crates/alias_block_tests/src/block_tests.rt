@@ -7,6 +7,7 @@ use alias_block::{
 };
 use alias_facts::function_facts;
 use alias_hir::effect::{AliasingEffect, ValueKind, ValueReason};
+use alias_hir::env::Environment;
 use alias_hir::hir::{BasicBlock, FunctionType, HirFunction};
 use alias_hir::interned::InternedReports;
 use alias_hir::terminal::Terminal;
@@ -16,72 +17,27 @@ use alias_tables::Tables;
 use std::alloc::{AllocError, Global};
 use std::test::Fail;
 
-/// The step of the block from the state.
-fn step(
-    alloc: Global,
-    func: &HirFunction,
-    is_function_expression: bool,
-    block: &BasicBlock,
-    state: InferenceState,
-) -> Result<(InferenceState, BlockEffects), BlockFault> {
-    let env = environment(alloc)?;
-    let facts = function_facts(alloc, func, &env)?;
-    let context = BlockContext {
-        env: &env,
-        func,
-        facts: &facts,
-        is_function_expression,
-    };
-    let mut tables = Tables::new(alloc, InternedReports::new(alloc));
-    infer_block(alloc, &context, BlockId(1), block, &mut tables, state)
+/// What the step of a block leaves.
+#[derive(Clone, Copy)]
+struct Left {
+    /// How many terminals have effects.
+    terminals: usize,
+    /// Whether the one effect of the terminal is the alias of 2 into 5.
+    aliases: bool,
+    /// Whether the one effect of the terminal is the freeze of 1.
+    freezes: bool,
+    /// Whether 5 has a value.
+    is_bound: bool,
+    /// Whether what 2 is given stands in 5.
+    has_site: bool,
 }
 
-/// A mutable value of its own for each of the identifiers.
-fn with_values(alloc: Global, numbers: &[u32]) -> Result<InferenceState, AllocError> {
-    let mut state = InferenceState::empty(alloc);
-    for number in numbers {
-        let id = IdentifierId(*number);
-        let mutable = value(ValueKind::Mutable, ValueReason::Other);
-        state.give(id, Site::Parameter(id), mutable)?;
-    }
-    Ok(state)
-}
-
-/// `2 = 1()` and `3 = new 1()`, within a `try` whose handler binds 5.
-fn throwing(alloc: Global) -> Result<HirFunction, AllocError> {
-    let mut func = function(alloc, FunctionType::Component);
-    let call = InstructionValue::CallExpression {
-        callee: place(1),
-        args: List::new(alloc),
-    };
-    add_instruction(&mut func, 2, call)?;
-    let construction = InstructionValue::NewExpression {
-        callee: place(1),
-        args: List::new(alloc),
-    };
-    add_instruction(&mut func, 3, construction)?;
-    let entry = Terminal::Try {
-        id: EvaluationOrder(2),
-        block: BlockId(1),
-        handler: BlockId(2),
-        handler_binding: Some(place(5)),
-    };
-    let _ = func
-        .body
-        .blocks
-        .insert(BlockId(0), block_of(alloc, 0, entry)?)?;
-    Ok(func)
-}
-
-/// `MaybeThrow` to the handler of the `try`.
-fn maybe_throw(alloc: Global) -> Result<BasicBlock, AllocError> {
-    let terminal = Terminal::MaybeThrow {
-        id: EvaluationOrder(3),
-        continuation: BlockId(3),
-        handler: Some(BlockId(2)),
-        effects: None,
-    };
-    block_of(alloc, 2, terminal)
+/// How the step of a block ends.
+#[derive(Clone, Copy)]
+enum Ending {
+    Done(Left),
+    Uninitialized(IdentifierId),
+    Refused,
 }
 
 fn is_alias(effect: &AliasingEffect, from: u32, into: u32) -> bool {
@@ -132,83 +88,213 @@ fn has_site_of_the_call(state: &InferenceState) -> bool {
     false
 }
 
+fn left_by(state: &InferenceState, effects: &BlockEffects) -> Left {
+    let effect = only(&effects.terminal);
+    Left {
+        terminals: effects.terminal.len(),
+        aliases: effect.is_some_and(|effect| is_alias(effect, 2, 5)),
+        freezes: effect.is_some_and(|effect| is_freeze(effect, 1)),
+        is_bound: state.is_defined(IdentifierId(5)),
+        has_site: has_site_of_the_call(state),
+    }
+}
+
+fn ending_of(answer: &Result<(InferenceState, BlockEffects), BlockFault>) -> Ending {
+    match answer {
+        Ok((state, effects)) => Ending::Done(left_by(state, effects)),
+        Err(BlockFault::Refused(BlockRefusal::Uninitialized(look))) => {
+            Ending::Uninitialized(look.identifier)
+        }
+        Err(_) => Ending::Refused,
+    }
+}
+
+/// Gives each of the identifiers a mutable value of its own.
+fn give_values(state: &mut InferenceState, numbers: &[u32]) -> Result<(), AllocError> {
+    for number in numbers {
+        let id = IdentifierId(*number);
+        let mutable = value(ValueKind::Mutable, ValueReason::Other);
+        state.give(id, Site::Parameter(id), mutable)?;
+    }
+    Ok(())
+}
+
+/// A mutable value of its own for each of the identifiers.
+fn with_values(alloc: Global, numbers: &[u32]) -> Result<InferenceState, AllocError> {
+    let mut state = InferenceState::empty(alloc);
+    give_values(&mut state, numbers)?;
+    Ok(state)
+}
+
+fn step_from(
+    alloc: Global,
+    context: &BlockContext<'_>,
+    block: &BasicBlock,
+    defined: &[u32],
+) -> Result<Ending, AllocError> {
+    let entered = with_values(alloc, defined)?;
+    let mut tables = Tables::new(alloc, InternedReports::new(alloc));
+    let answer = infer_block(alloc, context, BlockId(1), block, &mut tables, entered);
+    Ok(ending_of(&answer))
+}
+
+fn step_in(
+    alloc: Global,
+    env: &Environment,
+    func: &HirFunction,
+    is_function_expression: bool,
+    block: &BasicBlock,
+    defined: &[u32],
+) -> Result<Ending, AllocError> {
+    let facts = function_facts(alloc, func, env)?;
+    let context = BlockContext {
+        env,
+        func,
+        facts: &facts,
+        is_function_expression,
+    };
+    step_from(alloc, &context, block, defined)
+}
+
+/// The step of the block, which is entered with these identifiers defined.
+fn step(
+    alloc: Global,
+    func: &HirFunction,
+    is_function_expression: bool,
+    block: &BasicBlock,
+    defined: &[u32],
+) -> Result<Ending, AllocError> {
+    let env = environment(alloc)?;
+    step_in(alloc, &env, func, is_function_expression, block, defined)
+}
+
+/// Adds `2 = 1()` and `3 = new 1()`.
+fn add_calls(alloc: Global, func: &mut HirFunction) -> Result<(), AllocError> {
+    let call = InstructionValue::CallExpression {
+        callee: place(1),
+        args: List::new(alloc),
+    };
+    add_instruction(func, 2, call)?;
+    let construction = InstructionValue::NewExpression {
+        callee: place(1),
+        args: List::new(alloc),
+    };
+    add_instruction(func, 3, construction)
+}
+
+/// Enters by a `try` whose handler binds 5.
+fn enter_try(alloc: Global, func: &mut HirFunction) -> Result<(), AllocError> {
+    let entry = Terminal::Try {
+        id: EvaluationOrder(2),
+        block: BlockId(1),
+        handler: BlockId(2),
+        handler_binding: Some(place(5)),
+    };
+    let _ = func
+        .body
+        .blocks
+        .insert(BlockId(0), block_of(alloc, 0, entry)?)?;
+    Ok(())
+}
+
+/// `2 = 1()` and `3 = new 1()`, within a `try` whose handler binds 5.
+fn throwing(alloc: Global) -> Result<HirFunction, AllocError> {
+    let mut func = function(alloc, FunctionType::Component);
+    add_calls(alloc, &mut func)?;
+    enter_try(alloc, &mut func)?;
+    Ok(func)
+}
+
+/// `MaybeThrow` to the handler of the `try`.
+fn maybe_throw(alloc: Global) -> Result<BasicBlock, AllocError> {
+    let terminal = Terminal::MaybeThrow {
+        id: EvaluationOrder(3),
+        continuation: BlockId(3),
+        handler: Some(BlockId(2)),
+        effects: None,
+    };
+    block_of(alloc, 2, terminal)
+}
+
+/// The step of what may throw, which is entered with these identifiers defined.
+fn thrown(alloc: Global, defined: &[u32]) -> Result<Ending, AllocError> {
+    let block = maybe_throw(alloc)?;
+    let func = throwing(alloc)?;
+    step(alloc, &func, false, &block, defined)
+}
+
 #[test]
 fn a_handler_catches_what_calls_throw(rt: HostRuntime) -> Result<(), Fail> {
-    let alloc = rt.alloc();
-    let func = throwing(alloc)?;
-    let entered = with_values(alloc, &[1, 5])?;
-    match step(alloc, &func, false, &maybe_throw(alloc)?, entered) {
-        Ok((state, effects)) => {
-            let alias = only(&effects.terminal);
-            assert!(rt; alias.is_some_and(|alias| is_alias(alias, 2, 5)));
-            assert!(rt; has_site_of_the_call(&state));
+    match thrown(rt.alloc(), &[1, 5])? {
+        Ending::Done(left) => {
+            assert!(rt; left.aliases);
+            assert!(rt; left.has_site);
         }
-        Err(_) => panic!(rt; "refused"),
+        _ => panic!(rt; "refused"),
     }
     Ok(())
 }
 
 #[test]
 fn a_binding_that_is_not_defined_catches_nothing(rt: HostRuntime) -> Result<(), Fail> {
-    let alloc = rt.alloc();
-    let func = throwing(alloc)?;
-    let entered = with_values(alloc, &[1])?;
-    match step(alloc, &func, false, &maybe_throw(alloc)?, entered) {
-        Ok((state, effects)) => {
-            assert!(rt; effects.terminal.len() == 0);
-            assert!(rt; !state.is_defined(IdentifierId(5)));
+    match thrown(rt.alloc(), &[1])? {
+        Ending::Done(left) => {
+            assert!(rt; left.terminals == 0);
+            assert!(rt; !left.is_bound);
         }
-        Err(_) => panic!(rt; "refused"),
+        _ => panic!(rt; "refused"),
     }
     Ok(())
 }
 
-fn returned(alloc: Global, is_function_expression: bool) -> Result<BlockEffects, BlockFault> {
-    let func = function(alloc, FunctionType::Component);
+/// The step of a block that returns 1.
+fn returned(alloc: Global, is_function_expression: bool) -> Result<Ending, AllocError> {
     let terminal = Terminal::Return {
         id: EvaluationOrder(3),
         value: place(1),
         effects: None,
     };
     let block = block_of(alloc, 0, terminal)?;
-    let entered = with_values(alloc, &[1])?;
-    let (_state, effects) = step(alloc, &func, is_function_expression, &block, entered)?;
-    Ok(effects)
+    let func = function(alloc, FunctionType::Component);
+    step(alloc, &func, is_function_expression, &block, &[1])
 }
 
 #[test]
 fn what_is_returned_is_frozen_outside_function_expressions(rt: HostRuntime) -> Result<(), Fail> {
     let alloc = rt.alloc();
-    match returned(alloc, false) {
-        Ok(effects) => {
-            assert!(rt; only(&effects.terminal).is_some_and(|effect| is_freeze(effect, 1)));
-        }
-        Err(_) => panic!(rt; "refused"),
+    match returned(alloc, false)? {
+        Ending::Done(left) => assert!(rt; left.freezes),
+        _ => panic!(rt; "refused"),
     }
-    match returned(alloc, true) {
-        Ok(effects) => assert!(rt; effects.terminal.len() == 0),
-        Err(_) => panic!(rt; "refused"),
+    match returned(alloc, true)? {
+        Ending::Done(left) => assert!(rt; left.terminals == 0),
+        _ => panic!(rt; "refused"),
     }
     Ok(())
 }
 
-#[test]
-fn a_missing_look_refuses_the_block(rt: HostRuntime) -> Result<(), Fail> {
-    let alloc = rt.alloc();
+/// A function that loads 4 into 2.
+fn loading(alloc: Global) -> Result<HirFunction, AllocError> {
     let mut func = function(alloc, FunctionType::Component);
-    add_instruction(
-        &mut func,
-        2,
-        InstructionValue::LoadLocal { place: place(4) },
-    )?;
+    let load = InstructionValue::LoadLocal { place: place(4) };
+    add_instruction(&mut func, 2, load)?;
+    Ok(func)
+}
+
+/// The step of a block that loads 4, with nothing defined.
+fn loaded(alloc: Global) -> Result<Ending, AllocError> {
     let terminal = Terminal::Unreachable {
         id: EvaluationOrder(3),
     };
     let block = block_of(alloc, 1, terminal)?;
-    match step(alloc, &func, false, &block, InferenceState::empty(alloc)) {
-        Err(BlockFault::Refused(BlockRefusal::Uninitialized(look))) => {
-            assert!(rt; look.identifier == IdentifierId(4));
-        }
+    let func = loading(alloc)?;
+    step(alloc, &func, false, &block, &[])
+}
+
+#[test]
+fn a_missing_look_refuses_the_block(rt: HostRuntime) -> Result<(), Fail> {
+    match loaded(rt.alloc())? {
+        Ending::Uninitialized(identifier) => assert!(rt; identifier == IdentifierId(4)),
         _ => panic!(rt; "not refused"),
     }
     Ok(())

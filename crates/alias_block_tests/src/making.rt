@@ -25,23 +25,32 @@ pub fn place(number: u32) -> Place {
     }
 }
 
+fn identifier(number: u32) -> Identifier {
+    Identifier {
+        declaration_id: DeclarationId(number),
+        name: None,
+        mutable_range: MutableRange {
+            start: EvaluationOrder(0),
+            end: EvaluationOrder(0),
+        },
+        scope: None,
+        type_: TypeId(0),
+        span: None,
+    }
+}
+
+fn add_ten_identifiers(env: &mut Environment) -> Result<(), AllocError> {
+    env.types.push(Ty::Var)?;
+    for number in 0..10u32 {
+        env.identifiers.push(identifier(number))?;
+    }
+    Ok(())
+}
+
 /// Ten identifiers of unknown types.
 pub fn environment(alloc: Global) -> Result<Environment, AllocError> {
     let mut env = Environment::new(alloc);
-    env.types.push(Ty::Var)?;
-    for number in 0..10u32 {
-        env.identifiers.push(Identifier {
-            declaration_id: DeclarationId(number),
-            name: None,
-            mutable_range: MutableRange {
-                start: EvaluationOrder(0),
-                end: EvaluationOrder(0),
-            },
-            scope: None,
-            type_: TypeId(0),
-            span: None,
-        })?;
-    }
+    add_ten_identifiers(&mut env)?;
     Ok(env)
 }
 
@@ -80,21 +89,26 @@ pub fn add_instruction(
     Ok(())
 }
 
+fn add_first(listed: &mut List<InstructionId>, count: u32) -> Result<(), AllocError> {
+    for number in 0..count {
+        listed.push(InstructionId(number))?;
+    }
+    Ok(())
+}
+
 /// A block of the first so many instructions.
 pub fn block_of(
     alloc: Global,
     instructions: u32,
     terminal: Terminal,
 ) -> Result<BasicBlock, AllocError> {
-    let mut listed = List::new(alloc);
-    for number in 0..instructions {
-        listed.push(InstructionId(number))?;
-    }
-    Ok(BasicBlock {
+    let mut block = BasicBlock {
         phis: List::new(alloc),
-        instructions: listed,
+        instructions: List::new(alloc),
         terminal,
-    })
+    };
+    add_first(&mut block.instructions, instructions)?;
+    Ok(block)
 }
 
 /// A kind with one reason.
@@ -106,7 +120,7 @@ pub fn value(kind: ValueKind, reason: ValueReason) -> AbstractValue {
 }
 
 /// What the identifier has in the state, if it is defined.
-pub fn found(state: &InferenceState, number: u32) -> Option<AbstractValue> {
+fn found(state: &InferenceState, number: u32) -> Option<AbstractValue> {
     let look = state.kind_with_span(IdentifierId(number), None);
     match look.missing {
         Some(_) => None,
@@ -114,19 +128,43 @@ pub fn found(state: &InferenceState, number: u32) -> Option<AbstractValue> {
     }
 }
 
-/// The state that the function begins with.
-pub fn initial(
+/// What each of the identifiers 0 to 5 has in a state, if it is defined there.
+pub type Values = [Option<AbstractValue>; 6];
+
+fn values(state: &InferenceState) -> Values {
+    [
+        found(state, 0),
+        found(state, 1),
+        found(state, 2),
+        found(state, 3),
+        found(state, 4),
+        found(state, 5),
+    ]
+}
+
+fn initial_values_in(
     alloc: Global,
+    env: &Environment,
     func: &HirFunction,
     is_function_expression: bool,
-) -> Result<InferenceState, AllocError> {
-    let env = environment(alloc)?;
-    let facts = function_facts(alloc, func, &env)?;
+) -> Result<Values, AllocError> {
+    let facts = function_facts(alloc, func, env)?;
     let context = BlockContext {
-        env: &env,
+        env,
         func,
         facts: &facts,
         is_function_expression,
     };
-    initial_state(alloc, &context)
+    let state = initial_state(alloc, &context)?;
+    Ok(values(&state))
+}
+
+/// The values of the state that the function begins with.
+pub fn initial_values(
+    alloc: Global,
+    func: &HirFunction,
+    is_function_expression: bool,
+) -> Result<Values, AllocError> {
+    let env = environment(alloc)?;
+    initial_values_in(alloc, &env, func, is_function_expression)
 }

@@ -2,7 +2,7 @@
 ghost use Rattle.std.specs.Prelude.{◌≡◌, ◌<◌, length, IfOk, OnOk};
 ghost use Rattle.alias_ranges.specs.Nodes.{Within};
 
-use crate::walks::{environment, place};
+use crate::walks::{environment, graph, place};
 use alias_base::{BlockId, BlockMap, FunctionId, IdentifierId, List, Text};
 use alias_hir::effect::{AliasingEffect, AliasingEffects};
 use alias_hir::env::Environment;
@@ -11,7 +11,7 @@ use alias_hir::hir::{FunctionType, Hir, HirFunction};
 use alias_hir::report::{DiagnosticId, ErrorCategory, Report};
 use alias_ranges::graph::AliasGraph;
 use alias_ranges::steps::Steps;
-use alias_ranges::types::{MutationKind, NodeValue};
+use alias_ranges::types::{EdgeKind, MutationKind, NodeValue};
 use std::alloc::{AllocError, Global};
 use std::marker::Brand;
 use std::sync::ledger::{Blank, Ledger};
@@ -60,33 +60,54 @@ fn interned(env: &mut Environment, report: Report) -> Result<DiagnosticId, Alloc
     }
 }
 
-/// Four identifiers, and a function whose summary has an impure call.
-fn impure(alloc: Global) -> Result<Environment, AllocError>
-    ensures { IfOk result (λ env. length env.identifiers ≡ 4) }
-{
-    let mut env = environment(alloc)?;
-    let error = interned(&mut env, report(alloc)?)?;
+/// A summary with an impure call, which has this report.
+fn impure_summary(alloc: Global, error: DiagnosticId) -> Result<AliasingEffects, AllocError> {
     let mut summary = List::new(alloc);
     summary.push(AliasingEffect::Render { place: place(0) })?;
     summary.push(AliasingEffect::Impure {
         place: place(0),
         error,
     })?;
+    Ok(summary)
+}
+
+/// Adds a function whose summary has an impure call.
+fn add_impure_function(alloc: Global, env: &mut Environment) -> Result<(), AllocError>
+    ensures { OnOk result (length env.new.identifiers ≡ length env.old.identifiers) }
+{
+    let error = interned(env, report(alloc)?)?;
+    let summary = impure_summary(alloc, error)?;
     env.functions.push(function(alloc, summary))?;
+    Ok(())
+}
+
+/// Four identifiers, and a function whose summary has an impure call.
+fn impure(alloc: Global) -> Result<Environment, AllocError>
+    ensures { IfOk result (λ env. length env.identifiers ≡ 4) }
+{
+    let mut env = environment(alloc)?;
+    add_impure_function(alloc, &mut env)?;
     Ok(env)
 }
 
+/// Makes the object 3 from a part of 1.
+#[tactic(auto, using(crate::proofs::SameNodes::within_more))]
+fn add_part(graph: &mut AliasGraph) -> Result<(), AllocError>
+    requires { Within 4 graph.old }
+    ensures { OnOk result (Within 4 graph.new) }
+{
+    graph.create_from(2, &place(1), &place(3))?;
+    Ok(())
+}
+
 /// Two functions that the object 1 holds and is, and the object 3 that is made from a part of 1.
-fn graph(alloc: Global) -> Result<AliasGraph, AllocError>
+fn held_functions(alloc: Global) -> Result<AliasGraph, AllocError>
     ensures { IfOk result (λ graph. Within 4 graph) }
 {
-    let mut graph = AliasGraph::new(alloc);
-    graph.create(&place(0), FUNCTION)?;
-    graph.create(&place(1), NodeValue::Object)?;
-    graph.create(&place(2), FUNCTION)?;
-    graph.capture(0, &place(0), &place(1))?;
-    graph.assign(1, &place(2), &place(1))?;
-    graph.create_from(2, &place(1), &place(3))?;
+    let values = [FUNCTION, NodeValue::Object, FUNCTION, NodeValue::Object];
+    let links = [(EdgeKind::Capture, 0, 0, 1), (EdgeKind::Alias, 1, 2, 1)];
+    let mut graph = graph(alloc, values, &links)?;
+    add_part(&mut graph)?;
     Ok(graph)
 }
 
@@ -122,29 +143,26 @@ fn mutate<L: Ledger>(
     Ok(())
 }
 
+/// How many reports a walk from a function leaves in an environment of its own.
+fn told_by_walk(
+    alloc: Global,
+    graph: &mut AliasGraph,
+    should_record_errors: bool,
+) -> Result<usize, AllocError>
+    requires { Within 4 graph.old }
+    ensures { OnOk result (Within 4 graph.new) }
+{
+    let mut env = impure(alloc)?;
+    mutate::<Brand>(Blank::new(1), graph, &mut env, 0, 0, should_record_errors)?;
+    Ok(env.errors.len())
+}
+
 /// How many reports two walks from a function leave.
 fn told_by_walks(alloc: Global, should_record_errors: bool) -> Result<usize, AllocError> {
-    let mut env = impure(alloc)?;
-    let mut graph = graph(alloc)?;
-    mutate::<Brand>(
-        Blank::new(1),
-        &mut graph,
-        &mut env,
-        0,
-        0,
-        should_record_errors,
-    )?;
-    let once = env.errors.len();
-    let mut again = impure(alloc)?;
-    mutate::<Brand>(
-        Blank::new(1),
-        &mut graph,
-        &mut again,
-        0,
-        0,
-        should_record_errors,
-    )?;
-    Ok(once.saturating_add(again.errors.len()))
+    let mut graph = held_functions(alloc)?;
+    let once = told_by_walk(alloc, &mut graph, should_record_errors)?;
+    let again = told_by_walk(alloc, &mut graph, should_record_errors)?;
+    Ok(once.saturating_add(again))
 }
 
 #[test]
@@ -152,6 +170,23 @@ fn a_walk_tells_a_function_once(rt: HostRuntime) -> Result<(), Fail> {
     assert_eq!(rt; told_by_walks(rt.alloc(), true)?, 1);
     assert_eq!(rt; told_by_walks(rt.alloc(), false)?, 0);
     Ok(())
+}
+
+/// Renders, after a walk at `marked` if that is given.
+fn render(
+    graph: &mut AliasGraph,
+    env: &mut Environment,
+    index: u32,
+    start: u32,
+    marked: Option<u32>,
+) -> Result<(), AllocError>
+    requires within { Within 4 graph.old }
+    requires identifiers { length env.old.identifiers ≡ 4 }
+{
+    if let Some(node) = marked {
+        mutate::<Brand>(Blank::new(1), graph, env, 0, node, false)?;
+    }
+    graph.render(index, IdentifierId(start), env)
 }
 
 /// How many reports a render leaves, after a walk at `marked` if that is given.
@@ -162,11 +197,8 @@ fn told_by_render(
     marked: Option<u32>,
 ) -> Result<usize, AllocError> {
     let mut env = impure(alloc)?;
-    let mut graph = graph(alloc)?;
-    if let Some(node) = marked {
-        mutate::<Brand>(Blank::new(1), &mut graph, &mut env, 0, node, false)?;
-    }
-    graph.render(index, IdentifierId(start), &mut env)?;
+    let mut graph = held_functions(alloc)?;
+    render(&mut graph, &mut env, index, start, marked)?;
     Ok(env.errors.len())
 }
 

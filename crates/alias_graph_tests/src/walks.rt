@@ -60,31 +60,44 @@ fn identifier() -> Identifier {
     }
 }
 
+fn add_four_identifiers(env: &mut Environment) -> Result<(), AllocError>
+    ensures { OnOk result (length env.new.identifiers ≡ length env.old.identifiers + 4) }
+{
+    env.identifiers.push(identifier())?;
+    env.identifiers.push(identifier())?;
+    env.identifiers.push(identifier())?;
+    env.identifiers.push(identifier())?;
+    Ok(())
+}
+
 /// Four identifiers with no range.
 pub(crate) fn environment(alloc: Global) -> Result<Environment, AllocError>
     ensures { IfOk result (λ env. length env.identifiers ≡ 4) }
 {
     let mut env = Environment::new(alloc);
-    env.identifiers.push(identifier())?;
-    env.identifiers.push(identifier())?;
-    env.identifiers.push(identifier())?;
-    env.identifiers.push(identifier())?;
+    add_four_identifiers(&mut env)?;
     Ok(env)
 }
 
-/// The nodes 0 to 3 with these values, and the links `(kind, index, from, into)`.
-fn graph(
-    alloc: Global,
-    values: [NodeValue; 4],
-    links: &[(EdgeKind, u32, u32, u32)],
-) -> Result<AliasGraph, AllocError>
-    ensures { IfOk result (λ graph. Within 4 graph) }
+/// Adds the nodes 0 to 3 with these values.
+#[tactic(auto, using(crate::proofs::SameNodes::within_more))]
+fn add_nodes(graph: &mut AliasGraph, values: [NodeValue; 4]) -> Result<(), AllocError>
+    requires { Within 4 graph.old }
+    ensures { OnOk result (Within 4 graph.new) }
 {
-    let mut graph = AliasGraph::new(alloc);
     graph.create(&place(0), values[0])?;
     graph.create(&place(1), values[1])?;
     graph.create(&place(2), values[2])?;
     graph.create(&place(3), values[3])?;
+    Ok(())
+}
+
+/// Adds the links `(kind, index, from, into)`.
+#[tactic(auto, using(crate::proofs::SameNodes::within_same))]
+fn add_links(graph: &mut AliasGraph, links: &[(EdgeKind, u32, u32, u32)]) -> Result<(), AllocError>
+    requires { Within 4 graph.old }
+    ensures { OnOk result (Within 4 graph.new) }
+{
     for link in links {
         let (kind, index, from, into) = *link;
         match kind {
@@ -93,6 +106,21 @@ fn graph(
             EdgeKind::MaybeAlias => graph.maybe_alias(index, &place(from), &place(into))?,
         }
     }
+    Ok(())
+}
+
+/// The nodes 0 to 3 with these values, and the links `(kind, index, from, into)`.
+#[tactic(auto, using(crate::proofs::SameNodes::within_none))]
+pub(crate) fn graph(
+    alloc: Global,
+    values: [NodeValue; 4],
+    links: &[(EdgeKind, u32, u32, u32)],
+) -> Result<AliasGraph, AllocError>
+    ensures { IfOk result (λ graph. Within 4 graph) }
+{
+    let mut graph = AliasGraph::new(alloc);
+    add_nodes(&mut graph, values)?;
+    add_links(&mut graph, links)?;
     Ok(graph)
 }
 
@@ -212,34 +240,51 @@ fn walks_over_captures(rt: HostRuntime) -> Result<(), Fail> {
     Ok(())
 }
 
+/// The range ends of the identifiers 0 and 1 after this mutation, where 0 is assigned to 1.
+fn raised(
+    alloc: Global,
+    mutation: Mutation,
+    end: Option<EvaluationOrder>,
+) -> Result<(u32, u32), AllocError> {
+    let mut graph = graph(alloc, OBJECTS, &[(ASSIGN, 0, 0, 1)])?;
+    let mut env = environment(alloc)?;
+    mutate::<Brand>(Blank::new(1), &mut graph, &mut env, mutation, end)?;
+    Ok(ends(&env))
+}
+
 #[test]
 fn raises_range_ends(rt: HostRuntime) -> Result<(), Fail> {
     let alloc = rt.alloc();
     let end = Some(EvaluationOrder(4));
-    for (index, want) in [(1, (4, 4)), (0, (0, 4))] {
-        let mut graph = graph(alloc, OBJECTS, &[(ASSIGN, 0, 0, 1)])?;
-        let mut env = environment(alloc)?;
-        mutate::<Brand>(Blank::new(1), &mut graph, &mut env, definite(index, 1), end)?;
-        assert_eq!(rt; ends(&env), want, "at {index}");
-    }
+    assert_eq!(rt; raised(alloc, definite(1, 1), end)?, (4, 4));
+    assert_eq!(rt; raised(alloc, definite(0, 1), end)?, (0, 4));
     Ok(())
+}
+
+/// Whether the node was marked with this kind alone, and for the reason that mutations are made for.
+fn is_marked(graph: &AliasGraph, number: u32, kind: MutationKind) -> bool {
+    match graph.node(IdentifierId(number)) {
+        None => false,
+        Some(node) => {
+            node.local == Some(MutationInfo { kind, span: SPAN })
+                && node.transitive.is_none()
+                && node.mutation_reason == Some(MutationReason::AssignCurrentProperty)
+        }
+    }
+}
+
+/// How a definite mutation of 1 marks: 1 itself as definite, and 0, which it may be, as conditional.
+fn marked(alloc: Global) -> Result<(bool, bool), AllocError> {
+    let mut graph = graph(alloc, OBJECTS, &[(EdgeKind::MaybeAlias, 0, 0, 1)])?;
+    let mut env = environment(alloc)?;
+    mutate::<Brand>(Blank::new(1), &mut graph, &mut env, definite(1, 1), None)?;
+    let definite = is_marked(&graph, 1, MutationKind::Definite);
+    Ok((definite, is_marked(&graph, 0, MutationKind::Conditional)))
 }
 
 #[test]
 fn marks_by_the_kinds_of_links(rt: HostRuntime) -> Result<(), Fail> {
-    let alloc = rt.alloc();
-    let mut graph = graph(alloc, OBJECTS, &[(EdgeKind::MaybeAlias, 0, 0, 1)])?;
-    let mut env = environment(alloc)?;
-    mutate::<Brand>(Blank::new(1), &mut graph, &mut env, definite(1, 1), None)?;
-    for (number, kind) in [(1, MutationKind::Definite), (0, MutationKind::Conditional)] {
-        let Some(node) = graph.node(IdentifierId(number)) else {
-            assert!(rt; false);
-            return Ok(());
-        };
-        assert!(rt; node.local == Some(MutationInfo { kind, span: SPAN }));
-        assert!(rt; node.transitive.is_none());
-        assert!(rt; node.mutation_reason == Some(MutationReason::AssignCurrentProperty));
-    }
+    assert_eq!(rt; marked(rt.alloc())?, (true, true));
     Ok(())
 }
 
@@ -251,34 +296,55 @@ fn link(index: u32, other: u32, edge: Option<EdgeKind>) -> Option<Link> {
     })
 }
 
-#[test]
-fn shows_nodes_and_links(rt: HostRuntime) -> Result<(), Fail> {
-    let alloc = rt.alloc();
-    let links = [
-        (EdgeKind::Capture, 5, 0, 1),
-        (ASSIGN, 6, 0, 1),
-        (EdgeKind::MaybeAlias, 7, 0, 1),
-    ];
-    let mut graph = graph(alloc, OBJECTS, &links)?;
+/// The nodes 0 to 3, with a link of each kind from 0 to 1, one of which comes twice, and 2 made from a part of 1.
+fn add_each_link(graph: &mut AliasGraph) -> Result<(), AllocError> {
+    graph.capture(5, &place(0), &place(1))?;
+    graph.assign(6, &place(0), &place(1))?;
+    graph.maybe_alias(7, &place(0), &place(1))?;
     graph.capture(9, &place(0), &place(1))?;
-    graph.create_from(8, &place(1), &place(2))?;
+    graph.create_from(8, &place(1), &place(2))
+}
+
+/// Whether each of these links is where it should be, and no more are.
+fn shows_links(graph: &AliasGraph) -> [bool; 9] {
     let object = IdentifierId(1);
-    assert!(rt; graph.link(IdentifierId(0), LinkList::Forward, 1) == link(6, 1, Some(ASSIGN)));
-    assert!(rt; graph.link(IdentifierId(0), LinkList::Forward, 4).is_none());
-    assert!(rt; graph.link(object, LinkList::Forward, 0) == link(8, 2, Some(ASSIGN)));
-    assert!(rt; graph.link(object, LinkList::Captures, 0) == link(5, 0, None));
-    assert!(rt; graph.link(object, LinkList::Captures, 1).is_none());
-    assert!(rt; graph.link(object, LinkList::Aliases, 0) == link(6, 0, None));
-    assert!(rt; graph.link(object, LinkList::MaybeAliases, 0) == link(7, 0, None));
-    assert!(rt; graph.link(IdentifierId(2), LinkList::CreatedFrom, 0) == link(8, 1, None));
-    assert!(rt; graph.link(IdentifierId(9), LinkList::Forward, 0).is_none());
+    [
+        graph.link(IdentifierId(0), LinkList::Forward, 1) == link(6, 1, Some(ASSIGN)),
+        graph.link(IdentifierId(0), LinkList::Forward, 4).is_none(),
+        graph.link(object, LinkList::Forward, 0) == link(8, 2, Some(ASSIGN)),
+        graph.link(object, LinkList::Captures, 0) == link(5, 0, None),
+        graph.link(object, LinkList::Captures, 1).is_none(),
+        graph.link(object, LinkList::Aliases, 0) == link(6, 0, None),
+        graph.link(object, LinkList::MaybeAliases, 0) == link(7, 0, None),
+        graph.link(IdentifierId(2), LinkList::CreatedFrom, 0) == link(8, 1, None),
+        graph.link(IdentifierId(9), LinkList::Forward, 0).is_none(),
+    ]
+}
+
+/// Whether 1 is a new function now, which holds nothing, and 9 is no node.
+fn shows_new_function(graph: &AliasGraph, function_id: FunctionId) -> [bool; 3] {
+    let object = IdentifierId(1);
+    [
+        graph.link(object, LinkList::Captures, 0).is_none(),
+        matches!(graph.node(object), Some(node) if node.value == NodeValue::Function { function_id }),
+        graph.node(IdentifierId(9)).is_none(),
+    ]
+}
+
+fn shown(alloc: Global) -> Result<([bool; 9], [bool; 3]), AllocError> {
+    let mut graph = graph(alloc, OBJECTS, &[])?;
+    add_each_link(&mut graph)?;
+    let links = shows_links(&graph);
     let function_id = FunctionId(7);
     graph.create(&place(1), NodeValue::Function { function_id })?;
-    assert!(rt; graph.link(object, LinkList::Captures, 0).is_none());
-    assert!(rt;
-        matches!(graph.node(object), Some(node) if node.value == NodeValue::Function { function_id })
-    );
-    assert!(rt; graph.node(IdentifierId(9)).is_none());
+    Ok((links, shows_new_function(&graph, function_id)))
+}
+
+#[test]
+fn shows_nodes_and_links(rt: HostRuntime) -> Result<(), Fail> {
+    let (links, function) = shown(rt.alloc())?;
+    assert_eq!(rt; links, [true; 9]);
+    assert_eq!(rt; function, [true; 3]);
     Ok(())
 }
 

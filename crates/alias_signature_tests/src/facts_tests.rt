@@ -1,13 +1,12 @@
 //! Hoisted declarations, spreads that nothing writes, and handlers.
 
 use crate::making::{
-    add_block, add_identifier, environment, function, hook_type, instruction, place, place_at,
-    returning, taken_apart, variable,
+    add_block, add_declaration, add_identifier, add_taken_apart, environment, facts_of, function,
+    hook_type, instruction, place, place_at, returning,
 };
-use alias_base::{BlockId, DeclarationId, EvaluationOrder, List};
+use alias_base::{BlockId, DeclarationId, EvaluationOrder, InstructionId, List};
 use alias_facts::{
-    FunctionFacts, Hoisted, find_hoisted_context_declarations,
-    find_non_mutated_destructure_spreads, function_facts,
+    Hoisted, Spreads, find_hoisted_context_declarations, find_non_mutated_destructure_spreads,
 };
 use alias_hir::env::Environment;
 use alias_hir::hir::{FunctionType, HirFunction, Instruction, ParamPattern};
@@ -17,115 +16,140 @@ use alias_hir::value::{InstructionKind, InstructionValue};
 use std::alloc::{AllocError, Global};
 use std::test::Fail;
 
-fn hoisted_and_read(alloc: Global) -> Result<List<Instruction>, AllocError> {
-    let mut list = List::new(alloc);
-    list.push(instruction(
-        0,
-        InstructionValue::DeclareContext {
-            lvalue: variable(1, InstructionKind::HoistedConst),
-        },
-    ))?;
-    list.push(instruction(
-        0,
-        InstructionValue::DeclareContext {
-            lvalue: variable(2, InstructionKind::HoistedLet),
-        },
-    ))?;
-    list.push(instruction(
-        3,
-        InstructionValue::LoadContext {
-            place: place_at(1, 20),
-        },
-    ))?;
-    list.push(instruction(
-        4,
-        InstructionValue::LoadContext {
-            place: place_at(1, 30),
-        },
-    ))?;
-    list.push(instruction(
-        0,
-        InstructionValue::DeclareContext {
-            lvalue: variable(5, InstructionKind::Let),
-        },
-    ))?;
-    Ok(list)
+const FIRST: InstructionId = InstructionId(0);
+
+const SECOND: InstructionId = InstructionId(1);
+
+const THIRD: InstructionId = InstructionId(2);
+
+const FOURTH: InstructionId = InstructionId(3);
+
+const FIFTH: InstructionId = InstructionId(4);
+
+const SIXTH: InstructionId = InstructionId(5);
+
+/// Adds a read of the variable 1 at that point of the source text.
+fn add_read(func: &mut HirFunction, target: u32, start: u32) -> Result<(), AllocError> {
+    let load = InstructionValue::LoadContext {
+        place: place_at(1, start),
+    };
+    func.instructions.push(instruction(target, load))?;
+    Ok(())
 }
 
-/// The function with these instructions, and then a block that hoists 1 again where that is asked.
-fn hoisting(alloc: Global, again: bool) -> Result<HirFunction, AllocError> {
-    let list = hoisted_and_read(alloc)?;
-    let mut func = function(alloc, FunctionType::Other);
-    add_block(alloc, &mut func, 0, 0, list, returning(4))?;
+/// Adds a block that hoists 1 and 2, reads 1 twice, and declares 5.
+fn hoist_and_read(alloc: Global, func: &mut HirFunction) -> Result<(), AllocError> {
+    add_declaration(func, 1, InstructionKind::HoistedConst)?;
+    add_declaration(func, 2, InstructionKind::HoistedLet)?;
+    add_read(func, 3, 20)?;
+    add_read(func, 4, 30)?;
+    add_declaration(func, 5, InstructionKind::Let)?;
+    let listed = [FIRST, SECOND, THIRD, FOURTH, FIFTH];
+    add_block(alloc, func, 0, &listed, returning(4))
+}
+
+/// Adds a block that hoists 1.
+fn hoist_again(alloc: Global, func: &mut HirFunction) -> Result<(), AllocError> {
+    add_declaration(func, 1, InstructionKind::HoistedFunction)?;
+    add_block(alloc, func, 1, &[SIXTH], returning(2))
+}
+
+fn add_hoisting(alloc: Global, func: &mut HirFunction, again: bool) -> Result<(), AllocError> {
+    hoist_and_read(alloc, func)?;
     if again {
-        let mut list = List::new(alloc);
-        list.push(instruction(
-            0,
-            InstructionValue::DeclareContext {
-                lvalue: variable(1, InstructionKind::HoistedFunction),
-            },
-        ))?;
-        add_block(alloc, &mut func, 1, 5, list, returning(2))?;
+        hoist_again(alloc, func)
+    } else {
+        Ok(())
     }
+}
+
+/// The function with the first of these blocks, and with the second one where that is asked.
+fn hoisting(alloc: Global, again: bool) -> Result<HirFunction, AllocError> {
+    let mut func = function(alloc, FunctionType::Other);
+    add_hoisting(alloc, &mut func, again)?;
     Ok(func)
 }
 
-fn hoisted_in(alloc: Global, func: HirFunction) -> Result<Hoisted, AllocError> {
+fn hoisted_in(alloc: Global, func: &HirFunction) -> Result<Hoisted, AllocError> {
     let env = environment(alloc)?;
-    find_hoisted_context_declarations(alloc, &func, &env)
+    find_hoisted_context_declarations(alloc, func, &env)
+}
+
+fn hoisted_by(alloc: Global, again: bool) -> Result<Hoisted, AllocError> {
+    let func = hoisting(alloc, again)?;
+    hoisted_in(alloc, &func)
+}
+
+/// What is known of the declaration in that function.
+fn access(alloc: Global, again: bool, number: u32) -> Result<Option<Option<Place>>, AllocError> {
+    let hoisted = hoisted_by(alloc, again)?;
+    Ok(hoisted.get(DeclarationId(number)))
+}
+
+fn is_hoisted(alloc: Global, number: u32) -> Result<bool, AllocError> {
+    let hoisted = hoisted_by(alloc, false)?;
+    Ok(hoisted.contains(DeclarationId(number)))
 }
 
 #[test]
 fn hoisted_declarations(rt: HostRuntime) -> Result<(), Fail> {
     let alloc = rt.alloc();
-    let hoisted = hoisted_in(alloc, hoisting(alloc, false)?)?;
-    assert_eq!(rt; hoisted.get(DeclarationId(1)), Some(Some(place_at(1, 20))));
-    assert_eq!(rt; hoisted.get(DeclarationId(2)), Some(None));
-    assert_eq!(rt; hoisted.get(DeclarationId(5)), None);
-    assert!(rt; hoisted.contains(DeclarationId(2)));
+    assert_eq!(rt; access(alloc, false, 1)?, Some(Some(place_at(1, 20))));
+    assert_eq!(rt; access(alloc, false, 2)?, Some(None));
+    assert_eq!(rt; access(alloc, false, 5)?, None);
+    assert!(rt; is_hoisted(alloc, 2)?);
     Ok(())
 }
 
 #[test]
 fn hoisted_again(rt: HostRuntime) -> Result<(), Fail> {
     let alloc = rt.alloc();
-    let hoisted = hoisted_in(alloc, hoisting(alloc, true)?)?;
-    assert_eq!(rt; hoisted.get(DeclarationId(1)), Some(None));
-    assert_eq!(rt; hoisted.get(DeclarationId(2)), Some(Some(place(2))));
+    assert_eq!(rt; access(alloc, true, 1)?, Some(None));
+    assert_eq!(rt; access(alloc, true, 2)?, Some(Some(place(2))));
     Ok(())
 }
 
-/// A component whose props, 0, are taken apart into 1 and the rest 2, and which then has the given instruction.
-fn component(
+fn add_component(
     alloc: Global,
-    fn_type: FunctionType,
+    func: &mut HirFunction,
     then: Instruction,
-) -> Result<HirFunction, AllocError> {
-    let mut func = function(alloc, fn_type);
-    func.params.push(ParamPattern::Place(place(0)))?;
-    let mut list = List::new(alloc);
-    list.push(instruction(3, taken_apart(alloc, InstructionKind::Const, 1, 2, 0)?))?;
-    list.push(then)?;
-    add_block(alloc, &mut func, 0, 0, list, returning(4))?;
+) -> Result<(), AllocError> {
+    add_taken_apart(alloc, func, 3, 1, 2, 0)?;
+    func.instructions.push(then)?;
+    add_block(alloc, func, 0, &[FIRST, SECOND], returning(4))
+}
+
+/// A component whose props, 0, are taken apart into 1 and the rest 2, and which then has the given instruction.
+fn component(alloc: Global, then: Instruction) -> Result<HirFunction, AllocError> {
+    let mut func = function(alloc, FunctionType::Component);
+    add_component(alloc, &mut func, then)?;
     Ok(func)
+}
+
+fn add_hook(alloc: Global, env: &mut Environment) -> Result<(), AllocError> {
+    let hook = hook_type(alloc, env)?;
+    add_identifier(env, 10, hook)
 }
 
 /// Ten identifiers, and a hook, 10.
 fn with_a_hook(alloc: Global) -> Result<Environment, AllocError> {
     let mut env = environment(alloc)?;
-    let hook = hook_type(alloc, &mut env)?;
-    add_identifier(&mut env, 10, hook)?;
+    add_hook(alloc, &mut env)?;
     Ok(env)
 }
 
-fn keeps(alloc: Global, func: HirFunction, spread: u32) -> Result<bool, AllocError> {
+fn spreads_of(alloc: Global, func: &HirFunction) -> Result<Spreads, AllocError> {
     let env = with_a_hook(alloc)?;
-    let spreads = find_non_mutated_destructure_spreads(alloc, &func, &env)?;
+    find_non_mutated_destructure_spreads(alloc, func, &env)
+}
+
+fn keeps(alloc: Global, func: HirFunction, spread: u32) -> Result<bool, AllocError> {
+    let spreads = spreads_of(alloc, &func)?;
     Ok(spreads.contains(&place(spread)))
 }
 
 fn is_kept(alloc: Global, then: InstructionValue) -> Result<bool, AllocError> {
-    let func = component(alloc, FunctionType::Component, instruction(4, then))?;
+    let func = component(alloc, instruction(4, then))?;
     keeps(alloc, func, 2)
 }
 
@@ -162,13 +186,18 @@ fn spreads(rt: HostRuntime) -> Result<(), Fail> {
     Ok(())
 }
 
+/// Adds a block that gives 4 to a function.
+fn give_away(alloc: Global, func: &mut HirFunction) -> Result<(), AllocError> {
+    let call = call_with(alloc, 5, 4)?;
+    func.instructions.push(instruction(6, call))?;
+    add_block(alloc, func, 1, &[THIRD], returning(6))
+}
+
 /// What is read of the rest goes to a function.
 fn under_another_name(alloc: Global) -> Result<HirFunction, AllocError> {
-    let mut list = List::new(alloc);
-    list.push(instruction(6, call_with(alloc, 5, 4)?))?;
     let load = instruction(4, InstructionValue::LoadLocal { place: place(2) });
-    let mut func = component(alloc, FunctionType::Component, load)?;
-    add_block(alloc, &mut func, 1, 2, list, returning(6))?;
+    let mut func = component(alloc, load)?;
+    give_away(alloc, &mut func)?;
     Ok(func)
 }
 
@@ -179,14 +208,16 @@ fn spread_under_another_name(rt: HostRuntime) -> Result<(), Fail> {
     Ok(())
 }
 
+fn add_two_parameters(alloc: Global, func: &mut HirFunction) -> Result<(), AllocError> {
+    func.params.push(ParamPattern::Place(place(5)))?;
+    add_taken_apart(alloc, func, 3, 1, 2, 0)?;
+    add_block(alloc, func, 0, &[FIRST], returning(3))
+}
+
 /// The second parameter is taken apart.
 fn takes_the_second_apart(alloc: Global, fn_type: FunctionType) -> Result<HirFunction, AllocError> {
-    let mut list = List::new(alloc);
-    list.push(instruction(3, taken_apart(alloc, InstructionKind::Const, 1, 2, 0)?))?;
     let mut func = function(alloc, fn_type);
-    func.params.push(ParamPattern::Place(place(5)))?;
-    func.params.push(ParamPattern::Place(place(0)))?;
-    add_block(alloc, &mut func, 0, 0, list, returning(3))?;
+    add_two_parameters(alloc, &mut func)?;
     Ok(func)
 }
 
@@ -215,31 +246,29 @@ fn trying(block: u32, handler: u32, binding: Option<Place>) -> Terminal {
     }
 }
 
+fn add_two_trys(alloc: Global, func: &mut HirFunction) -> Result<(), AllocError> {
+    add_block(alloc, func, 0, &[], trying(1, 7, Some(place(3))))?;
+    add_block(alloc, func, 1, &[], trying(2, 8, None))
+}
+
 fn two_trys(alloc: Global) -> Result<HirFunction, AllocError> {
     let mut func = function(alloc, FunctionType::Other);
-    add_block(
-        alloc,
-        &mut func,
-        0,
-        0,
-        List::new(alloc),
-        trying(1, 7, Some(place(3))),
-    )?;
-    add_block(alloc, &mut func, 1, 0, List::new(alloc), trying(2, 8, None))?;
+    add_two_trys(alloc, &mut func)?;
     Ok(func)
 }
 
-fn facts_of(alloc: Global, func: HirFunction) -> Result<FunctionFacts, AllocError> {
-    let env = environment(alloc)?;
-    function_facts(alloc, &func, &env)
+/// What the handler binds in that function.
+fn binding(alloc: Global, handler: u32) -> Result<Option<Place>, AllocError> {
+    let func = two_trys(alloc)?;
+    let facts = facts_of(alloc, &func)?;
+    Ok(facts.handlers.get(BlockId(handler)))
 }
 
 #[test]
 fn handlers(rt: HostRuntime) -> Result<(), Fail> {
     let alloc = rt.alloc();
-    let facts = facts_of(alloc, two_trys(alloc)?)?;
-    assert_eq!(rt; facts.handlers.get(BlockId(7)), Some(place(3)));
-    assert_eq!(rt; facts.handlers.get(BlockId(8)), None);
-    assert_eq!(rt; facts.handlers.get(BlockId(1)), None);
+    assert_eq!(rt; binding(alloc, 7)?, Some(place(3)));
+    assert_eq!(rt; binding(alloc, 8)?, None);
+    assert_eq!(rt; binding(alloc, 1)?, None);
     Ok(())
 }

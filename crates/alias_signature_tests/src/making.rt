@@ -4,9 +4,9 @@ use alias_base::{
     BlockId, BlockMap, Boxed, DeclarationId, EvaluationOrder, IdentifierId, InstructionId, List,
     Text, TypeId,
 };
-use alias_facts::{FunctionFacts, Handlers, Hoisted, Spreads};
+use alias_facts::{FunctionFacts, Handlers, Hoisted, Spreads, function_facts};
 use alias_hir::env::{Environment, Identifier, MutableRange};
-use alias_hir::hir::{BasicBlock, FunctionType, Hir, HirFunction, Instruction};
+use alias_hir::hir::{BasicBlock, FunctionType, Hir, HirFunction, Instruction, ParamPattern};
 use alias_hir::place::{Effect, Place, Span, SpreadPattern};
 use alias_hir::signature::Shape;
 use alias_hir::terminal::Terminal;
@@ -87,15 +87,19 @@ pub fn add_identifier(env: &mut Environment, number: u32, ty: Ty) -> Result<(), 
     Ok(())
 }
 
+fn add_ten_identifiers(alloc: Global, env: &mut Environment) -> Result<(), AllocError> {
+    for number in 0..8u32 {
+        add_identifier(env, number, Ty::Var)?;
+    }
+    add_identifier(env, 8, Ty::Primitive)?;
+    add_identifier(env, 9, component_type(alloc)?)
+}
+
 /// An environment with ten identifiers, of which nothing is known but that 8 is primitive, and 9 is a function that
 /// returns elements.
 pub fn environment(alloc: Global) -> Result<Environment, AllocError> {
     let mut env = Environment::new(alloc);
-    for number in 0..8u32 {
-        add_identifier(&mut env, number, Ty::Var)?;
-    }
-    add_identifier(&mut env, 8, Ty::Primitive)?;
-    add_identifier(&mut env, 9, component_type(alloc)?)?;
+    add_ten_identifiers(alloc, &mut env)?;
     Ok(env)
 }
 
@@ -129,25 +133,17 @@ pub fn function(alloc: Global, fn_type: FunctionType) -> HirFunction {
     }
 }
 
-/// Adds a block with these instructions, in order, the first of which takes the number `first`.
+/// Adds a block with the instructions of these numbers.
 pub fn add_block(
     alloc: Global,
     func: &mut HirFunction,
     number: u32,
-    first: u32,
-    instructions: List<Instruction>,
+    instructions: &[InstructionId],
     terminal: Terminal,
 ) -> Result<(), AllocError> {
-    let mut listed = List::new(alloc);
-    let mut next = first;
-    for instruction in instructions.into_vec() {
-        listed.push(InstructionId(next))?;
-        func.instructions.push(instruction)?;
-        next = next.wrapping_add(1);
-    }
     let block = BasicBlock {
         phis: List::new(alloc),
-        instructions: listed,
+        instructions: List::from_slice(alloc, instructions)?,
         terminal,
     };
     let _ = func.body.blocks.insert(BlockId(number), block)?;
@@ -163,27 +159,75 @@ pub fn returning(number: u32) -> Terminal {
     }
 }
 
-/// `let {key: part, ...rest} = value`, where each of the two may be primitive.
+/// `[key]: part, ...rest`.
+pub fn properties(
+    alloc: Global,
+    key: u32,
+    part: u32,
+    rest: u32,
+) -> Result<List<ObjectPropertyOrSpread>, AllocError> {
+    let property = ObjectProperty {
+        computed: Some(place(key)),
+        place: place(part),
+    };
+    List::from_slice(
+        alloc,
+        &[
+            ObjectPropertyOrSpread::Property(property),
+            ObjectPropertyOrSpread::Spread(SpreadPattern { place: place(rest) }),
+        ],
+    )
+}
+
+/// `let {[7]: part, ...rest} = value`, where each of the two may be primitive.
 pub fn taken_apart(
     alloc: Global,
-    kind: InstructionKind,
     part: u32,
     rest: u32,
     value: u32,
 ) -> Result<InstructionValue, AllocError> {
-    let mut properties = List::new(alloc);
-    properties.push(ObjectPropertyOrSpread::Property(ObjectProperty {
-        computed: Some(place(7)),
-        place: place(part),
-    }))?;
-    properties.push(ObjectPropertyOrSpread::Spread(SpreadPattern { place: place(rest) }))?;
     Ok(InstructionValue::Destructure {
         lvalue: LValuePattern {
-            pattern: Pattern::Object(ObjectPattern { properties }),
-            kind,
+            pattern: Pattern::Object(ObjectPattern {
+                properties: properties(alloc, 7, part, rest)?,
+            }),
+            kind: InstructionKind::Const,
         },
         value: place(value),
     })
+}
+
+/// Adds a parameter, and an instruction with that result that takes it apart.
+pub fn add_taken_apart(
+    alloc: Global,
+    func: &mut HirFunction,
+    target: u32,
+    part: u32,
+    rest: u32,
+    param: u32,
+) -> Result<(), AllocError> {
+    func.params.push(ParamPattern::Place(place(param)))?;
+    let pattern = taken_apart(alloc, part, rest, param)?;
+    func.instructions.push(instruction(target, pattern))?;
+    Ok(())
+}
+
+/// The declaration of a variable that functions capture.
+pub fn declaration(number: u32, kind: InstructionKind) -> InstructionValue {
+    InstructionValue::DeclareContext {
+        lvalue: variable(number, kind),
+    }
+}
+
+/// Adds such a declaration.
+pub fn add_declaration(
+    func: &mut HirFunction,
+    number: u32,
+    kind: InstructionKind,
+) -> Result<(), AllocError> {
+    func.instructions
+        .push(instruction(0, declaration(number, kind)))?;
+    Ok(())
 }
 
 /// Nothing is hoisted, no spread is known, and no handler binds anything.
@@ -193,4 +237,10 @@ pub fn no_facts(alloc: Global) -> FunctionFacts {
         spreads: Spreads::new(alloc),
         handlers: Handlers::new(alloc),
     }
+}
+
+/// The facts of the function, in an environment with ten identifiers.
+pub fn facts_of(alloc: Global, func: &HirFunction) -> Result<FunctionFacts, AllocError> {
+    let env = environment(alloc)?;
+    function_facts(alloc, func, &env)
 }

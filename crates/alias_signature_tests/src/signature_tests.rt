@@ -1,52 +1,24 @@
 //! The signatures of the kinds of instruction, a family a test. The result is 0, and 8 is primitive.
 
-use crate::described::{Described, are_described};
+use crate::described::Described;
+use crate::giving::{gives, gives_in, gives_under};
 use crate::making::{
-    add_block, add_identifier, environment, function, instruction, no_facts, object_type, place,
-    returning, taken_apart, variable,
+    add_block, add_declaration, add_identifier, add_taken_apart, declaration, environment,
+    facts_of, function, instruction, no_facts, object_type, place, properties, returning,
+    taken_apart, variable,
 };
-use alias_base::{FunctionId, List, Text};
-use alias_facts::{FunctionFacts, function_facts};
+use alias_base::{FunctionId, InstructionId, List, Text};
+use alias_facts::FunctionFacts;
 use alias_hir::env::Environment;
-use alias_hir::hir::{FunctionType, ParamPattern};
+use alias_hir::hir::{FunctionType, HirFunction};
 use alias_hir::place::{Effect, PlaceOrSpread, SpreadPattern};
 use alias_hir::value::{
     ArrayElement, InstructionKind, InstructionValue, JsxAttribute, JsxTag, LoweredFunction,
-    ObjectProperty, ObjectPropertyOrSpread, PropertyLiteral,
+    PropertyLiteral,
 };
 use alias_signature::compute_signature_for_instruction;
-use std::alloc::Global;
+use std::alloc::{AllocError, Global};
 use std::test::Fail;
-
-/// Whether the instruction with that result has the effects that are described, in this environment.
-fn gives_in(
-    alloc: Global,
-    env: Environment,
-    facts: &FunctionFacts,
-    target: u32,
-    value: InstructionValue,
-    want: &[Described],
-) -> Result<bool, Fail> {
-    let mut env = env;
-    let effects = compute_signature_for_instruction(
-        alloc,
-        &mut env,
-        &instruction(target, value),
-        facts,
-    )?;
-    Ok(are_described(&effects, want))
-}
-
-/// The same where nothing is known of the function.
-fn gives(
-    alloc: Global,
-    target: u32,
-    value: InstructionValue,
-    want: &[Described],
-) -> Result<bool, Fail> {
-    let facts = no_facts(alloc);
-    gives_in(alloc, environment(alloc)?, &facts, target, value, want)
-}
 
 #[test]
 fn literals_and_loads(rt: HostRuntime) -> Result<(), Fail> {
@@ -67,22 +39,21 @@ fn literals_and_loads(rt: HostRuntime) -> Result<(), Fail> {
     Ok(())
 }
 
-fn array(alloc: Global) -> Result<InstructionValue, Fail> {
-    let mut elements = List::new(alloc);
-    elements.push(ArrayElement::Place(place(1)))?;
-    elements.push(ArrayElement::Hole)?;
-    elements.push(ArrayElement::Spread(SpreadPattern { place: place(2) }))?;
-    Ok(InstructionValue::ArrayExpression { elements })
+fn array(alloc: Global) -> Result<InstructionValue, AllocError> {
+    let elements = [
+        ArrayElement::Place(place(1)),
+        ArrayElement::Hole,
+        ArrayElement::Spread(SpreadPattern { place: place(2) }),
+    ];
+    Ok(InstructionValue::ArrayExpression {
+        elements: List::from_slice(alloc, &elements)?,
+    })
 }
 
-fn object(alloc: Global) -> Result<InstructionValue, Fail> {
-    let mut properties = List::new(alloc);
-    properties.push(ObjectPropertyOrSpread::Property(ObjectProperty {
-        computed: Some(place(3)),
-        place: place(1),
-    }))?;
-    properties.push(ObjectPropertyOrSpread::Spread(SpreadPattern { place: place(2) }))?;
-    Ok(InstructionValue::ObjectExpression { properties })
+fn object(alloc: Global) -> Result<InstructionValue, AllocError> {
+    Ok(InstructionValue::ObjectExpression {
+        properties: properties(alloc, 3, 1, 2)?,
+    })
 }
 
 #[test]
@@ -104,12 +75,10 @@ fn arrays_and_objects(rt: HostRuntime) -> Result<(), Fail> {
     Ok(())
 }
 
-fn call(alloc: Global) -> Result<InstructionValue, Fail> {
-    let mut args = List::new(alloc);
-    args.push(PlaceOrSpread::Place(place(3)))?;
+fn call(alloc: Global) -> Result<InstructionValue, AllocError> {
     Ok(InstructionValue::CallExpression {
         callee: place(1),
-        args,
+        args: List::from_slice(alloc, &[PlaceOrSpread::Place(place(3))])?,
     })
 }
 
@@ -154,7 +123,7 @@ fn stores(rt: HostRuntime) -> Result<(), Fail> {
 }
 
 /// `object.current = 2`.
-fn current_of(alloc: Global, object: u32) -> Result<InstructionValue, Fail> {
+fn current_of(alloc: Global, object: u32) -> Result<InstructionValue, AllocError> {
     Ok(InstructionValue::PropertyStore {
         object: place(object),
         property: PropertyLiteral::String(Text::from_str(alloc, "current")?),
@@ -183,11 +152,14 @@ fn writes_of_current(rt: HostRuntime) -> Result<(), Fail> {
     Ok(())
 }
 
+fn add_set(alloc: Global, env: &mut Environment) -> Result<(), AllocError> {
+    add_identifier(env, 10, object_type(alloc, "BuiltInSet")?)
+}
+
 /// Ten identifiers, and a set, 10.
-fn with_a_set(alloc: Global) -> Result<Environment, Fail> {
-    let set = object_type(alloc, "BuiltInSet")?;
+fn with_a_set(alloc: Global) -> Result<Environment, AllocError> {
     let mut env = environment(alloc)?;
-    add_identifier(&mut env, 10, set)?;
+    add_set(alloc, &mut env)?;
     Ok(env)
 }
 
@@ -207,48 +179,72 @@ fn iterators(rt: HostRuntime) -> Result<(), Fail> {
     ];
     assert!(rt; gives(alloc, 0, iterator(1), &want)?);
     let want = [("Create Mutable", 0, 0), ("Capture", 10, 0)];
-    let facts = no_facts(alloc);
-    assert!(rt; gives_in(alloc, with_a_set(alloc)?, &facts, 0, iterator(10), &want)?);
+    assert!(rt; gives_in(alloc, with_a_set(alloc)?, 0, iterator(10), &want)?);
     Ok(())
 }
 
-/// Function 0 captures 1 and reads 2.
-fn with_a_function(alloc: Global) -> Result<Environment, Fail> {
-    let mut nested = function(alloc, FunctionType::Other);
+/// The function captures 1 and reads 2.
+fn add_context(func: &mut HirFunction) -> Result<(), AllocError> {
     let mut captured = place(1);
     captured.effect = Effect::Capture;
     let mut read = place(2);
     read.effect = Effect::Read;
-    nested.context.push(read)?;
-    nested.context.push(captured)?;
+    func.context.push(read)?;
+    func.context.push(captured)?;
+    Ok(())
+}
+
+fn capturing(alloc: Global) -> Result<HirFunction, AllocError> {
+    let mut nested = function(alloc, FunctionType::Other);
+    add_context(&mut nested)?;
+    Ok(nested)
+}
+
+fn add_capturing(alloc: Global, env: &mut Environment) -> Result<(), AllocError> {
+    env.functions.push(capturing(alloc)?)?;
+    Ok(())
+}
+
+/// Ten identifiers, and that function, 0.
+fn with_a_function(alloc: Global) -> Result<Environment, AllocError> {
     let mut env = environment(alloc)?;
-    env.functions.push(nested)?;
+    add_capturing(alloc, &mut env)?;
     Ok(env)
+}
+
+fn function_expression() -> InstructionValue {
+    InstructionValue::FunctionExpression {
+        lowered_func: LoweredFunction {
+            func: FunctionId(0),
+        },
+    }
 }
 
 #[test]
 fn functions(rt: HostRuntime) -> Result<(), Fail> {
     let alloc = rt.alloc();
-    let made = InstructionValue::FunctionExpression {
-        lowered_func: LoweredFunction {
-            func: FunctionId(0),
-        },
-    };
-    let facts = no_facts(alloc);
     let want = [("CreateFunction", 0, 1)];
-    assert!(rt; gives_in(alloc, with_a_function(alloc)?, &facts, 0, made, &want)?);
+    assert!(rt;
+        gives_in(
+            alloc,
+            with_a_function(alloc)?,
+            0,
+            function_expression(),
+            &want
+        )?
+    );
     Ok(())
 }
 
-fn element(alloc: Global) -> Result<InstructionValue, Fail> {
-    let mut props = List::new(alloc);
-    props.push(JsxAttribute::Attribute { place: place(9) })?;
-    props.push(JsxAttribute::Attribute { place: place(2) })?;
-    let mut children = List::new(alloc);
-    children.push(place(3))?;
+fn element(alloc: Global) -> Result<InstructionValue, AllocError> {
+    let props = [
+        JsxAttribute::Attribute { place: place(9) },
+        JsxAttribute::Attribute { place: place(2) },
+    ];
+    let children = List::from_slice(alloc, &[place(3)])?;
     Ok(InstructionValue::JsxExpression {
         tag: JsxTag::Place(place(1)),
-        props,
+        props: List::from_slice(alloc, &props)?,
         children,
     })
 }
@@ -274,21 +270,37 @@ fn elements(rt: HostRuntime) -> Result<(), Fail> {
     Ok(())
 }
 
+fn take_props_apart(alloc: Global, func: &mut HirFunction) -> Result<(), AllocError> {
+    add_taken_apart(alloc, func, 0, 3, 2, 1)?;
+    add_block(alloc, func, 0, &[InstructionId(0)], returning(3))
+}
+
 /// A component that takes its props, 1, apart into 3 and the rest 2.
-fn facts_of_props(alloc: Global) -> Result<FunctionFacts, Fail> {
+fn component(alloc: Global) -> Result<HirFunction, AllocError> {
     let mut func = function(alloc, FunctionType::Component);
-    func.params.push(ParamPattern::Place(place(1)))?;
-    let mut list = List::new(alloc);
-    list.push(instruction(0, taken_apart(alloc, InstructionKind::Const, 3, 2, 1)?))?;
-    add_block(alloc, &mut func, 0, 0, list, returning(3))?;
-    let env = environment(alloc)?;
-    Ok(function_facts(alloc, &func, &env)?)
+    take_props_apart(alloc, &mut func)?;
+    Ok(func)
+}
+
+fn facts_of_props(alloc: Global) -> Result<FunctionFacts, AllocError> {
+    let func = component(alloc)?;
+    facts_of(alloc, &func)
+}
+
+/// Whether the instruction of that component has the effects that are described.
+fn gives_of_props(
+    alloc: Global,
+    value: InstructionValue,
+    want: &[Described],
+) -> Result<bool, Fail> {
+    let facts = facts_of_props(alloc)?;
+    gives_under(alloc, &facts, value, want)
 }
 
 #[test]
 fn patterns(rt: HostRuntime) -> Result<(), Fail> {
     let alloc = rt.alloc();
-    let pattern = taken_apart(alloc, InstructionKind::Const, 8, 2, 1)?;
+    let pattern = taken_apart(alloc, 8, 2, 1)?;
     let want = [
         ("Create Primitive", 8, 8),
         ("Create Mutable", 2, 2),
@@ -296,22 +308,15 @@ fn patterns(rt: HostRuntime) -> Result<(), Fail> {
         ("Assign", 1, 0),
     ];
     assert!(rt; gives(alloc, 0, pattern, &want)?);
-    let pattern = taken_apart(alloc, InstructionKind::Const, 3, 2, 1)?;
+    let pattern = taken_apart(alloc, 3, 2, 1)?;
     let want = [
         ("CreateFrom", 1, 3),
         ("Create Frozen", 2, 2),
         ("Capture", 1, 2),
         ("Assign", 1, 0),
     ];
-    let facts = facts_of_props(alloc)?;
-    assert!(rt; gives_in(alloc, environment(alloc)?, &facts, 0, pattern, &want)?);
+    assert!(rt; gives_of_props(alloc, pattern, &want)?);
     Ok(())
-}
-
-fn declaration(kind: InstructionKind) -> InstructionValue {
-    InstructionValue::DeclareContext {
-        lvalue: variable(1, kind),
-    }
 }
 
 fn context_store(kind: InstructionKind) -> InstructionValue {
@@ -325,7 +330,7 @@ fn context_store(kind: InstructionKind) -> InstructionValue {
 fn context_variables(rt: HostRuntime) -> Result<(), Fail> {
     let alloc = rt.alloc();
     let want = [("Create Mutable", 1, 1), ("Create Primitive", 0, 0)];
-    assert!(rt; gives(alloc, 0, declaration(InstructionKind::Let), &want)?);
+    assert!(rt; gives(alloc, 0, declaration(1, InstructionKind::Let), &want)?);
     let want = [
         ("Create Mutable", 1, 1),
         ("Capture", 2, 1),
@@ -337,63 +342,107 @@ fn context_variables(rt: HostRuntime) -> Result<(), Fail> {
     Ok(())
 }
 
+fn hoist(alloc: Global, func: &mut HirFunction) -> Result<(), AllocError> {
+    add_declaration(func, 1, InstructionKind::HoistedLet)?;
+    add_block(alloc, func, 0, &[InstructionId(0)], returning(3))
+}
+
 /// A function that hoists 1.
-fn facts_of_hoisting(alloc: Global) -> Result<FunctionFacts, Fail> {
-    let mut list = List::new(alloc);
-    list.push(instruction(0, declaration(InstructionKind::HoistedLet)))?;
+fn hoisting(alloc: Global) -> Result<HirFunction, AllocError> {
     let mut func = function(alloc, FunctionType::Other);
-    add_block(alloc, &mut func, 0, 0, list, returning(3))?;
-    let env = environment(alloc)?;
-    Ok(function_facts(alloc, &func, &env)?)
+    hoist(alloc, &mut func)?;
+    Ok(func)
+}
+
+fn facts_of_hoisting(alloc: Global) -> Result<FunctionFacts, AllocError> {
+    let func = hoisting(alloc)?;
+    facts_of(alloc, &func)
+}
+
+/// Whether such a declaration of 1 in that function has the effects that are described.
+fn gives_where_hoisted(
+    alloc: Global,
+    kind: InstructionKind,
+    want: &[Described],
+) -> Result<bool, Fail> {
+    let facts = facts_of_hoisting(alloc)?;
+    gives_under(alloc, &facts, declaration(1, kind), want)
 }
 
 #[test]
 fn hoisted_variables(rt: HostRuntime) -> Result<(), Fail> {
     let alloc = rt.alloc();
-    let facts = facts_of_hoisting(alloc)?;
-    let first = declaration(InstructionKind::HoistedLet);
     let want = [("Create Mutable", 1, 1), ("Create Primitive", 0, 0)];
-    assert!(rt; gives_in(alloc, environment(alloc)?, &facts, 0, first, &want)?);
-    let second = declaration(InstructionKind::Let);
+    assert!(rt; gives_where_hoisted(alloc, InstructionKind::HoistedLet, &want)?);
     let want = [("Mutate", 1, 1), ("Create Primitive", 0, 0)];
-    assert!(rt; gives_in(alloc, environment(alloc)?, &facts, 0, second, &want)?);
+    assert!(rt; gives_where_hoisted(alloc, InstructionKind::Let, &want)?);
     Ok(())
 }
 
-fn with_memoization(alloc: Global) -> Result<Environment, Fail> {
+fn with_memoization(alloc: Global) -> Result<Environment, AllocError> {
     let mut env = environment(alloc)?;
     env.config.enable_preserve_existing_memoization_guarantees = true;
     Ok(env)
 }
 
+fn end_of_memoization() -> InstructionValue {
+    InstructionValue::FinishMemoize { decl: place(1) }
+}
+
 #[test]
 fn memoization(rt: HostRuntime) -> Result<(), Fail> {
     let alloc = rt.alloc();
-    let end = InstructionValue::FinishMemoize { decl: place(1) };
-    assert!(rt; gives(alloc, 0, end, &[("Create Primitive", 0, 0)])?);
-    let end = InstructionValue::FinishMemoize { decl: place(1) };
+    assert!(rt;
+        gives(
+            alloc,
+            0,
+            end_of_memoization(),
+            &[("Create Primitive", 0, 0)]
+        )?
+    );
     let want = [("Freeze HookCaptured", 1, 1), ("Create Primitive", 0, 0)];
-    let facts = no_facts(alloc);
-    assert!(rt; gives_in(alloc, with_memoization(alloc)?, &facts, 0, end, &want)?);
+    assert!(rt;
+        gives_in(
+            alloc,
+            with_memoization(alloc)?,
+            0,
+            end_of_memoization(),
+            &want
+        )?
+    );
     Ok(())
 }
 
-fn global_store(alloc: Global) -> Result<InstructionValue, Fail> {
+fn global_store(alloc: Global) -> Result<InstructionValue, AllocError> {
     Ok(InstructionValue::StoreGlobal {
         name: Text::from_str(alloc, "counter")?,
         value: place(2),
     })
 }
 
-/// The help of the report that a write of `counter` interns.
-fn help_of_a_write(alloc: Global) -> Result<Text, Fail> {
-    let facts = no_facts(alloc);
-    let mut env = environment(alloc)?;
+/// Computes the effects of a write of `counter`.
+fn write_counter(alloc: Global, env: &mut Environment) -> Result<(), Fail> {
     let store = instruction(0, global_store(alloc)?);
-    let _ = compute_signature_for_instruction(alloc, &mut env, &store, &facts)?;
+    let facts = no_facts(alloc);
+    let _ = compute_signature_for_instruction(alloc, env, &store, &facts)?;
+    Ok(())
+}
+
+/// Whether the help of the report that is interned first is that of a write of `counter`.
+fn is_told_of_counter(env: &Environment) -> Result<bool, Fail> {
     let interned = env.interned.get(0).ok_or("interned")?;
     let help = interned.report.help.as_ref().ok_or("help")?;
-    Ok(Text::from_str(alloc, help.as_str())?)
+    Ok(
+        help.as_str().starts_with(
+            "Variable `counter` is declared outside of the component/hook. Reassigning",
+        ),
+    )
+}
+
+fn a_write_is_told_of(alloc: Global) -> Result<bool, Fail> {
+    let mut env = environment(alloc)?;
+    write_counter(alloc, &mut env)?;
+    is_told_of_counter(&env)
 }
 
 #[test]
@@ -401,11 +450,6 @@ fn globals(rt: HostRuntime) -> Result<(), Fail> {
     let alloc = rt.alloc();
     let want = [("MutateGlobal", 2, 0), ("Assign", 2, 0)];
     assert!(rt; gives(alloc, 0, global_store(alloc)?, &want)?);
-    let help = help_of_a_write(alloc)?;
-    assert!(rt;
-        help.as_str().starts_with(
-            "Variable `counter` is declared outside of the component/hook. Reassigning"
-        )
-    );
+    assert!(rt; a_write_is_told_of(alloc)?);
     Ok(())
 }

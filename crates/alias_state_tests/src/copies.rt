@@ -3,7 +3,7 @@
 use alias_base::IdentifierId;
 use alias_hir::effect::{ValueKind, ValueReason};
 use alias_lattice::{AbstractValue, InferenceState, Lattice, ReasonSet, Site, SiteSet};
-use std::alloc::Global;
+use std::alloc::{AllocError, Global};
 use std::test::Fail;
 
 fn created(into: u32, kind: ValueKind) -> Site {
@@ -14,38 +14,64 @@ fn created(into: u32, kind: ValueKind) -> Site {
     }
 }
 
-/// Identifier 1 with a mutable object, and 2 with the same.
-fn shared_object(alloc: Global) -> Result<InferenceState, Fail> {
+/// Gives identifier 1 a mutable object, and 2 the same.
+fn share_object(state: &mut InferenceState) -> Result<(), AllocError> {
     let site = created(1, ValueKind::Mutable);
     let value = AbstractValue {
         kind: ValueKind::Mutable,
         reason: ReasonSet::single(ValueReason::Other),
     };
-    let mut state = InferenceState::empty(alloc);
     state.give(IdentifierId(1), site, value)?;
-    state.assign(IdentifierId(2), IdentifierId(1))?;
+    state.assign(IdentifierId(2), IdentifierId(1))
+}
+
+fn shared_object(alloc: Global) -> Result<InferenceState, AllocError> {
+    let mut state = InferenceState::empty(alloc);
+    share_object(&mut state)?;
     Ok(state)
 }
 
-fn two_members(alloc: Global) -> Result<SiteSet, Fail> {
-    let mut sites = SiteSet::empty(alloc);
+fn insert_two(sites: &mut SiteSet) -> Result<(), AllocError> {
     sites.insert(created(2, ValueKind::Primitive))?;
-    sites.insert(created(1, ValueKind::Mutable))?;
+    sites.insert(created(1, ValueKind::Mutable))
+}
+
+fn two_members(alloc: Global) -> Result<SiteSet, AllocError> {
+    let mut sites = SiteSet::empty(alloc);
+    insert_two(&mut sites)?;
     Ok(sites)
+}
+
+/// Whether the state and a copy of it are each below the other.
+fn equals_its_copy(state: &InferenceState) -> Result<bool, AllocError> {
+    let copy = state.try_clone()?;
+    Ok(copy.is_below(state) && state.is_below(&copy))
+}
+
+/// Whether the set and a copy of it are each below the other.
+fn set_equals_its_copy(sites: &SiteSet) -> Result<bool, AllocError> {
+    let copy = sites.try_clone()?;
+    Ok(copy.is_below(sites) && sites.is_below(&copy))
+}
+
+fn shared_object_equals_its_copy(alloc: Global) -> Result<bool, AllocError> {
+    let state = shared_object(alloc)?;
+    equals_its_copy(&state)
+}
+
+fn two_members_equal_their_copy(alloc: Global) -> Result<bool, AllocError> {
+    let sites = two_members(alloc)?;
+    set_equals_its_copy(&sites)
 }
 
 #[test]
 fn copies_a_state(rt: HostRuntime) -> Result<(), Fail> {
-    let state = shared_object(rt.alloc())?;
-    let copy = state.try_clone()?;
-    assert!(rt; copy.is_below(&state) && state.is_below(&copy));
+    assert!(rt; shared_object_equals_its_copy(rt.alloc())?);
     Ok(())
 }
 
 #[test]
 fn copies_a_set(rt: HostRuntime) -> Result<(), Fail> {
-    let sites = two_members(rt.alloc())?;
-    let copy = sites.try_clone()?;
-    assert!(rt; copy.is_below(&sites) && sites.is_below(&copy));
+    assert!(rt; two_members_equal_their_copy(rt.alloc())?);
     Ok(())
 }

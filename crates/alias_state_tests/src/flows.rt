@@ -3,7 +3,8 @@ ghost use Rattle.std.specs.Prelude.{◌≡◌, ◌<◌, ℕ, List, [], ◌∷◌
 ghost use Rattle.alias_state_tests.specs.TestFlows.{higher, IsHeight, Extends, forward_rules, loop_rules};
 ghost use Rattle.alias_state_tests.specs.TestFlowLaws.{height_laws, forward_laws, loop_laws};
 
-use alias_flow::{Flow, StepFault, is_forward, solve, solve_forward};
+use alias_base::List;
+use alias_flow::{Flow, Solution, StepFault, is_forward, solve, solve_forward};
 use alias_lattice::Lattice;
 use smallvec::SmallVec;
 use std::alloc::{AllocError, Global};
@@ -274,19 +275,33 @@ fn moves_states_along_a_line(rt: HostRuntime) {
     assert_eq!(rt; notes.fourth, Some(3));
 }
 
+/// The blocks in the order of their visits, and the heights that each was entered with.
+#[derive(Drop)]
+struct Settled {
+    visits: List<u32>,
+    heights: Vec<Option<u32>>,
+}
+
+/// Solves the loop.
+fn settle(alloc: Global, flow: &mut Loop) -> Result<Settled, AllocError> {
+    let Ok(solution) = solve(alloc, flow) else {
+        return Err(AllocError);
+    };
+    let heights = heights_of(alloc, solution.entries.as_slice())?;
+    let Solution { visits, .. } = solution;
+    Ok(Settled { visits, heights })
+}
+
 #[test]
 fn visits_a_loop_until_it_settles(rt: HostRuntime) -> Result<(), Fail> {
     let mut flow = Loop {
         alloc: rt.alloc(),
         notes: Notes::none(),
     };
-    let Ok(solution) = solve(rt.alloc(), &mut flow) else {
-        return Err(AllocError.into());
-    };
-    assert_eq!(rt; solution.visits.as_slice(), [0, 1, 2, 1, 2, 1].as_slice());
-    let heights = heights_of(rt.alloc(), solution.entries.as_slice())?;
+    let settled = settle(rt.alloc(), &mut flow)?;
+    assert_eq!(rt; settled.visits.as_slice(), [0, 1, 2, 1, 2, 1].as_slice());
     assert_eq!(rt;
-        heights.as_slice(),
+        settled.heights.as_slice(),
         [Some(0), Some(3), Some(3), None].as_slice()
     );
     assert_eq!(rt; flow.notes.first, Some(0));

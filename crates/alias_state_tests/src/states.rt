@@ -1,18 +1,18 @@
 //! What the clauses are to mean, on examples.
 
+use crate::maps::{copied_scattered, frozen_with_mutable, joined_key_by_key, walk_over_scattered};
 use alias_base::{BlockId, BlockMap, FunctionId, IdentifierId};
 use alias_hir::effect::{ValueKind, ValueReason};
 use alias_hir::place::Place;
 use alias_lattice::kinds::merge_value_kinds;
 use alias_lattice::lattice::Lattice;
-use alias_lattice::look::MissingLook;
-use alias_lattice::map::LatticeMap;
+use alias_lattice::look::{Look, MissingLook};
 use alias_lattice::reasons::{ReasonSet, is_superset, primary_reason};
 use alias_lattice::site::Site;
 use alias_lattice::site_set::SiteSet;
 use alias_lattice::state::InferenceState;
 use alias_lattice::value::AbstractValue;
-use std::alloc::Global;
+use std::alloc::{AllocError, Global};
 use std::test::Fail;
 
 fn value(kind: ValueKind, reason: ValueReason) -> AbstractValue {
@@ -76,67 +76,43 @@ fn gives_members_in_the_order_of_declaration(rt: HostRuntime) {
 
 #[test]
 fn joins_maps_key_by_key(rt: HostRuntime) -> Result<(), Fail> {
-    let mut one: LatticeMap<u32, ValueKind> = LatticeMap::empty(rt.alloc());
-    let mut two: LatticeMap<u32, ValueKind> = LatticeMap::empty(rt.alloc());
-    one.set(3, ValueKind::Global)?;
-    one.set(1, ValueKind::Frozen)?;
-    two.set(1, ValueKind::Mutable)?;
-    assert!(rt; one.join_from(&two)?);
-    assert!(rt; !one.join_from(&two)?);
+    let joined = joined_key_by_key(rt.alloc())?;
+    assert!(rt; joined.grew[0]);
+    assert!(rt; !joined.grew[1]);
     let first = Some((1, ValueKind::MaybeFrozen));
     let second = Some((3, ValueKind::Global));
-    assert_eq!(rt; one.entry_after(None).copied(), first);
-    assert_eq!(rt; one.entry_after(Some(1)).copied(), second);
-    assert_eq!(rt; one.entry_after(Some(3)).copied(), None);
-    assert_eq!(rt; one.get(2).copied(), None);
+    assert_eq!(rt; joined.entries[0], first);
+    assert_eq!(rt; joined.entries[1], second);
+    assert_eq!(rt; joined.entries[2], None);
+    assert_eq!(rt; joined.at_two, None);
     Ok(())
 }
 
 #[test]
 fn joins_frozen_with_mutable(rt: HostRuntime) -> Result<(), Fail> {
-    let mut one: LatticeMap<u32, ValueKind> = LatticeMap::empty(rt.alloc());
-    let mut two: LatticeMap<u32, ValueKind> = LatticeMap::empty(rt.alloc());
-    one.set(1, ValueKind::Frozen)?;
-    two.set(1, ValueKind::Mutable)?;
-    assert!(rt; one.join_from(&two)?);
-    assert_eq!(rt; one.get(1).copied(), Some(ValueKind::MaybeFrozen));
+    let (grew, kind) = frozen_with_mutable(rt.alloc())?;
+    assert!(rt; grew);
+    assert_eq!(rt; kind, Some(ValueKind::MaybeFrozen));
     Ok(())
-}
-
-/// Entries in several chunks, whose keys come in another order than they stand.
-fn scattered(alloc: Global) -> Result<LatticeMap<u32, ValueKind>, Fail> {
-    let mut map = LatticeMap::empty(alloc);
-    for i in 0..300u32 {
-        map.set(i * 7 % 300, ValueKind::Frozen)?;
-    }
-    Ok(map)
 }
 
 #[test]
 fn walks_over_all_chunks(rt: HostRuntime) -> Result<(), Fail> {
-    let map = scattered(rt.alloc())?;
-    let mut after = None;
-    for i in 0..300u32 {
-        assert!(rt; matches!(map.entry_after(after), Some(entry) if entry.0 == i));
-        after = Some(i);
-    }
-    assert!(rt; map.entry_after(after).is_none());
+    let walked = walk_over_scattered(rt.alloc())?;
+    assert!(rt; walked == (300, true));
     Ok(())
 }
 
 #[test]
 fn keeps_copies_as_they_were(rt: HostRuntime) -> Result<(), Fail> {
-    let mut map = scattered(rt.alloc())?;
-    let copy = map.try_clone()?;
-    map.set(150, ValueKind::Mutable)?;
-    map.set(1000, ValueKind::Mutable)?;
-    assert_eq!(rt; copy.get(150).copied(), Some(ValueKind::Frozen));
-    assert_eq!(rt; copy.get(1000).copied(), None);
-    let mut joined = copy.joined(&map)?;
-    assert_eq!(rt; joined.get(150).copied(), Some(ValueKind::MaybeFrozen));
-    assert_eq!(rt; joined.get(1000).copied(), Some(ValueKind::Mutable));
-    assert!(rt; copy.is_below(&joined) && map.is_below(&joined) && !joined.is_below(&copy));
-    assert!(rt; !joined.join_from(&map)?);
+    let copied = copied_scattered(rt.alloc())?;
+    assert_eq!(rt; copied.kept[0], Some(ValueKind::Frozen));
+    assert_eq!(rt; copied.kept[1], None);
+    let joined = copied.joined;
+    assert_eq!(rt; joined.kinds[0], Some(ValueKind::MaybeFrozen));
+    assert_eq!(rt; joined.kinds[1], Some(ValueKind::Mutable));
+    assert!(rt; joined.is_above);
+    assert!(rt; !joined.grows);
     Ok(())
 }
 
@@ -148,46 +124,103 @@ fn one_value(alloc: Global) -> Result<InferenceState, Fail> {
     Ok(state)
 }
 
-#[test]
-fn freezes_what_was_assigned(rt: HostRuntime) -> Result<(), Fail> {
-    let (one, two, three) = (IdentifierId(1), IdentifierId(2), IdentifierId(3));
-    let mut state = one_value(rt.alloc())?;
-    state.assign(two, one)?;
-    assert!(rt; state.freeze(two, ValueReason::JsxCaptured)?);
-    assert!(rt; !state.freeze(two, ValueReason::JsxCaptured)?);
-    let look = state.kind_with_span(one, None);
-    assert_eq!(rt;
-        look.value,
-        value(ValueKind::Frozen, ValueReason::JsxCaptured)
-    );
-    assert_eq!(rt; look.missing, None);
-    let missing = MissingLook {
-        identifier: three,
-        span: None,
-    };
-    assert_eq!(rt; state.kind_with_span(three, None).missing, Some(missing));
-    Ok(())
+/// Assigns 1 to 2, freezes 2 twice, and answers whether each freeze acts.
+fn freeze_assigned(state: &mut InferenceState) -> Result<[bool; 2], AllocError> {
+    state.assign(IdentifierId(2), IdentifierId(1))?;
+    let once = state.freeze(IdentifierId(2), ValueReason::JsxCaptured)?;
+    let again = state.freeze(IdentifierId(2), ValueReason::JsxCaptured)?;
+    Ok([once, again])
+}
+
+/// Whether each freeze of what was assigned acts, and the looks at 1 and at 3 then.
+fn frozen_assigned(alloc: Global) -> Result<([bool; 2], [Look; 2]), Fail> {
+    let mut state = one_value(alloc)?;
+    let acts = freeze_assigned(&mut state)?;
+    let looks = [
+        state.kind_with_span(IdentifierId(1), None),
+        state.kind_with_span(IdentifierId(3), None),
+    ];
+    Ok((acts, looks))
 }
 
 #[test]
-fn walks_in_ascending_order(rt: HostRuntime) -> Result<(), Fail> {
-    let (zero, one) = (IdentifierId(0), IdentifierId(1));
-    let mut state = one_value(rt.alloc())?;
+fn freezes_what_was_assigned(rt: HostRuntime) -> Result<(), Fail> {
+    let (acts, looks) = frozen_assigned(rt.alloc())?;
+    assert!(rt; acts[0]);
+    assert!(rt; !acts[1]);
+    assert_eq!(rt;
+        looks[0].value,
+        value(ValueKind::Frozen, ValueReason::JsxCaptured)
+    );
+    assert_eq!(rt; looks[0].missing, None);
+    let missing = MissingLook {
+        identifier: IdentifierId(3),
+        span: None,
+    };
+    assert_eq!(rt; looks[1].missing, Some(missing));
+    Ok(())
+}
+
+fn site_after(state: &InferenceState, after: Option<Site>) -> Option<Site> {
+    match state.next_value(after) {
+        Some((site, _)) => Some(site),
+        None => None,
+    }
+}
+
+fn variable_after(state: &InferenceState, after: Option<IdentifierId>) -> Option<IdentifierId> {
+    match state.next_variable(after) {
+        Some((id, _)) => Some(id),
+        None => None,
+    }
+}
+
+/// The sites and the variables that walks give.
+#[derive(Clone, Copy)]
+struct Walked {
+    sites: [Option<Site>; 2],
+    variables: [Option<IdentifierId>; 3],
+}
+
+fn walk_over_state(state: &InferenceState) -> Walked {
+    Walked {
+        sites: [site_after(state, None), site_after(state, Some(created(1)))],
+        variables: [
+            variable_after(state, None),
+            variable_after(state, Some(IdentifierId(0))),
+            variable_after(state, Some(IdentifierId(1))),
+        ],
+    }
+}
+
+/// Walks over a mutable object of identifier 1 and a function of identifier 0.
+fn walk_over_two(alloc: Global) -> Result<Walked, Fail> {
+    let mut state = one_value(alloc)?;
     state.give(
-        zero,
+        IdentifierId(0),
         Site::Function(FunctionId(0)),
         AbstractValue {
             kind: ValueKind::Mutable,
             reason: ReasonSet::default(),
         },
     )?;
-    let sites = (created(1), Site::Function(FunctionId(0)));
-    assert!(rt; matches!(state.next_value(None), Some((site, _)) if site == sites.0));
-    assert!(rt; matches!(state.next_value(Some(sites.0)), Some((site, _)) if site == sites.1));
-    assert!(rt; matches!(state.next_variable(None), Some((id, _)) if id == zero));
-    assert!(rt; matches!(state.next_variable(Some(zero)), Some((id, _)) if id == one));
-    assert!(rt; state.next_variable(Some(one)).is_none());
+    Ok(walk_over_state(&state))
+}
+
+#[test]
+fn walks_in_ascending_order(rt: HostRuntime) -> Result<(), Fail> {
+    let walked = walk_over_two(rt.alloc())?;
+    assert!(rt; walked.sites[0] == Some(created(1)));
+    assert!(rt; walked.sites[1] == Some(Site::Function(FunctionId(0))));
+    assert!(rt; walked.variables[0] == Some(IdentifierId(0)));
+    assert!(rt; walked.variables[1] == Some(IdentifierId(1)));
+    assert!(rt; walked.variables[2] == None);
     Ok(())
+}
+
+/// The kind at identifier 7, with which the state ends.
+fn last_kind(state: InferenceState) -> ValueKind {
+    state.kind_with_span(IdentifierId(7), None).value.kind
 }
 
 #[test]
@@ -199,12 +232,20 @@ fn defines_by_two_sites(rt: HostRuntime) -> Result<(), Fail> {
     let mut sites = SiteSet::empty(rt.alloc());
     sites.insert(five)?;
     sites.insert(four)?;
-    assert_eq!(rt; sites.next_site(None), Some(four));
-    assert_eq!(rt; sites.next_site(Some(four)), Some(five));
+    let (first, second) = (sites.next_site(None), sites.next_site(Some(four)));
     state.define_all(IdentifierId(7), sites)?;
-    let kind = state.kind_with_span(IdentifierId(7), None).value.kind;
+    let kind = last_kind(state);
+    assert_eq!(rt; first, Some(four));
+    assert_eq!(rt; second, Some(five));
     assert_eq!(rt; kind, ValueKind::MaybeFrozen);
     Ok(())
+}
+
+/// Whether identifier 4 has the same sites, with which the state ends.
+fn ends_with_sites(state: InferenceState, same: SiteSet) -> bool {
+    state
+        .values_for(IdentifierId(4))
+        .is_some_and(|set| set.is_below(&same) && same.is_below(set))
 }
 
 #[test]
@@ -218,17 +259,12 @@ fn gives_the_set_that_was_defined(rt: HostRuntime) -> Result<(), Fail> {
     sites.insert(context)?;
     let same = sites.try_clone()?;
     state.define_all(IdentifierId(4), sites)?;
-    assert!(rt;
-        state
-            .values_for(IdentifierId(4))
-            .is_some_and(|set| set.is_below(&same) && same.is_below(set))
-    );
+    let is_given = ends_with_sites(state, same);
+    assert!(rt; is_given);
     Ok(())
 }
 
-/// The operands of a phi, each from a block of its own.
-fn operands(alloc: Global, identifiers: &[u32]) -> Result<BlockMap<Place>, Fail> {
-    let mut map = BlockMap::new(alloc);
+fn insert_operands(map: &mut BlockMap<Place>, identifiers: &[u32]) -> Result<(), AllocError> {
     for identifier in identifiers {
         let place = Place {
             identifier: IdentifierId(*identifier),
@@ -236,55 +272,155 @@ fn operands(alloc: Global, identifiers: &[u32]) -> Result<BlockMap<Place>, Fail>
         };
         map.insert(BlockId(*identifier), place)?;
     }
+    Ok(())
+}
+
+/// The operands of a phi, each from a block of its own.
+fn operands(alloc: Global, identifiers: &[u32]) -> Result<BlockMap<Place>, AllocError> {
+    let mut map = BlockMap::new(alloc);
+    insert_operands(&mut map, identifiers)?;
     Ok(map)
+}
+
+/// Infers the phi of identifier 3 from operands that are these identifiers.
+fn infer_phi_of(
+    alloc: Global,
+    state: &mut InferenceState,
+    identifiers: &[u32],
+) -> Result<(), AllocError> {
+    let operands = operands(alloc, identifiers)?;
+    state.infer_phi(IdentifierId(3), &operands)
+}
+
+/// Unites the sites of 1 and 2 by a phi.
+fn unite_by_phi(alloc: Global, state: &mut InferenceState) -> Result<(), AllocError> {
+    state.give(
+        IdentifierId(2),
+        created(2),
+        value(ValueKind::Context, ValueReason::Other),
+    )?;
+    infer_phi_of(alloc, state, [2, 9].as_slice())?;
+    state.append_alias(IdentifierId(1), IdentifierId(3))
+}
+
+/// The kind at 1 once its sites are united with those of 2.
+fn united_kind(alloc: Global) -> Result<ValueKind, Fail> {
+    let mut state = one_value(alloc)?;
+    unite_by_phi(alloc, &mut state)?;
+    Ok(state.kind_with_span(IdentifierId(1), None).value.kind)
 }
 
 #[test]
 fn unites_sets(rt: HostRuntime) -> Result<(), Fail> {
-    let (one, two, three) = (IdentifierId(1), IdentifierId(2), IdentifierId(3));
-    let mut state = one_value(rt.alloc())?;
-    state.give(
-        two,
-        created(2),
-        value(ValueKind::Context, ValueReason::Other),
-    )?;
-    state.infer_phi(three, &operands(rt.alloc(), [2, 9].as_slice())?)?;
-    state.append_alias(one, three)?;
-    let kind = state.kind_with_span(one, None).value.kind;
+    let kind = united_kind(rt.alloc())?;
     assert_eq!(rt; kind, ValueKind::Context);
     Ok(())
 }
 
+/// Unites 2 and a phi with identifiers that aren't defined.
+fn unite_with_undefined(alloc: Global, state: &mut InferenceState) -> Result<(), AllocError> {
+    infer_phi_of(alloc, state, [8, 9].as_slice())?;
+    state.append_alias(IdentifierId(2), IdentifierId(9))
+}
+
+/// Whether uniting with identifiers that aren't defined leaves the state as it was.
+fn is_left_by_undefined(alloc: Global, state: &mut InferenceState) -> Result<bool, AllocError> {
+    let before = state.try_clone()?;
+    unite_with_undefined(alloc, state)?;
+    Ok(state.is_below(&before) && before.is_below(state))
+}
+
+fn assign_and_unite(alloc: Global, state: &mut InferenceState) -> Result<bool, AllocError> {
+    state.assign(IdentifierId(2), IdentifierId(1))?;
+    is_left_by_undefined(alloc, state)
+}
+
+/// Whether the state is left as it was, and whether its phi is defined.
+fn united_with_undefined(alloc: Global) -> Result<(bool, bool), Fail> {
+    let mut state = one_value(alloc)?;
+    let is_left = assign_and_unite(alloc, &mut state)?;
+    Ok((is_left, state.is_defined(IdentifierId(3))))
+}
+
 #[test]
 fn unites_nothing_with_what_is_not_defined(rt: HostRuntime) -> Result<(), Fail> {
-    let (one, two, three) = (IdentifierId(1), IdentifierId(2), IdentifierId(3));
-    let mut state = one_value(rt.alloc())?;
-    state.assign(two, one)?;
-    let before = state.try_clone()?;
-    state.infer_phi(three, &operands(rt.alloc(), [8, 9].as_slice())?)?;
-    state.append_alias(two, IdentifierId(9))?;
-    assert!(rt; state.is_below(&before) && before.is_below(&state));
-    assert!(rt; !state.is_defined(three));
+    let (is_left, is_defined) = united_with_undefined(rt.alloc())?;
+    assert!(rt; is_left);
+    assert!(rt; !is_defined);
     Ok(())
+}
+
+fn value_at_one(state: &InferenceState) -> AbstractValue {
+    state.kind_with_span(IdentifierId(1), None).value
+}
+
+/// The value at 1 in the merge of both. There is none where the second has nothing to add.
+fn merged_value(
+    state: &InferenceState,
+    other: &InferenceState,
+) -> Result<Option<AbstractValue>, AllocError> {
+    let merged = state.merge(other)?;
+    Ok(match &merged {
+        Some(merged) => Some(value_at_one(merged)),
+        None => None,
+    })
+}
+
+/// What the merges of a state with a copy answer.
+#[derive(Clone, Copy)]
+struct Merged {
+    /// The value at 1 before the copy is frozen.
+    of_same: Option<AbstractValue>,
+    /// The value at 1 once the copy is frozen.
+    of_frozen: Option<AbstractValue>,
+    /// Whether the state grows from the frozen copy, at the first time and at the second.
+    grew: [bool; 2],
+    /// The value at 1 in the state that grew.
+    value: AbstractValue,
+}
+
+fn merge_frozen(
+    state: &mut InferenceState,
+    frozen: &mut InferenceState,
+) -> Result<Merged, AllocError> {
+    let of_same = merged_value(state, frozen)?;
+    frozen.freeze(IdentifierId(2), ValueReason::JsxCaptured)?;
+    let of_frozen = merged_value(state, frozen)?;
+    let once = state.merge_from(frozen)?;
+    let again = state.merge_from(frozen)?;
+    Ok(Merged {
+        of_same,
+        of_frozen,
+        grew: [once, again],
+        value: value_at_one(state),
+    })
+}
+
+/// Assigns 1 to 2, and merges the state with a copy of it.
+fn merge_with_copy(state: &mut InferenceState) -> Result<Merged, AllocError> {
+    state.assign(IdentifierId(2), IdentifierId(1))?;
+    let mut frozen = state.try_clone()?;
+    merge_frozen(state, &mut frozen)
+}
+
+fn merged_one_value(alloc: Global) -> Result<Merged, Fail> {
+    let mut state = one_value(alloc)?;
+    let merged = merge_with_copy(&mut state)?;
+    Ok(merged)
 }
 
 #[test]
 fn merges_what_grows(rt: HostRuntime) -> Result<(), Fail> {
-    let (one, two) = (IdentifierId(1), IdentifierId(2));
-    let mut state = one_value(rt.alloc())?;
-    state.assign(two, one)?;
-    let mut frozen = state.try_clone()?;
-    assert!(rt; state.merge(&frozen)?.is_none());
-    frozen.freeze(two, ValueReason::JsxCaptured)?;
+    let merged = merged_one_value(rt.alloc())?;
     let both = AbstractValue {
         kind: ValueKind::MaybeFrozen,
         reason: ReasonSet::single(ValueReason::JsxCaptured).union(&ReasonSet::single(
             ValueReason::Other,
         )),
     };
-    let merged = state.merge(&frozen)?;
-    assert!(rt; merged.is_some_and(|m| m.kind_with_span(one, None).value == both));
-    assert!(rt; state.merge_from(&frozen)? && !state.merge_from(&frozen)?);
-    assert_eq!(rt; state.kind_with_span(one, None).value, both);
+    assert!(rt; merged.of_same == None);
+    assert!(rt; merged.of_frozen == Some(both));
+    assert!(rt; merged.grew[0] && !merged.grew[1]);
+    assert_eq!(rt; merged.value, both);
     Ok(())
 }

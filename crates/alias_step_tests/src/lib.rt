@@ -1,4 +1,5 @@
 //! Tests of the step of an instruction and of its calls. Each wanted list is what docs/MODEL.md says.
+//! What owns an environment or a step has few exits: each lays out its drop.
 #![tactic(auto)]
 
 #[cfg(test)]

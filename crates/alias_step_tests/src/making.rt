@@ -40,30 +40,32 @@ fn identifier(number: u32) -> Identifier {
     }
 }
 
-/// A function with the parameter 8 and the context place 6, which it captures. It returns 9, and its summary
-/// writes both.
-fn function(alloc: Global) -> Result<HirFunction, AllocError> {
-    let mut params = List::new(alloc);
-    params.push(ParamPattern::Place(place(8)))?;
-    let mut context = List::new(alloc);
-    let captured = place(6);
-    context.push(Place {
-        effect: Effect::Capture,
-        ..captured
-    })?;
-    let mut summary: AliasingEffects = List::new(alloc);
-    summary.push(AliasingEffect::Mutate {
-        value: place(8),
+fn write_of(number: u32) -> AliasingEffect {
+    AliasingEffect::Mutate {
+        value: place(number),
         reason: None,
-    })?;
-    summary.push(AliasingEffect::Mutate {
-        value: place(6),
-        reason: None,
-    })?;
-    Ok(HirFunction {
+    }
+}
+
+fn record_writes(summary: &mut AliasingEffects) -> Result<(), AllocError> {
+    summary.push(write_of(8))?;
+    summary.push(write_of(6))?;
+    Ok(())
+}
+
+/// The writes of 8 and of 6.
+fn writes(alloc: Global) -> Result<AliasingEffects, AllocError> {
+    let mut summary = List::new(alloc);
+    record_writes(&mut summary)?;
+    Ok(summary)
+}
+
+/// A function without places, that returns 9.
+fn summarized(alloc: Global, summary: AliasingEffects) -> HirFunction {
+    HirFunction {
         fn_type: FunctionType::Other,
-        params,
-        context,
+        params: List::new(alloc),
+        context: List::new(alloc),
         context_values: List::new(alloc),
         returns: place(9),
         body: Hir {
@@ -74,18 +76,42 @@ fn function(alloc: Global) -> Result<HirFunction, AllocError> {
         is_async: false,
         span: None,
         aliasing_effects: Some(summary),
-    })
+    }
+}
+
+/// Adds the parameter 8, and the context place 6, which is captured.
+fn add_places(func: &mut HirFunction) -> Result<(), AllocError> {
+    func.params.push(ParamPattern::Place(place(8)))?;
+    let captured = place(6);
+    func.context.push(Place {
+        effect: Effect::Capture,
+        ..captured
+    })?;
+    Ok(())
+}
+
+/// A function with the parameter 8 and the context place 6, which it captures. It returns 9, and its summary
+/// writes both.
+fn function(alloc: Global) -> Result<HirFunction, AllocError> {
+    let mut func = summarized(alloc, writes(alloc)?);
+    add_places(&mut func)?;
+    Ok(func)
+}
+
+fn fill(alloc: Global, env: &mut Environment) -> Result<(), AllocError> {
+    env.types.push(Ty::Var)?;
+    for number in 0..10u32 {
+        env.identifiers.push(identifier(number))?;
+    }
+    env.functions.push(function(alloc)?)?;
+    Ok(())
 }
 
 /// Ten identifiers of which nothing is known, and a function: its parameter is 8, its context place 6, and it
 /// writes both and returns 9.
 pub fn environment(alloc: Global) -> Result<Environment, AllocError> {
     let mut env = Environment::new(alloc);
-    env.types.push(Ty::Var)?;
-    for number in 0..10u32 {
-        env.identifiers.push(identifier(number))?;
-    }
-    env.functions.push(function(alloc)?)?;
+    fill(alloc, &mut env)?;
     Ok(env)
 }
 
@@ -110,21 +136,31 @@ pub fn signature(
     }
 }
 
+fn shape(alloc: Global, signature: FunctionSignature) -> Result<Shape, AllocError> {
+    Ok(Shape {
+        id: Text::from_str(alloc, "callee")?,
+        hook: false,
+        signature: Some(signature),
+    })
+}
+
+/// The type of what has the shape.
+fn callee(alloc: Global) -> Result<Ty, AllocError> {
+    let shape_id = Some(Text::from_str(alloc, "callee")?);
+    Ok(Ty::Function {
+        shape_id,
+        return_type: Boxed::new(alloc, Ty::Poly)?,
+    })
+}
+
 /// Adds a type of functions with that signature, and gives its number, which is 1.
 pub fn add_signature(
     alloc: Global,
     env: &mut Environment,
     signature: FunctionSignature,
 ) -> Result<Option<TypeId>, AllocError> {
-    env.shapes.push(Shape {
-        id: Text::from_str(alloc, "callee")?,
-        hook: false,
-        signature: Some(signature),
-    })?;
-    env.types.push(Ty::Function {
-        shape_id: Some(Text::from_str(alloc, "callee")?),
-        return_type: Boxed::new(alloc, Ty::Poly)?,
-    })?;
+    env.shapes.push(shape(alloc, signature)?)?;
+    env.types.push(callee(alloc)?)?;
     Ok(Some(TypeId(1)))
 }
 
@@ -134,13 +170,11 @@ pub fn call(
     argument: PlaceOrSpreadOrHole,
     signature: Option<TypeId>,
 ) -> Result<AliasingEffect, AllocError> {
-    let mut args = List::new(alloc);
-    args.push(argument)?;
     Ok(AliasingEffect::Apply {
         receiver: place(1),
         function: place(1),
         mutates_function: true,
-        args,
+        args: List::from_slice(alloc, &[argument])?,
         into: place(3),
         signature,
         span: None,
@@ -159,18 +193,40 @@ fn value(kind: ValueKind) -> AbstractValue {
     }
 }
 
+/// Gives the identifier a value of the kind.
+fn give(step: &mut StepProgress, number: u32, kind: ValueKind) -> Result<(), AllocError> {
+    let site = Site::Parameter(IdentifierId(number));
+    step.state.give(IdentifierId(number), site, value(kind))
+}
+
+/// Gives 1 the site, and makes 2 mutable.
+fn give_callee(step: &mut StepProgress, site: Site) -> Result<(), AllocError> {
+    step.state
+        .give(IdentifierId(1), site, value(ValueKind::Mutable))?;
+    give(step, 2, ValueKind::Mutable)
+}
+
 /// Nothing is stepped yet, 1 has the site, and 2 is mutable.
 pub fn begun(alloc: Global, site: Site) -> Result<StepProgress, AllocError> {
-    let mut state = InferenceState::empty(alloc);
-    state.give(IdentifierId(1), site, value(ValueKind::Mutable))?;
-    let argument = Site::Parameter(IdentifierId(2));
-    state.give(IdentifierId(2), argument, value(ValueKind::Mutable))?;
-    Ok(StepProgress {
-        state,
+    let mut step = StepProgress {
+        state: InferenceState::empty(alloc),
         made: MadeIdentifiers::new(alloc),
         recorded: List::new(alloc),
         missing: None,
-    })
+    };
+    give_callee(&mut step, site)?;
+    Ok(step)
+}
+
+/// As `begun`, and the context place of the function, 6, has a value of the kind.
+pub fn begun_with_context(
+    alloc: Global,
+    site: Site,
+    kind: ValueKind,
+) -> Result<StepProgress, AllocError> {
+    let mut step = begun(alloc, site)?;
+    give(&mut step, 6, kind)?;
+    Ok(step)
 }
 
 /// The site of something of which nothing is known.
@@ -181,10 +237,4 @@ pub fn unknown() -> Site {
 /// The site of the environment's function.
 pub fn known() -> Site {
     Site::Function(FunctionId(0))
-}
-
-/// Gives the identifier a value of the kind.
-pub fn give(step: &mut StepProgress, number: u32, kind: ValueKind) -> Result<(), AllocError> {
-    let site = Site::Parameter(IdentifierId(number));
-    step.state.give(IdentifierId(number), site, value(kind))
 }

@@ -1,5 +1,5 @@
 //! Tests of the lines of a result: of each form of sites, of each key, and of the counts. A crate of its own, so that
-//! `alias_text` is proved once.
+//! `alias_text` is proved once. What owns a solution or a unit has few exits: each lays out its drop.
 #![tactic(auto)]
 
 #[cfg(test)]

@@ -18,8 +18,7 @@ fn place(identifier: u32) -> Place {
     }
 }
 
-fn told(alloc: Global) -> Result<Report, AllocError> {
-    let mut labels = List::new(alloc);
+fn add_labels(alloc: Global, labels: &mut List<Label>) -> Result<(), AllocError> {
     labels.push(Label {
         span: Span { start: 20, end: 25 },
         text: Some(Text::from_str(alloc, "`a\\b` is \"frozen\"\n")?),
@@ -28,42 +27,66 @@ fn told(alloc: Global) -> Result<Report, AllocError> {
         span: Span { start: 0, end: 0 },
         text: None,
     })?;
+    Ok(())
+}
+
+fn labels(alloc: Global) -> Result<List<Label>, AllocError> {
+    let mut labels = List::new(alloc);
+    add_labels(alloc, &mut labels)?;
+    Ok(labels)
+}
+
+fn told(alloc: Global) -> Result<Report, AllocError> {
+    let message = Text::from_str(alloc, "Use of incompatible library")?;
     Ok(Report {
         category: ErrorCategory::IncompatibleLibrary,
-        message: Text::from_str(alloc, "Use of incompatible library")?,
+        message,
         help: None,
-        labels,
+        labels: labels(alloc)?,
     })
 }
 
-#[test]
-fn prints_an_effect(rt: HostRuntime) -> Result<(), Fail> {
-    let alloc = rt.alloc();
+/// The text of the creation of a value.
+fn creation(alloc: Global) -> Result<Text, AllocError> {
     let create = AliasingEffect::Create {
         into: place(3),
         value: ValueKind::MaybeFrozen,
         reason: ValueReason::HookCaptured,
     };
-    assert_eq!(rt;
-        print_effect(alloc, &create)?.as_str(),
-        "Create 3 MaybeFrozen HookCaptured"
-    );
+    print_effect(alloc, &create)
+}
+
+/// The text of the assignment of the `current` property of the greatest identifier.
+fn mutation(alloc: Global) -> Result<Text, AllocError> {
     let current = AliasingEffect::Mutate {
         value: place(4294967295),
         reason: Some(MutationReason::AssignCurrentProperty),
     };
+    print_effect(alloc, &current)
+}
+
+#[test]
+fn prints_an_effect(rt: HostRuntime) -> Result<(), Fail> {
+    let alloc = rt.alloc();
     assert_eq!(rt;
-        print_effect(alloc, &current)?.as_str(),
+        creation(alloc)?.as_str(),
+        "Create 3 MaybeFrozen HookCaptured"
+    );
+    assert_eq!(rt;
+        mutation(alloc)?.as_str(),
         "Mutate 4294967295 AssignCurrentProperty"
     );
     Ok(())
 }
 
+fn report_text(alloc: Global) -> Result<Text, AllocError> {
+    let report = told(alloc)?;
+    print_report(alloc, &report)
+}
+
 #[test]
 fn prints_a_report(rt: HostRuntime) -> Result<(), Fail> {
-    let alloc = rt.alloc();
-    let report = told(alloc)?;
-    let text = print_report(alloc, &report)?;
+    let text = report_text(rt.alloc())?;
     assert_eq!(rt;
         text.as_str(),
         r#"IncompatibleLibrary "Use of incompatible library" - 20..25 "`a\\b` is \"frozen\"\n" 0..0 -"#

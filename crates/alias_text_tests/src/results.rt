@@ -4,6 +4,7 @@ use crate::solutions::{of_all_sites, of_no_entry};
 use crate::units::unit;
 use alias_base::{List, Text};
 use alias_effects::Solved;
+use alias_hir::env::Unit;
 use alias_text::Detail;
 use alias_text::results::push_result;
 use std::alloc::{AllocError, Global};
@@ -47,18 +48,33 @@ ranges 1
 reports 0
 ";
 
-fn both(alloc: Global) -> Result<List<Solved>, AllocError> {
-    let mut solved = List::new(alloc);
+fn add_both(alloc: Global, solved: &mut List<Solved>) -> Result<(), AllocError> {
     solved.push(of_no_entry(alloc)?)?;
     solved.push(of_all_sites(alloc)?)?;
+    Ok(())
+}
+
+fn both(alloc: Global) -> Result<List<Solved>, AllocError> {
+    let mut solved = List::new(alloc);
+    add_both(alloc, &mut solved)?;
     Ok(solved)
 }
 
-fn printed(alloc: Global, detail: Detail) -> Result<Text, AllocError> {
-    let unit = unit(alloc)?;
+/// Appends the text of both solutions of the unit.
+fn print_both(
+    alloc: Global,
+    out: &mut Text,
+    detail: Detail,
+    unit: &Unit,
+) -> Result<(), AllocError> {
     let solved = both(alloc)?;
+    push_result(alloc, out, detail, unit, solved.as_slice(), &[], &[])
+}
+
+fn printed(alloc: Global, detail: Detail) -> Result<Text, AllocError> {
     let mut out = Text::new(alloc);
-    push_result(alloc, &mut out, detail, &unit, solved.as_slice(), &[], &[])?;
+    let unit = unit(alloc)?;
+    print_both(alloc, &mut out, detail, &unit)?;
     Ok(out)
 }
 

@@ -61,10 +61,16 @@ fn function(alloc: Global) -> Result<HirFunction, AllocError> {
     })
 }
 
-/// A root of one block and no instructions, and one identifier.
-pub(crate) fn unit(alloc: Global) -> Result<Unit, AllocError> {
+/// The tables of one identifier.
+fn environment(alloc: Global) -> Result<Environment, AllocError> {
     let mut env = Environment::new(alloc);
     env.identifiers.push(identifier())?;
+    Ok(env)
+}
+
+/// A root of one block and no instructions, and one identifier.
+pub(crate) fn unit(alloc: Global) -> Result<Unit, AllocError> {
+    let env = environment(alloc)?;
     Ok(Unit {
         function: function(alloc)?,
         env,

@@ -1,4 +1,5 @@
-//! Tests of the two validations, on small units.
+//! Tests of the two validations, on small units. What owns an environment or a function has few exits: each lays out its
+//! drop.
 #![tactic(auto)]
 
 #[cfg(test)]

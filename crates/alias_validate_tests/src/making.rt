@@ -35,8 +35,14 @@ pub fn at(number: u32, effect: Effect, start: u32) -> Place {
     place
 }
 
-fn identifier(number: u32, name: Option<IdentifierName>) -> Identifier {
-    Identifier {
+/// The identifier of that number. 1 is named `x`.
+fn identifier(alloc: Global, number: u32) -> Result<Identifier, AllocError> {
+    let name = if number == 1 {
+        Some(IdentifierName::Named(Text::from_str(alloc, "x")?))
+    } else {
+        None
+    };
+    Ok(Identifier {
         declaration_id: DeclarationId(number),
         name,
         mutable_range: MutableRange {
@@ -46,21 +52,21 @@ fn identifier(number: u32, name: Option<IdentifierName>) -> Identifier {
         scope: None,
         type_: TypeId(number),
         span: None,
+    })
+}
+
+fn add_identifiers(alloc: Global, env: &mut Environment, count: u32) -> Result<(), AllocError> {
+    for number in 0..count {
+        env.types.push(Ty::Var)?;
+        env.identifiers.push(identifier(alloc, number)?)?;
     }
+    Ok(())
 }
 
 /// Identifiers below the number, of which 1 is named `x`.
 pub fn tables(alloc: Global, count: u32) -> Result<Environment, AllocError> {
     let mut env = Environment::new(alloc);
-    for number in 0..count {
-        env.types.push(Ty::Var)?;
-        let name = if number == 1 {
-            Some(IdentifierName::Named(Text::from_str(alloc, "x")?))
-        } else {
-            None
-        };
-        env.identifiers.push(identifier(number, name))?;
-    }
+    add_identifiers(alloc, &mut env, count)?;
     Ok(env)
 }
 
@@ -103,31 +109,30 @@ fn block(
     })
 }
 
-/// A function of one block, whose summary is given.
-pub fn function(
-    alloc: Global,
-    context: List<Place>,
-    instructions: List<Instruction>,
-    value: Place,
-    summary: List<AliasingEffect>,
-) -> Result<HirFunction, AllocError> {
-    let mut blocks = BlockMap::new(alloc);
-    blocks.insert(BlockId(0), block(alloc, &instructions, value)?)?;
-    Ok(HirFunction {
+/// A function of no blocks, whose summary is given.
+pub fn function(alloc: Global, summary: List<AliasingEffect>) -> HirFunction {
+    HirFunction {
         fn_type: FunctionType::Other,
         params: List::new(alloc),
-        context,
+        context: List::new(alloc),
         context_values: List::new(alloc),
         returns: read(7),
         body: Hir {
             entry: BlockId(0),
-            blocks,
+            blocks: BlockMap::new(alloc),
         },
-        instructions,
+        instructions: List::new(alloc),
         is_async: false,
         span: None,
         aliasing_effects: Some(summary),
-    })
+    }
+}
+
+/// Puts all instructions of the function into its one block, which returns the value.
+pub fn end(alloc: Global, func: &mut HirFunction, value: Place) -> Result<(), AllocError> {
+    let block = block(alloc, &func.instructions, value)?;
+    func.body.blocks.insert(BlockId(0), block)?;
+    Ok(())
 }
 
 /// The creation of a nested function.

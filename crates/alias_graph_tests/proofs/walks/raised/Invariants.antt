@@ -1,4 +1,4 @@
-use Rattle.alias_graph_tests.proofs.reports.told_by_walks.Given as goal
+use Rattle.alias_graph_tests.proofs.walks.raised.Given as goal
 
 abbrev pub ghosts-mutate : goal.ghosts-mutate
 ghosts-mutate a = record { name = a.blank.name; parts = a.blank.parts }

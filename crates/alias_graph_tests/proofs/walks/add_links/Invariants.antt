@@ -1,5 +1,5 @@
 use Rattle.alias_ranges.specs.Nodes.{Within}
-use Rattle.alias_graph_tests.proofs.walks.graph.Given as goal
+use Rattle.alias_graph_tests.proofs.walks.add_links.Given as goal
 
 abbrev pub invariant-loop-link : goal.invariant-loop-link
 invariant-loop-link l = Within 4 l.graph
