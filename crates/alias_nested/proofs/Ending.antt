@@ -20,6 +20,8 @@ use Rattle.alias_hir.specs.declared.report.Report.{Report}
 use Rattle.alias_nested.specs.Analysis.{Analysed, analysis, named, naming, numbered, is_free, SolvesItsFlow, Accounts, effects_analysed}
 use Rattle.alias_nested.specs.Fitting.{FunctionKept}
 use Rattle.alias_nested.specs.Units.{RootAnalysis, validated, root_finished, root_analysed, all_analysed, handed_out, unit_analysed, RootLeads}
+use Rattle.alias_nested.specs.Order.{functions_of, Notes, SameInSlots}
+use Rattle.alias_nested.proofs.Evolving.{passed_contexts}
 use Rattle.alias_nested.proofs.Keeping.{effects_keep}
 use Rattle.alias_range_pass.specs.Passes.{Ranged, range_pass}
 use Rattle.alias_rules.specs.Fitting.{function_fits}
@@ -59,6 +61,9 @@ module _ (env : Environment) (func : HirFunction) (b : Bool) (s : Solved) (after
   abbrev pub begun : FunctionId → Analysed
   begun id = record { env = env; func = func; is_function_expression = true; solved = numbered id s }
 
+pub ended_slots : (env : Environment) (func : HirFunction) (b : Bool) (s : Solved) (after : Environment) → Ended env func b s after → SameInSlots env after
+ended_slots env func b s after x = subst (SameInSlots env) x.left (passed_contexts env x.end)
+
 -- a nested function
 module _ (env : Environment) (func : HirFunction) (s : Solved) (after : Environment) (x : Ended env func true s after) (func' : HirFunction) (made : func' ≡ with_effects_of s func) where
   pub effects_lead : (id : FunctionId) (fs : List Analysed) → effects_analysed id func (analysis env fs) ≡ Ok (func', analysis after (fs ++ begun env func true s after x func' made id ∷ []))
@@ -82,6 +87,9 @@ pub accounts_numbered : (env : Environment) (func : HirFunction) (id : FunctionI
     → Accounts (fs ++ record { env = env; func = func; is_function_expression = true; solved = numbered id s } ∷ []) after
 accounts_numbered env func id s fs before after a more h =
     accounts_more fs before after (record { env = env; func = func; is_function_expression = true; solved = numbered id s }) a more (numbered_solves env func true id s h)
+
+pub notes_one : (id : FunctionId) (s : Solved) (before after : List Solved) → after ≡ before ++ numbered id s ∷ [] → Notes (id ∷ []) before after
+notes_one id s before after more = ap functions_of more ∙ map-append (λ (x : Solved). x.function) before (numbered id s ∷ [])
 
 -- ---- refusals
 

@@ -1,7 +1,7 @@
 -- How the steps of an analysis change the environment, as the rules see it.
-use Rattle.std.specs.Prelude.{◌≡◌, ℕ, ◌==◌, Bool, true, false, if◌then◌else◌, List, [], ◌∷◌, Option, Some, None, Ok, map, slice_get, slice_set, refl}
+use Rattle.std.specs.Prelude.{◌≡◌, ◌==◌, Bool, true, false, if◌then◌else◌, List, [], ◌∷◌, Option, Some, None, Ok, map, slice_get, slice_set, refl}
 use Rattle.std.specs.Option.{option_map_or}
-use Rattle.std.proofs.Common.{zero, suc, ap, sym, ◌∙◌}
+use Rattle.std.proofs.Common.{ap, sym, ◌∙◌}
 use Rattle.alias_base.specs.declared.ids.IdentifierId.{IdentifierId}
 use Rattle.alias_bare_laws.specs.EvolvedLaws.{Evolves}
 use Rattle.alias_bare_laws.specs.RangedLaws.{evolves_with_contexts}
@@ -14,9 +14,11 @@ use Rattle.alias_hir.specs.declared.hir.HirFunction.{HirFunction}
 use Rattle.alias_hir.specs.declared.place.Effect.TheVariants.{Read}
 use Rattle.alias_hir.specs.declared.place.Place.{Place}
 use Rattle.alias_range_places.specs.Keeping.{but_effect, but_context}
+use Rattle.alias_range_places.specs.StayLaws.{set_stays}
 use Rattle.alias_rules.specs.Fitting.{function_fits}
 use Rattle.alias_tables.specs.declared.reads.ContextRead.{ContextRead}
 use Rattle.alias_tables.specs.declared.temporaries.Temporary.{Temporary}
+use Rattle.alias_nested.specs.Order.{SameInSlots}
 use Rattle.alias_write_back.specs.WriteBack.{with_identifiers, read_place, with_context_read, with_read, with_reads}
 
 -- ---- the effects pass
@@ -29,15 +31,10 @@ context_read_stays : (x : IdentifierId) (ps : List Place) → map but_effect (ma
 context_read_stays x [] = refl
 context_read_stays x (p ∷ ps) = ap (λ z. z ∷ map but_effect (map (read_place x) ps)) (read_stays (p.identifier.0 == x.0) p) ∙ ap (λ z. but_effect p ∷ z) (context_read_stays x ps)
 
-set_stays : {A B : Type 0} (g : A → B) (xs : List A) (k : ℕ) (x y : A) → slice_get xs k ≡ Some x → g y ≡ g x → map g (slice_set xs k y) ≡ map g xs
-set_stays g [] k x y h e = refl
-set_stays g (z ∷ zs) zero x y h e = let is : z ≡ x = cc in ap (λ u. u ∷ map g zs) (e ∙ ap g (sym is))
-set_stays g (z ∷ zs) (suc k) x y h e = ap (λ us. g z ∷ us) (set_stays g zs k x y h e)
-
 read_contexts : (r : ContextRead) (fs : List HirFunction) (o : Option HirFunction) → slice_get fs r.function.0 ≡ o
     → map but_context (option_map_or (λ (f : HirFunction). slice_set fs r.function.0 (with_context_read r.place f)) o fs) ≡ map but_context fs
 read_contexts r fs None h = refl
-read_contexts r fs (Some f) h = set_stays but_context fs r.function.0 f (with_context_read r.place f) h (ap (λ z. record f { context = z }) (context_read_stays r.place f.context))
+read_contexts r fs (Some f) h = set_stays but_context fs r.function.0 f (with_context_read r.place f) (sym h) (ap (λ z. record f { context = z }) (context_read_stays r.place f.context))
 
 reads_contexts : (rs : List ContextRead) (fs : List HirFunction) → map but_context (with_reads rs fs) ≡ map but_context fs
 reads_contexts [] fs = refl
@@ -47,9 +44,12 @@ identified : (ts : List Temporary) (env : Environment) → (with_identifiers ts 
 identified [] env = refl
 identified (t ∷ ts) env = identified ts _
 
+-- the effects pass changes of the functions in their slots the effects of context places alone
+pub passed_contexts : (env : Environment) (e : PassEnd) → SameInSlots env (env_after env e)
+passed_contexts env e =
+    let t = end_tables e in
+    reads_contexts t.reads (with_identifiers t.temporaries env).functions ∙ ap (map but_context) (identified t.temporaries env)
+
 -- what the effects pass does to the environment
 pub pass_evolves : (func : HirFunction) (env : Environment) (f : Bool) (e : PassEnd) → function_fits func env ≡ true → pass_end env func f ≡ Ok e → Evolves env (env_after env e)
-pass_evolves func env f e h i =
-    let t = end_tables e in
-    evolves_with_contexts env (env_after env e) (tables_extended env t (pass_end_within func env f e h i)).wider
-    (reads_contexts t.reads (with_identifiers t.temporaries env).functions ∙ ap (map but_context) (identified t.temporaries env))
+pass_evolves func env f e h i = evolves_with_contexts env (env_after env e) (tables_extended env (end_tables e) (pass_end_within func env f e h i)).wider (passed_contexts env e)

@@ -27,10 +27,10 @@ item_at [] k d h = absurd (omega arith)
 item_at (x ∷ xs) zero d h = refl
 item_at (x ∷ xs) (suc k) d h = item_at xs k d (omega arith)
 
-from_here : (xs : List FunctionId) (k : ℕ) (x : FunctionId) → slice_get xs k ≡ Some x → drop k xs ≡ x ∷ drop (k + 1) xs
+pub from_here : (xs : List FunctionId) (k : ℕ) (x : FunctionId) → slice_get xs k ≡ Some x → drop k xs ≡ x ∷ drop (k + 1) xs
 from_here xs k x h = drop_more xs k x (slice_get_within xs k x h) ∙ ap (λ z. z ∷ drop (k + 1) xs) (get_or_from_slice_get xs k x x h)
 
-nothing_from : (xs : List FunctionId) (k : ℕ) → length xs ≤ k → drop k xs ≡ []
+pub nothing_from : (xs : List FunctionId) (k : ℕ) → length xs ≤ k → drop k xs ≡ []
 nothing_from [] zero h = refl
 nothing_from [] (suc k) h = refl
 nothing_from (x ∷ xs) zero h = absurd (omega arith)

@@ -1,8 +1,11 @@
 pub mod Answering
+pub mod Changing
+pub mod Counting
 pub mod Creating
 pub mod Ending
 pub mod Evolving
 pub mod Faultless
+pub mod InOrder
 pub mod Keeping
 pub mod Leading
 pub mod Ranging

@@ -1,6 +1,7 @@
 pub mod Analysis
 pub mod Answers
 pub mod Created
+pub mod Order
 pub mod Fitting
 pub mod Settling
 pub mod Slots

@@ -1,12 +1,13 @@
 //! The functions below a function, innermost first.
-ghost use Rattle.std.specs.Prelude.{◌≡◌, ◌<◌, ◌≤◌, true, false, [], Some, length, slice_get};
+ghost use Rattle.std.specs.Prelude.{◌≡◌, ℕ, ◌<◌, ◌≤◌, true, false, [], ◌∷◌, ◌++◌, Some, IfOk, length, map, slice_get};
 ghost use Rattle.alias_failures.specs.Failures.{HasFailed};
 ghost use Rattle.alias_function_rules.specs.Rules.{is_among};
 ghost use Rattle.alias_rules.specs.Fitting.{function_fits};
-ghost use Rattle.alias_rules.specs.Nesting.{created_in};
+ghost use Rattle.alias_rules.specs.Nesting.{created_in, times};
 ghost use Rattle.alias_nested.specs.Analysis.{analysis, most_levels, analysed, Accounts, Leads, IsPassFault};
 ghost use Rattle.alias_nested.specs.Answers.{Only, TakenAnalysed, SlotAnalysed, AnalysedWith, Analyses, AnalysesInto, LeadsToOne, LeadsToOneWith};
 ghost use Rattle.alias_nested.specs.Fitting.{EnvironmentPruned};
+ghost use Rattle.alias_nested.specs.Order.{below_innermost_first, slot_innermost_first, numbers, functions_of, Notes, KeepsToOrder, KeepsToOrderWith};
 ghost use Rattle.alias_nested.specs.Slots.{emptied};
 ghost use Rattle.alias_nesting_laws.specs.Slots.{with_function};
 ghost use Rattle.alias_pruning_laws.specs.Pruning.{FunctionPruned, SlotsKept};
@@ -40,6 +41,8 @@ fn analyse_created<P: InnerPasses, F: FnMut(&HirFunction, &Environment)>(
     requires logger { (log : F) (f : _) (e : _) → F.pre log f e }
     ensures run { (fs : _) → Accounts fs solved.old → LeadsToOne (AnalysedWith P.keeps_all levels func.now (analysis env.old fs)) result env.new solved.new }
     ensures kept { EnvironmentPruned env.old env.new }
+    ensures order { KeepsToOrder (below_innermost_first levels func.now env.old) result env.old env.new }
+    ensures noted { IfOk result (λ _. Notes (below_innermost_first levels func.now env.old) solved.old solved.new) }
     ensures faults { P.faults passes.old ≤ P.faults passes.new }
     ensures failed { IsPassFault result → HasFailed (P.faults passes.old) (P.faults passes.new) (P.at_last passes.new) }
 {
@@ -53,7 +56,7 @@ fn analyse_created<P: InnerPasses, F: FnMut(&HirFunction, &Environment)>(
     Ok(())
 }
 
-/// The function of the number, which is taken out of its slot, and put back whatever comes. It doesn't create itself.
+/// The function of the number, which is taken out of its slot, and put back whatever comes. It is none of those below it.
 #[cycle(nested)]
 fn analyse_slot<P: InnerPasses, F: FnMut(&HirFunction, &Environment)>(
     alloc: Global,
@@ -67,9 +70,12 @@ fn analyse_slot<P: InnerPasses, F: FnMut(&HirFunction, &Environment)>(
     requires there { id.0 < length env.old.functions }
     requires fits { (f : _) → slice_get env.old.functions id.0 ≡ Some f → function_fits f (with_function id (emptied f.returns) env.old) ≡ true }
     requires other { (f : _) → slice_get env.old.functions id.0 ≡ Some f → is_among (created_in f) id.0 ≡ false }
+    requires apart { (f : _) → slice_get env.old.functions id.0 ≡ Some f → is_among (numbers (below_innermost_first levels f env.old)) id.0 ≡ false }
     requires logger { (log : F) (f : _) (e : _) → F.pre log f e }
     ensures run { (fs : _) → Accounts fs solved.old → LeadsToOne (SlotAnalysed P.keeps_all (AnalysedWith P.keeps_all levels) id (analysis env.old fs)) result env.new solved.new }
     ensures kept { EnvironmentPruned env.old env.new }
+    ensures order { KeepsToOrder (slot_innermost_first levels id env.old) result env.old env.new }
+    ensures noted { IfOk result (λ _. Notes (slot_innermost_first levels id env.old) solved.old solved.new) }
     ensures faults { P.faults passes.old ≤ P.faults passes.new }
     ensures failed { IsPassFault result → HasFailed (P.faults passes.old) (P.faults passes.new) (P.at_last passes.new) }
 {
@@ -104,6 +110,8 @@ fn analyse_taken<P: InnerPasses, F: FnMut(&HirFunction, &Environment)>(
     requires logger { (log : F) (f : _) (e : _) → F.pre log f e }
     ensures run { (fs : _) → Accounts fs solved.old → LeadsToOneWith (TakenAnalysed P.keeps_all (AnalysedWith P.keeps_all levels) id func.old (analysis env.old fs)) result func.new env.new solved.new }
     ensures kept { FunctionPruned func.old env.old func.new env.new }
+    ensures order { KeepsToOrderWith (below_innermost_first levels func.old env.old) id result func.old func.new env.old env.new }
+    ensures noted { IfOk result (λ _. Notes (below_innermost_first levels func.old env.old ++ id ∷ []) solved.old solved.new) }
     ensures faults { P.faults passes.old ≤ P.faults passes.new }
     ensures failed { IsPassFault result → HasFailed (P.faults passes.old) (P.faults passes.new) (P.at_last passes.new) }
 {
@@ -147,9 +155,12 @@ pub(crate) fn analyse_kept<P: InnerPasses>(
 /// are reset; and it is put back. What the passes of the caller may change is said at `InnerPasses`. docs/MODEL.md has the rules.
 ///
 /// On every answer the function handed in stays as it was, each function stands in its slot again, with its parameters, its
-/// context and its returns, and `check_function` still holds. A refusal names its function: it is that of the first in the order
-/// whose effects or ranges are refused, as `infer_effects_certified` and the range pass tell. `PassFault` comes only where the count of
-/// the passes' faults rose, or stands at its last value; `Memory` is want of memory, which can come at any time.
+/// context and its returns, `check_function` still holds, and no function changes that isn't below the one handed in, but for
+/// the effects of its context places. A refusal names its function, unless it is `TooMany`, `UnreplacedApply` or `Memory`: it is
+/// that of the first in the order whose effects or ranges are refused, as `infer_effects_certified` and the range pass tell. The
+/// functions behind it in the order are unchanged, but for the effects of their context places. `PassFault` names its function
+/// as well, and comes only where the count of the passes' faults rose, or stands at its last value; `Memory` is want of memory,
+/// which can come at any time.
 pub fn analyse_functions_certified<P: InnerPasses, F: FnMut(&HirFunction, &Environment)>(
     alloc: Global,
     func: &mut HirFunction,
@@ -161,10 +172,13 @@ pub fn analyse_functions_certified<P: InnerPasses, F: FnMut(&HirFunction, &Envir
     requires logger { (log : F) (f : _) (e : _) → F.pre log f e }
     ensures answer { Analyses (AnalysedWith P.keeps_all most_levels func.old (analysis env.old [])) result env.new }
     ensures exact { P.keeps_all ≡ true → Analyses (Only (analysed most_levels func.old (analysis env.old []))) result env.new }
+    ensures functions { IfOk result (λ solved. functions_of solved ≡ map Some (below_innermost_first most_levels func.old env.old)) }
     ensures func { func.new ≡ func.old }
     ensures fits { function_fits func.new env.new ≡ true }
     ensures slots { SlotsKept env.old env.new }
     ensures count { length env.new.functions ≡ length env.old.functions }
+    ensures order { KeepsToOrder (below_innermost_first most_levels func.old env.old) result env.old env.new }
+    ensures once { (k : ℕ) → times (numbers (below_innermost_first most_levels func.old env.old)) k ≤ 1 }
     ensures faults { P.faults passes.old ≤ P.faults passes.new }
     ensures failed { IsPassFault result → HasFailed (P.faults passes.old) (P.faults passes.new) (P.at_last passes.new) }
 {
@@ -198,6 +212,8 @@ pub fn analyse_functions<P: InnerPasses, F: FnMut(&HirFunction, &Environment)>(
     ensures fits { function_fits func.new env.new ≡ true }
     ensures slots { SlotsKept env.old env.new }
     ensures count { length env.new.functions ≡ length env.old.functions }
+    ensures order { KeepsToOrder (below_innermost_first most_levels func.old env.old) result env.old env.new }
+    ensures once { (k : ℕ) → times (numbers (below_innermost_first most_levels func.old env.old)) k ≤ 1 }
     ensures faults { P.faults passes.old ≤ P.faults passes.new }
     ensures failed { IsPassFault result → HasFailed (P.faults passes.old) (P.faults passes.new) (P.at_last passes.new) }
 {

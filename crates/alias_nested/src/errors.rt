@@ -1,6 +1,7 @@
 //! Errors that name their function.
-ghost use Rattle.std.specs.Prelude.{◌≡◌, true};
+ghost use Rattle.std.specs.Prelude.{◌≡◌, true, false, Some};
 ghost use Rattle.alias_nested.specs.Analysis.{named, is_free, IsFault};
+ghost use Rattle.alias_nested.specs.Order.{refused_function, is_nameless};
 
 use alias_base::FunctionId;
 use alias_hir::error::{InferError, Pass};
@@ -76,6 +77,7 @@ pub(crate) fn named(id: FunctionId, error: InferError) -> InferError
 pub(crate) fn stopped(id: FunctionId, pass: Pass, stop: PassStop) -> InferError
     ensures free { is_free result ≡ true }
     ensures fault { IsFault result → stop ≡ PassStop.Failed }
+    ensures names { is_nameless result ≡ false → refused_function result ≡ Some id }
 {
     match stop {
         PassStop::Failed => InferError::PassFault {

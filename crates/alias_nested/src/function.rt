@@ -1,11 +1,12 @@
 //! One nested function, once those below it are analysed.
-ghost use Rattle.std.specs.Prelude.{◌≡◌, ◌≤◌, true, Err, IfOk, IfErr};
+ghost use Rattle.std.specs.Prelude.{◌≡◌, ◌≤◌, true, [], ◌∷◌, Err, IfOk, IfErr};
 ghost use Rattle.alias_failures.specs.Failures.{HasFailed};
 ghost use Rattle.alias_rules.specs.Fitting.{function_fits};
 ghost use Rattle.alias_range_pass.specs.Passes.{range_pass};
 ghost use Rattle.alias_nested.specs.Analysis.{naming, analysis, effects_analysed, is_free, Accounts, LeadsWith, Ranges, IsPassFault};
 ghost use Rattle.alias_nested.specs.Answers.{IsPassed, Completed, FunctionAnalysed, CompletesOne, LeadsToOneWith};
 ghost use Rattle.alias_nested.specs.Fitting.{FunctionKept, SummaryFits};
+ghost use Rattle.alias_nested.specs.Order.{SameInSlots, Names, Notes};
 ghost use Rattle.alias_nested.specs.Settling.{settled};
 ghost use Rattle.alias_pruning_laws.specs.Pruning.{FunctionPruned};
 
@@ -31,8 +32,11 @@ fn infer_effects(
 ) -> Result<(), InferError>
     requires { function_fits func.old env.old ≡ true }
     ensures run { (fs : _) → Accounts fs solved.old → LeadsWith (effects_analysed id func.old (analysis env.old fs)) result func.new env.new solved.new }
+    ensures noted { IfOk result (λ _. Notes (id ∷ []) solved.old solved.new) }
     ensures kept { FunctionKept func.old env.old func.new env.new }
+    ensures slots { SameInSlots env.old env.new }
     ensures no_fault { IsPassFault result → ⊥ }
+    ensures names { (IsPassFault result → ⊥) → Names id result }
 {
     match infer_effects_certified(alloc, func, env, true) {
         Ok(found) => {
@@ -57,7 +61,9 @@ fn infer_ranges(
     ensures run { Ranges (naming id (range_pass true func.old env.old)) result func.new env.new }
     ensures kept { FunctionKept func.old env.old func.new env.new }
     ensures summary { IfOk result (λ s. SummaryFits env.new s) }
+    ensures slots { SameInSlots env.old env.new }
     ensures no_fault { IsPassFault result → ⊥ }
+    ensures names { (IsPassFault result → ⊥) → Names id result }
 {
     match infer_mutation_aliasing_ranges(alloc, func, env, true) {
         Ok(summary) => Ok(summary),
@@ -101,6 +107,7 @@ fn run_pass<P: InnerPasses>(
     requires { function_fits func.old env.old ≡ true }
     ensures passed { IsPassed P.keeps_all (func.old, env.old) (func.new, env.new) }
     ensures free { IfErr result (λ e. is_free e ≡ true) }
+    ensures names { Names id result }
     ensures faults { P.faults passes.old ≤ P.faults passes.new }
     ensures failed { IsPassFault result → HasFailed (P.faults passes.old) (P.faults passes.new) (P.at_last passes.new) }
 {
@@ -138,6 +145,8 @@ fn complete<P: InnerPasses, F: FnMut(&HirFunction, &Environment)>(
     requires logger { (log : F) (f : _) (e : _) → F.pre log f e }
     ensures run { CompletesOne (Completed P.keeps_all id (func.old, env.old)) result func.new env.new }
     ensures kept { FunctionPruned func.old env.old func.new env.new }
+    ensures slots { SameInSlots env.old env.new }
+    ensures names { Names id result }
     ensures faults { P.faults passes.old ≤ P.faults passes.new }
     ensures failed { IsPassFault result → HasFailed (P.faults passes.old) (P.faults passes.new) (P.at_last passes.new) }
 {
@@ -176,7 +185,10 @@ pub(crate) fn infer_function<P: InnerPasses, F: FnMut(&HirFunction, &Environment
     requires fits { function_fits func.old env.old ≡ true }
     requires logger { (log : F) (f : _) (e : _) → F.pre log f e }
     ensures run { (fs : _) → Accounts fs solved.old → LeadsToOneWith (FunctionAnalysed P.keeps_all id func.old (analysis env.old fs)) result func.new env.new solved.new }
+    ensures noted { IfOk result (λ _. Notes (id ∷ []) solved.old solved.new) }
     ensures kept { FunctionPruned func.old env.old func.new env.new }
+    ensures slots { SameInSlots env.old env.new }
+    ensures names { Names id result }
     ensures faults { P.faults passes.old ≤ P.faults passes.new }
     ensures failed { IsPassFault result → HasFailed (P.faults passes.old) (P.faults passes.new) (P.at_last passes.new) }
 {

@@ -1,33 +1,23 @@
 -- In the order each function comes after those that it creates.
-use Rattle.std.specs.Prelude.{◌≡◌, ℕ, ◌==◌, Bool, true, false, cond, List, [], ◌∷◌, ◌++◌, Some, Ok, length, is_none}
+use Rattle.std.specs.Prelude.{◌≡◌, ℕ, true, List, [], ◌∷◌, ◌++◌, Some, Ok}
 use Rattle.std.specs.List.{flat_map}
 use Rattle.std.proofs.Common.{zero, suc, refl, ap, sym, ◌∙◌, subst, arith, ◌+◌, ◌≤◌, ◌⊎◌, inl, inr, ⊎_elim}
-use Rattle.std.proofs.lemmas.Bool.{eqb-true}
 use Rattle.std.proofs.lemmas.Grind.{flat_map-append}
 use Rattle.alias_hir.specs.declared.env.Environment.{Environment}
 use Rattle.alias_hir.specs.declared.env.Unit.{Unit as HirUnit}
-use Rattle.alias_function_rules.specs.Rules.{is_among, first_again}
+use Rattle.alias_function_rules.specs.Rules.{is_among}
 use Rattle.alias_rules.specs.Functions.{rules_hold}
 use Rattle.alias_rules.specs.Nesting.{times, created_in, created_at, next_level, tree_from}
-use Rattle.alias_rules.specs.TreeLaws.{times_cons, times_both, counted}
-use Rattle.alias_nesting_laws.specs.FittingLaws.{first_among, later_among}
+use Rattle.alias_rules.specs.TreeLaws.{times_both, counted}
+use Rattle.alias_nesting_laws.specs.SubtreeLaws.{tree_parts, tree_end, ended_parts}
 use Rattle.alias_nested.specs.Created.{created_functions}
-use Rattle.alias_order_laws.specs.Order.{nested_innermost_first, numbers}
-use Rattle.alias_order_laws.proofs.Counting.{flat_times, total_same, same_total, numbers_innermost_first, listed_level, none_left, taken}
-use Rattle.alias_order_laws.proofs.Unit.{created_numbers, order_numbers, unit_below, unit_tree, slots_as_often, root_as_often}
+use Rattle.alias_nested.specs.Order.{numbers}
+use Rattle.alias_nested.proofs.Counting.{flat_times, total_same, same_total, there_among, numbers_innermost_first, listed_level}
+use Rattle.alias_nested.proofs.InOrder.{created_numbers, order_numbers}
+use Rattle.alias_order_laws.specs.Order.{nested_innermost_first}
+use Rattle.alias_order_laws.proofs.Unit.{unit_below, unit_tree, slots_as_often, root_as_often}
 
 -- ---- lists
-
--- what is there once or more, is there
-there_among : (xs : List ℕ) (k : ℕ) → 1 ≤ times xs k → is_among xs k ≡ true
-there_among [] k h = absurd (omega arith)
-there_among (x ∷ xs) k h =
-    elim (x == k) as (λ b. (x == k) ≡ b → is_among (x ∷ xs) k ≡ true) [
-      | true ↦ λ e. subst (λ z. is_among (z ∷ xs) k ≡ true) (sym (eqb-true x k e)) (first_among k xs)
-      | false ↦ λ e.
-          let c : times (x ∷ xs) k ≡ 0 + times xs k = times_cons x xs k ∙ ap (λ (b : Bool). cond b 1 0 + times xs k) e in
-          later_among x xs k (there_among xs k (omega arith))
-    ] refl
 
 -- the place of k in two lists is in the first, or in the second
 record First (ps xs : List ℕ) (k : ℕ) : Type 0 where
@@ -134,15 +124,11 @@ listed_before (suc n) c level ends = before_each n c (listed_before n c) level e
 
 -- ---- the unit
 
-none_there : (level : List ℕ) → length level ≡ 0 → (j : ℕ) → times level j ≡ 0
-none_there [] h j = refl
-none_there (x ∷ xs) h j = absurd (omega arith)
-
 -- the levels of a tree end
 tree_ends : (n : ℕ) (env : Environment) (found level ks : List ℕ) → tree_from n env found level ≡ Some ks → Ends n (created_at env) level
-unfolding tree_from Ends
-tree_ends zero env found level ks e = none_there level (none_left level (length level == 0) found ks refl e).1
-tree_ends (suc n) env found level ks e = tree_ends n env (found ++ level) (next_level env level) ks (taken (is_none (first_again [] (found ++ level))) (tree_from n env (found ++ level) (next_level env level)) ks e)
+unfolding Ends
+tree_ends zero env found level ks e = let p = ended_parts found level ks (sym (tree_end env found level) ∙ e) in λ j. ap (λ zs. times zs j) p.0
+tree_ends (suc n) env found level ks e = let p = tree_parts n env found level ks e in tree_ends n env (found ++ level) (next_level env level) ks p.1
 
 -- in the order of a unit that keeps the rules a function comes after those that it creates
 pub order_innermost : (u : HirUnit) → rules_hold u ≡ Ok tt → (xs ys : List ℕ) (k j : ℕ) → numbers (nested_innermost_first u) ≡ xs ++ k ∷ ys → is_among (created_at u.env k) j ≡ true → is_among xs j ≡ true

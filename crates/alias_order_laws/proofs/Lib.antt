@@ -1,5 +1,3 @@
-mod Counting
-mod Creating
 mod Innermost
 mod Levels
 mod Ordering

@@ -12,7 +12,7 @@ use Rattle.alias_hir.specs.declared.error.InferError.{InferError}
 use Rattle.alias_hir.specs.declared.hir.HirFunction.{HirFunction}
 use Rattle.alias_function_rules.specs.Rules.{is_among}
 use Rattle.alias_rules.specs.Nesting.{times}
-use Rattle.alias_rules.specs.TreeLaws.{times_cons, times_both, counted}
+use Rattle.alias_rules.specs.TreeLaws.{times_cons, counted}
 use Rattle.alias_nesting_laws.specs.PartLaws.{absent}
 use Rattle.alias_nesting_laws.specs.SlotLaws.{length_set, set_other}
 use Rattle.alias_nesting_laws.specs.Slots.{with_function}
@@ -25,8 +25,10 @@ use Rattle.alias_nested.specs.Analysis.{naming, numbered, Analysed, Analysis, an
 use Rattle.alias_nested.specs.Created.{created_functions}
 use Rattle.alias_nested.specs.Settling.{settled}
 use Rattle.alias_nested.specs.Slots.{emptied}
-use Rattle.alias_order_laws.specs.Order.{created_by_slot, innermost_first, numbers}
-use Rattle.alias_order_laws.proofs.Staying.{created_recorded, passed_contexts, created_ranged, ranged_contexts, slots_alike, count_alike}
+use Rattle.alias_nested.specs.Order.{created_by_slot, innermost_first, numbers}
+use Rattle.alias_nested.proofs.Evolving.{passed_contexts}
+use Rattle.alias_nested.proofs.InOrder.{times_append}
+use Rattle.alias_order_laws.proofs.Staying.{created_recorded, created_ranged, ranged_contexts, slots_alike, count_alike}
 
 -- ---- steps and lists
 
@@ -68,9 +70,6 @@ pub record Apart (fs : List HirFunction) (out : List ℕ) (ids : List FunctionId
 pub record Done (fs : List HirFunction) (out : List ℕ) (a b : Analysis) (ids : List FunctionId) : Type 0 where
   pub functions : done b ≡ done a ++ map Some ids
   pub stands : Stands fs out b.env
-
-times_append : (xs ys : List FunctionId) (j : ℕ) → times (numbers (xs ++ ys)) j ≡ times (numbers xs) j + times (numbers ys) j
-times_append xs ys j = ap (λ zs. times zs j) (map-append (λ (id : FunctionId). id.0) xs ys) ∙ times_both (numbers xs) (numbers ys) j
 
 apart_first : (fs : List HirFunction) (out : List ℕ) (xs ys : List FunctionId) → Apart fs out (xs ++ ys) → Apart fs out xs
 apart_first fs out xs ys p = record {

@@ -23,7 +23,8 @@ use Rattle.alias_range_pass.specs.Passes.{Ranged, range_pass}
 use Rattle.alias_nested.specs.Analysis.{Analysed, Analysis, analysis, most_levels, analysed}
 use Rattle.alias_nested.specs.Created.{created_functions}
 use Rattle.alias_nested.specs.Units.{RootAnalysis, validated, root_finished, root_analysed, all_analysed, UnitAnalysis, handed_out, unit_analysed}
-use Rattle.alias_order_laws.specs.Order.{innermost_first, nested_innermost_first, functions_of}
+use Rattle.alias_nested.specs.Order.{innermost_first, functions_of}
+use Rattle.alias_order_laws.specs.Order.{nested_innermost_first}
 use Rattle.alias_order_laws.proofs.Ordering.{went, done, Apart, Done, goes_over}
 use Rattle.alias_order_laws.proofs.Unit.{order_once, order_past}
 

@@ -1,35 +1,26 @@
 -- What the passes of the inference leave of what functions create: all of it.
-use Rattle.std.specs.Prelude.{◌≡◌, ℕ, ◌+◌, ◌==◌, Bool, true, false, if◌then◌else◌, List, [], ◌∷◌, Option, Some, None, Ok, length, map, option_map, slice_get, slice_set}
+use Rattle.std.specs.Prelude.{◌≡◌, ℕ, ◌+◌, Bool, true, false, List, [], ◌∷◌, Option, Some, None, Ok, length, map, option_map, slice_get}
 use Rattle.std.specs.List.{flat_map}
-use Rattle.std.specs.Option.{option_map_or}
 use Rattle.std.proofs.Common.{zero, suc, refl, ap, sym, ◌∙◌}
 use Rattle.std.proofs.lemmas.List.{length-map}
 use Rattle.alias_base.specs.declared.ids.BlockId.{BlockId}
 use Rattle.alias_base.specs.declared.ids.FunctionId.{FunctionId}
-use Rattle.alias_base.specs.declared.ids.IdentifierId.{IdentifierId}
 use Rattle.alias_base.specs.declared.ids.InstructionId.{InstructionId}
 use Rattle.alias_hir.specs.Values.{created}
 use Rattle.alias_hir.specs.declared.env.Environment.{Environment}
 use Rattle.alias_hir.specs.declared.hir.BasicBlock.{BasicBlock}
 use Rattle.alias_hir.specs.declared.hir.HirFunction.{HirFunction}
 use Rattle.alias_hir.specs.declared.hir.Instruction.{Instruction}
-use Rattle.alias_hir.specs.declared.place.Effect.TheVariants.{Read}
-use Rattle.alias_hir.specs.declared.place.Place.{Place}
 use Rattle.alias_rules.specs.RecordedLaws.{without_instruction_effects, without_block_effects, without_effects}
-use Rattle.alias_tables.specs.declared.reads.ContextRead.{ContextRead}
-use Rattle.alias_tables.specs.declared.temporaries.Temporary.{Temporary}
-use Rattle.alias_write_back.specs.WriteBack.{with_identifiers, read_place, with_context_read, with_read, with_reads}
 use Rattle.alias_effects.proofs.RecordedDiffers.{recorded_differs}
-use Rattle.alias_effects.specs.Inference.{end_tables, env_after}
 use Rattle.alias_effects.specs.Recording.{with_effects_of}
-use Rattle.alias_effects.specs.declared.output.PassEnd.{PassEnd}
 use Rattle.alias_effects.specs.declared.solved.Solved.{Solved}
 use Rattle.alias_events.specs.declared.listing.Listing.{Listing}
 use Rattle.alias_events.specs.declared.listing.RecordedMutation.{RecordedMutation}
 use Rattle.alias_events.specs.Recording.{graph_listed}
 use Rattle.alias_range_places.specs.Blocks.{block_merged, first_order, Placed, placed_at, block_placed, blocks_placed, function_placed}
 use Rattle.alias_range_places.specs.Instructions.{instruction_placed, placed_in, instruction_at, instructions_placed}
-use Rattle.alias_range_places.specs.Keeping.{but_effect, but_context, but_instruction, but_entry, but_effects}
+use Rattle.alias_range_places.specs.Keeping.{but_context, but_instruction, but_entry, but_effects}
 use Rattle.alias_range_places.specs.Blocks.{ends_placed}
 use Rattle.alias_range_places.specs.Ranges.{assigned}
 use Rattle.alias_range_places.specs.StayLaws.{instruction_stays, block_stays, set_stays, block_effects}
@@ -42,7 +33,7 @@ use Rattle.alias_range_laws.specs.PlacedLaws.{function_keeps}
 use Rattle.alias_bare_laws.specs.BareIdentifiers.{flat_mapped, flat_same}
 use Rattle.alias_bare_laws.specs.BareParts.{value_creates}
 use Rattle.alias_nested.specs.Created.{one_of, created_by, created_functions}
-use Rattle.alias_order_laws.specs.Order.{created_by_slot}
+use Rattle.alias_nested.specs.Order.{created_by_slot}
 
 -- ---- functions that differ in what is inferred
 
@@ -72,35 +63,6 @@ created_but f = created_mapped but_entry but_instruction (λ b. refl) (λ i. val
 -- what is recorded changes nothing of what a function creates
 pub created_recorded : (s : Solved) (f : HirFunction) → created_functions (with_effects_of s f) ≡ created_functions f
 created_recorded s f = sym (created_without (with_effects_of s f)) ∙ ap created_functions (sym (recorded_differs s f)) ∙ created_without f
-
--- ---- the effects pass
-
-read_stays : (b : Bool) (p : Place) → but_effect (if b then record p { effect = Read } else p) ≡ but_effect p
-read_stays true p = refl
-read_stays false p = refl
-
-context_read_stays : (x : IdentifierId) (ps : List Place) → map but_effect (map (read_place x) ps) ≡ map but_effect ps
-context_read_stays x [] = refl
-context_read_stays x (p ∷ ps) = ap (λ z. z ∷ map but_effect (map (read_place x) ps)) (read_stays (p.identifier.0 == x.0) p) ∙ ap (λ z. but_effect p ∷ z) (context_read_stays x ps)
-
-read_contexts : (r : ContextRead) (fs : List HirFunction) (o : Option HirFunction) → slice_get fs r.function.0 ≡ o
-    → map but_context (option_map_or (λ (f : HirFunction). slice_set fs r.function.0 (with_context_read r.place f)) o fs) ≡ map but_context fs
-read_contexts r fs None h = refl
-read_contexts r fs (Some f) h = set_stays but_context fs r.function.0 f (with_context_read r.place f) (sym h) (ap (λ z. record f { context = z }) (context_read_stays r.place f.context))
-
-reads_contexts : (rs : List ContextRead) (fs : List HirFunction) → map but_context (with_reads rs fs) ≡ map but_context fs
-reads_contexts [] fs = refl
-reads_contexts (r ∷ rs) fs = reads_contexts rs (with_read r fs) ∙ read_contexts r fs (slice_get fs r.function.0) refl
-
-identified : (ts : List Temporary) (env : Environment) → (with_identifiers ts env).functions ≡ env.functions
-identified [] env = refl
-identified (t ∷ ts) env = identified ts _
-
--- the effects pass changes context places alone of the functions in their slots
-pub passed_contexts : (env : Environment) (e : PassEnd) → map but_context (env_after env e).functions ≡ map but_context env.functions
-passed_contexts env e =
-    let t = end_tables e in
-    reads_contexts t.reads (with_identifiers t.temporaries env).functions ∙ ap (map but_context) (identified t.temporaries env)
 
 -- ---- the range pass
 

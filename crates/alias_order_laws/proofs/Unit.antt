@@ -2,8 +2,6 @@
 use Rattle.std.specs.Prelude.{◌≡◌, ℕ, true, false, List, [], ◌∷◌, ◌++◌, Option, Some, None, Ok, length, slice_get, if◌then◌else◌}
 use Rattle.std.specs.List.{flat_map}
 use Rattle.std.proofs.Common.{zero, suc, refl, ap, ◌∙◌, subst, arith, ◌+◌, ◌<◌, ◌≤◌}
-use Rattle.std.proofs.lemmas.List.{map-append}
-use Rattle.alias_base.specs.declared.ids.FunctionId.{FunctionId}
 use Rattle.alias_hir.specs.declared.env.Environment.{Environment}
 use Rattle.alias_hir.specs.declared.env.Unit.{Unit as HirUnit}
 use Rattle.alias_hir.specs.declared.hir.HirFunction.{HirFunction}
@@ -18,9 +16,11 @@ use Rattle.alias_nesting_laws.specs.FittingLaws.{Fitted, fitted, first_among, la
 use Rattle.alias_nesting_laws.specs.PartLaws.{among_cases, append_cases}
 use Rattle.alias_pruning_laws.specs.BelowLaws.{Source, source_of, below_are, below_distinct}
 use Rattle.alias_nested.specs.Created.{created_functions}
-use Rattle.alias_order_laws.specs.Order.{created_by_slot, innermost_first, nested_innermost_first, numbers}
-use Rattle.alias_order_laws.proofs.Counting.{flat_times, total_same, zero_total, numbers_innermost_first, listed_same, tree_times}
-use Rattle.alias_order_laws.proofs.Creating.{once_again, created_as_often}
+use Rattle.alias_nested.specs.Order.{created_by_slot, numbers}
+use Rattle.alias_nested.proofs.Counting.{flat_times, total_same, zero_total, numbers_innermost_first, listed_same, tree_times}
+use Rattle.alias_nested.proofs.Creating.{once_again, created_as_often}
+use Rattle.alias_nested.proofs.InOrder.{created_numbers, order_numbers}
+use Rattle.alias_order_laws.specs.Order.{nested_innermost_first}
 
 -- ---- no number past the table
 
@@ -53,23 +53,6 @@ reached_among (suc n) env found level ks f l c =
     (λ k h. append_cases found (fresh found level) k (is_among ks k ≡ true) h (f k) (new k))
     (λ k h. let s : Source (created_at env) (fresh found level) k = source_of (created_at env) (fresh found level) k h in c s.number (new s.number s.among) k s.taken)
     c
-
--- ---- the order in numbers
-
-flat_numbers : (g : FunctionId → List FunctionId) (h : ℕ → List ℕ) → ((id : FunctionId) → numbers (g id) ≡ h id.0) → (ids : List FunctionId) → numbers (flat_map g ids) ≡ flat_map h (numbers ids)
-flat_numbers g h e [] = refl
-flat_numbers g h e (x ∷ xs) = map-append (λ (id : FunctionId). id.0) (g x) (flat_map g xs) ∙ ap (λ zs. zs ++ numbers (flat_map g xs)) (e x) ∙ ap (λ zs. h x.0 ++ zs) (flat_numbers g h e xs)
-
--- the numbers of what the function in a slot creates
-abbrev pub created_numbers : List HirFunction → ℕ → List ℕ
-created_numbers fs k = numbers (created_by_slot (slice_get fs k))
-
-pub order_numbers : (n : ℕ) (fs : List HirFunction) (level : List FunctionId) → numbers (innermost_first n fs level) ≡ numbers_innermost_first n (created_numbers fs) (numbers level)
-unfolding innermost_first numbers_innermost_first
-order_numbers zero fs level = refl
-order_numbers (suc n) fs level =
-    flat_numbers (λ (id : FunctionId). innermost_first n fs (created_by_slot (slice_get fs id.0)) ++ id ∷ []) (λ (k : ℕ). numbers_innermost_first n (created_numbers fs) (created_numbers fs k) ++ k ∷ [])
-    (λ id. map-append (λ (id : FunctionId). id.0) (innermost_first n fs (created_by_slot (slice_get fs id.0))) (id ∷ []) ∙ ap (λ zs. zs ++ id.0 ∷ []) (order_numbers n fs (created_by_slot (slice_get fs id.0)))) level
 
 -- ---- the unit
 

@@ -10,7 +10,8 @@ ghost use Rattle.alias_rules.specs.Functions.{rules_hold};
 ghost use Rattle.alias_rules.specs.Nesting.{times, created_at};
 ghost use Rattle.alias_validate.specs.Levels.{is_within};
 ghost use Rattle.alias_nested.specs.Units.{UnitAnalysis, unit_analysed};
-ghost use Rattle.alias_order_laws.specs.Order.{numbers, nested_innermost_first, functions_of};
+ghost use Rattle.alias_nested.specs.Order.{numbers, functions_of};
+ghost use Rattle.alias_order_laws.specs.Order.{nested_innermost_first};
 
 /// What is inferred of a unit that keeps the rules has a solution for each function in the order of the unit, and then one for
 /// the root. In that order each nested function of the unit is there once, nothing else is, and a function comes after those

@@ -2,7 +2,9 @@ use Rattle.std.proofs.Common.{◌≡◌, [], Err, rules}
 use Rattle.alias_hir.specs.declared.error.InferError.{InferError}
 use Rattle.alias_nested.specs.Analysis.{analysis, analysed}
 use Rattle.alias_nested.specs.Answers.{Only, AnalysedWith}
+use Rattle.alias_nested.specs.Order.{below_innermost_first}
 use Rattle.alias_nested.proofs.Answering.{into_error}
+use Rattle.alias_nested.proofs.Changing.{handed_on, handed_out}
 use Rattle.alias_nested.proofs.analyse.analyse_functions.Goals as goal
 
 pub returns-in_err-analyse_functions_certified-clause-answer : goal.returns-in_err-analyse_functions_certified-clause-answer
@@ -22,3 +24,12 @@ returns-clause-answer g c = let l = c.in_ok-analyse_functions_certified.ensures.
 
 pub returns-clause-exact : goal.returns-clause-exact
 returns-clause-exact g c = λ keeps_all. let l = c.in_ok-analyse_functions_certified.ensures.exact keeps_all in (l.0, l.1)
+
+pub returns-in_err-analyse_functions_certified-clause-order : goal.returns-in_err-analyse_functions_certified-clause-order
+returns-in_err-analyse_functions_certified-clause-order g c =
+    let e : InferError = c.in_err-analyse_functions_certified.field-0.0 in
+    let same : c.from_residual.result ≡ Err e = search rules in
+    handed_on (below_innermost_first 63 c.args.func.now c.args.env.now) c.from_residual.result e c.args.env.now c.analyse_functions_certified.new.env same c.in_err-analyse_functions_certified.ensures.order
+
+pub returns-clause-order : goal.returns-clause-order
+returns-clause-order g c = handed_out (below_innermost_first 63 c.args.func.now c.args.env.now) _ tt c.args.env.now c.analyse_functions_certified.new.env c.in_ok-analyse_functions_certified.ensures.order

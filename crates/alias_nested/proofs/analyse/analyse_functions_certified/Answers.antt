@@ -1,8 +1,12 @@
-use Rattle.std.proofs.Common.{◌≡◌, [], Ok, Err, sym, rules}
+use Rattle.std.proofs.Common.{◌≡◌, ◌∙◌, List, [], ◌++◌, Ok, Err, Some, map, ap, sym, rules}
+use Rattle.alias_effects.specs.declared.solved.Solved.{Solved}
 use Rattle.alias_hir.specs.declared.error.InferError.{InferError}
 use Rattle.alias_nested.specs.Analysis.{analysis}
 use Rattle.alias_nested.specs.Answers.{AnalysedWith}
+use Rattle.alias_nested.specs.Order.{below_innermost_first, functions_of}
 use Rattle.alias_nested.proofs.Answering.{analyses_error, analyses_exactly}
+use Rattle.alias_nested.proofs.Changing.{handed_on, handed_out}
+use Rattle.alias_nested.proofs.InOrder.{once_below}
 use Rattle.alias_nested.proofs.Keeping.{pruned_fits}
 use Rattle.alias_nested.proofs.analyse.analyse_functions_certified.Goals as goal
 
@@ -40,3 +44,21 @@ returns-clause-slots g c = c.analyse_created.ensures.kept.prunes.slots
 
 pub returns-clause-count : goal.returns-clause-count
 returns-clause-count g c = c.analyse_created.ensures.kept.prunes.count
+
+pub returns-in_err-analyse_created-clause-order : goal.returns-in_err-analyse_created-clause-order
+returns-in_err-analyse_created-clause-order g c =
+    let e : InferError = c.in_err-analyse_created.field-0.0 in
+    let same : c.from_residual.result ≡ Err e = search rules in
+    handed_on (below_innermost_first 63 c.args.func.now c.args.env.now) c.from_residual.result e c.args.env.now c.analyse_created.new.env same c.in_err-analyse_created.ensures.order
+
+pub returns-in_err-analyse_created-clause-once : goal.returns-in_err-analyse_created-clause-once
+returns-in_err-analyse_created-clause-once g c = λ k. once_below c.args.func.now c.args.env.now c.requires.fits 63 k
+
+pub returns-clause-order : goal.returns-clause-order
+returns-clause-order g c = handed_out (below_innermost_first 63 c.args.func.now c.args.env.now) tt c.analyse_created.new.solved c.args.env.now c.analyse_created.new.env c.in_ok-analyse_created.ensures.order
+
+pub returns-clause-once : goal.returns-clause-once
+returns-clause-once g c = λ k. once_below c.args.func.now c.args.env.now c.requires.fits 63 k
+
+pub returns-clause-functions : goal.returns-clause-functions
+returns-clause-functions g c = c.in_ok-analyse_created.ensures.noted ∙ ap (λ (ss : List Solved). functions_of ss ++ map Some (below_innermost_first 63 c.args.func.now c.args.env.now)) c.new-solved.ensures

@@ -1,7 +1,8 @@
-use Rattle.std.proofs.Common.{◌≡◌, Err, rules}
+use Rattle.std.proofs.Common.{◌≡◌, ◌∙◌, Err, rules}
 use Rattle.alias_hir.specs.declared.error.InferError.{InferError}
 use Rattle.alias_nested.specs.Answers.{Completed}
 use Rattle.alias_nested.proofs.Answering.{completes, completes_refused, completes_error}
+use Rattle.alias_nested.proofs.Changing.{names_on, passed_slots, settled_slots}
 use Rattle.alias_nested.proofs.Keeping.{passed_pruned, range_pruned, more_pruned, settled_pruned}
 use Rattle.alias_nested.proofs.function.complete.Goals as goal
 
@@ -43,3 +44,56 @@ pub returns-clause-kept : goal.returns-clause-kept
 returns-clause-kept g c =
     settled_pruned g.P.InnerPasses.keeps_all c.args.func.now c.run_pass.new.func c.infer_ranges.new.func c.run_pass-2.new.func c.run_pass-3.new.func c.settle_logged.new.func c.args.env.now c.run_pass.new.env c.infer_ranges.new.env c.run_pass-2.new.env c.run_pass-3.new.env c.settle_logged.new.env c.in_ok-summary.summary
     c.run_pass.ensures.passed c.infer_ranges.ensures.kept c.in_ok-summary.ensures.summary c.run_pass-2.ensures.passed c.run_pass-3.ensures.passed c.settle_logged.ensures
+
+pub returns-in_err-run_pass-clause-slots : goal.returns-in_err-run_pass-clause-slots
+returns-in_err-run_pass-clause-slots g c =
+    passed_slots g.P.InnerPasses.keeps_all c.args.func.now c.args.env.now c.run_pass.new.func c.run_pass.new.env c.run_pass.ensures.passed
+
+pub returns-in_err-run_pass-clause-names : goal.returns-in_err-run_pass-clause-names
+returns-in_err-run_pass-clause-names g c =
+    let e : InferError = c.in_err-run_pass.field-0.0 in
+    let same : c.from_residual.result ≡ Err e = search rules in
+    names_on c.args.id c.from_residual.result e same (c.in_err-run_pass.ensures.names)
+
+pub returns-in_err-summary-clause-slots : goal.returns-in_err-summary-clause-slots
+returns-in_err-summary-clause-slots g c =
+    let first = passed_slots g.P.InnerPasses.keeps_all c.args.func.now c.args.env.now c.run_pass.new.func c.run_pass.new.env c.run_pass.ensures.passed in
+    c.infer_ranges.ensures.slots ∙ first
+
+pub returns-in_err-summary-clause-names : goal.returns-in_err-summary-clause-names
+returns-in_err-summary-clause-names g c =
+    let e : InferError = c.in_err-summary.field-0.0 in
+    let same : c.from_residual-in_err-summary.result ≡ Err e = search rules in
+    names_on c.args.id c.from_residual-in_err-summary.result e same (c.in_err-summary.ensures.names c.in_err-summary.ensures.no_fault)
+
+pub returns-in_err-run_pass-2-clause-slots : goal.returns-in_err-run_pass-2-clause-slots
+returns-in_err-run_pass-2-clause-slots g c =
+    let first = passed_slots g.P.InnerPasses.keeps_all c.args.func.now c.args.env.now c.run_pass.new.func c.run_pass.new.env c.run_pass.ensures.passed in
+    let second = passed_slots g.P.InnerPasses.keeps_all c.infer_ranges.new.func c.infer_ranges.new.env c.run_pass-2.new.func c.run_pass-2.new.env c.run_pass-2.ensures.passed in
+    second ∙ c.infer_ranges.ensures.slots ∙ first
+
+pub returns-in_err-run_pass-2-clause-names : goal.returns-in_err-run_pass-2-clause-names
+returns-in_err-run_pass-2-clause-names g c =
+    let e : InferError = c.in_err-run_pass-2.field-0.0 in
+    let same : c.from_residual-in_err-run_pass-2.result ≡ Err e = search rules in
+    names_on c.args.id c.from_residual-in_err-run_pass-2.result e same (c.in_err-run_pass-2.ensures.names)
+
+pub returns-in_err-run_pass-3-clause-slots : goal.returns-in_err-run_pass-3-clause-slots
+returns-in_err-run_pass-3-clause-slots g c =
+    let first = passed_slots g.P.InnerPasses.keeps_all c.args.func.now c.args.env.now c.run_pass.new.func c.run_pass.new.env c.run_pass.ensures.passed in
+    let second = passed_slots g.P.InnerPasses.keeps_all c.infer_ranges.new.func c.infer_ranges.new.env c.run_pass-2.new.func c.run_pass-2.new.env c.run_pass-2.ensures.passed in
+    let third = passed_slots g.P.InnerPasses.keeps_all c.run_pass-2.new.func c.run_pass-2.new.env c.run_pass-3.new.func c.run_pass-3.new.env c.run_pass-3.ensures.passed in
+    third ∙ second ∙ c.infer_ranges.ensures.slots ∙ first
+
+pub returns-in_err-run_pass-3-clause-names : goal.returns-in_err-run_pass-3-clause-names
+returns-in_err-run_pass-3-clause-names g c =
+    let e : InferError = c.in_err-run_pass-3.field-0.0 in
+    let same : c.from_residual-in_err-run_pass-3.result ≡ Err e = search rules in
+    names_on c.args.id c.from_residual-in_err-run_pass-3.result e same (c.in_err-run_pass-3.ensures.names)
+
+pub returns-clause-slots : goal.returns-clause-slots
+returns-clause-slots g c =
+    let first = passed_slots g.P.InnerPasses.keeps_all c.args.func.now c.args.env.now c.run_pass.new.func c.run_pass.new.env c.run_pass.ensures.passed in
+    let second = passed_slots g.P.InnerPasses.keeps_all c.infer_ranges.new.func c.infer_ranges.new.env c.run_pass-2.new.func c.run_pass-2.new.env c.run_pass-2.ensures.passed in
+    let third = passed_slots g.P.InnerPasses.keeps_all c.run_pass-2.new.func c.run_pass-2.new.env c.run_pass-3.new.func c.run_pass-3.new.env c.run_pass-3.ensures.passed in
+    settled_slots c.in_ok-summary.summary c.run_pass-3.new.func c.run_pass-3.new.env c.settle_logged.new.func c.settle_logged.new.env c.settle_logged.ensures ∙ third ∙ second ∙ c.infer_ranges.ensures.slots ∙ first

@@ -1,6 +1,9 @@
-use Rattle.std.proofs.Common.{◌≡◌, true, false, Err, sym, subst}
+use Rattle.std.proofs.Common.{◌≡◌, true, false, Err, map, ap, sym, subst}
+use Rattle.alias_hir.specs.declared.env.Environment.{Environment}
+use Rattle.alias_range_places.specs.Keeping.{but_context}
 use Rattle.alias_nested.specs.Analysis.{analysis, named, is_free, effects_analysed}
-use Rattle.alias_nested.proofs.Ending.{ended, ended_keeps, effects_lead, accounts_numbered, not_memory, effects_refused}
+use Rattle.alias_nested.proofs.Changing.{names_named}
+use Rattle.alias_nested.proofs.Ending.{ended, ended_keeps, ended_slots, effects_lead, accounts_numbered, notes_one, not_memory, effects_refused}
 use Rattle.alias_nested.proofs.Keeping.{kept_unchanged}
 use Rattle.alias_nested.proofs.function.infer_effects.Goals as goal
 
@@ -33,3 +36,22 @@ returns-in-Err-clause-run c =
     let not : is_free (named c.args.id c.in-Err.error) ≡ false = subst (λ e. is_free e ≡ false) c.named.ensures free in
     subst (λ e. effects_analysed c.args.id c.args.func.now (analysis c.args.env.now fs) ≡ Err e) (sym c.named.ensures)
     (effects_refused c.args.env.now c.args.func.now c.args.id fs c.in-Err.error (c.in-Err.ensures.answer (not_memory c.args.id c.in-Err.error not)))
+
+pub returns-in_err-push-in-Ok-clause-slots : goal.returns-in_err-push-in-Ok-clause-slots
+returns-in_err-push-in-Ok-clause-slots c =
+    let p = c.infer_effects_certified in
+    ended_slots c.args.env.now c.args.func.now true c.in-Ok.found p.new.env (ended c.args.env.now c.args.func.now true c.in-Ok.found p.new.env c.in-Ok.ensures.answer c.in-Ok.ensures.env)
+
+pub returns-in_ok-push-in-Ok-clause-slots : goal.returns-in_ok-push-in-Ok-clause-slots
+returns-in_ok-push-in-Ok-clause-slots c =
+    let p = c.infer_effects_certified in
+    ended_slots c.args.env.now c.args.func.now true c.in-Ok.found p.new.env (ended c.args.env.now c.args.func.now true c.in-Ok.found p.new.env c.in-Ok.ensures.answer c.in-Ok.ensures.env)
+
+pub returns-in-Err-clause-slots : goal.returns-in-Err-clause-slots
+returns-in-Err-clause-slots c = ap (λ (e : Environment). map but_context e.functions) c.in-Err.ensures.err.1
+
+pub returns-in-Err-clause-names : goal.returns-in-Err-clause-names
+returns-in-Err-clause-names c = λ no. names_named c.args.id c.in-Err.error c.named.result c.named.ensures no
+
+pub returns-in_ok-push-in-Ok-clause-noted : goal.returns-in_ok-push-in-Ok-clause-noted
+returns-in_ok-push-in-Ok-clause-noted c = notes_one c.args.id c.in-Ok.found c.args.solved.now c.push.new.self c.in_ok-push-in-Ok.ensures.items

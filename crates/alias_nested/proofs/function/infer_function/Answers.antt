@@ -1,8 +1,10 @@
-use Rattle.std.proofs.Common.{◌≡◌, Err, rules}
+use Rattle.std.proofs.Common.{◌≡◌, ◌∙◌, [], ◌∷◌, Err, rules}
 use Rattle.alias_hir.specs.declared.error.InferError.{InferError}
 use Rattle.alias_nested.specs.Analysis.{analysis}
 use Rattle.alias_nested.specs.Answers.{FunctionAnalysed}
 use Rattle.alias_nested.proofs.Answering.{function_refused, function_leads, leads_with_error}
+use Rattle.alias_nested.specs.Order.{Notes}
+use Rattle.alias_nested.proofs.Changing.{names_on, always_ok}
 use Rattle.alias_nested.proofs.Keeping.{kept_pruned}
 use Rattle.alias_pruning_laws.specs.PruningLaws.{function_through}
 use Rattle.alias_nested.proofs.function.infer_function.Goals as goal
@@ -29,3 +31,15 @@ pub returns-clause-kept : goal.returns-clause-kept
 returns-clause-kept g c =
     function_through c.args.func.now c.infer_effects.new.func c.complete.new.func c.args.env.now c.infer_effects.new.env c.complete.new.env
     (kept_pruned c.args.func.now c.args.env.now c.infer_effects.new.func c.infer_effects.new.env c.infer_effects.ensures.kept) c.complete.ensures.kept
+
+pub returns-in_err-infer_effects-clause-names : goal.returns-in_err-infer_effects-clause-names
+returns-in_err-infer_effects-clause-names g c =
+    let e : InferError = c.in_err-infer_effects.field-0.0 in
+    let same : c.from_residual.result ≡ Err e = search rules in
+    names_on c.args.id c.from_residual.result e same (c.in_err-infer_effects.ensures.names c.in_err-infer_effects.ensures.no_fault)
+
+pub returns-clause-slots : goal.returns-clause-slots
+returns-clause-slots g c = c.complete.ensures.slots ∙ c.infer_effects.ensures.slots
+
+pub returns-clause-noted : goal.returns-clause-noted
+returns-clause-noted g c = always_ok (Notes (c.args.id ∷ []) c.args.solved.now c.infer_effects.new.solved) c.complete.result c.in_ok-infer_effects.ensures.noted

@@ -1,5 +1,6 @@
 use Rattle.std.proofs.Common.{true}
 use Rattle.alias_range_laws.specs.SummaryLaws.{summary_fits}
+use Rattle.alias_nested.proofs.Changing.{names_named, ranged_slots}
 use Rattle.alias_nested.proofs.Keeping.{ranged_keeps, summary_kept}
 use Rattle.alias_nested.proofs.function.infer_ranges.Goals as goal
 
@@ -19,3 +20,12 @@ returns-in-Ok-clause-summary c =
     let kept = ranged_keeps c.args.func.now p.new.func c.args.env.now p.new.env p.ensures.fits p.ensures.still p.ensures.kept in
     let fits = summary_fits true c.args.func.now c.args.env.now _ c.in-Ok.ensures.pass c.requires in
     summary_kept c.args.env.now p.new.env c.args.func.now kept.evolves.effects c.requires c.in-Ok.summary (record { within = fits.0; no_call = fits.1 })
+
+pub returns-in-Ok-clause-slots : goal.returns-in-Ok-clause-slots
+returns-in-Ok-clause-slots c = let p = c.infer_mutation_aliasing_ranges in ranged_slots c.args.env.now p.new.env p.ensures.kept
+
+pub returns-in-Err-clause-slots : goal.returns-in-Err-clause-slots
+returns-in-Err-clause-slots c = let p = c.infer_mutation_aliasing_ranges in ranged_slots c.args.env.now p.new.env p.ensures.kept
+
+pub returns-in-Err-clause-names : goal.returns-in-Err-clause-names
+returns-in-Err-clause-names c = λ no. names_named c.args.id c.in-Err.error c.named.result c.named.ensures no
