@@ -1,5 +1,5 @@
 -- No inference of a unit says that an operand has no effect.
-use Rattle.std.specs.Prelude.{◌≡◌, ◌≢◌, ◌⊎◌, ℕ, ◌+◌, Bool, true, false, List, [], ◌∷◌, Option, Some, None, Result, Err, ⊤, if◌then◌else◌, length, option_map, slice_get, slice_set, refl}
+use Rattle.std.specs.Prelude.{◌≡◌, ◌≢◌, ◌⊎◌, ℕ, ◌+◌, Bool, true, false, List, [], ◌∷◌, Option, Some, None, Result, Err, ⊤, if◌then◌else◌, length, map, option_map, slice_get, slice_set, refl}
 use Rattle.std.specs.List.{AllByRecursion}
 use Rattle.std.specs.Option.{option_map_or}
 use Rattle.std.proofs.Common.{zero, suc, inl, inr, ap, sym, ◌∙◌, subst, arith}
@@ -23,13 +23,10 @@ use Rattle.alias_lattice.specs.States.{State}
 use Rattle.alias_flow.specs.Machine.{VisitLog, End}
 use Rattle.alias_flow.specs.Machine as end
 use Rattle.alias_tables.specs.Tables.{TableLists}
-use Rattle.alias_tables.specs.declared.reads.ContextRead.{ContextRead}
-use Rattle.alias_tables.specs.declared.temporaries.Temporary.{Temporary}
-use Rattle.alias_write_back.specs.WriteBack.{with_identifiers, with_context_read, with_read, with_reads}
 use Rattle.alias_block.specs.Contexts.{context_of}
 use Rattle.alias_block.specs.declared.faults.BlockRefusal.{BlockRefusal}
 use Rattle.alias_block.specs.declared.recorded.BlockEffects.{BlockEffects}
-use Rattle.alias_effects.specs.Inference.{block_at, answer_of, pass_end, end_tables, env_after}
+use Rattle.alias_effects.specs.Inference.{block_at, answer_of, pass_end, env_after}
 use Rattle.alias_effects.specs.Numbered.{visits_end}
 use Rattle.alias_effects.specs.Recording.{with_effects_of}
 use Rattle.alias_effects.specs.declared.output.PassEnd.{PassEnd}
@@ -41,6 +38,7 @@ use Rattle.alias_events.specs.declared.listing.RecordedRender.{RecordedRender}
 use Rattle.alias_ranges.specs.Nodes.{Nodes}
 use Rattle.alias_range_places.specs.Blocks.{Placed, block_merged, block_placed, placed_at, blocks_placed, function_placed}
 use Rattle.alias_range_places.specs.Instructions.{context_placed, created_placed, surroundings, surrounded, env_assigned, placed_in, instruction_at, instructions_placed}
+use Rattle.alias_range_places.specs.Keeping.{but_context}
 use Rattle.alias_range_places.specs.Ranges.{assigned}
 use Rattle.alias_range_places.specs.Tables.{Table, table_of}
 use Rattle.alias_range_pass.specs.Passes.{records, Ranged, range_pass}
@@ -55,6 +53,7 @@ use Rattle.alias_nested.specs.Created.{created_functions}
 use Rattle.alias_nested.specs.Slots.{emptied}
 use Rattle.alias_nested.specs.Units.{RootAnalysis, validated, root_analysed, all_analysed, UnitAnalysis, unit_analysed, InfersUnit}
 use Rattle.alias_nested.specs.declared.infer.Inferred.{Inferred}
+use Rattle.alias_nested.proofs.Evolving.{passed_contexts}
 use Rattle.alias_answer_laws.specs.Avoiding.{is_not_inferred, Answered, avoids_then, avoids_on, avoids_naming, named_alike, block_refused, listing_avoids, room_avoids}
 use Rattle.alias_answer_laws.specs.KnownFunctionLaws.{FunctionKnown, function_known, SameListing, listing_through, same_functions, placed_lists_same, effects_lists_same}
 use Rattle.alias_answer_laws.specs.KnownWalkLaws.{Comes, Passes, WalkKnown, validated_passes}
@@ -189,22 +188,18 @@ slots_back fs gs n f e g at h k j =
 
 -- ---- the environment after the effects pass
 
-read_keeps : (r : ContextRead) (fs : List HirFunction) (o : Option HirFunction) → slice_get fs r.function.0 ≡ o → SlotsKeep fs (option_map_or (λ (f : HirFunction). slice_set fs r.function.0 (with_context_read r.place f)) o fs)
-read_keeps r fs None e = slots_self fs
-read_keeps r fs (Some f) e = slots_set fs r.function.0 f (with_context_read r.place f) e (context_keeps f (with_context_read r.place f).context)
-
-reads_keep : (rs : List ContextRead) (fs : List HirFunction) → SlotsKeep fs (with_reads rs fs)
-reads_keep [] fs = slots_self fs
-reads_keep (r ∷ rs) fs = slots_through fs (with_read r fs) (with_reads (r ∷ rs) fs) (read_keeps r fs (slice_get fs r.function.0) refl) (reads_keep rs (with_read r fs))
-
-identified_keeps : (ts : List Temporary) (env : Environment) → SlotsKeep env.functions (with_identifiers ts env).functions
-identified_keeps [] env = slots_self env.functions
-identified_keeps (t ∷ ts) env = identified_keeps ts _
+contexts_keep : (fs gs : List HirFunction) → map but_context gs ≡ map but_context fs → SlotsKeep fs gs
+contexts_keep [] [] e k = tt
+contexts_keep [] (g ∷ gs) e k = cc
+contexts_keep (f ∷ fs) [] e k = cc
+contexts_keep (f ∷ fs) (g ∷ gs) e zero =
+    let one : but_context g ≡ but_context f = cc in
+    let h : SlotKeeps (Some f) (Some (but_context g)) = subst (λ (z : HirFunction). SlotKeeps (Some f) (Some z)) (sym one) (context_keeps f (but_context f).context) in
+    (record { listed = h.0.listed; creates = h.0.creates }, h.1)
+contexts_keep (f ∷ fs) (g ∷ gs) e (suc k) = let rest : map but_context gs ≡ map but_context fs = cc in contexts_keep fs gs rest k
 
 after_keeps : (env : Environment) (e : PassEnd) → SlotsKeep env.functions (env_after env e).functions
-after_keeps env e =
-    let t = end_tables e in
-    slots_through env.functions (with_identifiers t.temporaries env).functions (env_after env e).functions (identified_keeps t.temporaries env) (reads_keep t.reads (with_identifiers t.temporaries env).functions)
+after_keeps env e = contexts_keep env.functions (env_after env e).functions (passed_contexts env e)
 
 end_comes : (env : Environment) (f : HirFunction) (r : End (VisitLog State) TableLists BlockEffects BlockRefusal) → Passes (answer_of env f r)
 end_comes env f (end.Solved w) = tt

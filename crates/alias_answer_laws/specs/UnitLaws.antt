@@ -1,8 +1,7 @@
 -- No inference of a unit that keeps the rules says that an Apply is left.
-use Rattle.std.specs.Prelude.{◌≡◌, ◌≢◌, ℕ, true, false, List, [], ◌∷◌, Option, Some, None, Result, Ok, Err, is_none, slice_get, slice_set, refl}
+use Rattle.std.specs.Prelude.{◌≡◌, ◌≢◌, ℕ, true, false, List, [], ◌∷◌, Option, Some, None, Result, Ok, Err, is_none, map, slice_get, refl}
 use Rattle.std.specs.List.{AllByRecursion, list_all}
-use Rattle.std.specs.Option.{option_map_or}
-use Rattle.std.proofs.Common.{zero, suc, subst}
+use Rattle.std.proofs.Common.{zero, suc, sym, subst}
 use Rattle.alias_base.specs.AnswerLaws.{both_true}
 use Rattle.alias_base.specs.declared.ids.FunctionId.{FunctionId}
 use Rattle.alias_base.specs.declared.ids.InstructionId.{InstructionId}
@@ -17,12 +16,10 @@ use Rattle.alias_hir.specs.declared.report.Report.{Report}
 use Rattle.alias_function_rules.specs.Rules.{instruction_is_uninferred, function_is_uninferred, environment_is_uninferred}
 use Rattle.alias_rules.specs.Functions.{rules_hold}
 use Rattle.alias_rules.specs.RuleLaws.{parts_of_rules}
-use Rattle.alias_tables.specs.declared.reads.ContextRead.{ContextRead}
-use Rattle.alias_tables.specs.declared.temporaries.Temporary.{Temporary}
-use Rattle.alias_write_back.specs.WriteBack.{with_identifiers, with_context_read, with_read, with_reads}
-use Rattle.alias_effects.specs.Inference.{pass_end, end_tables, env_after}
+use Rattle.alias_effects.specs.Inference.{pass_end, env_after}
 use Rattle.alias_effects.specs.Recording.{with_effects_of}
 use Rattle.alias_effects.specs.declared.output.PassEnd.{PassEnd}
+use Rattle.alias_range_places.specs.Keeping.{but_context}
 use Rattle.alias_range_pass.specs.Passes.{range_pass}
 use Rattle.alias_range_pass.specs.Refusals.{has_apply}
 use Rattle.alias_nesting_laws.specs.Slots.{with_function}
@@ -31,6 +28,7 @@ use Rattle.alias_nested.specs.Created.{created_functions}
 use Rattle.alias_nested.specs.Slots.{emptied}
 use Rattle.alias_nested.specs.Units.{RootAnalysis, validated, root_analysed, all_analysed, UnitAnalysis, unit_analysed, InfersUnit}
 use Rattle.alias_nested.specs.declared.infer.Inferred.{Inferred}
+use Rattle.alias_nested.proofs.Evolving.{passed_contexts}
 use Rattle.alias_answer_laws.specs.Applies.{InstructionsLackApply, NestedLackApply, Leads}
 use Rattle.alias_answer_laws.specs.Avoiding.{is_unreplaced, Answered, avoids_then, avoids_naming, named_alike}
 use Rattle.alias_answer_laws.specs.FunctionLaws.{never_left, set_all, got_all, instructions_without_apply, RangesPlain, ranges_plain}
@@ -39,23 +37,17 @@ use Rattle.alias_answer_laws.specs.ValidationLaws.{Says, validated_says}
 
 -- ---- the environment after the effects pass
 
-read_lacks : (r : ContextRead) (fs : List HirFunction) (o : Option HirFunction) → slice_get fs r.function.0 ≡ o → AllByRecursion InstructionsLackApply fs
-    → AllByRecursion InstructionsLackApply (option_map_or (λ (f : HirFunction). slice_set fs r.function.0 (with_context_read r.place f)) o fs)
-read_lacks r fs None e h = h
-read_lacks r fs (Some f) e h = set_all InstructionsLackApply fs r.function.0 (with_context_read r.place f) (got_all InstructionsLackApply fs r.function.0 f e h) h
-
-reads_lack : (rs : List ContextRead) (fs : List HirFunction) → AllByRecursion InstructionsLackApply fs → AllByRecursion InstructionsLackApply (with_reads rs fs)
-reads_lack [] fs h = h
-reads_lack (r ∷ rs) fs h = reads_lack rs (with_read r fs) (read_lacks r fs (slice_get fs r.function.0) refl h)
-
-identified_lacks : (ts : List Temporary) (env : Environment) → NestedLackApply env → NestedLackApply (with_identifiers ts env)
-identified_lacks [] env h = h
-identified_lacks (t ∷ ts) env h = identified_lacks ts _ h
+lacks_alike : (fs gs : List HirFunction) → map but_context gs ≡ map but_context fs → AllByRecursion InstructionsLackApply fs → AllByRecursion InstructionsLackApply gs
+lacks_alike [] [] e h = tt
+lacks_alike [] (g ∷ gs) e h = cc
+lacks_alike (f ∷ fs) [] e h = cc
+lacks_alike (f ∷ fs) (g ∷ gs) e h =
+    let one : but_context g ≡ but_context f = cc in
+    let rest : map but_context gs ≡ map but_context fs = cc in
+    (subst InstructionsLackApply (sym one) h.0, lacks_alike fs gs rest h.1)
 
 after_lacks : (env : Environment) (e : PassEnd) → NestedLackApply env → NestedLackApply (env_after env e)
-after_lacks env e h =
-    let t = end_tables e in
-    reads_lack t.reads (with_identifiers t.temporaries env).functions (identified_lacks t.temporaries env h)
+after_lacks env e h = lacks_alike env.functions (env_after env e).functions (passed_contexts env e) h
 
 -- ---- nested functions
 
