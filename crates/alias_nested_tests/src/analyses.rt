@@ -16,23 +16,39 @@ use std::test::Fail;
 enum Analysis {
     /// There are so many solutions, and the logger was called so often.
     Done(usize, u32),
-    /// It stopped; the logger was called so often, and so many functions have a context and a summary.
-    Stopped(u32, usize, usize),
+    /// It stopped; the logger was called so often, and this is left in the slots.
+    Stopped(u32, Standing),
     /// The text is no unit that keeps the rules.
     NotChecked,
 }
 
-/// How many of the functions have context places, and how many a summary.
-fn standing(functions: &[HirFunction]) -> (usize, usize) {
-    let contexts = functions
+/// How many of the functions in their slots have context places, an instruction with effects, and a summary.
+#[derive(Clone, Copy, Debug, PartialEq, Eq)]
+struct Standing {
+    contexts: usize,
+    effects: usize,
+    summaries: usize,
+}
+
+fn has_effects(func: &HirFunction) -> bool {
+    func.instructions
+        .as_slice()
         .iter()
-        .filter(|func| func.context.len() > 0)
-        .count();
-    let summaries = functions
-        .iter()
-        .filter(|func| func.aliasing_effects.is_some())
-        .count();
-    (contexts, summaries)
+        .any(|instruction| instruction.effects.is_some())
+}
+
+fn standing_of(functions: &[HirFunction]) -> Standing {
+    Standing {
+        contexts: functions
+            .iter()
+            .filter(|func| func.context.len() > 0)
+            .count(),
+        effects: functions.iter().filter(|func| has_effects(func)).count(),
+        summaries: functions
+            .iter()
+            .filter(|func| func.aliasing_effects.is_some())
+            .count(),
+    }
 }
 
 /// What the analysis of the functions of a unit comes to, where these calls of passes fail.
@@ -47,22 +63,19 @@ fn analysed(alloc: Global, unit: Checked, fails: &[u64]) -> Result<Analysis, All
     let answer = analyse_functions_certified(alloc, &mut function, &mut env, &mut passes, &mut log);
     Ok(match answer {
         Ok(solved) => Analysis::Done(solved.len(), logged),
-        Err(_) => {
-            let (contexts, summaries) = standing(env.functions.as_slice());
-            Analysis::Stopped(logged, contexts, summaries)
-        }
+        Err(_) => Analysis::Stopped(logged, standing_of(env.functions.as_slice())),
     })
 }
 
 /// What is standing once the functions of a unit are analysed, with nothing handed out.
-fn summaries_left(alloc: Global, unit: Checked) -> Option<(usize, usize)> {
+fn standing_after(alloc: Global, unit: Checked) -> Option<Standing> {
     let Unit {
         mut function,
         mut env,
     } = unit.into_unit();
     let mut log = |_func: &HirFunction, _env: &Environment| {};
     match analyse_functions(alloc, &mut function, &mut env, &mut KeepAll, &mut log) {
-        Ok(()) => Some(standing(env.functions.as_slice())),
+        Ok(()) => Some(standing_of(env.functions.as_slice())),
         Err(_) => None,
     }
 }
@@ -90,16 +103,44 @@ fn logs_each_function(rt: HostRuntime) -> Result<(), Fail> {
     Ok(())
 }
 
+/// What is left where the analysis stops at a call of a pass.
+fn stopped_with(logged: u32, contexts: usize, effects: usize, summaries: usize) -> Analysis {
+    Analysis::Stopped(
+        logged,
+        Standing {
+            contexts,
+            effects,
+            summaries,
+        },
+    )
+}
+
 #[test]
 fn leaves_each_function_in_its_slot(rt: HostRuntime) -> Result<(), Fail> {
     let alloc = rt.alloc();
     assert_eq!(rt;
         analysis_of(alloc, TWO_LEVELS, &[2])?,
-        Analysis::Stopped(0, 2, 0)
+        stopped_with(0, 2, 1, 0)
     );
     assert_eq!(rt;
         analysis_of(alloc, TWO_LEVELS, &[4])?,
-        Analysis::Stopped(1, 2, 1)
+        stopped_with(1, 2, 2, 1)
+    );
+    Ok(())
+}
+
+#[test]
+fn leaves_what_is_behind_the_refused_function(rt: HostRuntime) -> Result<(), Fail> {
+    let alloc = rt.alloc();
+    for call in 1..4 {
+        assert_eq!(rt;
+            analysis_of(alloc, TWO_SIDE_BY_SIDE, &[call])?,
+            stopped_with(0, 2, 1, 0)
+        );
+    }
+    assert_eq!(rt;
+        analysis_of(alloc, TWO_SIDE_BY_SIDE, &[4])?,
+        stopped_with(1, 2, 2, 1)
     );
     Ok(())
 }
@@ -108,8 +149,12 @@ fn leaves_each_function_in_its_slot(rt: HostRuntime) -> Result<(), Fail> {
 fn hands_nothing_out(rt: HostRuntime) -> Result<(), Fail> {
     let alloc = rt.alloc();
     assert_eq!(rt;
-        checked(alloc, TWO_LEVELS).map(|unit| summaries_left(alloc, unit)),
-        Some(Some((2, 2)))
+        checked(alloc, TWO_LEVELS).map(|unit| standing_after(alloc, unit)),
+        Some(Some(Standing {
+            contexts: 2,
+            effects: 2,
+            summaries: 2
+        }))
     );
     Ok(())
 }
