@@ -26,9 +26,10 @@ use Rattle.alias_nested.specs.Created.{created_functions}
 use Rattle.alias_nested.specs.Settling.{settled}
 use Rattle.alias_nested.specs.Slots.{emptied}
 use Rattle.alias_nested.specs.Order.{created_by_slot, innermost_first, numbers}
+use Rattle.alias_nested.proofs.Changing.{slots_stay}
 use Rattle.alias_nested.proofs.Evolving.{passed_contexts}
-use Rattle.alias_nested.proofs.InOrder.{times_append}
-use Rattle.alias_order_laws.proofs.Staying.{created_recorded, created_ranged, ranged_contexts, slots_alike, count_alike}
+use Rattle.alias_nested.proofs.InOrder.{times_append, same_creates}
+use Rattle.alias_order_laws.proofs.Staying.{created_recorded, created_ranged, ranged_contexts, count_alike}
 
 -- ---- steps and lists
 
@@ -87,7 +88,7 @@ apart_rest fs out xs ys p = record {
 stands_alike : (fs : List HirFunction) (out : List ℕ) (env more : Environment) → map but_context more.functions ≡ map but_context env.functions → Stands fs out env → Stands fs out more
 stands_alike fs out env more same s = record {
   count = count_alike env.functions more.functions same ∙ s.count;
-  slots = λ k h. slots_alike env.functions more.functions same k ∙ s.slots k h;
+  slots = λ k h. same_creates (slice_get env.functions k) (slice_get more.functions k) (slots_stay env more same k) ∙ s.slots k h;
 }
 
 -- ---- the passes over a nested function

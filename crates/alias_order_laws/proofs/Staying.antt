@@ -33,7 +33,6 @@ use Rattle.alias_range_laws.specs.PlacedLaws.{function_keeps}
 use Rattle.alias_bare_laws.specs.BareIdentifiers.{flat_mapped, flat_same}
 use Rattle.alias_bare_laws.specs.BareParts.{value_creates}
 use Rattle.alias_nested.specs.Created.{one_of, created_by, created_functions}
-use Rattle.alias_nested.specs.Order.{created_by_slot}
 
 -- ---- functions that differ in what is inferred
 
@@ -118,14 +117,6 @@ module _ (f : HirFunction) (env : Environment) (r : Ranged) (h : range_pass true
       ap (λ (z : Ranged). map but_context z.after.1.functions) (sym p.2) ∙ ap (λ (e : Environment). e.functions) k.rest ∙ ap (map but_context) (silent_functions c p.0 env refl)
 
 -- ---- slots
-
--- slots whose functions differ in context places alone
-pub slots_alike : (fs gs : List HirFunction) → map but_context gs ≡ map but_context fs → (k : ℕ) → created_by_slot (slice_get gs k) ≡ created_by_slot (slice_get fs k)
-slots_alike [] [] h k = refl
-slots_alike [] (g ∷ gs) h k = cc
-slots_alike (f ∷ fs) [] h k = cc
-slots_alike (f ∷ fs) (g ∷ gs) h zero = let one : but_context g ≡ but_context f = cc in ap created_functions one
-slots_alike (f ∷ fs) (g ∷ gs) h (suc k) = let rest : map but_context gs ≡ map but_context fs = cc in slots_alike fs gs rest k
 
 pub count_alike : (fs gs : List HirFunction) → map but_context gs ≡ map but_context fs → length gs ≡ length fs
 count_alike fs gs h = sym (length-map gs but_context) ∙ ap length h ∙ length-map fs but_context
