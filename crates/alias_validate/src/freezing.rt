@@ -151,7 +151,7 @@ fn created_seen(
 }
 
 /// The marks after an instruction.
-fn mark_after(
+pub fn mark_after(
     alloc: Global,
     env: &Environment,
     lvalue: IdentifierId,
@@ -194,8 +194,8 @@ fn visit_operand(
     Ok(())
 }
 
-/// Reports of the marked operands that are frozen.
-fn visit_operands(
+/// Appends reports of the marked operands that are frozen.
+pub fn visit_operands(
     alloc: Global,
     env: &Environment,
     marks: &Marks<ContextMutation>,
@@ -223,8 +223,8 @@ fn visit_value_operands(
     visit_operands(alloc, env, marks, operands.as_slice(), reports)
 }
 
-/// The reports of an instruction.
-fn visit_value(
+/// Appends the reports of an instruction.
+pub fn visit_value(
     alloc: Global,
     env: &Environment,
     marks: &Marks<ContextMutation>,

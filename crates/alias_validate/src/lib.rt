@@ -2,14 +2,14 @@
 //! which functions that mutate locals are frozen.
 #![tactic(auto)]
 
-mod freezing;
-mod instruction_steps;
-mod marks;
-mod mutation;
-mod operand_marks;
-mod outcome;
+pub mod freezing;
+pub mod instruction_steps;
+pub mod marks;
+pub mod mutation;
+pub mod operand_marks;
+pub mod outcome;
 mod reassigning;
-mod reports;
+pub mod reports;
 
 pub use freezing::validate_no_freezing_known_mutable_functions;
 pub use reassigning::validate_locals_not_reassigned_after_render;
