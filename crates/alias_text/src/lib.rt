@@ -6,7 +6,7 @@ mod counts;
 pub mod detail;
 pub mod effects;
 pub mod functions;
-mod quoting;
+pub mod quoting;
 pub mod ranges;
 pub mod refusals;
 pub mod reports;

@@ -7,7 +7,7 @@ use serde_json::Value;
 use std::alloc::{AllocError, Global};
 
 /// The text as `serde_json` writes it.
-pub(crate) fn quoted(alloc: Global, text: &str) -> Result<Text, AllocError>
+pub fn quoted(alloc: Global, text: &str) -> Result<Text, AllocError>
     ensures { IfOk result (λ t. t ≡ quoted text.now) }
 {
     let value = Value::String(String::from_str(alloc, text)?);
