@@ -23,9 +23,9 @@ use Rattle.alias_flow.specs.Machine.{SolverState, VisitLog}
 use Rattle.alias_flow.specs.Solutions.{entry_at, RecordsSteps, KeepsOthers, IsForward}
 use Rattle.alias_effects.specs.FunctionFlow.{flow_of, successors_at, outcome_at}
 use Rattle.alias_block.specs.Contexts.{context_of}
-use Rattle.alias_effects.specs.Numbered.{Blocks, numbered, position_of, with_position, positions_of, edges_at, entry_position, step_at, tables_left}
+use Rattle.alias_effects.specs.Numbered.{Blocks, numbered, position_of, with_position, positions_of, edges_at, entry_position, step_at}
 use Rattle.alias_effects.specs.Inference.{entries_of, solved_of, instructions_recorded, terminal_recorded}
-use Rattle.alias_effects.specs.Solutions.{entry_state, IsSolved, effects_recorded, recorded_from, IsForwardFrom}
+use Rattle.alias_effects.specs.Solutions.{entry_state, IsSolvedUnder, effects_recorded, recorded_under, IsForwardFrom}
 use Rattle.alias_effects.specs.Positions.{IsAt}
 use Rattle.alias_effects.specs.PositionLaws.{found_has_position, some_is, position_is_at, at_position, at_value}
 use Rattle.alias_effects.proofs.Entering.{entered, has_entered, entries_in_order, KeepsRecorded, recorded_over}
@@ -145,7 +145,8 @@ entry_within (x ∷ xs) (suc n) s h = let r : n < length xs = entry_within xs n 
 
 -- ---- the two flows
 
-module _ (env : Environment) (func : HirFunction) (is_function_expression : Bool) (fits : Numbers func) where
+-- under any tables
+module _ (env : Environment) (func : HirFunction) (is_function_expression : Bool) (left : TableLists) (fits : Numbers func) where
   abbrev es : Blocks
   es = func.body.blocks
 
@@ -156,10 +157,6 @@ module _ (env : Environment) (func : HirFunction) (is_function_expression : Bool
   -- over positions
   abbrev under : Flow ℕ State TableLists BlockEffects BlockRefusal
   under = (numbered (context_of env func is_function_expression)).flow
-
-  -- the tables that the visits leave
-  abbrev left : TableLists
-  left = tables_left (context_of env func is_function_expression)
 
   edges_over : (n : ℕ) (b : BlockId) (x : BasicBlock) → slice_get es n ≡ Some (b, x) → over.edges b ≡ successors x.terminal
   edges_over n b x h = ap successors_at (at_value es n b x fits.distinct h)
@@ -297,14 +294,14 @@ module _ (env : Environment) (func : HirFunction) (is_function_expression : Bool
 
     recorded_case : (recorded : List (Option BlockEffects)) (n : ℕ) (b : BlockId) (x : BasicBlock) (o : Option State) → slice_get es n ≡ Some (b, x) → entry_at xs n ≡ o
         → RecordsSteps under left (entry_at xs) recorded → (entry_at xs n ≡ None → slice_index_or recorded n None ≡ None)
-        → slice_index_or recorded n None ≡ option_map (λ s. recorded_from env func is_function_expression (record { block = b; state = s })) o
+        → slice_index_or recorded n None ≡ option_map (λ s. recorded_under env func is_function_expression left (record { block = b; state = s })) o
     recorded_case recorded n b x None h i k z = z i
     recorded_case recorded n b x (Some s) h i k z =
         let r = k n s i in
         r.3 ∙ ap (λ o. Some (effects_recorded o)) (sym (steps_same n b x s h ∙ r.2))
 
     keeps_recorded : (recorded : List (Option BlockEffects)) → RecordsSteps under left (entry_at xs) recorded → KeepsOthers (entry_at xs) (replicate (length es) None) recorded
-        → KeepsRecorded (recorded_from env func is_function_expression) es xs recorded
+        → KeepsRecorded (recorded_under env func is_function_expression left) es xs recorded
     keeps_recorded recorded k z n e h =
         let h' : slice_get es n ≡ Some (e.0, e.1) = h in
         recorded_case recorded n e.0 e.1 (entry_at xs n) h' refl k (λ i. z n i ∙ get_or-replicate (length es) n None None (slice_get_within es n e h))
@@ -313,9 +310,9 @@ module _ (env : Environment) (func : HirFunction) (is_function_expression : Bool
   pub solved_over : (w : SolverState (VisitLog State) TableLists BlockEffects) → w.tables ≡ left → length w.progress.joined_input ≡ length es → length w.recorded ≡ length es
       → IsSolution state_below under left (entry_at w.progress.joined_input) → RecordsSteps under left (entry_at w.progress.joined_input) w.recorded → KeepsOthers (entry_at w.progress.joined_input) (replicate (length es) None) w.recorded
       → (IsForward (numbered (context_of env func is_function_expression)) → AreJoins state_below under StateProper left (entry_at w.progress.joined_input))
-      → IsSolved env func is_function_expression (solved_of func w)
+      → IsSolvedUnder env func is_function_expression left (solved_of func w)
   solved_over w tables_are long recorded_long sol k z joins =
-      let r = recorded_from env func is_function_expression in
+      let r = recorded_under env func is_function_expression left in
       let keeps = keeps_recorded w.progress.joined_input w.recorded k z in
       record {
         in_order = entries_in_order es w.progress.joined_input;

@@ -51,21 +51,29 @@ module _ (env : Environment) (func : HirFunction) (is_function_expression : Bool
   abbrev pub tables : TableLists
   tables = tables_left (context_of env func is_function_expression)
 
-  -- what the block of an entry records from its state
-  abbrev pub recorded_from : BlockEntry → BlockEffects
-  recorded_from e = effects_recorded (flow.step tables e.block e.state)
+  -- what the block of an entry records from its state under these tables
+  abbrev pub recorded_under : TableLists → BlockEntry → BlockEffects
+  recorded_under under e = effects_recorded (flow.step under e.block e.state)
 
-  -- the entry states solve the flow of the function under the tables that its visits leave, and what is handed out is of these tables, and what the blocks record from these states
-  pub record IsSolved (s : Solved) : Type 0 where
+  -- the same under the tables that the visits leave
+  abbrev pub recorded_from : BlockEntry → BlockEffects
+  recorded_from = recorded_under tables
+
+  -- the entry states solve the flow of the function under these tables, and what is handed out is of these tables, and what the blocks record from these states
+  pub record IsSolvedUnder (under : TableLists) (s : Solved) : Type 0 where
     -- entry states stand in the stored order of their blocks
     pub in_order : IsSubsequence (map (λ (e : BlockEntry). e.block) s.entries) (keys_of func.body.blocks)
     -- each reached block has one, the initial state is below the entry's, and each block steps to a state below that of each successor
-    pub solution : IsSolution state_below flow tables (entry_state s.entries)
+    pub solution : IsSolution state_below flow under (entry_state s.entries)
     -- the first effects and the temporaries are those of these tables
-    pub first : s.first ≡ tables.first
-    pub temporaries : s.temporaries ≡ tables.temporaries
+    pub first : s.first ≡ under.first
+    pub temporaries : s.temporaries ≡ under.temporaries
     -- the effects are those that the steps record
-    pub effects : s.effects ≡ flat_map (λ (e : BlockEntry). (recorded_from e).instructions) s.entries
-    pub terminal_effects : s.terminal_effects ≡ flat_map (λ (e : BlockEntry). (recorded_from e).terminal) s.entries
+    pub effects : s.effects ≡ flat_map (λ (e : BlockEntry). (recorded_under under e).instructions) s.entries
+    pub terminal_effects : s.terminal_effects ≡ flat_map (λ (e : BlockEntry). (recorded_under under e).terminal) s.entries
     -- in a forward function each entry state is the join of what arrives
-    pub joins : IsForward func flow.edges → AreJoins state_below flow StateProper tables (entry_state s.entries)
+    pub joins : IsForward func flow.edges → AreJoins state_below flow StateProper under (entry_state s.entries)
+
+  -- they solve it under the tables that its visits leave
+  abbrev pub IsSolved : Solved → Type 0
+  IsSolved s = IsSolvedUnder tables s

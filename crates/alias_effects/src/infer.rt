@@ -1,7 +1,7 @@
 //! The effects pass over a function.
 ghost use Rattle.std.specs.List.{IsDistinct};
 ghost use Rattle.std.specs.Map.{keys_of};
-ghost use Rattle.std.specs.Prelude.{◌≡◌, true, None, IfOk, OnErr, length, replicate};
+ghost use Rattle.std.specs.Prelude.{◌≡◌, true, IfOk, OnOk, OnErr, length};
 ghost use Rattle.alias_base.specs.Answer.{Gives};
 ghost use Rattle.alias_base.specs.Find.{same_block};
 ghost use Rattle.alias_hir.specs.Errors.{is_memory};
@@ -13,13 +13,13 @@ ghost use Rattle.alias_write_back.specs.WriteBack.{tables_of as tables_begun};
 ghost use Rattle.alias_block.specs.Contexts.{context_of, held};
 ghost use Rattle.alias_effects.specs.Faults.{GivesInto};
 ghost use Rattle.alias_effects.specs.Output.{last_visits, VisitsEnd};
-ghost use Rattle.alias_effects.specs.Inference.{pass_end, inferred, env_inferred, effects_inferred};
+ghost use Rattle.alias_effects.specs.Inference.{pass_end, inferred, env_after, env_inferred, effects_inferred};
 ghost use Rattle.alias_effects.specs.Numbered.{numbered};
 ghost use Rattle.alias_effects.specs.Recording.{with_effects_of};
 ghost use Rattle.alias_effects.specs.Solutions.{IsSolved};
 
 use crate::output::{LastVisits, PassEnd, all_recorded, end_of};
-use crate::pass::EffectsPass;
+use crate::pass::EffectsFlow;
 use crate::recording::{record_instructions, record_terminals};
 use crate::refused::unsolved;
 use crate::solved::Solved;
@@ -34,38 +34,6 @@ use alias_tables::TableParts;
 use alias_write_back::write_back::{tables_of, write_back};
 use std::alloc::{AllocError, Global};
 
-/// The pass over the function, of which nothing is visited yet.
-fn pass_over<'a>(
-    alloc: Global,
-    func: &'a HirFunction,
-    env: &'a Environment,
-    facts: &'a FunctionFacts,
-    is_function_expression: bool,
-) -> Result<EffectsPass<'a>, AllocError>
-    requires fits { function_fits func.now env.now ≡ true }
-    requires facts { facts.now ≡ facts_of func.now env.now }
-    ensures rules { IfOk result (λ pass. numbered (held pass.context) ≡ numbered (context_of env.now func.now is_function_expression)) }
-    ensures tables { IfOk result (λ pass. pass.tables ≡ tables_begun env.now) }
-    ensures recorded { IfOk result (λ pass. pass.recorded.items ≡ replicate (length func.now.body.blocks) None) }
-    ensures distinct { IfOk result (λ _. IsDistinct same_block (keys_of func.now.body.blocks)) }
-{
-    let count = func.body.blocks.len();
-    if count > u32::MAX as usize {
-        return Err(AllocError);
-    }
-    Ok(EffectsPass {
-        alloc,
-        context: BlockContext {
-            env,
-            func,
-            facts,
-            is_function_expression,
-        },
-        tables: tables_of(alloc, env)?,
-        recorded: nothing_yet(alloc, count as u32)?,
-    })
-}
-
 /// The solution of the function of which these facts are known.
 fn solved_with(
     alloc: Global,
@@ -79,9 +47,9 @@ fn solved_with(
     ensures answer { Gives is_memory (pass_end env.now func.now is_function_expression) result }
     ensures solves { IfOk result (λ e. IsSolved env.now func.now is_function_expression e.solved) }
 {
-    let mut pass = pass_over(alloc, func, env, facts, is_function_expression)?;
+    let mut pass = EffectsFlow::new(alloc, func, env, facts, is_function_expression)?;
     let answer = solve(alloc, &mut pass);
-    let EffectsPass {
+    let EffectsFlow {
         tables,
         recorded,
         ..
@@ -108,7 +76,7 @@ fn solved(
 }
 
 /// Visits the blocks until nothing is dirty, with no entry state kept where all edges go forward.
-fn visit_all(alloc: Global, pass: &mut EffectsPass<'_>) -> Result<(), SolveFault<BlockRefusal>>
+fn visit_all(alloc: Global, pass: &mut EffectsFlow<'_>) -> Result<(), SolveFault<BlockRefusal>>
     ensures { VisitsEnd (solution state_join state_below (numbered (held pass.old.context)) pass.old.tables pass.old.recorded.items) result pass.new.tables pass.new.recorded.items }
 {
     if is_forward(&*pass)? {
@@ -130,9 +98,9 @@ fn last_visits_with(
     requires facts { facts.now ≡ facts_of func.now env.now }
     ensures { Gives is_memory (last_visits env.now func.now is_function_expression) result }
 {
-    let mut pass = pass_over(alloc, func, env, facts, is_function_expression)?;
+    let mut pass = EffectsFlow::new(alloc, func, env, facts, is_function_expression)?;
     let answer = visit_all(alloc, &mut pass);
-    let EffectsPass {
+    let EffectsFlow {
         tables,
         recorded,
         ..
@@ -194,6 +162,33 @@ pub fn infer_effects_certified(
         reports,
         reads,
     } = solved(alloc, func, env, is_function_expression)?;
+    let instructions = solved.effects.try_clone(alloc)?;
+    let terminal = solved.terminal_effects.try_clone(alloc)?;
+    let temporaries = solved.temporaries.as_slice();
+    write_back(alloc, env, temporaries, reports, reads.as_slice())?;
+    record_instructions(&mut func.instructions, instructions);
+    record_terminals(&mut func.body.blocks, terminal);
+    Ok(solved)
+}
+
+/// The instructions and terminals of the function carry what was recorded of them, and the environment takes over what the
+/// tables hold. An `Err` leaves both unchanged.
+pub fn leave(
+    alloc: Global,
+    func: &mut HirFunction,
+    env: &mut Environment,
+    end: PassEnd,
+) -> Result<Solved, AllocError>
+    ensures solved { IfOk result (λ s. s ≡ end.solved) }
+    ensures func { OnOk result (func.new ≡ with_effects_of end.solved func.old) }
+    ensures env { OnOk result (env.new ≡ env_after env.old end) }
+    ensures err { OnErr result ((func.new ≡ func.old) × (env.new ≡ env.old)) }
+{
+    let PassEnd {
+        solved,
+        reports,
+        reads,
+    } = end;
     let instructions = solved.effects.try_clone(alloc)?;
     let terminal = solved.terminal_effects.try_clone(alloc)?;
     let temporaries = solved.temporaries.as_slice();

@@ -4,11 +4,14 @@
 
 mod infer;
 pub mod output;
-mod pass;
+pub mod pass;
 mod recording;
-mod refused;
+pub mod refused;
 pub mod solved;
 
 pub use alias_block::{InstructionEffects, TerminalEffects};
-pub use infer::{infer_effects_certified, infer_mutation_aliasing_effects};
+pub use infer::{infer_effects_certified, infer_mutation_aliasing_effects, leave};
+pub use output::PassEnd;
+pub use pass::{EffectsFlow, Recording};
+pub use refused::refusal;
 pub use solved::{BlockEntry, Solved};

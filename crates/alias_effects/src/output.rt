@@ -16,11 +16,11 @@ use std::alloc::{AllocError, Global};
 /// How a pass ends where it hands a solution out: the solution, and what else the tables have.
 #[derive(Drop)]
 pub struct PassEnd {
-    pub(crate) solved: Solved,
+    pub solved: Solved,
     /// All reports that are interned.
-    pub(crate) reports: InternedReports,
+    pub reports: InternedReports,
     /// The context places that are only read.
-    pub(crate) reads: List<ContextRead>,
+    pub reads: List<ContextRead>,
 }
 
 /// How a pass ends where it hands nothing out.

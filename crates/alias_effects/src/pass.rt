@@ -1,36 +1,51 @@
 //! The effects pass as a flow over the positions of blocks.
-ghost use Rattle.std.specs.Prelude.{◌≡◌, ◌<◌, ◌^◌, true, ℕ, IfOk, length, is_some, List, Option, vec_len};
+ghost use Rattle.std.specs.List.{IsDistinct};
+ghost use Rattle.std.specs.Map.{keys_of};
+ghost use Rattle.std.specs.Prelude.{◌≡◌, ◌<◌, ◌^◌, true, ℕ, None, IfOk, length, is_some, List, Option, option_map, replicate, slice_index_or, vec_len};
 ghost use Rattle.std.proofs.Common.{sym, ◌∙◌};
 ghost use Rattle.std.specs.Borrow.{Bor};
-ghost use Rattle.alias_base.specs.Find.{value_at};
+ghost use Rattle.alias_base.specs.Find.{same_block, value_at};
 ghost use Rattle.alias_hir.specs.declared.env.Environment.{Environment};
 ghost use Rattle.alias_hir.specs.declared.hir.HirFunction.{HirFunction};
 ghost use Rattle.alias_facts.specs.declared.facts.FunctionFacts.{FunctionFacts};
+ghost use Rattle.alias_facts.specs.Facts.{function_facts as facts_of};
+ghost use Rattle.alias_rules.specs.Fitting.{function_fits};
 ghost use Rattle.alias_tables.specs.GrowingLaws.{Extends};
-ghost use Rattle.alias_tables.specs.Tables.{TableLists};
+ghost use Rattle.alias_tables.specs.Tables.{TableLists, Leaves, temporary};
+ghost use Rattle.alias_write_back.specs.WriteBack.{tables_of as tables_begun};
 ghost use Rattle.alias_block.specs.declared.faults.BlockRefusal.{BlockRefusal};
 ghost use Rattle.alias_block.specs.declared.recorded.BlockEffects.{BlockEffects};
-ghost use Rattle.alias_block.specs.Contexts.{held};
+ghost use Rattle.alias_block.specs.Contexts.{context_of, held};
 ghost use Rattle.alias_effects.specs.Numbered.{positions_of, entry_position, numbered};
 ghost use Rattle.alias_effects.specs.Faults.{step_fault};
+ghost use Rattle.alias_effects.specs.Inference.{end_of};
+ghost use Rattle.alias_effects.specs.Output.{solver_state_with};
 ghost use Rattle.alias_effects.specs.PassLaws.{pass_laws};
 
-use alias_base::{BlockId, BlockMap};
+use crate::output::{PassEnd, end_of};
+use alias_base::{BlockId, BlockMap, List};
 use alias_block::{
     BlockContext, BlockEffects, BlockFault, BlockRefusal, infer_block, initial_state,
 };
-use alias_flow::{Flow, StepFault};
+use alias_facts::FunctionFacts;
+use alias_flow::{Flow, Solution, StepFault, nothing_yet};
+use alias_hir::effect::{AliasingEffect, AliasingEffects};
+use alias_hir::env::Environment;
 use alias_hir::hir::{BasicBlock, HirFunction};
+use alias_hir::interned::InternedReports;
+use alias_hir::place::Place;
 use alias_hir::successors::terminal_successors;
 use alias_lattice::InferenceState;
-use alias_tables::Tables;
+use alias_tables::{ContextRead, EffectFault, TableParts, Tables, TempKey, Temporaries, Temporary};
+use alias_write_back::write_back::tables_of;
 use smallvec::SmallVec;
 use std::alloc::{AllocError, Global};
 use std::mem;
 
-/// The pass over a function, with what the last visit of each block recorded.
+/// The effects pass over a function as a flow over the positions of its blocks, with its tables, and with what the last step of
+/// each block recorded.
 #[derive(Drop)]
-pub(crate) struct EffectsPass<'a> {
+pub struct EffectsFlow<'a> {
     pub(crate) alloc: Global,
     pub(crate) context: BlockContext<'a>,
     pub(crate) tables: Tables,
@@ -78,7 +93,134 @@ fn step_fault(fault: BlockFault) -> StepFault<BlockRefusal>
     }
 }
 
-impl<'a> Flow for EffectsPass<'a> {
+/// What a flow leaves: what the last step of each block recorded, and what its tables hold.
+#[derive(Drop)]
+pub struct Recording {
+    /// What the last step of each block recorded, in stored order; `None` where there was none.
+    pub blocks: Vec<Option<BlockEffects>>,
+    /// The first effect of each key.
+    pub first: AliasingEffects,
+    pub temporaries: Temporaries,
+    /// All reports that are interned.
+    pub reports: InternedReports,
+    /// The context places that are only read.
+    pub reads: List<ContextRead>,
+}
+
+impl<'a> EffectsFlow<'a> {
+    /// The flow of the function of which these facts are known. Nothing is stepped yet, and its tables have the reports of the
+    /// environment alone. The one error is want of memory, which comes too where the function has 2^32 blocks or more.
+    pub fn new(
+        alloc: Global,
+        func: &'a HirFunction,
+        env: &'a Environment,
+        facts: &'a FunctionFacts,
+        is_function_expression: bool,
+    ) -> Result<EffectsFlow<'a>, AllocError>
+        requires fits { function_fits func.now env.now ≡ true }
+        requires facts { facts.now ≡ facts_of func.now env.now }
+        ensures rules { IfOk result (λ flow. numbered (held flow.context) ≡ numbered (context_of env.now func.now is_function_expression)) }
+        ensures env { IfOk result (λ flow. flow.context.env.now ≡ env.now) }
+        ensures func { IfOk result (λ flow. flow.context.func.now ≡ func.now) }
+        ensures tables { IfOk result (λ flow. flow.tables ≡ tables_begun env.now) }
+        ensures recorded { IfOk result (λ flow. flow.recorded.items ≡ replicate (length func.now.body.blocks) None) }
+        ensures distinct { IfOk result (λ _. IsDistinct same_block (keys_of func.now.body.blocks)) }
+    {
+        let count = func.body.blocks.len();
+        if count > u32::MAX as usize {
+            return Err(AllocError);
+        }
+        Ok(EffectsFlow {
+            alloc,
+            context: BlockContext {
+                env,
+                func,
+                facts,
+                is_function_expression,
+            },
+            tables: tables_of(alloc, env)?,
+            recorded: nothing_yet(alloc, count as u32)?,
+        })
+    }
+
+    /// The place of the key's temporary, which steps find afterwards. Where there is none, it gets the next number, and no span.
+    pub fn temporary(&mut self, key: TempKey) -> Result<Place, EffectFault>
+        ensures context { self.new.context ≡ self.old.context }
+        ensures recorded { self.new.recorded.items ≡ self.old.recorded.items }
+        ensures place { Leaves (temporary self.old.context.env.now key None self.old.tables) result self.new.tables }
+    {
+        let env = self.context.env;
+        self.tables.temporary(env, key, None)
+    }
+
+    /// What the last step of the block recorded, if there was one.
+    pub fn recorded(&self, block: u32) -> Option<&BlockEffects>
+        ensures { option_map (λ effects. effects.now) result ≡ slice_index_or self.now.recorded.items block None }
+    {
+        match self.recorded.get(block as usize) {
+            Some(Some(effects)) => Some(effects),
+            _ => None,
+        }
+    }
+
+    /// The first effect of each key, in order.
+    pub fn first(&self) -> &[AliasingEffect]
+        ensures { result.now ≡ self.now.tables.first }
+    {
+        self.tables.first()
+    }
+
+    /// The temporaries, in order.
+    pub fn temporaries(&self) -> &[Temporary]
+        ensures { result.now ≡ self.now.tables.temporaries }
+    {
+        self.tables.temporaries()
+    }
+
+    /// What the flow leaves, by value. Takes no memory.
+    pub fn into_recorded(self) -> Recording
+        ensures blocks { result.blocks.items ≡ self.entry.recorded.items }
+        ensures first { result.first ≡ self.entry.tables.first }
+        ensures temporaries { result.temporaries ≡ self.entry.tables.temporaries }
+        ensures reports { result.reports ≡ self.entry.tables.reports }
+        ensures reads { result.reads ≡ self.entry.tables.reads }
+    {
+        let EffectsFlow {
+            tables,
+            recorded,
+            ..
+        } = self;
+        let TableParts {
+            first,
+            temporaries,
+            reports,
+            reads,
+        } = tables.into_parts();
+        Recording {
+            blocks: recorded,
+            first,
+            temporaries,
+            reports,
+            reads,
+        }
+    }
+
+    /// What is handed out where these entry states, one for each block or none, solve the flow.
+    pub fn into_end(self, solution: Solution<InferenceState>) -> Result<PassEnd, AllocError>
+        requires { length solution.entries ≡ length self.context.func.now.body.blocks }
+        ensures { IfOk result (λ e. e ≡ end_of self.entry.context.func.now (solver_state_with solution self.entry.tables self.entry.recorded.items)) }
+    {
+        let EffectsFlow {
+            alloc,
+            context,
+            tables,
+            recorded,
+        } = self;
+        end_of(alloc, context.func, solution, tables, recorded)
+    }
+}
+
+impl<'a> Flow for EffectsFlow<'a> {
     type State = InferenceState;
 
     type Fault = BlockRefusal;

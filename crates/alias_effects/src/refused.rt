@@ -43,7 +43,8 @@ fn instruction_refusal(instruction: InstructionId, refusal: Refusal) -> InferErr
     }
 }
 
-fn refusal(
+/// The refusal of a step of the block, as one of the root function. The one error is want of memory.
+pub fn refusal(
     alloc: Global,
     env: &Environment,
     block: BlockId,

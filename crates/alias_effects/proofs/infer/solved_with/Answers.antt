@@ -40,7 +40,7 @@ returns-in_ok-end_of-in-Ok-clause-solves c =
     ∙ ap (λ k. solution state_join state_below (numbered context) (tables_of env) k) begun.recorded) ∙ ending.1 in
     let left : flow.tables ≡ tables_left context = ending.4 ∙ sym (ap (tables_at (tables_of env)) whole) in
     subst (λ (p : PassEnd). IsSolved env func e p.solved) (sym c.in_ok-end_of-in-Ok.ensures)
-    (solved_over env func e fits (solver_state_with c.in-Ok.solution flow.tables recorded.items) left (said.count ∙ ap (λ r. r.blocks) before) long
+    (solved_over env func e (tables_left context) fits (solver_state_with c.in-Ok.solution flow.tables recorded.items) left (said.count ∙ ap (λ r. r.blocks) before) long
     (subst (λ t. IsSolution state_below (numbered context).flow t (entry_at entries)) left (subst (λ r. IsSolution state_below r.flow flow.tables (entry_at entries)) now said.solves))
     (subst (λ t. RecordsSteps (numbered context).flow t (entry_at entries) recorded.items) left (subst (λ r. RecordsSteps r.flow flow.tables (entry_at entries) recorded.items) now said.keeps))
     (subst (λ k. KeepsOthers (entry_at entries) k recorded.items) begun.recorded said.others)
