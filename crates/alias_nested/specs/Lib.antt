@@ -7,3 +7,4 @@ pub mod Settling
 pub mod Slots
 pub mod Units
 pub mod Roots
+pub mod Finishing

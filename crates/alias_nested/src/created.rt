@@ -35,10 +35,7 @@ fn push_all_created(
 }
 
 /// The functions that a function creates: its blocks in stored order, the instructions of each in order.
-pub(crate) fn created_functions(
-    alloc: Global,
-    func: &HirFunction,
-) -> Result<List<FunctionId>, AllocError>
+pub fn created_functions(alloc: Global, func: &HirFunction) -> Result<List<FunctionId>, AllocError>
     ensures { IfOk result (λ ids. ids ≡ created_functions func.now) }
 {
     let mut found = List::new(alloc);

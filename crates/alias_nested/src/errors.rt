@@ -8,7 +8,7 @@ use alias_hir::error::{InferError, Pass};
 use alias_inner_passes::PassStop;
 
 /// The refusal of a function of this number.
-pub(crate) fn named(id: FunctionId, error: InferError) -> InferError
+pub fn named(id: FunctionId, error: InferError) -> InferError
     ensures { result ≡ named id error }
 {
     let function = Some(id);

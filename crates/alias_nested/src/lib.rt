@@ -2,12 +2,14 @@
 #![tactic(auto)]
 
 pub mod analyse;
-mod created;
-mod errors;
+pub mod created;
+pub mod errors;
+pub mod finish;
 mod function;
 pub mod infer;
 mod settling;
-mod slots;
+pub mod slots;
 
 pub use analyse::{analyse_functions, analyse_functions_certified};
+pub use finish::finish_function;
 pub use infer::{Inferred, infer_unit};

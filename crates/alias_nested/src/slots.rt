@@ -31,7 +31,7 @@ fn emptied(alloc: Global, returns: Place) -> HirFunction
 }
 
 /// Takes the function of the number out of its slot, where an empty one stands meanwhile. Takes no memory.
-pub(crate) fn take_out(alloc: Global, id: FunctionId, env: &mut Environment) -> HirFunction
+pub fn take_out(alloc: Global, id: FunctionId, env: &mut Environment) -> HirFunction
     requires { id.0 < length env.old.functions }
     ensures func { slice_get env.old.functions id.0 ≡ Some result }
     ensures env { env.new ≡ with_function id (emptied result.returns) env.old }
@@ -42,7 +42,7 @@ pub(crate) fn take_out(alloc: Global, id: FunctionId, env: &mut Environment) -> 
 }
 
 /// Puts a function into the slot of the number.
-pub(crate) fn put_back(id: FunctionId, func: HirFunction, env: &mut Environment)
+pub fn put_back(id: FunctionId, func: HirFunction, env: &mut Environment)
     requires { id.0 < length env.old.functions }
     ensures { env.new ≡ with_function id func env.old }
 {
