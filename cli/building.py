@@ -1,0 +1,216 @@
+"""Proves and builds the program: crates side by side, as far as they don't stand on each other.
+
+One checkout lets one proof go on at a time, since each run locks the crates below its own. So several copies of the sources are proved
+side by side, which take from each other what one of them has proved; this is a matter of the kit. The copies stand outside the
+repository, and go when the program is built; where a build is interrupted they stay, and the next one goes on from there."""
+import fcntl
+import hashlib
+import os
+import shutil
+import signal
+import subprocess
+import sys
+import tempfile
+import threading
+import time
+
+from cli.sources import BUILT, CRATES, HERE, OUT, PARTS, PROGRAM, STAMP, crates_in_order, digest, is_built, stands_on
+
+SILENCE = 8  # seconds until the next line of progress
+WORKERS = max(1, min(4, len(os.sched_getaffinity(0))))
+
+
+def say(line):
+    print('jirrambeo: ' + line, file=sys.stderr, flush=True)
+
+
+def minutes(seconds):
+    return '%d:%02d' % (seconds // 60, seconds % 60)
+
+
+def kit_shares():
+    """Whether copies of a repository take from each other what was proved: kits that can prove crates by name do."""
+    told = subprocess.run(['rt', 'help'], stdout=subprocess.PIPE, stderr=subprocess.STDOUT, check=False).stdout
+    return b'rt ci NAME' in told
+
+
+class Copies:
+    """Copies of the sources, one for each worker. With a single worker it is the repository itself."""
+
+    def __init__(self, names, count):
+        name = 'jirrambeo-%s' % hashlib.sha256(os.fsencode(HERE)).hexdigest()[:16]
+        self.top = os.path.join(tempfile.gettempdir(), name)
+        self.tops = [HERE] if count == 1 else [os.path.join(self.top, str(number)) for number in range(count)]
+        for top in self.tops:
+            if top != HERE:
+                self.fill(top, names)
+
+    @staticmethod
+    def fill(top, names):
+        """Makes the copy's sources those of the repository, and leaves what was proved in it."""
+        os.makedirs(os.path.join(top, 'crates'), exist_ok=True)
+        for file in ('HANDLES', 'crates.txt'):
+            shutil.copyfile(os.path.join(HERE, file), os.path.join(top, file))
+        with open(os.path.join(top, 'crates.txt'), 'w', encoding='utf-8') as lines:
+            with open(os.path.join(HERE, 'crates.txt'), encoding='utf-8') as all_lines:
+                lines.writelines(line for line in all_lines if line.partition(':')[0].split()[:1] in [[name] for name in names])
+        for name in names:
+            for part in PARTS:
+                source, copy = os.path.join(CRATES, name, part), os.path.join(top, 'crates', name, part)
+                shutil.rmtree(copy, ignore_errors=True)
+                if os.path.isdir(source):
+                    shutil.copytree(source, copy)
+
+    def remove(self):
+        shutil.rmtree(self.top, ignore_errors=True)
+
+
+class Build:
+    """A build that goes on: which crates are proved, which are being proved, and which failed."""
+
+    def __init__(self, names):
+        self.names, self.begun = names, time.monotonic()
+        below = stands_on()
+        self.below = {name: [low for low in below[name] if low in names] for name in names}
+        self.proved, self.running, self.failed = set(), {}, []
+        self.changed = threading.Condition()
+        self.heights = {}
+
+    def height(self, name):
+        """How many crates stand on each other above this one, at most: the longest chain goes first."""
+        if name not in self.heights:
+            above = [other for other in self.names if name in self.below[other]]
+            self.heights[name] = 1 + max((self.height(other) for other in above), default=0)
+        return self.heights[name]
+
+    def next_crate(self):
+        """A crate that can be proved now, or None where no more will be."""
+        with self.changed:
+            while not self.failed:
+                left = [name for name in self.names if name not in self.proved and name not in self.running]
+                ready = [name for name in left if all(low in self.proved for low in self.below[name])]
+                if ready:
+                    name = max(ready, key=self.height)
+                    alone = len(ready) == 1 and not self.running
+                    self.running[name] = None
+                    return name, (WORKERS if alone else 1)
+                if not left:
+                    return None
+                self.changed.wait()
+            return None
+
+    def prove(self, top, name, jobs):
+        """Proves one crate in a copy, and answers whether that was done. The program is built by this too."""
+        folder = os.path.join(top, 'crates', name)
+        os.makedirs(os.path.join(folder, 'out'), exist_ok=True)
+        command = ['rt', 'check' if name == PROGRAM else 'lib', '--jobs', str(jobs)]
+        os.makedirs(os.path.join(CRATES, name, 'out'), exist_ok=True)
+        with open(os.path.join(CRATES, name, 'out', 'build.log'), 'wb') as log:
+            process = subprocess.Popen(command, cwd=folder, stdin=subprocess.DEVNULL, stdout=log, stderr=subprocess.STDOUT,
+                                       start_new_session=True)
+            with self.changed:
+                self.running[name] = process
+            return process.wait() == 0
+
+    def work(self, top):
+        while (found := self.next_crate()) is not None:
+            name, jobs = found
+            done = self.prove(top, name, jobs)
+            with self.changed:
+                del self.running[name]
+                if done:
+                    self.proved.add(name)
+                else:
+                    self.failed.append(name)
+                self.changed.notify_all()
+
+    def tell(self):
+        say('%d of %d crates proved, %s; at %s' % (len(self.proved), len(self.names), minutes(int(time.monotonic() - self.begun)),
+                                                  ' '.join(sorted(self.running)) or 'no other'))
+
+    def stop(self):
+        with self.changed:
+            self.failed.append('')
+            for process in self.running.values():
+                if process is not None and process.poll() is None:
+                    os.killpg(process.pid, signal.SIGTERM)
+            self.changed.notify_all()
+
+    def run(self, tops):
+        """Proves all crates, one worker a copy. Answers whether that was done."""
+        workers = [threading.Thread(target=self.work, args=(top,)) for top in tops]
+        for worker in workers:
+            worker.start()
+        said = 0.0
+        try:
+            while any(worker.is_alive() for worker in workers):
+                if time.monotonic() - said > SILENCE:
+                    self.tell()
+                    said = time.monotonic()
+                time.sleep(0.1)
+        finally:
+            if any(worker.is_alive() for worker in workers):
+                self.stop()
+            for worker in workers:
+                worker.join()
+        return not self.failed
+
+
+def link(names):
+    """Builds the program in the repository, from what was proved. Answers whether that was done."""
+    with open(os.path.join(OUT, 'build.log'), 'ab') as log:
+        subprocess.run(['rt', 'run', '--', '--version'], cwd=os.path.join(CRATES, PROGRAM), stdin=subprocess.DEVNULL, stdout=log,
+                       stderr=subprocess.STDOUT, check=False)
+    return os.access(BUILT, os.X_OK)
+
+
+def build(names, wanted):
+    """Proves and builds the program. Answers whether it stands, built from the sources of the digest."""
+    if shutil.which('rt') is None:
+        say('the command rt of the Rattle kit is not there: see README.md')
+        return False
+    say('proving and building the program, which takes some 30 minutes the first time on four processors')
+    for path in (STAMP, BUILT):
+        if os.path.exists(path):
+            os.remove(path)
+    copies = Copies(names, WORKERS if kit_shares() else 1)
+    going = Build(names)
+    if not going.run(copies.tops):
+        for name in going.failed:
+            say('%s was not proved: see crates/%s/out/build.log' % (name, name))
+        return False
+    if not link(names):
+        say('the program was not built: see crates/%s/out/build.log' % PROGRAM)
+        return False
+    if digest(names) != wanted:
+        say('the sources changed while they were built: call again')
+        return False
+    with open(STAMP, 'w', encoding='ascii') as stamp:
+        stamp.write(wanted)
+    copies.remove()
+    return True
+
+
+def lock_of(file):
+    """Takes the lock on the build, and says now and then that it waits."""
+    begun = said = time.monotonic()
+    while True:
+        try:
+            return fcntl.flock(file, fcntl.LOCK_EX | fcntl.LOCK_NB)
+        except BlockingIOError:
+            if said == begun or time.monotonic() - said > SILENCE:
+                say('another call is building, %s' % minutes(int(time.monotonic() - begun)))
+                said = time.monotonic()
+            time.sleep(0.1)
+
+
+def make_ready():
+    """Whether the program stands in the end, built from the sources that are there, by this call or another."""
+    names = crates_in_order()
+    if is_built(digest(names)):
+        return True
+    os.makedirs(OUT, exist_ok=True)
+    with open(os.path.join(OUT, 'build.lock'), 'w', encoding='ascii') as file:
+        lock_of(file)
+        wanted = digest(names)
+        return is_built(wanted) or build(names, wanted)

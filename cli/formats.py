@@ -1,0 +1,58 @@
+"""Reports as JSON, one object a line, and as a SARIF 2.1.0 log."""
+import json
+
+VERSION = '0.1.0'
+SCHEMA = 'https://json.schemastore.org/sarif-2.1.0.json'
+
+
+def place_in(source, label):
+    """The lines and columns of a label, from 1, where it is a span of the source."""
+    span = source.span(label.start, label.end) if source else None
+    if span is None:
+        return {}
+    (line, column), (end_line, end_column) = span
+    return {'startLine': line + 1, 'startColumn': column + 1, 'endLine': end_line + 1, 'endColumn': end_column + 1}
+
+
+def object_of(lint, source):
+    labels = [{'start': label.start, 'end': label.end, 'text': label.text, **place_in(source, label)} for label in lint.labels]
+    made = {'category': lint.category, 'message': lint.message, 'help': lint.help, 'labels': labels,
+            'function': lint.function, 'block': lint.block, 'instruction': lint.instruction}
+    if source:
+        made['file'] = source.name
+    return made
+
+
+def json_lines(lints, source):
+    """One object a report."""
+    return [json.dumps(object_of(lint, source), ensure_ascii=False) for lint in lints]
+
+
+def location(label, source, with_message):
+    region = {**place_in(source, label), 'byteOffset': label.start, 'byteLength': label.end - label.start}
+    if source and source.encoding != 'utf-8':
+        del region['byteOffset'], region['byteLength']
+    made = {'physicalLocation': {'artifactLocation': {'uri': source.name if source else 'unknown'}, 'region': region}}
+    if with_message and label.text:
+        made['message'] = {'text': label.text}
+    return made
+
+
+def result(lint, source):
+    """The result of a report: its first label is its location, and the others are related."""
+    text = lint.message + ('\n' + lint.help if lint.help else '')
+    made = {'ruleId': lint.category, 'level': 'error', 'message': {'text': text},
+            'properties': {'function': lint.function, 'block': lint.block, 'instruction': lint.instruction}}
+    if lint.labels:
+        made['locations'] = [location(lint.labels[0], source, True)]
+    if lint.labels[1:]:
+        made['relatedLocations'] = [{'id': number, **location(label, source, True)} for number, label in enumerate(lint.labels[1:])]
+    return made
+
+
+def sarif(lints, source):
+    """The log of one run."""
+    rules = [{'id': name, 'shortDescription': {'text': name}} for name in sorted({lint.category for lint in lints})]
+    run = {'tool': {'driver': {'name': 'jirrambeo', 'version': VERSION, 'rules': rules}}, 'columnKind': 'unicodeCodePoints',
+           'results': [result(lint, source) for lint in lints]}
+    return json.dumps({'$schema': SCHEMA, 'version': '2.1.0', 'runs': [run]}, indent=2, ensure_ascii=False)
