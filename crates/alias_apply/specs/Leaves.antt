@@ -22,7 +22,20 @@ apply_leaf (effect.Impure p error) s = record_of (effect.Impure p error) s
 apply_leaf (effect.MutateFrozen p error) s = record_of (effect.MutateFrozen p error) s
 apply_leaf (effect.MutateGlobal p error) s = record_of (effect.MutateGlobal p error) s
 apply_leaf (effect.Render p) s = record_of (effect.Render p) s
-apply_leaf e s = s
+-- the layers above have the steps of these; each is named, so that a new effect doesn't go without a step
+apply_leaf (effect.Create x kind reason) s = s
+apply_leaf (effect.CreateFrom a x) s = s
+apply_leaf (effect.CreateFunction x f captures) s = s
+apply_leaf (effect.Assign a x) s = s
+apply_leaf (effect.Alias a x) s = s
+apply_leaf (effect.MaybeAlias a x) s = s
+apply_leaf (effect.Capture a x) s = s
+apply_leaf (effect.Freeze v reason) s = s
+apply_leaf (effect.Mutate v reason) s = s
+apply_leaf (effect.MutateConditionally v) s = s
+apply_leaf (effect.MutateTransitive v) s = s
+apply_leaf (effect.MutateTransitiveConditionally v) s = s
+apply_leaf (effect.Apply receiver function mutates args into signature span) s = s
 
 abbrev pub raise_leaf : AliasingEffect → StepProgress → Step StepProgress
 raise_leaf e s = do

@@ -43,7 +43,20 @@ pub fn apply_leaf(step: &mut StepProgress, effect: AliasingEffect) -> Result<(),
             record(step, AliasingEffect::MutateGlobal { place, error })
         }
         AliasingEffect::Render { place } => record(step, AliasingEffect::Render { place }),
-        _ => Ok(()),
+        // The layers above have the steps of these. Each is named, so that a new effect doesn't go without a step.
+        AliasingEffect::Create { .. }
+        | AliasingEffect::CreateFrom { .. }
+        | AliasingEffect::CreateFunction { .. }
+        | AliasingEffect::Assign { .. }
+        | AliasingEffect::Alias { .. }
+        | AliasingEffect::MaybeAlias { .. }
+        | AliasingEffect::Capture { .. }
+        | AliasingEffect::Freeze { .. }
+        | AliasingEffect::Mutate { .. }
+        | AliasingEffect::MutateConditionally { .. }
+        | AliasingEffect::MutateTransitive { .. }
+        | AliasingEffect::MutateTransitiveConditionally { .. }
+        | AliasingEffect::Apply { .. } => Ok(()),
     }
 }
 
