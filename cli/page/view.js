@@ -1,0 +1,353 @@
+'use strict';
+// The page of a unit: its data is in the element `data`, made by cli/viewing.py.
+const DATA = JSON.parse(document.getElementById('data').textContent);
+const LINKS = { Assign: 'Alias', Alias: 'Alias', CreateFrom: 'Alias', Capture: 'Capture', MaybeAlias: 'MaybeAlias' };
+const LANE = 18; // the width of a lane, and of its bar with the space beside it
+const SVG = 'http://www.w3.org/2000/svg';
+const state = { names: true, short: false, chosen: null };
+
+function make(tag, attributes = {}, ...children) {
+  const element = document.createElement(tag);
+  for (const [key, value] of Object.entries(attributes)) {
+    if (key === 'on') for (const [event, act] of Object.entries(value)) element.addEventListener(event, act);
+    else if (value !== null && value !== undefined) element.setAttribute(key, value);
+  }
+  element.append(...children);
+  return element;
+}
+
+function draw(tag, attributes = {}, text = '') {
+  const element = document.createElementNS(SVG, tag);
+  for (const [key, value] of Object.entries(attributes)) element.setAttribute(key, value);
+  if (text) element.textContent = text;
+  return element;
+}
+
+const nameOf = (id) => (state.names && DATA.names[id] ? DATA.names[id] : `${id}`);
+const fullName = (id) => (DATA.names[id] ? `${DATA.names[id]} (${id})` : `${id}`);
+const titleOf = (name) => (name === 'root' ? 'root' : `function ${name}`);
+
+// An identifier in a text, which can be chosen.
+function idSpan(view, id) {
+  const span = make('span', { class: 'id', 'data-id': id, role: 'button', tabindex: -1, title: fullName(id),
+    on: { click: (event) => { event.stopPropagation(); choose(view, id); } } }, nameOf(id));
+  view.spans.push(span);
+  return span;
+}
+
+// The words of an effect, with its identifiers as such. The last word of an error effect is the number of its report.
+const PLACES = { Create: [1], CreateFrom: [1, 2], ImmutableCapture: [1, 2], Assign: [1, 2], Alias: [1, 2], Capture: [1, 2], MaybeAlias: [1, 2], Freeze: [1],
+  Mutate: [1], MutateConditionally: [1], MutateTransitive: [1], MutateTransitiveConditionally: [1], Render: [1], MutateFrozen: [1], MutateGlobal: [1], Impure: [1] };
+
+function effectSpan(view, effect) {
+  const words = effect.split(' ');
+  const isError = ['MutateFrozen', 'MutateGlobal', 'Impure'].includes(words[0]);
+  const span = make('span', { class: isError ? 'error' : words[0] === 'Freeze' ? 'freeze' : '' });
+  const places = words[0] === 'CreateFunction' ? words.map((_, at) => at).filter((at) => at === 1 || at > 2) : PLACES[words[0]] || [];
+  words.forEach((word, at) => {
+    if (at) span.append(' ');
+    span.append(places.includes(at) && /^\d+$/.test(word) ? idSpan(view, Number(word)) : word);
+  });
+  return span;
+}
+
+function codeSpan(view, instruction) {
+  const span = make('span', { class: 'code', title: instruction.kind });
+  if (instruction.text) {
+    span.append(idSpan(view, instruction.lvalue), ' = ', instruction.text);
+    return span;
+  }
+  span.append(idSpan(view, instruction.lvalue), ` = ${instruction.kind}`);
+  if (instruction.function !== null && instruction.function !== undefined) span.append(` ${instruction.function}`);
+  instruction.places.forEach((id) => span.append(' ', idSpan(view, id)));
+  if (instruction.property) span.append(` .${instruction.property}`);
+  return span;
+}
+
+// One function: its rows in order, what is drawn beside them, and what is known of its identifiers.
+class FunctionView {
+  constructor(data) {
+    Object.assign(this, { data, spans: [], rows: [], links: [], frozen: [], writes: [] });
+    this.explains = (DATA.explains && DATA.explains[data.name]) || {};
+    this.rowsElement = make('div', { class: 'rows' });
+    this.element = make('section', { id: `function-${data.name}` }, this.heading(), make('div', { class: 'body' }, this.rowsElement), this.foot());
+    data.blocks.forEach((block) => this.addBlock(block));
+  }
+
+  heading() {
+    const { data } = this;
+    const facts = make('p', { class: 'facts' }, `${data.type || ''} · parameters `);
+    const list = (ids) => (ids.length ? ids.forEach((id, at) => facts.append(at ? ', ' : '', idSpan(this, id))) : facts.append('none'));
+    list(data.params);
+    facts.append(' · context ');
+    list(data.context);
+    facts.append(' · returns ', idSpan(this, data.returns));
+    return make('div', {}, make('h2', {}, titleOf(data.name)), facts);
+  }
+
+  foot() {
+    const box = make('div', {});
+    if (this.data.summary.length) {
+      const lines = make('div', { class: 'summary' }, 'a call of it: ');
+      this.data.summary.forEach((effect, at) => lines.append(at ? '; ' : '', effectSpan(this, effect)));
+      box.append(lines);
+    }
+    const graph = make('div', { class: 'graph' });
+    box.append(make('details', { on: { toggle: (event) => event.target.open && this.drawGraph(graph) } }, make('summary', {}, 'alias graph'), graph));
+    return box;
+  }
+
+  addBlock(block) {
+    const into = this.data.blocks.filter((other) => other.terminal.blocks.includes(block.id)).map((other) => other.id);
+    const found = this.data.blocks_by_number[block.id];
+    const open = () => showBlock(this, block, found);
+    this.rowsElement.append(make('div', { class: `block${found ? '' : ' unreached'}`, id: `block-${this.data.name}-${block.id}`, tabindex: 0, role: 'button',
+      on: { click: open, keydown: (event) => event.key === 'Enter' && open() } }, `block ${block.id} `,
+    make('span', { class: 'ways' }, `${into.length ? `← ${into.join(', ')} ` : ''}${block.terminal.blocks.length ? `→ ${block.terminal.blocks.join(', ')}` : ''}${found ? '' : ' (not reached)'}`)));
+    block.phis.forEach((phi) => this.addPhi(phi, block));
+    block.instructions.forEach((number) => {
+      const instruction = this.data.instructions[number];
+      this.addRow(instruction.order, codeSpan(this, instruction), (found && found.effects[number]) || [], number);
+    });
+    const code = make('span', { class: 'code' }, block.terminal.kind);
+    block.terminal.places.forEach((id) => code.append(' ', idSpan(this, id)));
+    this.addRow(block.terminal.order, code, found ? found.end : [], null);
+  }
+
+  addPhi(phi, block) {
+    const code = make('span', { class: 'code' }, idSpan(this, phi.place), ' = phi');
+    phi.operands.forEach(([from, id]) => { code.append(` ${from}:`, idSpan(this, id)); });
+    const first = block.instructions.length ? this.data.instructions[block.instructions[0]].order : block.terminal.order;
+    const row = this.addRow(first - 1, code, [], null);
+    row.element.querySelector('.order').textContent = '';
+    phi.operands.forEach(([, id]) => this.links.push({ from: id, into: phi.place, kind: 'Alias', row }));
+  }
+
+  addRow(order, code, effects, number) {
+    const list = make('span', { class: 'effects' });
+    const element = make('div', { class: 'row' }, make('span', { class: 'order', title: number === null ? '' : `instruction ${number}` }, `${order}`), code, list);
+    const row = { order, element, number };
+    effects.forEach((effect, at) => {
+      if (at) list.append('\n');
+      list.append(effectSpan(this, effect));
+      this.note(effect.split(' '), row);
+    });
+    this.rows.push(row);
+    this.rowsElement.append(element);
+    return row;
+  }
+
+  // What an effect says of identifiers: a link, a freeze, or a write that is reported.
+  note(words, row) {
+    const id = (at) => Number(words[at]);
+    if (LINKS[words[0]]) this.links.push({ from: id(1), into: id(2), kind: LINKS[words[0]], row });
+    else if (words[0] === 'CreateFunction') words.slice(3).forEach((word) => this.links.push({ from: Number(word), into: id(1), kind: 'Capture', row }));
+    else if (words[0] === 'Freeze') this.frozen.push({ id: id(1), row });
+    else if (words[0] === 'MutateFrozen' || words[0] === 'MutateGlobal') this.writes.push({ id: id(1), row });
+  }
+
+  identifiers() {
+    const seen = new Set(this.spans.map((span) => Number(span.dataset.id)));
+    return [...seen].filter((id) => DATA.ranges[id] && !this.data.context.includes(id)).sort((a, b) => DATA.ranges[a][0] - DATA.ranges[b][0] || a - b);
+  }
+
+  // Identifiers with their lanes: two share one where their ranges don't meet.
+  lanes() {
+    const ends = [];
+    return this.identifiers().filter((id) => state.short || id === state.chosen?.id || DATA.ranges[id][1] - DATA.ranges[id][0] > 1).map((id) => {
+      const [start, end] = DATA.ranges[id];
+      let lane = ends.findIndex((last) => last <= start);
+      if (lane < 0) lane = ends.push(0) - 1;
+      ends[lane] = end + 1;
+      return { id, lane, start, end };
+    });
+  }
+
+  // All rows have their effects in one column.
+  align() {
+    const codes = this.rows.map((row) => row.element.children[1]);
+    this.rowsElement.style.removeProperty('--code');
+    this.rowsElement.style.setProperty('--code', `${Math.max(160, ...codes.map((code) => code.offsetWidth)) + 4}px`);
+  }
+
+  drawLanes() {
+    this.align();
+    this.svg?.remove();
+    const bars = this.lanes();
+    const tops = this.rows.map((row) => ({ order: row.order, top: row.element.offsetTop, bottom: row.element.offsetTop + row.element.offsetHeight, row }));
+    const left = Math.max(...this.rows.map((row) => row.element.lastChild.offsetLeft + row.element.lastChild.offsetWidth), 200) + 24;
+    const count = Math.max(0, ...bars.map((bar) => bar.lane + 1));
+    this.svg = draw('svg', { class: 'lanes', width: count * LANE + 60, height: this.rowsElement.offsetHeight });
+    this.svg.style.left = `${left}px`;
+    this.rowsElement.style.setProperty('--lanes', `${count * LANE + 24}px`);
+    this.bars = new Map();
+    bars.forEach((bar) => this.drawBar(bar, tops));
+    this.rowsElement.append(this.svg);
+    this.drawPath(tops);
+  }
+
+  drawBar(bar, tops) {
+    const within = tops.filter((at) => at.order >= bar.start && at.order < bar.end);
+    if (!within.length) return;
+    const top = within[0].top + 2;
+    const height = Math.max(within[within.length - 1].bottom - 2 - top, 4);
+    const x = bar.lane * LANE;
+    const { chosen } = state;
+    const near = chosen && chosen.view === this && chosen.id !== bar.id && (this.explains[chosen.id]?.path || []).some((step) => step.identifier === bar.id);
+    const rect = draw('rect', { x, y: top, width: LANE - 4, height, rx: 3, class: chosen?.view === this && chosen.id === bar.id ? 'chosen' : near ? 'near' : '' });
+    rect.append(draw('title', {}, `${fullName(bar.id)}: ${bar.start}..${bar.end}`));
+    rect.addEventListener('click', () => choose(this, bar.id));
+    this.svg.append(rect);
+    const name = nameOf(bar.id);
+    if (name.length < 3) this.svg.append(draw('text', { class: 'name', x: x + (LANE - 4) / 2, y: top + 12, 'text-anchor': 'middle' }, name));
+    else if (height > 34) this.svg.append(draw('text', { class: 'name', transform: `translate(${x + 4} ${top + 6}) rotate(90)` }, name.slice(0, Math.floor(height / 7))));
+    this.bars.set(bar.id, { x: x + (LANE - 4) / 2, top, bottom: top + height });
+    const mark = (list, shape) => list.filter((item) => item.id === bar.id).forEach((item) => {
+      const place = tops.find((at) => at.row === item.row);
+      if (place) this.svg.append(shape(x, (place.top + place.bottom) / 2));
+    });
+    mark(this.frozen, (left, y) => draw('path', { class: 'frozen', d: `M${left - 1} ${y}h${LANE - 2}` }));
+    mark(this.writes, (left, y) => draw('circle', { class: 'write', cx: left + (LANE - 4) / 2, cy: y, r: 4 }));
+  }
+
+  // The path by which a mutation reaches the chosen identifier, along the rows whose effects link its steps.
+  drawPath(tops) {
+    this.rows.forEach((row) => row.element.classList.remove('on-path'));
+    if (state.chosen?.view !== this) return;
+    const why = this.explains[state.chosen.id];
+    if (!why) return;
+    const at = this.rows.find((row) => row.number === why.instruction && row.number !== null);
+    at?.element.classList.add('on-path');
+    this.linksOf(why.path).forEach(({ link, a, b }) => {
+      link.row.element.classList.add('on-path');
+      const place = tops.find((one) => one.row === link.row);
+      const [from, to] = [this.bars.get(a), this.bars.get(b)];
+      if (place && from && to) this.svg.append(draw('path', { d: `M${from.x} ${place.top + 8}L${to.x} ${place.top + 8}` }));
+    });
+  }
+
+  linksOf(path) {
+    return path.slice(1).flatMap((step, at) => {
+      const [a, b] = [path[at].identifier, step.identifier];
+      const link = this.links.find((one) => (step.forwards ? one.from === a && one.into === b : one.from === b && one.into === a))
+        || this.links.find((one) => (one.from === a && one.into === b) || (one.from === b && one.into === a));
+      return link ? [{ link, a, b }] : [];
+    });
+  }
+
+  drawGraph(box) {
+    box.replaceChildren(graphOf(this));
+  }
+}
+
+// A layered drawing of the links: each node below those that flow into it, as far as there is no circle.
+function graphOf(view) {
+  const ids = [...new Set(view.links.flatMap((link) => [link.from, link.into]))];
+  if (!ids.length) return document.createTextNode('no links');
+  const level = new Map(ids.map((id) => [id, 0]));
+  for (let turn = 0; turn < Math.min(ids.length, 60); turn += 1) {
+    let moved = false;
+    view.links.forEach(({ from, into }) => {
+      if (from !== into && level.get(into) < level.get(from) + 1 && level.get(from) < 60) { level.set(into, level.get(from) + 1); moved = true; }
+    });
+    if (!moved) break;
+  }
+  const layers = [];
+  ids.forEach((id) => (layers[level.get(id)] ||= []).push(id));
+  const spot = new Map();
+  const width = 86;
+  layers.filter(Boolean).forEach((layer, y) => {
+    const weight = (id) => {
+      const above = view.links.filter((link) => link.into === id && spot.has(link.from)).map((link) => spot.get(link.from).x);
+      return above.length ? above.reduce((sum, x) => sum + x, 0) / above.length : id;
+    };
+    const order = layer.map((id) => [weight(id), id]).sort((a, b) => a[0] - b[0] || a[1] - b[1]);
+    order.forEach(([, id], x) => spot.set(id, { x: 10 + x * width, y: 10 + y * 54 }));
+  });
+  const places = [...spot.values()];
+  const svg = draw('svg', { width: Math.max(...places.map((p) => p.x)) + width + 10, height: Math.max(...places.map((p) => p.y)) + 44 });
+  const path = state.chosen?.view === view ? view.explains[state.chosen.id]?.path || [] : [];
+  const onPath = new Set(view.linksOf(path).map(({ link }) => link));
+  view.links.forEach((link) => {
+    const [a, b] = [spot.get(link.from), spot.get(link.into)];
+    const d = `M${a.x + 34} ${a.y + 24}C${a.x + 34} ${a.y + 44} ${b.x + 34} ${b.y - 20} ${b.x + 34} ${b.y}`;
+    svg.append(draw('path', { class: `${link.kind}${onPath.has(link) ? ' on-path' : ''}`, d }));
+  });
+  spot.forEach((place, id) => {
+    const rect = draw('rect', { x: place.x, y: place.y, width: 68, height: 24, rx: 4, class: state.chosen?.view === view && state.chosen.id === id ? 'chosen' : '' });
+    rect.append(draw('title', {}, fullName(id)));
+    rect.addEventListener('click', () => choose(view, id));
+    svg.append(rect, draw('text', { x: place.x + 34, y: place.y + 16, 'text-anchor': 'middle', 'pointer-events': 'none' }, nameOf(id).slice(0, 10)));
+  });
+  return svg;
+}
+
+const panel = document.getElementById('panel');
+
+const CAUSES = {
+  unset: () => 'Nothing writes it: it has no range.',
+  defined: (why) => `It ends one past instruction ${why.instruction}, which defines it: no later write reaches it.`,
+  mutated: (why) => `It ends one past instruction ${why.instruction}, whose write reaches it:`,
+  nocause: () => 'No cause was found.',
+};
+
+function choose(view, id) {
+  state.chosen = { view, id };
+  document.querySelectorAll('.id').forEach((span) => span.classList.toggle('chosen', Number(span.dataset.id) === id));
+  views.forEach((one) => one.drawLanes());
+  document.querySelectorAll('details[open] .graph').forEach((box) => views.find((one) => one.element.contains(box))?.drawGraph(box));
+  const range = DATA.ranges[id];
+  const why = view.explains[id];
+  const parts = [make('h3', {}, `${fullName(id)} in ${titleOf(view.data.name)}`), make('p', {}, range ? `range ${range[0]}..${range[1]}` : 'no range')];
+  if (why) parts.push(make('p', {}, CAUSES[why.cause](why)));
+  if (why?.path.length) {
+    parts.push(make('ol', {}, ...why.path.map((step, at) => make('li', {}, idSpan(view, step.identifier),
+      ` ${at === 0 ? 'is written' : step.forwards ? 'holds it' : 'is where it comes from'}${step.transitive ? ', with all that it holds' : ''}${step.definite ? '' : ', maybe'}`))));
+  }
+  if (!why && range) parts.push(make('p', { class: 'dim' }, 'Why it ends isn’t told here: it stands in another function, or the page was made without the proved program.'));
+  const frozen = view.frozen.filter((item) => item.id === id).map((item) => item.row.order);
+  if (frozen.length) parts.push(make('p', {}, `frozen at ${frozen.join(', ')}`));
+  panel.replaceChildren(...parts);
+}
+
+function showBlock(view, block, found) {
+  const lines = found ? found.state : [];
+  panel.replaceChildren(make('h3', {}, `block ${block.id} of ${titleOf(view.data.name)}`), make('p', {}, lines.length ? 'is entered with' : found ? 'is entered with nothing' : 'is not reached'),
+    make('pre', { class: 'state' }, lines.join('\n')));
+}
+
+function step(by) {
+  const view = state.chosen?.view || views[views.length - 1];
+  const ids = view.identifiers();
+  if (!ids.length) return;
+  const at = ids.indexOf(state.chosen?.id);
+  choose(view, ids[(at + by + ids.length) % ids.length]);
+}
+
+const views = DATA.functions.map((data) => new FunctionView(data));
+
+function start() {
+  document.title = `${DATA.title} · Jirrambeo`;
+  document.getElementById('title').textContent = DATA.title;
+  const box = document.getElementById('functions');
+  views.forEach((view) => box.append(view.element));
+  if (DATA.reports.length) box.prepend(make('ul', { class: 'reports' }, ...DATA.reports.map((line) => make('li', {}, line))));
+  const redraw = () => views.forEach((view) => view.drawLanes());
+  const bind = (id, act) => document.getElementById(id).addEventListener('change', (event) => { act(event.target.checked); redraw(); });
+  bind('show-names', (on) => { state.names = on; document.querySelectorAll('.id').forEach((span) => { span.textContent = nameOf(Number(span.dataset.id)); }); });
+  bind('show-short', (on) => { state.short = on; });
+  bind('show-effects', (on) => box.classList.toggle('no-effects', !on));
+  document.getElementById('theme').addEventListener('click', () => {
+    const dark = getComputedStyle(document.documentElement).getPropertyValue('--back').trim() !== '#fff';
+    document.documentElement.className = dark ? 'light' : 'dark';
+  });
+  document.addEventListener('keydown', (event) => {
+    if (event.target instanceof HTMLInputElement) return;
+    if (event.key === 'ArrowRight' || event.key === 'ArrowDown' && event.altKey) step(1);
+    else if (event.key === 'ArrowLeft' || event.key === 'ArrowUp' && event.altKey) step(-1);
+  });
+  window.addEventListener('resize', redraw);
+  redraw();
+}
+
+start();

@@ -1,0 +1,110 @@
+"""The page of a unit, in a real browser where one is installed (Debian's chromium), by texts of `certify` and `explain` that stand in data/."""
+import json
+import os
+import re
+import shutil
+import subprocess
+import tempfile
+import unittest
+
+from cli import viewing
+from cli.results import Certified, explained
+from cli.source import Source
+
+DATA = os.path.join(os.path.dirname(os.path.abspath(__file__)), 'data')
+EXAMPLES = os.path.join(DATA, '..', '..', '..', 'examples')
+BROWSER = shutil.which('chromium') or shutil.which('chromium-browser') or shutil.which('google-chrome')
+CARD = b'function Card(props) {\n  const reset = () => {\n    props.count = 0;\n  };\n  return <button onClick={reset} />;\n}\n'
+
+
+def read(*path):
+    with open(os.path.join(*path), encoding='utf-8') as file:
+        return file.read()
+
+
+def page_of(name, source=None):
+    told = json.loads(read(DATA, name + '.explain.json'))
+
+    def explains(functions):
+        return {f['name']: {i: explained(told['%s %d' % (f['name'], i)]) for i in viewing.identifiers_of(f) if '%s %d' % (f['name'], i) in told}
+                for f in functions}
+
+    unit, certified = json.loads(read(EXAMPLES, name + '.json')), Certified(read(DATA, name + '.certify'))
+    return viewing.page(viewing.page_data(unit, certified, source, name, explains))
+
+
+class Results(unittest.TestCase):
+    def test_certified(self):
+        made = Certified(read(DATA, 'panel.certify'))
+        self.assertEqual([function.name for function in made.functions], ['root'])
+        root = made.functions[0]
+        self.assertEqual(root.blocks[2].effects[7], ['Mutate 10', 'Create 12 Primitive Other'])
+        self.assertEqual(root.blocks[2].end, ['Freeze 10 JsxCaptured'])
+        self.assertEqual(made.ranges[3], [2, 11])
+
+    def test_explained(self):
+        self.assertEqual(explained('range 2 5\nmutated 3\nstep 2 local Backwards Definite\n'), {'cause': 'mutated', 'instruction': 3, 'path': [
+            {'identifier': 2, 'transitive': False, 'forwards': False, 'definite': True}]})
+        self.assertEqual(explained('range 0 0\nunset\n')['cause'], 'unset')
+
+    def test_places(self):
+        self.assertEqual(viewing.places_in({'kind': 'MethodCall', 'receiver': 1, 'property': [2, 5, 9], 'args': [3, {'spread': 4}]}), [1, 2, 3, 4])
+        pattern = {'kind': 'Const', 'pattern': {'object': [{'place': 2}, {'spread': 4}]}}
+        self.assertEqual(viewing.places_in({'kind': 'Destructure', 'lvalue': pattern, 'value': 1}), [2, 4, 1])
+        self.assertEqual(viewing.places_in({'kind': 'FunctionExpression', 'function': 7}), [])
+
+    def test_data_cannot_end_its_script(self):
+        self.assertNotIn('</b', viewing.page({'title': '</b', 'functions': []}).split('id="data">')[1].split('</script>')[0])
+
+
+@unittest.skipUnless(BROWSER, 'no chromium is installed (apt-get install chromium)')
+class Browser(unittest.TestCase):
+    def run_in(self, page, script):
+        """What the script answers in the page, and the errors that came."""
+        head = '<script>window.errors = []; window.onerror = (message) => { window.errors.push(message); };</script>'
+        tail = '<script>const told = document.createElement("pre"); told.id = "told"; told.textContent = JSON.stringify({ answer: (() => { %s })(), errors: window.errors }); document.body.append(told);</script>' % script
+        with tempfile.TemporaryDirectory() as folder:
+            path = os.path.join(folder, 'page.html')
+            with open(path, 'w', encoding='utf-8') as file:
+                file.write(page.replace('<body>', '<body>' + head).replace('</body>', tail + '</body>'))
+            words = [BROWSER, '--headless', '--no-sandbox', '--disable-gpu', '--virtual-time-budget=5000', '--user-data-dir=' + folder, '--dump-dom', 'file://' + path]
+            dom = subprocess.run(words, stdout=subprocess.PIPE, stderr=subprocess.DEVNULL, check=True, timeout=120).stdout.decode()
+        told = re.search(r'<pre id="told">(.*?)</pre>', dom, re.S)[1]
+        for mark, character in (('&lt;', '<'), ('&gt;', '>'), ('&amp;', '&')):
+            told = told.replace(mark, character)
+        told = json.loads(told)
+        self.assertEqual(told['errors'], [])
+        return told['answer']
+
+    def test_a_click_tells_why_a_range_ends(self):
+        script = ('document.querySelector(".id[data-id=\\"3\\"]").click(); return [document.getElementById("panel").innerText.split("\\n").filter(Boolean), '
+                  'document.querySelectorAll(".row.on-path").length, document.querySelectorAll(".lanes rect.chosen").length];')
+        words, rows, bars = self.run_in(page_of('panel'), script)
+        self.assertIn('It ends one past instruction 7, whose write reaches it:', words)
+        self.assertEqual((rows, bars), (3, 1))
+
+    def test_a_block_tells_what_it_is_entered_with(self):
+        script = 'document.getElementById("block-root-2").click(); return document.getElementById("panel").innerText;'
+        self.assertIn('variable 8 Created(7,Mutable,Other)', self.run_in(page_of('panel'), script))
+
+    def test_names_numbers_keys_and_the_graph(self):
+        script = ('const before = document.querySelector(".facts .id").textContent; document.getElementById("show-names").click(); '
+                  'document.dispatchEvent(new KeyboardEvent("keydown", { key: "ArrowRight" })); document.querySelector("details").open = true; '
+                  'return [before, document.querySelector(".facts .id").textContent, document.querySelector("#panel h3").textContent];')
+        before, after, title = self.run_in(page_of('handler', Source('Card.js', CARD)), script)
+        self.assertEqual((before, after), ('props', '1'))
+        self.assertIn('in root', title)
+
+    def test_a_thousand_instructions(self):
+        unit = {'identifiers': [{} for _ in range(1001)], 'root': {'fn_type': 'Other', 'returns': 0, 'entry': 0, 'instructions': [
+            {'id': n, 'lvalue': n, 'value': {'kind': 'ObjectExpression'}} for n in range(1, 1001)],
+            'blocks': [{'id': 0, 'instructions': list(range(1000)), 'terminal': {'kind': 'Return', 'id': 1001, 'value': 1}}]}}
+        lines = ['function root', 'visits 0', 'block 0'] + ['%d Create %d Mutable Other' % (n - 1, n) for n in range(1, 1001)]
+        lines += ['range %d %d %d' % (n, n, min(n + 40, 1001)) for n in range(1, 1001)]
+        data = viewing.page_data(unit, Certified('\n'.join(lines)), None, 'many', lambda functions: {})
+        script = 'choose(views[0], 500); return [document.querySelectorAll(".row").length, document.querySelectorAll(".lanes rect").length];'
+        self.assertEqual(self.run_in(viewing.page(data), script), [1001, 999])  # the last range is of one instruction
+
+
+if __name__ == '__main__':
+    unittest.main()
