@@ -2,20 +2,20 @@
 
 ghost use Rattle.std.specs.Prelude.{◌≡◌, ◌++◌, ◌∷◌, [], None, OnOk, OnErr, option_map};
 ghost use Rattle.alias_tables.specs.Keys.{key_of};
-ghost use Rattle.alias_tables.specs.FirstEffects.{first_like, slot_like, AreSlots};
+ghost use Rattle.alias_tables.specs.FirstEffects.{first_like, slot_like, AreKeysOf};
 
 use crate::key::EffectKey;
 use alias_base::List;
 use alias_hir::effect::{AliasingEffect, AliasingEffects};
+use indexmap::IndexSet;
 use std::alloc::{AllocError, Global};
-use std::collections::BTreeMap;
 use std::marker::Model;
 
-/// Effects in the order in which they came, no two of one key, and the slot of each key among them.
+/// Effects in the order in which they came, no two of one key, and their keys in the same order.
 #[derive(Drop)]
 pub struct FirstEffects {
     effects: AliasingEffects,
-    slots: BTreeMap<EffectKey, usize>,
+    keys: IndexSet<EffectKey>,
 }
 
 impl Model for FirstEffects {
@@ -24,30 +24,29 @@ impl Model for FirstEffects {
 
     ghost Value = { List AliasingEffect };
 
-    ghost use Rattle.alias_tables.specs.FirstEffects.{AreSlots};
+    ghost use Rattle.alias_tables.specs.FirstEffects.{AreKeysOf};
 
     ghost view = { λ f. f.effects };
 
-    ghost invariant = { λ f. AreSlots f.slots f.effects };
+    ghost invariant = { λ f. AreKeysOf f.keys.keys f.effects };
 }
 
 /// Appends an effect of a new key. An `Err` leaves both as they are.
 fn push_both(
     effects: &mut AliasingEffects,
-    slots: &mut BTreeMap<EffectKey, usize>,
+    keys: &mut IndexSet<EffectKey>,
     key: EffectKey,
     effect: AliasingEffect,
 ) -> Result<(), AllocError>
-    requires index { AreSlots slots.old effects.old }
+    requires index { AreKeysOf keys.old.keys effects.old }
     requires of_key { key_of effect ≡ Some key }
     requires new { slot_like key effects.old ≡ None }
     ensures ok { OnOk result (effects.new ≡ effects.old ++ effect ∷ []) }
     ensures err { OnErr result (effects.new ≡ effects.old) }
-    ensures index { AreSlots slots.new effects.new }
+    ensures index { AreKeysOf keys.new.keys effects.new }
 {
-    let slot = effects.len();
     effects.push(effect)?;
-    match slots.insert(key, slot) {
+    match keys.insert(key) {
         Ok(_) => Ok(()),
         Err(e) => {
             let _effect = effects.pop();
@@ -56,8 +55,8 @@ fn push_both(
     }
 }
 
-fn drop_slots(slots: BTreeMap<EffectKey, usize>) {
-    let _slots = slots;
+fn drop_keys(keys: IndexSet<EffectKey>) {
+    let _keys = keys;
 }
 
 impl FirstEffects {
@@ -67,7 +66,7 @@ impl FirstEffects {
     {
         FirstEffects {
             effects: List::new(alloc),
-            slots: BTreeMap::new(alloc),
+            keys: IndexSet::new(alloc),
         }
     }
 
@@ -82,8 +81,8 @@ impl FirstEffects {
     pub fn into_effects(self) -> AliasingEffects
         ensures { result ≡ self }
     {
-        let FirstEffects { effects, slots } = self;
-        drop_slots(slots);
+        let FirstEffects { effects, keys } = self;
+        drop_keys(keys);
         effects
     }
 
@@ -91,8 +90,8 @@ impl FirstEffects {
     pub fn get(&self, key: &EffectKey) -> Option<&AliasingEffect>
         ensures { option_map (λ e. e.now) result ≡ first_like key.now self.now }
     {
-        match self.slots.get(key) {
-            Some(slot) => self.effects.get(*slot),
+        match self.keys.get_index_of(key) {
+            Some(slot) => self.effects.get(slot),
             None => None,
         }
     }
@@ -104,6 +103,6 @@ impl FirstEffects {
         ensures ok { OnOk result (self.new ≡ self.old ++ effect ∷ []) }
         ensures err { OnErr result (self.new ≡ self.old) }
     {
-        push_both(&mut self.effects, &mut self.slots, key, effect)
+        push_both(&mut self.effects, &mut self.keys, key, effect)
     }
 }
