@@ -1,7 +1,7 @@
 -- The keys of items, in the order of the items, as an index of their slots.
-use Rattle.std.specs.Prelude.{◌≡◌, ℕ, ◌+◌, Bool, true, false, not, cond, ◌||◌, nat_lt, List, [], ◌∷◌, ◌++◌, map, length, Option, Some, None, option_map, position, refl, if◌then◌else◌}
+use Rattle.std.specs.Prelude.{◌≡◌, ℕ, ◌+◌, ◌<◌, ◌≤◌, Bool, true, false, not, cond, ◌||◌, nat_lt, List, [], ◌∷◌, ◌++◌, map, length, Option, Some, None, option_map, position, refl, if◌then◌else◌}
 use Rattle.std.specs.List.{list_any, position_or_len}
-use Rattle.std.proofs.Common.{ap, sym, ◌∙◌, suc, arith}
+use Rattle.std.proofs.Common.{ap, sym, ◌∙◌, suc, arith, lt-ltb, le-ltb}
 use Rattle.std.proofs.lemmas.Grind.{common_steps}
 use Rattle.indexmap.specs.IndexSet.{insert_key}
 use Rattle.alias_base.specs.Indexes.{is_key, slot_of}
@@ -50,6 +50,11 @@ none_later true c o h f = cc
 none_later false c None h f = f refl
 none_later false c (Some n) h f = cc
 
+some_later : (b c : Bool) (o : Option ℕ) (n : ℕ) → cond b (Some 0) (option_map (λ m. suc m) o) ≡ Some n → ((m : ℕ) → o ≡ Some m → c ≡ true) → (b || c) ≡ true
+some_later true c o n h f = refl
+some_later false c None n h f = cc
+some_later false c (Some m) n h f = f m refl
+
 module _ {K V : Type 0} (eq same : K → K → Bool) (key_of : V → Option K) (is_same : (k l : K) → eq k l ≡ same l k) where
   same_here : (k l : K) (o : Option K) → o ≡ Some l → eq k l ≡ is_key same key_of o k
   same_here k l o h = is_same k l ∙ ap (λ p. is_key same key_of p k) (sym h)
@@ -79,3 +84,26 @@ module _ {K V : Type 0} (eq same : K → K → Bool) (key_of : V → Option K) (
   -- so it goes last
   pub new_is_last : (k : K) (keys : List K) (items : List V) → AreKeys key_of keys items → slot_of same key_of k items ≡ None → insert_key eq keys k ≡ keys ++ k ∷ []
   new_is_last k keys items h n = ap (λ b. if b then keys else keys ++ k ∷ []) (none_is k keys items h n)
+
+  -- a key that an item has is one of the keys
+  some_is : (k : K) (keys : List K) (items : List V) (n : ℕ) → AreKeys key_of keys items → slot_of same key_of k items ≡ Some n → list_any (eq k) keys ≡ true
+  some_is k [] [] n h s = cc
+  some_is k [] (e ∷ items) n h s = cc
+  some_is k (l ∷ keys) [] n h s = cc
+  some_is k (l ∷ keys) (e ∷ items) n h s =
+      let first : key_of e ≡ Some l = cc in
+      let rest : AreKeys key_of keys items = cc in
+      ap (λ b. b || list_any (eq k) keys) (same_here k l (key_of e) first)
+      ∙ some_later (is_key same key_of (key_of e) k) (list_any (eq k) keys) (slot_of same key_of k items) n s (λ m i. some_is k keys items m rest i)
+
+  -- so nothing comes
+  pub old_stays : (k : K) (keys : List K) (items : List V) (n : ℕ) → AreKeys key_of keys items → slot_of same key_of k items ≡ Some n → insert_key eq keys k ≡ keys
+  old_stays k keys items n h s = ap (λ b. if b then keys else keys ++ k ∷ []) (some_is k keys items n h s)
+
+-- a place before the end is the first that passes
+pub position_below : {K : Type 0} (p : K → Bool) (xs : List K) → position_or_len p xs < length xs → position p xs ≡ Some (position_or_len p xs)
+position_below p xs h = ap (λ b. cond b (Some (position_or_len p xs)) None) (lt-ltb (position_or_len p xs) (length xs) h)
+
+-- and where none is, none passes
+pub position_at_end : {K : Type 0} (p : K → Bool) (xs : List K) → length xs ≤ position_or_len p xs → position p xs ≡ None
+position_at_end p xs h = ap (λ b. cond b (Some (position_or_len p xs)) None) (le-ltb (position_or_len p xs) (length xs) h)
