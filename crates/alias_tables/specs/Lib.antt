@@ -1,7 +1,10 @@
 pub mod Steps
 pub mod ReplayLaws
 pub mod CaptureOrder
+pub mod KeyHashes
+pub mod KeyHashLaws
 pub mod Keys
+pub mod KeySets
 pub mod FirstEffects
 pub mod Reads
 pub mod ReadLaws

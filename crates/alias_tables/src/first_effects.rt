@@ -1,21 +1,22 @@
 //! The first effect of each key.
 
-ghost use Rattle.std.specs.Prelude.{◌≡◌, ◌++◌, ◌∷◌, [], None, OnOk, OnErr, option_map};
+ghost use Rattle.std.specs.Prelude.{◌≡◌, ◌++◌, ◌∷◌, [], Some, IfOk, OnOk, OnErr};
+ghost use Rattle.alias_base.specs.Indexes.{at_slot};
 ghost use Rattle.alias_tables.specs.Keys.{key_of};
-ghost use Rattle.alias_tables.specs.FirstEffects.{first_like, slot_like, AreSlots};
+ghost use Rattle.alias_tables.specs.FirstEffects.{first_like, slot_like, if_new, AreKeysOf};
 
 use crate::key::EffectKey;
-use alias_base::List;
+use alias_base::{List, TryClone};
 use alias_hir::effect::{AliasingEffect, AliasingEffects};
+use indexmap::IndexSet;
 use std::alloc::{AllocError, Global};
-use std::collections::BTreeMap;
 use std::marker::Model;
 
-/// Effects in the order in which they came, no two of one key, and the slot of each key among them.
+/// Effects in the order in which they came, no two of one key, and their keys in the same order.
 #[derive(Drop)]
 pub struct FirstEffects {
     effects: AliasingEffects,
-    slots: BTreeMap<EffectKey, usize>,
+    keys: IndexSet<EffectKey>,
 }
 
 impl Model for FirstEffects {
@@ -24,40 +25,72 @@ impl Model for FirstEffects {
 
     ghost Value = { List AliasingEffect };
 
-    ghost use Rattle.alias_tables.specs.FirstEffects.{AreSlots};
+    ghost use Rattle.alias_tables.specs.FirstEffects.{AreKeysOf};
 
     ghost view = { λ f. f.effects };
 
-    ghost invariant = { λ f. AreSlots f.slots f.effects };
+    ghost invariant = { λ f. AreKeysOf f.keys.keys f.effects };
 }
 
-/// Appends an effect of a new key. An `Err` leaves both as they are.
-fn push_both(
+fn push_copy(
+    alloc: Global,
     effects: &mut AliasingEffects,
-    slots: &mut BTreeMap<EffectKey, usize>,
-    key: EffectKey,
-    effect: AliasingEffect,
+    effect: &AliasingEffect,
 ) -> Result<(), AllocError>
-    requires index { AreSlots slots.old effects.old }
-    requires of_key { key_of effect ≡ Some key }
-    requires new { slot_like key effects.old ≡ None }
-    ensures ok { OnOk result (effects.new ≡ effects.old ++ effect ∷ []) }
+    ensures ok { OnOk result (effects.new ≡ effects.old ++ effect.now ∷ []) }
     ensures err { OnErr result (effects.new ≡ effects.old) }
-    ensures index { AreSlots slots.new effects.new }
 {
-    let slot = effects.len();
-    effects.push(effect)?;
-    match slots.insert(key, slot) {
-        Ok(_) => Ok(()),
+    let copy = effect.try_clone(alloc)?;
+    effects.push(copy)?;
+    Ok(())
+}
+
+/// The slot of the key's first effect. Where there is none, a copy of the effect goes last. An `Err` leaves both as they are.
+fn slot_or_push(
+    alloc: Global,
+    effects: &mut AliasingEffects,
+    keys: &mut IndexSet<EffectKey>,
+    key: EffectKey,
+    effect: &AliasingEffect,
+) -> Result<Option<usize>, AllocError>
+    requires index { AreKeysOf keys.old.keys effects.old }
+    requires of_key { key_of effect.now ≡ Some key }
+    ensures slot { IfOk result (λ slot. slot ≡ slot_like key effects.old) }
+    ensures effects { OnOk result (effects.new ≡ if_new (slot_like key effects.old) effect.now effects.old) }
+    ensures index { AreKeysOf keys.new.keys effects.new }
+{
+    let count = keys.len();
+    let (slot, _) = keys.insert_full(key)?;
+    if slot < count {
+        return Ok(Some(slot));
+    }
+    match push_copy(alloc, effects, effect) {
+        Ok(()) => Ok(None),
         Err(e) => {
-            let _effect = effects.pop();
-            Err(e.into())
+            keys.truncate(count);
+            Err(e)
         }
     }
 }
 
-fn drop_slots(slots: BTreeMap<EffectKey, usize>) {
-    let _slots = slots;
+fn copy_at(
+    alloc: Global,
+    effects: &AliasingEffects,
+    slot: Option<usize>,
+) -> Result<Option<AliasingEffect>, AllocError>
+    ensures { IfOk result (λ copy. copy ≡ at_slot slot effects.now) }
+{
+    let Some(slot) = slot else {
+        return Ok(None);
+    };
+    match effects.get(slot) {
+        Some(effect) => Ok(Some(effect.try_clone(alloc)?)),
+        None => Ok(None),
+    }
+}
+
+fn drop_keys(keys: IndexSet<EffectKey>) {
+    let _keys = keys;
 }
 
 impl FirstEffects {
@@ -67,7 +100,7 @@ impl FirstEffects {
     {
         FirstEffects {
             effects: List::new(alloc),
-            slots: BTreeMap::new(alloc),
+            keys: IndexSet::new(alloc),
         }
     }
 
@@ -82,28 +115,23 @@ impl FirstEffects {
     pub fn into_effects(self) -> AliasingEffects
         ensures { result ≡ self }
     {
-        let FirstEffects { effects, slots } = self;
-        drop_slots(slots);
+        let FirstEffects { effects, keys } = self;
+        drop_keys(keys);
         effects
     }
 
-    /// The effect of the key, if it came.
-    pub fn get(&self, key: &EffectKey) -> Option<&AliasingEffect>
-        ensures { option_map (λ e. e.now) result ≡ first_like key.now self.now }
+    /// A copy of the first effect of the key. Where there is none, a copy of this one becomes it.
+    pub fn first_or_push(
+        &mut self,
+        alloc: Global,
+        key: EffectKey,
+        effect: &AliasingEffect,
+    ) -> Result<Option<AliasingEffect>, AllocError>
+        requires { key_of effect.now ≡ Some key }
+        ensures first { IfOk result (λ first. first ≡ first_like key self.old) }
+        ensures effects { OnOk result (self.new ≡ if_new (first_like key self.old) effect.now self.old) }
     {
-        match self.slots.get(key) {
-            Some(slot) => self.effects.get(*slot),
-            None => None,
-        }
-    }
-
-    /// Appends the first effect of its key. An `Err` leaves the table as it is.
-    pub fn push(&mut self, key: EffectKey, effect: AliasingEffect) -> Result<(), AllocError>
-        requires of_key { key_of effect ≡ Some key }
-        requires new { first_like key self.old ≡ None }
-        ensures ok { OnOk result (self.new ≡ self.old ++ effect ∷ []) }
-        ensures err { OnErr result (self.new ≡ self.old) }
-    {
-        push_both(&mut self.effects, &mut self.slots, key, effect)
+        let slot = slot_or_push(alloc, &mut self.effects, &mut self.keys, key, effect)?;
+        copy_at(alloc, &self.effects, slot)
     }
 }

@@ -2,12 +2,14 @@
 
 ghost use Rattle.std.specs.Prelude.{◌≡◌, ◌++◌, ◌∷◌, [], IfOk, OnOk};
 ghost use Rattle.alias_tables.specs.Keys.{ids_of, captures_of, key_of, with_error_of};
+ghost use Rattle.alias_tables.specs.KeyHashes.{key_numbers};
 
 use alias_base::{FunctionId, IdentifierId, List};
 use alias_hir::effect::{AliasingEffect, ValueKind, ValueReason};
 use alias_hir::place::Place;
 use std::alloc::{AllocError, Global};
 use std::cmp::Ordering;
+use std::hash::{Hash, Hasher};
 
 /// The identifiers that a function takes in.
 #[derive(Drop)]
@@ -90,6 +92,48 @@ pub enum EffectKey {
     MutateTransitive(IdentifierId),
     MutateTransitiveConditionally(IdentifierId),
     CreateFunction(IdentifierId, FunctionId, Captures),
+}
+
+/// What a key is hashed by: a number of its kind, and two of the numbers that it has.
+fn key_numbers(key: &EffectKey) -> (u8, u32, u32)
+    ensures { result ≡ key_numbers key.now }
+{
+    match key {
+        EffectKey::CreateFrom(from, into) => (0, from.0, into.0),
+        EffectKey::ImmutableCapture(from, into) => (1, from.0, into.0),
+        EffectKey::Assign(from, into) => (2, from.0, into.0),
+        EffectKey::Alias(from, into) => (3, from.0, into.0),
+        EffectKey::Capture(from, into) => (4, from.0, into.0),
+        EffectKey::MaybeAlias(from, into) => (5, from.0, into.0),
+        EffectKey::Create(into, _, _) => (6, into.0, 0),
+        EffectKey::Freeze(value, _) => (7, value.0, 0),
+        EffectKey::Impure(place) => (8, place.0, 0),
+        EffectKey::MutateFrozen(place, identity) => (9, place.0, *identity),
+        EffectKey::MutateGlobal(place, identity) => (10, place.0, *identity),
+        EffectKey::Render(place) => (11, place.0, 0),
+        EffectKey::Mutate(value) => (12, value.0, 0),
+        EffectKey::MutateConditionally(value) => (13, value.0, 0),
+        EffectKey::MutateTransitive(value) => (14, value.0, 0),
+        EffectKey::MutateTransitiveConditionally(value) => (15, value.0, 0),
+        EffectKey::CreateFunction(into, function, _) => (16, into.0, function.0),
+    }
+}
+
+/// What else a key has isn't hashed: few keys differ in that alone.
+impl Hash for EffectKey {
+    ghost use Rattle.alias_tables.specs.KeyHashes.{fed_by};
+    ghost use Rattle.alias_tables.specs.KeyHashLaws.{alike_keys};
+
+    ghost hash_input = { fed_by };
+
+    ghost respects_eq = { alike_keys };
+
+    fn hash<H: Hasher>(&self, state: &mut H) {
+        let (kind, first, second) = key_numbers(self);
+        state.write_u8(kind);
+        state.write_u32(first);
+        state.write_u32(second);
+    }
 }
 
 fn captures_of(alloc: Global, places: &[Place]) -> Result<Captures, AllocError>

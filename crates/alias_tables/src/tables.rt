@@ -10,7 +10,7 @@ use crate::reads::{ContextRead, ContextReads};
 use crate::reports::keep_report;
 use crate::temp_key::TempKey;
 use crate::temporaries::{Temporaries, Temporary};
-use alias_base::{IdentifierId, List, TryClone};
+use alias_base::{IdentifierId, List};
 use alias_hir::effect::{AliasingEffect, AliasingEffects};
 use alias_hir::env::Environment;
 use alias_hir::error::Counter;
@@ -136,12 +136,9 @@ impl Tables {
     {
         let alloc = self.alloc;
         match effect_key(alloc, &effect)? {
-            Some(key) => match self.first.get(&key) {
-                Some(first) => Ok(with_error_of(first.try_clone(alloc)?, &effect)),
-                None => {
-                    self.first.push(key, effect.try_clone(alloc)?)?;
-                    Ok(effect)
-                }
+            Some(key) => match self.first.first_or_push(alloc, key, &effect)? {
+                Some(first) => Ok(with_error_of(first, &effect)),
+                None => Ok(effect),
             },
             None => Ok(effect),
         }
