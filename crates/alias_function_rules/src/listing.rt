@@ -1,5 +1,5 @@
 //! Each instruction is listed by some block, and none twice.
-ghost use Rattle.std.specs.Prelude.{◌≡◌, ◌++◌, [], ℕ, map, IfOk, OnOk};
+ghost use Rattle.std.specs.Prelude.{◌≡◌, ◌++◌, [], ℕ, None, map, IfOk, IsTrue, OnOk};
 ghost use Rattle.std.specs.Ordering.{nat_cmp};
 ghost use Rattle.std.specs.BTreeSet.{contains};
 ghost use Rattle.alias_base.specs.declared.ids.InstructionId.{InstructionId};
@@ -44,10 +44,27 @@ pub fn set_of(alloc: Global, numbers: &[u32]) -> Result<BTreeSet<u32>, AllocErro
     Ok(set)
 }
 
+/// Whether the numbers count up from 0 to below `len`, perhaps with others in between.
+fn counts_up(len: u32, numbers: &[u32]) -> bool
+    ensures { IsTrue result → first_missing len numbers.now ≡ None }
+{
+    let mut next = 0;
+    for number in numbers {
+        if *number == next && next < len {
+            next += 1;
+        }
+    }
+    next == len
+}
+
 /// The smallest number below `len` that is not listed.
 fn first_missing(alloc: Global, len: u32, numbers: &[u32]) -> Result<Option<u32>, AllocError>
     ensures { IfOk result (λ r. r ≡ first_missing len numbers.now) }
 {
+    // So it is of most functions, and then no set is made.
+    if counts_up(len, numbers) {
+        return Ok(None);
+    }
     let set = set_of(alloc, numbers)?;
     for number in 0..len {
         if !set.contains(&number) {
@@ -57,10 +74,29 @@ fn first_missing(alloc: Global, len: u32, numbers: &[u32]) -> Result<Option<u32>
     Ok(None)
 }
 
+/// Whether the numbers ascend, so that none is there twice.
+fn ascends(numbers: &[u32]) -> bool
+    ensures { IsTrue result → first_again [] numbers.now ≡ None }
+{
+    let mut next = 0u64;
+    for number in numbers {
+        let number = u64::from(*number);
+        if number < next {
+            return false;
+        }
+        next = number + 1;
+    }
+    true
+}
+
 /// The first number that was there before.
 pub fn first_again(alloc: Global, numbers: &[u32]) -> Result<Option<u32>, AllocError>
     ensures { IfOk result (λ r. r ≡ first_again [] numbers.now) }
 {
+    // So it is of most functions, and then no set is made.
+    if ascends(numbers) {
+        return Ok(None);
+    }
     let mut seen = BTreeSet::new(alloc);
     for number in numbers {
         if !seen.insert(*number)? {

@@ -72,6 +72,15 @@ pub fn read_tree<'a>(
     tree_of_text(alloc, text, scratch)
 }
 
+/// Gives back the room of a list that isn't used, where that is more than a quarter: to move a list costs more than so little room.
+fn give_back<T>(found: &mut Vec<T>)
+    ensures { found.new.items ≡ found.old.items }
+{
+    if found.len() < found.capacity() / 4 * 3 {
+        found.shrink_to_fit();
+    }
+}
+
 fn tree_of_text<'a>(
     alloc: Global,
     text: &'a str,
@@ -134,7 +143,7 @@ fn items_of<'a>(
         let item = tree_of(alloc, reader, depth)?;
         found.push(item)?;
     }
-    found.shrink_to_fit();
+    give_back(&mut found);
     Ok(found)
 }
 
@@ -153,6 +162,6 @@ fn members_of<'a>(
         let member = tree_of(alloc, reader, depth)?;
         found.push((key, member))?;
     }
-    found.shrink_to_fit();
+    give_back(&mut found);
     Ok(found)
 }

@@ -267,6 +267,10 @@ pub fn identifiers_apart(
 ) -> Result<(), UnitFault>
     ensures { Gives is_memory (identifiers_apart env.now func.now nested.now) result }
 {
+    // Most functions create none, and then nobody asks what the root holds.
+    if nested.is_empty() {
+        return Ok(());
+    }
     let roots = roots(alloc, env, func)?;
     let holders = holders(alloc, env, nested)?;
     for number in nested {

@@ -131,7 +131,7 @@ items_of-returns-clause-items t c =
     let l = c.items in
     let r = c.take_end_array.new.self in
     l.invariant.2 ∙ ap (parse_map (items_before l.found.items)) (items_over (value c.args.depth) l.invariant.0 l.reader r l.invariant.1 (grind arith))
-    ∙ ap (λ ds. Some (ds, r)) (items_before-no_items l.found.items ∙ ap items_view (sym c.shrink_to_fit.ensures.items))
+    ∙ ap (λ ds. Some (ds, r)) (items_before-no_items l.found.items ∙ ap items_view (sym c.give_back.ensures))
 
 pub members_of-members-init : goal.members_of-members-init
 members_of-members-init t c =
@@ -176,4 +176,4 @@ members_of-returns-clause-members t c =
     let l = c.members in
     let r = c.next_key.new.self in
     l.invariant.2 ∙ members_over (value c.args.depth) (members_view l.found.items) l.invariant.0 l.reader r l.invariant.1 (grind arith)
-    ∙ ap (λ ms. Some (members_view ms, r)) (sym c.shrink_to_fit.ensures.items)
+    ∙ ap (λ ms. Some (members_view ms, r)) (sym c.give_back.ensures)
