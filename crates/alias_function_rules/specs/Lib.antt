@@ -1,3 +1,4 @@
 pub mod Fault
 pub mod NumberSetLaws
+pub mod HashedNumberLaws
 pub mod Rules

@@ -1,7 +1,8 @@
 //! Each instruction is listed by some block, and none twice.
-ghost use Rattle.std.specs.Prelude.{◌≡◌, ◌++◌, [], ℕ, None, map, IfOk, IsTrue, OnOk};
+ghost use Rattle.std.specs.Prelude.{◌≡◌, ◌++◌, [], ℕ, None, map, nat_eq, IfOk, IsTrue, OnOk};
 ghost use Rattle.std.specs.Ordering.{nat_cmp};
 ghost use Rattle.std.specs.BTreeSet.{contains};
+ghost use Rattle.indexmap.specs.IndexSet.{contains as has};
 ghost use Rattle.alias_base.specs.declared.ids.InstructionId.{InstructionId};
 ghost use Rattle.alias_base.specs.Answer.{Gives};
 ghost use Rattle.alias_function_rules.specs.Fault.{is_memory};
@@ -10,6 +11,7 @@ ghost use Rattle.alias_function_rules.specs.Rules.{listed_instructions, is_among
 use crate::fault::UnitFault;
 use alias_base::{FunctionId, InstructionId};
 use alias_hir::hir::HirFunction;
+use indexmap::IndexSet;
 use std::alloc::{AllocError, Global};
 use std::collections::BTreeSet;
 
@@ -44,6 +46,17 @@ pub fn set_of(alloc: Global, numbers: &[u32]) -> Result<BTreeSet<u32>, AllocErro
     Ok(set)
 }
 
+/// The set of the numbers, found by their hashes.
+fn hashed(alloc: Global, numbers: &[u32]) -> Result<IndexSet<u32>, AllocError>
+    ensures { IfOk result (λ s. (q : ℕ) → has nat_eq s q ≡ is_among numbers.now q) }
+{
+    let mut set = IndexSet::with_capacity(alloc, numbers.len())?;
+    for number in numbers {
+        set.insert(*number)?;
+    }
+    Ok(set)
+}
+
 /// Whether the numbers count up from 0 to below `len`, perhaps with others in between.
 fn counts_up(len: u32, numbers: &[u32]) -> bool
     ensures { IsTrue result → first_missing len numbers.now ≡ None }
@@ -65,7 +78,7 @@ fn first_missing(alloc: Global, len: u32, numbers: &[u32]) -> Result<Option<u32>
     if counts_up(len, numbers) {
         return Ok(None);
     }
-    let set = set_of(alloc, numbers)?;
+    let set = hashed(alloc, numbers)?;
     for number in 0..len {
         if !set.contains(&number) {
             return Ok(Some(number));
@@ -97,7 +110,7 @@ pub fn first_again(alloc: Global, numbers: &[u32]) -> Result<Option<u32>, AllocE
     if ascends(numbers) {
         return Ok(None);
     }
-    let mut seen = BTreeSet::new(alloc);
+    let mut seen = IndexSet::with_capacity(alloc, numbers.len())?;
     for number in numbers {
         if !seen.insert(*number)? {
             return Ok(Some(*number));

@@ -2,7 +2,7 @@
 //! signature of its type, or by default.
 
 ghost use Rattle.std.specs.Prelude.{◌≡◌, option_map};
-ghost use Rattle.alias_apply.specs.Apply.{raise_plain};
+ghost use Rattle.alias_apply.specs.Apply.{raise_plain, raise_all_plain};
 ghost use Rattle.alias_apply.specs.Contexts.{held};
 ghost use Rattle.alias_apply.specs.Progress.{Follows};
 ghost use Rattle.alias_step.specs.Operands.{held_call};
@@ -12,7 +12,7 @@ use crate::call::Call;
 use crate::defaults::apply_by_default;
 use crate::lists::{called_function, list_of_called, list_of_config, signature_of_type};
 use alias_apply::reports::incompatible_report;
-use alias_apply::{StepContext, StepProgress, raise_all_plain, raise_plain, raise_simple};
+use alias_apply::{StepContext, StepProgress, raise_plain, raise_simple};
 use alias_base::{Text, TryClone, TypeId};
 use alias_calls::{CallSite, compute_effects_for_legacy_signature};
 use alias_hir::effect::{AliasingEffect, AliasingEffects};
@@ -29,15 +29,30 @@ fn note_missing(step: &mut StepProgress, missing: Option<MissingLook>)
     }
 }
 
+/// The steps of a list of effects that holds no call, in order. No effect is copied.
+fn raise_list(
+    context: &StepContext<'_>,
+    step: &mut StepProgress,
+    tables: &mut Tables,
+    effects: AliasingEffects,
+) -> Result<(), EffectFault>
+    ensures { Follows (raise_all_plain (held context.now) effects step.old tables.old) result step.new tables.new }
+{
+    for effect in effects.into_vec() {
+        raise_plain(context, step, tables, effect)?;
+    }
+    Ok(())
+}
+
 /// The function may be written, and then the list of its summary is stepped.
 fn apply_by_summary(
     context: &StepContext<'_>,
     step: &mut StepProgress,
     tables: &mut Tables,
     call: &Call<'_>,
-    list: &AliasingEffects,
+    list: AliasingEffects,
 ) -> Result<(), EffectFault>
-    ensures { Follows (apply_by_summary (held context.now) (held_call call.now) list.now step.old tables.old) result step.new tables.new }
+    ensures { Follows (apply_by_summary (held context.now) (held_call call.now) list step.old tables.old) result step.new tables.new }
 {
     raise_simple(
         context,
@@ -47,7 +62,7 @@ fn apply_by_summary(
             value: call.function,
         },
     )?;
-    raise_all_plain(context, step, tables, list.as_slice())
+    raise_list(context, step, tables, list)
 }
 
 fn apply_inner_call_by(
@@ -60,7 +75,7 @@ fn apply_inner_call_by(
     ensures { Follows (apply_inner_call_by (held context.now) list (held_call call.now) step.old tables.old) result step.new tables.new }
 {
     match list {
-        Some(list) => apply_by_summary(context, step, tables, call, &list),
+        Some(list) => apply_by_summary(context, step, tables, call, list),
         None => apply_by_default(context, step, tables, call),
     }
 }
@@ -97,9 +112,9 @@ fn apply_inner_effect(
     context: &StepContext<'_>,
     step: &mut StepProgress,
     tables: &mut Tables,
-    effect: &AliasingEffect,
+    effect: AliasingEffect,
 ) -> Result<(), EffectFault>
-    ensures { Follows (apply_inner_effect (held context.now) effect.now step.old tables.old) result step.new tables.new }
+    ensures { Follows (apply_inner_effect (held context.now) effect step.old tables.old) result step.new tables.new }
 {
     match effect {
         AliasingEffect::Apply {
@@ -116,16 +131,16 @@ fn apply_inner_effect(
             tables,
             &Call {
                 site: CallSite {
-                    receiver: *receiver,
-                    into: *into,
-                    span: *span,
+                    receiver,
+                    into,
+                    span,
                 },
-                function: *function,
-                mutates_function: *mutates_function,
+                function,
+                mutates_function,
                 args: args.as_slice(),
             },
         ),
-        effect => raise_copy(context, step, tables, effect),
+        effect => raise_plain(context, step, tables, effect),
     }
 }
 
@@ -133,11 +148,11 @@ fn apply_inner_effects(
     context: &StepContext<'_>,
     step: &mut StepProgress,
     tables: &mut Tables,
-    effects: &[AliasingEffect],
+    effects: AliasingEffects,
 ) -> Result<(), EffectFault>
-    ensures { Follows (apply_inner_effects (held context.now) effects.now step.old tables.old) result step.new tables.new }
+    ensures { Follows (apply_inner_effects (held context.now) effects step.old tables.old) result step.new tables.new }
 {
-    for effect in effects {
+    for effect in effects.into_vec() {
         apply_inner_effect(context, step, tables, effect)?;
     }
     Ok(())
@@ -161,7 +176,7 @@ fn apply_by_legacy(
         call.args,
     )?;
     note_missing(step, legacy.missing);
-    raise_all_plain(context, step, tables, legacy.effects.as_slice())
+    raise_list(context, step, tables, legacy.effects)
 }
 
 fn apply_by_config(
@@ -175,7 +190,7 @@ fn apply_by_config(
     ensures { Follows (apply_by_config (held context.now) list signature.now (held_call call.now) step.old tables.old) result step.new tables.new }
 {
     match list {
-        Some(list) => apply_inner_effects(context, step, tables, list.as_slice()),
+        Some(list) => apply_inner_effects(context, step, tables, list),
         None => apply_by_legacy(context, step, tables, signature, call),
     }
 }
@@ -244,7 +259,7 @@ fn apply_call_by(
     ensures { Follows (apply_call_by (held context.now) list signature (held_call call.now) step.old tables.old) result step.new tables.new }
 {
     match list {
-        Some(list) => apply_by_summary(context, step, tables, call, &list),
+        Some(list) => apply_by_summary(context, step, tables, call, list),
         None => {
             let signature = signature_of_type(context.env, signature);
             apply_by_signature(context, step, tables, signature, call)
@@ -318,6 +333,59 @@ pub fn apply_effects(
 {
     for effect in effects {
         apply_effect(context, step, tables, effect)?;
+    }
+    Ok(())
+}
+
+/// The step of an effect that is no one else's.
+fn apply_own_effect(
+    context: &StepContext<'_>,
+    step: &mut StepProgress,
+    tables: &mut Tables,
+    effect: AliasingEffect,
+) -> Result<(), EffectFault>
+    ensures { Follows (apply_effect (held context.now) effect step.old tables.old) result step.new tables.new }
+{
+    match effect {
+        AliasingEffect::Apply {
+            receiver,
+            function,
+            mutates_function,
+            args,
+            into,
+            signature,
+            span,
+        } => apply_call(
+            context,
+            step,
+            tables,
+            signature,
+            &Call {
+                site: CallSite {
+                    receiver,
+                    into,
+                    span,
+                },
+                function,
+                mutates_function,
+                args: args.as_slice(),
+            },
+        ),
+        effect => raise_plain(context, step, tables, effect),
+    }
+}
+
+/// The steps of the effects of a list, in order. No effect is copied.
+pub(crate) fn apply_list(
+    context: &StepContext<'_>,
+    step: &mut StepProgress,
+    tables: &mut Tables,
+    effects: AliasingEffects,
+) -> Result<(), EffectFault>
+    ensures { Follows (apply_effects (held context.now) effects step.old tables.old) result step.new tables.new }
+{
+    for effect in effects.into_vec() {
+        apply_own_effect(context, step, tables, effect)?;
     }
     Ok(())
 }

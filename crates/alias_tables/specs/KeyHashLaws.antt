@@ -1,5 +1,5 @@
 -- Equal keys are hashed alike.
-use Rattle.std.specs.Prelude.{◌≡◌, ◌++◌, ℕ, Bool, true, ◌==◌, ◌&&◌, refl}
+use Rattle.std.specs.Prelude.{◌≡◌, ◌++◌, ℕ, Bool, true, ◌==◌, ◌&&◌}
 use Rattle.std.proofs.Common.{ap, sym, ◌∙◌, eqb-true, true≢false}
 use Rattle.std.specs.Cmp.{first_so, second_so}
 use Rattle.std.specs.Hash as fed

@@ -1,6 +1,6 @@
 use Rattle.std.proofs.Common.{◌≡◌, ◌++◌, ◌∷◌, [], List, Some, None, ℕ, ◌<◌, ◌≤◌, length, take, ap, sym, ◌∙◌, subst}
 use Rattle.std.proofs.Math.Seq.{take-append_seam}
-use Rattle.std.specs.Prelude.{Option, position}
+use Rattle.std.specs.Prelude.{Option}
 use Rattle.std.specs.List.{position_or_len}
 use Rattle.alias_hir.specs.declared.effect.AliasingEffect.{AliasingEffect}
 use Rattle.alias_tables.specs.declared.key.EffectKey.{EffectKey}

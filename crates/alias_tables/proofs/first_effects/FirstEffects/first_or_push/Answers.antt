@@ -18,11 +18,11 @@ returns-clause-first c =
     let e = c.args.effect.now in
     let es = c.self.inside.effects in
     let there : at_slot c.in_ok-slot.slot c.slot_or_push.new.effects ≡ first_like k c.args.self.now =
-        ap (at_slot c.in_ok-slot.slot) c.in_ok-slot.ensures.effects
-        ∙ ap (λ o. at_slot o (if_new (slot_like k es) e es)) c.in_ok-slot.ensures.slot
-        ∙ kept_at (slot_like k es) e es
-        ∙ sym (first_at same_key key_of k es)
-        ∙ ap (first_like k) c.self.view_is in
+    ap (at_slot c.in_ok-slot.slot) c.in_ok-slot.ensures.effects
+    ∙ ap (λ o. at_slot o (if_new (slot_like k es) e es)) c.in_ok-slot.ensures.slot
+    ∙ kept_at (slot_like k es) e es
+    ∙ sym (first_at same_key key_of k es)
+    ∙ ap (first_like k) c.self.view_is in
     moved c.copy_at.result (at_slot c.in_ok-slot.slot c.slot_or_push.new.effects) (first_like k c.args.self.now) there c.copy_at.ensures
 
 pub returns-clause-effects : goal.returns-clause-effects
