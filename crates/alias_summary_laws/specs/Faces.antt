@@ -61,13 +61,13 @@ faces_callable env h = λ n f e. face_callable env f (got (HasFace (length env.i
 
 -- ---- the same places
 
-abbrev ids : List Place → List ℕ
+abbrev pub ids : List Place → List ℕ
 ids ps = map (λ (p : Place). p.identifier.0) ps
 
 abbrev param_ids : List ParamPattern → List ℕ
 param_ids ps = map (λ p. (param_place p).identifier.0) ps
 
-same_ids : (h : Place → Place) → ((p : Place) → (h p).identifier ≡ p.identifier) → (ps : List Place) → ids (map h ps) ≡ ids ps
+pub same_ids : (h : Place → Place) → ((p : Place) → (h p).identifier ≡ p.identifier) → (ps : List Place) → ids (map h ps) ≡ ids ps
 same_ids h e [] = refl
 same_ids h e (p ∷ ps) = ap (λ z. z.0 ∷ ids (map h ps)) (e p) ∙ ap (λ z. p.identifier.0 ∷ z) (same_ids h e ps)
 
@@ -100,7 +100,7 @@ face_alike n m f g same summary l h =
       summary = λ es e. subst (λ (p : Place). IsSummary p.identifier.0 es) (sym same.returns) (h.summary es (sym summary ∙ e));
     }
 
-same_own_then : (f g h : HirFunction) → SameOwn f g → SameOwn g h → SameOwn f h
+pub same_own_then : (f g h : HirFunction) → SameOwn f g → SameOwn g h → SameOwn f h
 same_own_then f g h a b = record { params = b.params ∙ a.params; context = b.context ∙ a.context; returns = b.returns ∙ a.returns }
 
 -- ---- functions in their slots
