@@ -1,0 +1,6 @@
+//! What the command `plain` prints.
+#![tactic(auto)]
+
+pub mod lines;
+
+pub use lines::{push_plain_refusal, push_plainness};

@@ -1,0 +1,2 @@
+pub mod SummaryOrder
+pub mod Faces

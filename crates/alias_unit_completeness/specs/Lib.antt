@@ -1,0 +1,3 @@
+pub mod Moments
+pub mod Validations
+pub mod Alone
