@@ -2,7 +2,7 @@
 """Damaged certificates: fuzz/certificates.py FIRST LAST FOLDER PROGRAM, where PROGRAM is a command that takes the words `certify` and `check`, such as
 'crates/alias_tool/out/alias_tool'. For each seed from FIRST on and below LAST the unit of the seed (units.py) is certified by the program; where that
 ends with 0, an input of `check` is written to FOLDER/SEED: the unit in one line, a newline, and the certificate, which is damaged in nine of ten. What
-PROGRAM answers is written to FOLDER/SEED.stdout, and its status to FOLDER/SEED.status.
+PROGRAM answers is written to FOLDER/SEED.stdout: so `rt try --cases FOLDER` compares another program with it. Each status has a line of its own.
 
 `damaged(text, r)` damages a certificate once, in one of its lines, numbers, sites, reasons, keys, in the order of its lines, or in its bytes. The same
 seed always gives the same text."""
@@ -190,8 +190,8 @@ def main():
         data = case(seed, lambda unit: answer('certify', unit))
         if data is None:
             continue
-        status, text = answer('check', data)
-        for ending, it in [('', data), ('.stdout', text), ('.status', b'%d\n' % status)]:
+        text = answer('check', data)[1]
+        for ending, it in [('', data), ('.stdout', text)]:
             with open(os.path.join(folder, str(seed) + ending), 'wb') as file:
                 file.write(it)
         written += 1

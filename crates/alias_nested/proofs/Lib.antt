@@ -5,6 +5,7 @@ pub mod Creating
 pub mod Ending
 pub mod Evolving
 pub mod Faultless
+pub mod Finished
 pub mod InOrder
 pub mod Keeping
 pub mod Leading

@@ -4,13 +4,23 @@ ghost use Rattle.alias_rules.specs.Fitting.{function_fits};
 ghost use Rattle.alias_nested.specs.Finishing.{finished, FinishesInto};
 ghost use Rattle.alias_nested.specs.Fitting.{FunctionKept};
 ghost use Rattle.alias_nested.specs.Order.{SameInSlots};
+ghost use Rattle.alias_nested.specs.Settling.{settled};
 
 use crate::settling::{reset_context, summarize};
+use alias_hir::effect::AliasingEffects;
 use alias_hir::env::Environment;
 use alias_hir::error::InferError;
 use alias_hir::hir::HirFunction;
 use alias_range_inference::infer_mutation_aliasing_ranges;
 use std::alloc::Global;
+
+/// Sets what follows from the summary of a nested function.
+fn settle(func: &mut HirFunction, env: &mut Environment, summary: AliasingEffects)
+    ensures { (func.new, env.new) ≡ settled summary (func.old, env.old) }
+{
+    summarize(func, summary);
+    reset_context(func.context.as_slice(), &mut env.identifiers);
+}
 
 /// Finishes a nested function whose effects are recorded: the range pass runs on it, its summary is stored, its context places
 /// are captured where the summary captures or mutates them, and the ranges of its context are reset.
@@ -28,7 +38,6 @@ pub fn finish_function(
     ensures slots { SameInSlots env.old env.new }
 {
     let summary = infer_mutation_aliasing_ranges(alloc, func, env, true)?;
-    summarize(func, summary);
-    reset_context(func.context.as_slice(), &mut env.identifiers);
+    settle(func, env, summary);
     Ok(())
 }
