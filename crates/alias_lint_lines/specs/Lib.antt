@@ -1,0 +1,2 @@
+pub mod BlockTables
+pub mod Summaries

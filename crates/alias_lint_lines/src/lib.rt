@@ -1,0 +1,12 @@
+//! `lint_lines`: the reports of a unit, with the places in functions that they come from.
+#![tactic(auto)]
+
+mod block_table;
+mod frozen;
+pub mod lints;
+mod pushing;
+mod reassigned;
+mod summaries;
+mod walks;
+
+pub use lints::lint_lines;
