@@ -1,7 +1,10 @@
 //! A worked example, and whether a run comes out as it says.
 
 use alias_base::{List, Text};
-use alias_run::{Detail, Outcome, print_inferred, print_refusal, run_alias};
+use alias_run::{
+    Answer, Detail, Outcome, print_explanation, print_inferred, print_lints, print_plainness,
+    print_refusal, run_alias,
+};
 use alias_stream::{MemorySink, MemorySource};
 use std::alloc::{AllocError, Global};
 
@@ -72,19 +75,24 @@ fn words_of(alloc: Global, text: &str) -> Result<Vec<Text>, AllocError> {
     Ok(words)
 }
 
+/// In which detail a command prints what is inferred.
+fn detail_of(words: &str) -> Detail {
+    match words {
+        "infer" => Detail::Infer,
+        "certify" => Detail::Certify,
+        _ => Detail::Counts,
+    }
+}
+
 /// The text of the outcome, by the calls that a host has for it. What the program tells of itself has none.
 fn told(alloc: Global, words: &str, outcome: &Outcome) -> Result<Text, AllocError> {
-    let Some(inferred) = &outcome.inferred else {
-        return print_refusal(alloc, &outcome.status);
-    };
-    let detail = if words == "infer" {
-        Detail::Infer
-    } else if words == "certify" {
-        Detail::Certify
-    } else {
-        Detail::Counts
-    };
-    print_inferred(alloc, inferred, detail)
+    match &outcome.answer {
+        Answer::Nothing => print_refusal(alloc, &outcome.status),
+        Answer::Inferred(inferred) => print_inferred(alloc, inferred, detail_of(words)),
+        Answer::Linted(lints) => print_lints(alloc, lints.as_slice()),
+        Answer::Explained(explanation) => print_explanation(alloc, explanation),
+        Answer::Decided(plainness) => print_plainness(alloc, *plainness),
+    }
 }
 
 /// Whether the run ends as it must, and writes what it must and nothing else, which is also the text of its outcome. An `Err` is want of memory outside the run.
@@ -98,7 +106,7 @@ pub fn ends(alloc: Global, example: &Example, run: &Run<'_>) -> Result<bool, All
     let mut sink = MemorySink::new(alloc, piece, writes);
     let outcome = run_alias(alloc, words.as_slice(), &mut source, &mut sink);
     let told = told(alloc, example.words.as_str(), &outcome);
-    let tells = outcome.inferred.is_some() || (run.status != 0 && run.status != 8);
+    let tells = !matches!(outcome.answer, Answer::Nothing) || (run.status != 0 && run.status != 8);
     // Before the first exit, since an exit that drops an outcome is dear to prove.
     let code = outcome.into_code();
     let is_told = told?.as_str().as_bytes() == run.written;

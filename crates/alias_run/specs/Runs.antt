@@ -9,49 +9,61 @@ use Rattle.alias_read.specs.Units.{UnitReading}
 use Rattle.alias_text.specs.declared.detail.Detail.{Detail}
 use Rattle.alias_text.specs.declared.detail.Detail.TheVariants as detail
 use Rattle.alias_run.specs.declared.command.Command.{Command}
-use Rattle.alias_run.specs.declared.command.Command.TheVariants.{Infer, Certify, Made, Help, Version}
+use Rattle.alias_run.specs.declared.command.Command.TheVariants.{Infer, Certify, Lint, Explain, Plain, Made, Help, Version}
 use Rattle.alias_run.specs.declared.status.Status.{Status}
 use Rattle.alias_run.specs.declared.status.Status.TheVariants.{Done, WriteFault, Memory}
-use Rattle.alias_nested.specs.declared.infer.Inferred.{Inferred}
+use Rattle.alias_run.specs.declared.answer.Answer.{Answer}
+use Rattle.alias_run.specs.declared.answer.Answer.TheVariants.{Nothing, Inferred, Linted, Explained, Decided}
 use Rattle.alias_nested.specs.Analysis.{Analysed, SolvesItsFlow}
 use Rattle.alias_nested.specs.Units.{unit_analysed}
-use Rattle.alias_run.specs.Findings.{IsFound}
+use Rattle.alias_run.specs.declared.query.Query.{Query}
+use Rattle.alias_run.specs.declared.query.Query.TheVariants.{Lints, Explanation, Plainness}
+use Rattle.alias_run.specs.Findings.{IsFound, IsAnswered}
 use Rattle.alias_run.specs.Inferences.{TellsItsWrites}
-use Rattle.alias_run.specs.Texts.{text_of, inferred_text, help_text, version_text}
+use Rattle.alias_run.specs.Texts.{text_of, answer_text, inferred_text, help_text, version_text}
 
 module _ (asked : Option Command) (known : Option (List ℕ)) (read_failed write_failed : Type 0) (held held' : Option (List ℕ)) where
   -- a front of the text of what the words and the source lead to was written
   abbrev pub WroteFront : Type 0
-  WroteFront = (status : Status) × (i : Option Inferred) × IsFound asked known read_failed status i × (n : ℕ) × Adds held (take n (text_of asked status i)) held'
+  WroteFront = (status : Status) × (a : Answer) × IsFound asked known read_failed status a × (n : ℕ) × Adds held (take n (text_of asked status a)) held'
 
   -- The cause of a status, and what was written: the whole text, or a front of it where the sink failed or memory ran out.
-  abbrev pub IsRun : Status → Option Inferred → Type 0
-  IsRun WriteFault i = write_failed × WroteFront × (i ≡ None)
-  IsRun Memory i = WroteFront × (i ≡ None)
-  IsRun status i = IsFound asked known read_failed status i × Adds held (text_of asked status i) held'
+  abbrev pub IsRun : Status → Answer → Type 0
+  IsRun WriteFault a = write_failed × WroteFront × (a ≡ Nothing)
+  IsRun Memory a = WroteFront × (a ≡ Nothing)
+  IsRun status a = IsFound asked known read_failed status a × Adds held (text_of asked status a) held'
 
 -- Where a unit was inferred: the unit is such a one; it keeps the rules; what is handed out is its inference, and of each of its functions, as its
 -- effects pass begins, the entry states solve the flow, and what is written for certain and isn't to be written stands as an error effect; and the sink got
 -- the text of what was recorded, in this detail.
-abbrev pub IsInferredOf : (HirUnit → Type 0) → Detail → Option (List ℕ) → Option (List ℕ) → Option Inferred → Type 0
-IsInferredOf IsInput printed held held' None = ⊥
-IsInferredOf IsInput printed held held' (Some i) =
+abbrev pub IsInferredOf : (HirUnit → Type 0) → Detail → Option (List ℕ) → Option (List ℕ) → Answer → Type 0
+IsInferredOf IsInput printed held held' (Inferred i) =
     (u : HirUnit) × (fs : List Analysed) × IsInput u × (rules_hold u ≡ Ok tt) × (unit_analysed u ≡ Ok (record { functions = fs; inferred = i })) × AllByRecursion SolvesItsFlow fs × AllByRecursion TellsItsWrites fs
     × Adds held (inferred_text printed i) held'
+IsInferredOf IsInput printed held held' a = ⊥
 
 -- the unit whose JSON the source had, where it is known what it had: the whole of it is the JSON of this unit
 abbrev pub IsUnitOf : Option (List ℕ) → HirUnit → Type 0
 IsUnitOf known u = IfKnown known (λ bytes. UnitReading bytes u)
 
--- What status Done means, by the command: the unit that was read was inferred, or the one that was made; or the sink got what the program tells of itself.
-abbrev pub IsDone : Option Command → Option (List ℕ) → Option (List ℕ) → Option (List ℕ) → Option Inferred → Type 0
-IsDone None known held held' i = ⊥
-IsDone (Some Infer) known held held' i = IsInferredOf (IsUnitOf known) detail.Infer held held' i
-IsDone (Some Certify) known held held' i = IsInferredOf (IsUnitOf known) detail.Certify held held' i
-IsDone (Some (Made seed size)) known held held' i = IsInferredOf (λ u. u ≡ made_unit seed size) detail.Counts held held' i
-IsDone (Some Help) known held held' i = (i ≡ None) × Adds held help_text held'
-IsDone (Some Version) known held held' i = (i ≡ None) × Adds held version_text held'
+-- Where something else was asked about a unit: the unit is the one that was read; it keeps the rules; the query is answered of it; and the sink got the text of the
+-- answer.
+abbrev pub IsAnsweredOf : Query → Option (List ℕ) → Option (List ℕ) → Option (List ℕ) → Answer → Type 0
+IsAnsweredOf q known held held' a =
+    (u : HirUnit) × IsUnitOf known u × (rules_hold u ≡ Ok tt) × IsAnswered q u Done a × Adds held (answer_text detail.Infer Done a) held'
 
-unfoldable pub IsHeadline : Option Command → Option (List ℕ) → Option (List ℕ) → Option (List ℕ) → Status → Option Inferred → Type 0
-IsHeadline asked known held held' Done i = IsDone asked known held held' i
-IsHeadline asked known held held' status i = Unit {0}
+-- What status Done means, by the command: the unit that was read was inferred, or the one that was made; or the sink got what the program tells of itself.
+abbrev pub IsDone : Option Command → Option (List ℕ) → Option (List ℕ) → Option (List ℕ) → Answer → Type 0
+IsDone None known held held' a = ⊥
+IsDone (Some Infer) known held held' a = IsInferredOf (IsUnitOf known) detail.Infer held held' a
+IsDone (Some Certify) known held held' a = IsInferredOf (IsUnitOf known) detail.Certify held held' a
+IsDone (Some Lint) known held held' a = IsAnsweredOf Lints known held held' a
+IsDone (Some (Explain f id)) known held held' a = IsAnsweredOf (Explanation f id) known held held' a
+IsDone (Some Plain) known held held' a = IsAnsweredOf Plainness known held held' a
+IsDone (Some (Made seed size)) known held held' a = IsInferredOf (λ u. u ≡ made_unit seed size) detail.Counts held held' a
+IsDone (Some Help) known held held' a = (a ≡ Nothing) × Adds held help_text held'
+IsDone (Some Version) known held held' a = (a ≡ Nothing) × Adds held version_text held'
+
+unfoldable pub IsHeadline : Option Command → Option (List ℕ) → Option (List ℕ) → Option (List ℕ) → Status → Answer → Type 0
+IsHeadline asked known held held' Done a = IsDone asked known held held' a
+IsHeadline asked known held held' status a = Unit {0}

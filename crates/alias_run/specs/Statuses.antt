@@ -2,6 +2,11 @@
 use Rattle.std.specs.Prelude.{ℕ, List, [], codes}
 use Rattle.alias_hir.specs.declared.error.InferError.{InferError}
 use Rattle.alias_hir.specs.declared.error.InferError.TheVariants as infer
+use Rattle.alias_explain.specs.declared.explain.ExplainFault.{ExplainFault}
+use Rattle.alias_explain.specs.declared.explain.ExplainFault.TheVariants as explain
+use Rattle.alias_plain_laws.specs.declared.answer.PlainFault.{PlainFault}
+use Rattle.alias_plain_laws.specs.declared.answer.PlainFault.TheVariants as plain
+use Rattle.alias_plain_text.specs.Lines.{plain_refusal_text}
 use Rattle.alias_read.specs.declared.fault.TextFault.{TextFault}
 use Rattle.alias_read.specs.declared.fault.TextFault.TheVariants as text
 use Rattle.alias_function_rules.specs.declared.fault.UnitFault.{UnitFault}
@@ -12,7 +17,7 @@ use Rattle.alias_stream.specs.declared.whole.ReadStop.{ReadStop}
 use Rattle.alias_stream.specs.declared.whole.ReadStop.TheVariants as read
 use Rattle.alias_text.specs.Refusals.{refused_text, unfit_text, not_unit_text}
 use Rattle.alias_run.specs.declared.status.Status.{Status}
-use Rattle.alias_run.specs.declared.status.Status.TheVariants.{Done, Words, NotJson, NotUnit, Unfit, Refused, ReadFault, WriteFault, TooLong, Memory}
+use Rattle.alias_run.specs.declared.status.Status.TheVariants.{Done, Words, NotJson, NotUnit, Unfit, PlainRefused, Refused, NotHere, ReadFault, WriteFault, TooLong, Memory}
 
 -- ---- faults. Want of memory has one status, wherever it comes
 
@@ -34,6 +39,15 @@ abbrev pub infer_status : InferError → Status
 infer_status (infer.Memory e) = Memory
 infer_status error = Refused error
 
+abbrev pub explain_status : ExplainFault → Status
+explain_status explain.NotHere = NotHere
+explain_status (explain.TooMany which) = Refused (infer.TooMany which)
+explain_status (explain.Memory e) = Memory
+
+abbrev pub plain_status : PlainFault → Status
+plain_status (plain.Memory e) = Memory
+plain_status fault = PlainRefused fault
+
 abbrev pub write_status : SinkStop → Status
 write_status sink.Failed = WriteFault
 write_status (sink.Memory e) = Memory
@@ -51,6 +65,8 @@ status_code ReadFault = 7
 status_code WriteFault = 8
 status_code TooLong = 9
 status_code Memory = 10
+status_code NotHere = 14
+status_code (PlainRefused fault) = 15
 
 -- one line, or nothing where the status writes none
 abbrev pub refusal_line : Status → List ℕ
@@ -59,7 +75,9 @@ refusal_line Words = codes "refused Words\n"
 refusal_line NotJson = codes "refused NotJson\n"
 refusal_line (NotUnit pointer rule) = not_unit_text pointer rule
 refusal_line (Unfit fault) = unfit_text fault
+refusal_line (PlainRefused fault) = plain_refusal_text fault
 refusal_line (Refused error) = refused_text error
+refusal_line NotHere = codes "refused NotHere\n"
 refusal_line ReadFault = codes "refused ReadFault\n"
 refusal_line WriteFault = []
 refusal_line TooLong = codes "refused TooLong\n"

@@ -3,10 +3,15 @@ use Rattle.std.specs.Prelude.{ℕ, List, ◌++◌, Option, Some, None, codes}
 use Rattle.alias_text.specs.declared.detail.Detail.{Detail}
 use Rattle.alias_text.specs.declared.detail.Detail.TheVariants as detail
 use Rattle.alias_text.specs.Results.{result_text}
-use Rattle.alias_nested.specs.declared.infer.Inferred.{Inferred}
+use Rattle.alias_nested.specs.declared.infer.Inferred.{Inferred as UnitInference}
+use Rattle.alias_run.specs.declared.answer.Answer.{Answer}
+use Rattle.alias_run.specs.declared.answer.Answer.TheVariants.{Nothing, Inferred, Linted, Explained, Decided}
 use Rattle.alias_run.specs.declared.command.Command.{Command}
-use Rattle.alias_run.specs.declared.command.Command.TheVariants.{Infer, Certify, Made, Help, Version}
+use Rattle.alias_run.specs.declared.command.Command.TheVariants.{Infer, Certify, Lint, Explain, Plain, Made, Help, Version}
 use Rattle.alias_run.specs.declared.status.Status.{Status}
+use Rattle.alias_lint_text.specs.Lints.{lints_text}
+use Rattle.alias_lint_text.specs.Explanations.{explanation_text}
+use Rattle.alias_plain_text.specs.Lines.{plainness_text}
 use Rattle.alias_run.specs.Statuses.{refusal_line}
 
 -- what `--help` writes
@@ -16,6 +21,10 @@ help_text =
     ++ codes "\n"
     ++ codes "  jirrambeo infer < unit.json     writes what is inferred of a unit\n"
     ++ codes "  jirrambeo certify < unit.json   writes also what a checker of it needs\n"
+    ++ codes "  jirrambeo lint < unit.json      writes each report with the place that it comes from\n"
+    ++ codes "  jirrambeo explain <function> <identifier> < unit.json\n"
+    ++ codes "                                  writes why a range ends where it does\n"
+    ++ codes "  jirrambeo plain < unit.json     writes whether no rule of the inference can refuse it\n"
     ++ codes "  jirrambeo made <seed> <size>    makes a unit of 1 to 1,000 blocks, and writes counts\n"
     ++ codes "  jirrambeo --help                writes this\n"
     ++ codes "  jirrambeo --version             writes name and version\n"
@@ -33,6 +42,8 @@ help_text =
     ++ codes "  8   the output can't be written\n"
     ++ codes "  9   the input is too long\n"
     ++ codes "  10  memory ran out\n"
+    ++ codes "  14  the identifier doesn't stand in that function\n"
+    ++ codes "  15  it isn't known whether the unit is plain\n"
     ++ codes "\n"
     ++ codes "docs/FORMAT.md describes units, what is written of them, and refusals.\n"
 
@@ -41,19 +52,25 @@ abbrev pub version_text : List ℕ
 version_text = codes "jirrambeo 0.1.0\n"
 
 -- what is printed of an inference in this detail
-abbrev pub inferred_text : Detail → Inferred → List ℕ
+abbrev pub inferred_text : Detail → UnitInference → List ℕ
 inferred_text printed i = result_text printed i.unit i.solved i.summary i.reports
 
--- the result, where there is one, and else the line of the refusal
-abbrev pub result_or_line : Detail → Status → Option Inferred → List ℕ
-result_or_line printed status (Some i) = inferred_text printed i
-result_or_line printed status None = refusal_line status
+-- the answer, where there is one, and else the line of the refusal
+abbrev pub answer_text : Detail → Status → Answer → List ℕ
+answer_text printed status Nothing = refusal_line status
+answer_text printed status (Inferred i) = inferred_text printed i
+answer_text printed status (Linted ls) = lints_text ls
+answer_text printed status (Explained e) = explanation_text e
+answer_text printed status (Decided p) = plainness_text p
 
 -- the text of a run, by its command
-abbrev pub text_of : Option Command → Status → Option Inferred → List ℕ
-text_of None status i = refusal_line status
-text_of (Some Infer) status i = result_or_line detail.Infer status i
-text_of (Some Certify) status i = result_or_line detail.Certify status i
-text_of (Some (Made seed size)) status i = result_or_line detail.Counts status i
-text_of (Some Help) status i = help_text
-text_of (Some Version) status i = version_text
+abbrev pub text_of : Option Command → Status → Answer → List ℕ
+text_of None status a = refusal_line status
+text_of (Some Infer) status a = answer_text detail.Infer status a
+text_of (Some Certify) status a = answer_text detail.Certify status a
+text_of (Some Lint) status a = answer_text detail.Infer status a
+text_of (Some (Explain f id)) status a = answer_text detail.Infer status a
+text_of (Some Plain) status a = answer_text detail.Infer status a
+text_of (Some (Made seed size)) status a = answer_text detail.Counts status a
+text_of (Some Help) status a = help_text
+text_of (Some Version) status a = version_text

@@ -1,17 +1,24 @@
 //! What the words and the input lead to, before anything is written.
 ghost use Rattle.std.specs.Prelude.{◌≡◌, ◌≤◌, true, false};
+ghost use Rattle.alias_rules.specs.Fitting.{function_fits};
 ghost use Rattle.alias_stream.specs.Streams.{HasFailed};
 ghost use Rattle.alias_made.specs.Units.{made_unit as unit_of};
 ghost use Rattle.alias_run.specs.Commands.{reads, IsSized};
-ghost use Rattle.alias_run.specs.Findings.{IsFound, IsRead, IsJudged, IsChecked, IsInferred, IsFit, Leaves};
+ghost use Rattle.alias_run.specs.Findings.{IsFound, IsRead, IsJudged, IsChecked, IsAnswered, IsInferred, IsLinted, IsLintedOf, IsExplained, IsExplainedOf, IsDecided, IsFit, Leaves};
 
+use crate::answer::Answer;
 use crate::command::Command;
 use crate::outcome::{Outcome, done, ended};
+use crate::query::Query;
 use crate::status::Status;
+use alias_base::{FunctionId, IdentifierId};
+use alias_explain::explain_range;
 use alias_hir::env::Unit;
 use alias_inner_passes::KeepAll;
+use alias_lint_lines::lint_lines;
 use alias_made::made_unit;
-use alias_nested::infer_unit;
+use alias_nested::{Inferred, infer_unit};
+use alias_plain::plain_unit;
 use alias_read::read_unit;
 use alias_rules::check::{Checked, check_unit};
 use alias_stream::{Source, read_whole};
@@ -19,43 +26,122 @@ use std::alloc::Global;
 
 /// What a unit that keeps the rules leads to.
 fn infer_checked(alloc: Global, unit: Checked) -> Outcome
-    ensures { IsInferred unit result.status result.inferred }
+    ensures { IsInferred unit result.status result.answer }
 {
     let mut passes = KeepAll;
     match infer_unit(alloc, unit, &mut passes) {
-        Ok(inferred) => done(inferred),
+        Ok(inferred) => done(Answer::Inferred(inferred)),
         Err(error) => ended(Status::from(error)),
     }
 }
 
+/// The reports of what was inferred of a unit.
+#[tactic(auto, using(alias_range_pass::specs::CheckLaws::checked_fits))]
+fn lint_inferred(alloc: Global, inferred: Inferred) -> Outcome
+    requires { function_fits inferred.unit.function inferred.unit.env ≡ true }
+    ensures { IsLintedOf inferred result.status result.answer }
+{
+    match lint_lines(alloc, inferred.unit) {
+        Ok(lints) => done(Answer::Linted(lints)),
+        Err(error) => ended(Status::from(error)),
+    }
+}
+
+/// The reports on the unit, each with the place that it comes from.
+fn lint_checked(alloc: Global, unit: Checked) -> Outcome
+    ensures { IsLinted unit result.status result.answer }
+{
+    let mut passes = KeepAll;
+    match infer_unit(alloc, unit, &mut passes) {
+        Ok(inferred) => lint_inferred(alloc, inferred),
+        Err(error) => ended(Status::from(error)),
+    }
+}
+
+/// Why the range of an identifier ends where it does, of what was inferred of a unit.
+fn explain_inferred(
+    alloc: Global,
+    inferred: &Inferred,
+    function: Option<FunctionId>,
+    identifier: IdentifierId,
+) -> Outcome
+    ensures { IsExplainedOf function identifier inferred.now result.status result.answer }
+{
+    match explain_range(alloc, &inferred.unit, function, identifier) {
+        Ok(explanation) => done(Answer::Explained(explanation)),
+        Err(fault) => ended(Status::from(fault)),
+    }
+}
+
+/// Why the range of an identifier ends where it does in the unit.
+fn explain_checked(
+    alloc: Global,
+    unit: Checked,
+    function: Option<FunctionId>,
+    identifier: IdentifierId,
+) -> Outcome
+    ensures { IsExplained function identifier unit result.status result.answer }
+{
+    let mut passes = KeepAll;
+    match infer_unit(alloc, unit, &mut passes) {
+        Ok(inferred) => explain_inferred(alloc, &inferred, function, identifier),
+        Err(error) => ended(Status::from(error)),
+    }
+}
+
+/// Whether the unit is plain.
+fn decide_checked(alloc: Global, unit: Checked) -> Outcome
+    ensures { IsDecided unit result.status result.answer }
+{
+    match plain_unit(alloc, unit) {
+        Ok(plainness) => done(Answer::Decided(plainness)),
+        Err(fault) => ended(Status::from(fault)),
+    }
+}
+
+/// What a unit that keeps the rules leads to, by what is asked about it.
+fn answer(alloc: Global, query: Query, unit: Checked) -> Outcome
+    ensures { IsAnswered query unit result.status result.answer }
+{
+    match query {
+        Query::Inference => infer_checked(alloc, unit),
+        Query::Lints => lint_checked(alloc, unit),
+        Query::Explanation {
+            function,
+            identifier,
+        } => explain_checked(alloc, unit, function, identifier),
+        Query::Plainness => decide_checked(alloc, unit),
+    }
+}
+
 /// What a unit leads to.
-fn judge_unit(alloc: Global, unit: Unit) -> Outcome
-    ensures { IsChecked unit result.status result.inferred }
+fn judge_unit(alloc: Global, query: Query, unit: Unit) -> Outcome
+    ensures { IsChecked query unit result.status result.answer }
 {
     match check_unit(alloc, unit) {
-        Ok(checked) => infer_checked(alloc, checked),
+        Ok(checked) => answer(alloc, query, checked),
         Err(fault) => ended(Status::from(fault)),
     }
 }
 
 /// What the bytes of the whole input lead to.
-fn judge(alloc: Global, bytes: &[u8]) -> Outcome
-    ensures { IsJudged bytes.now result.status result.inferred }
+fn judge(alloc: Global, query: Query, bytes: &[u8]) -> Outcome
+    ensures { IsJudged query bytes.now result.status result.answer }
 {
     match read_unit(alloc, bytes) {
-        Ok(unit) => judge_unit(alloc, unit),
+        Ok(unit) => judge_unit(alloc, query, unit),
         Err(fault) => ended(Status::from(fault)),
     }
 }
 
 /// What a source leads to, read to its end.
-fn infer_source<S: Source>(alloc: Global, source: &mut S) -> Outcome
-    ensures read { IsRead (S.left source.old) (HasFailed (S.faults source.old) (S.faults source.new) (S.at_last source.new)) result.status result.inferred }
+fn ask_source<S: Source>(alloc: Global, query: Query, source: &mut S) -> Outcome
+    ensures read { IsRead query (S.left source.old) (HasFailed (S.faults source.old) (S.faults source.new) (S.at_last source.new)) result.status result.answer }
     ensures leaves { Leaves result.status (S.left source.new) }
     ensures faults { S.faults source.old ≤ S.faults source.new }
 {
     match read_whole(alloc, source) {
-        Ok(bytes) => judge(alloc, bytes.as_slice()),
+        Ok(bytes) => judge(alloc, query, bytes.as_slice()),
         Err(stop) => ended(Status::from(stop)),
     }
 }
@@ -64,10 +150,10 @@ fn infer_source<S: Source>(alloc: Global, source: &mut S) -> Outcome
 fn infer_made(alloc: Global, seed: u64, size: u32) -> Outcome
     requires some { 1 ≤ size }
     requires limit { size ≤ 1000 }
-    ensures { IsFit (unit_of seed size) result.status result.inferred }
+    ensures { IsFit (unit_of seed size) result.status result.answer }
 {
     match made_unit(alloc, seed, size) {
-        Ok(unit) => judge_unit(alloc, unit),
+        Ok(unit) => judge_unit(alloc, Query::Inference, unit),
         Err(_) => ended(Status::Memory),
     }
 }
@@ -76,14 +162,28 @@ fn infer_made(alloc: Global, seed: u64, size: u32) -> Outcome
 #[tactic(auto, unfolding(crate::specs::Findings::IsFound))]
 pub(crate) fn find<S: Source>(alloc: Global, asked: Option<Command>, source: &mut S) -> Outcome
     requires { IsSized asked }
-    ensures found { IsFound asked (S.left source.old) (HasFailed (S.faults source.old) (S.faults source.new) (S.at_last source.new)) result.status result.inferred }
+    ensures found { IsFound asked (S.left source.old) (HasFailed (S.faults source.old) (S.faults source.new) (S.at_last source.new)) result.status result.answer }
     ensures unread { reads asked ≡ false → (S.left source.new ≡ S.left source.old) × (S.faults source.new ≡ S.faults source.old) }
     ensures leaves { reads asked ≡ true → Leaves result.status (S.left source.new) }
     ensures faults { S.faults source.old ≤ S.faults source.new }
 {
     match asked {
         None => ended(Status::Words),
-        Some(Command::Infer | Command::Certify) => infer_source(alloc, source),
+        Some(Command::Infer | Command::Certify) => ask_source(alloc, Query::Inference, source),
+        Some(Command::Lint) => ask_source(alloc, Query::Lints, source),
+        Some(
+            Command::Explain {
+                function,
+                identifier,
+            },
+        ) => {
+            let query = Query::Explanation {
+                function,
+                identifier,
+            };
+            ask_source(alloc, query, source)
+        }
+        Some(Command::Plain) => ask_source(alloc, Query::Plainness, source),
         Some(Command::Made { seed, size }) => infer_made(alloc, seed, size),
         Some(Command::Help | Command::Version) => ended(Status::Done),
     }

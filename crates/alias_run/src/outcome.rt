@@ -1,16 +1,17 @@
 //! How a run ends.
 ghost use Rattle.std.specs.Prelude.{◌≡◌};
+ghost use Rattle.alias_run.specs.declared.answer.Answer.TheVariants.{Nothing};
 ghost use Rattle.alias_run.specs.Statuses.{status_code};
 
+use crate::answer::Answer;
 use crate::status::Status;
-use alias_nested::Inferred;
 
-/// How a run ends, and what was inferred where the status is `Done`.
+/// How a run ends, and what it answers.
 #[derive(Drop)]
 pub struct Outcome {
     pub status: Status,
-    /// There exactly where the status is `Done`.
-    pub inferred: Option<Inferred>,
+    /// `Nothing`, unless the status is `Done` and the command asked about a unit.
+    pub answer: Answer,
 }
 
 impl Outcome {
@@ -22,29 +23,29 @@ impl Outcome {
     }
 }
 
-/// An outcome with nothing inferred.
+/// An outcome with no answer.
 pub(crate) fn ended(status: Status) -> Outcome
-    ensures { result ≡ record { status = status; inferred = None } }
+    ensures { result ≡ record { status = status; answer = Nothing } }
 {
     Outcome {
         status,
-        inferred: None,
+        answer: Answer::Nothing,
     }
 }
 
-/// The outcome of a unit that was inferred.
-pub(crate) fn done(inferred: Inferred) -> Outcome
-    ensures { result ≡ record { status = Status.Done; inferred = Some inferred } }
+/// The outcome of a unit about which something was asked.
+pub(crate) fn done(answer: Answer) -> Outcome
+    ensures { result ≡ record { status = Status.Done; answer = answer } }
 {
     Outcome {
         status: Status::Done,
-        inferred: Some(inferred),
+        answer,
     }
 }
 
-/// An outcome with nothing inferred, in place of one whose text couldn't be written.
+/// An outcome with no answer, in place of one whose text couldn't be written.
 pub(crate) fn unwritten(_outcome: Outcome, status: Status) -> Outcome
-    ensures { result ≡ record { status = status; inferred = None } }
+    ensures { result ≡ record { status = status; answer = Nothing } }
 {
     ended(status)
 }

@@ -29,8 +29,8 @@ pub fn run_alias<S: Source, K: Sink>(
 ) -> Outcome
     ensures run { let read_failed = HasFailed (S.faults source.old) (S.faults source.new) (S.at_last source.new) in
         let write_failed = HasFailed (K.faults sink.old) (K.faults sink.new) (K.at_last sink.new) in
-        IsRun (command_of words.now) (S.left source.old) read_failed write_failed (K.held sink.old) (K.held sink.new) result.status result.inferred }
-    ensures headline { IsHeadline (command_of words.now) (S.left source.old) (K.held sink.old) (K.held sink.new) result.status result.inferred }
+        IsRun (command_of words.now) (S.left source.old) read_failed write_failed (K.held sink.old) (K.held sink.new) result.status result.answer }
+    ensures headline { IsHeadline (command_of words.now) (S.left source.old) (K.held sink.old) (K.held sink.new) result.status result.answer }
     ensures unread { reads (command_of words.now) ≡ false → (S.left source.new ≡ S.left source.old) × (S.faults source.new ≡ S.faults source.old) }
     ensures leaves { reads (command_of words.now) ≡ true → Leaves result.status (S.left source.new) }
 {

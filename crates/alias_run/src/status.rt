@@ -1,12 +1,14 @@
 //! How a run ends.
 ghost use Rattle.std.specs.Prelude.{◌≡◌};
 ghost use Rattle.alias_run.specs.Explanations.{explanation};
-ghost use Rattle.alias_run.specs.Statuses.{status_code, read_status, text_status, unit_status, infer_status, write_status};
+ghost use Rattle.alias_run.specs.Statuses.{status_code, read_status, text_status, unit_status, infer_status, explain_status, plain_status, write_status};
 
 use alias_base::Text;
+use alias_explain::ExplainFault;
 use alias_function_rules::fault::UnitFault;
 use alias_hir::error::InferError;
 use alias_json::fault::TextRule;
+use alias_plain_laws::PlainFault;
 use alias_read::TextFault;
 use alias_stream::{ReadStop, SinkStop};
 
@@ -24,8 +26,12 @@ pub enum Status {
     NotUnit { pointer: Text, rule: TextRule },
     /// The unit breaks this rule first.
     Unfit(UnitFault),
+    /// It isn't known whether the unit is plain.
+    PlainRefused(PlainFault),
     /// The inference refuses the unit.
     Refused(InferError),
+    /// The identifier doesn't stand in the function that it was asked of.
+    NotHere,
     /// The source failed.
     ReadFault,
     /// The sink failed. What was written is the front of the text.
@@ -52,6 +58,8 @@ impl Status {
             Status::WriteFault => 8,
             Status::TooLong => 9,
             Status::Memory => 10,
+            Status::NotHere => 14,
+            Status::PlainRefused(_) => 15,
         }
     }
 
@@ -71,7 +79,13 @@ impl Status {
             Status::Unfit(_) => {
                 "the unit breaks the rule of this number: see docs/FORMAT.md, The rules of a well-formed unit"
             }
+            Status::PlainRefused(_) => {
+                "it isn't known whether the unit is plain: see docs/FORMAT.md, Statuses"
+            }
             Status::Refused(_) => "the unit can't be inferred: see docs/FORMAT.md, Statuses",
+            Status::NotHere => {
+                "the identifier doesn't stand in that function, or is of its context: see docs/FORMAT.md, Statuses"
+            }
             Status::ReadFault => "the input couldn't be read to its end: see where it comes from",
             Status::WriteFault => {
                 "the output couldn't be written to its end: see where it goes to"
@@ -128,6 +142,31 @@ impl From<InferError> for Status {
         match error {
             InferError::Memory(_) => Status::Memory,
             refused => Status::Refused(refused),
+        }
+    }
+}
+
+/// The status of a range that isn't explained.
+impl From<ExplainFault> for Status {
+    ghost from_gives = { λ fault status. status ≡ explain_status fault };
+
+    fn from(fault: ExplainFault) -> Status {
+        match fault {
+            ExplainFault::NotHere => Status::NotHere,
+            ExplainFault::TooMany { which } => Status::Refused(InferError::TooMany { which }),
+            ExplainFault::Memory(_) => Status::Memory,
+        }
+    }
+}
+
+/// The status of a unit of which it isn't known whether it is plain.
+impl From<PlainFault> for Status {
+    ghost from_gives = { λ fault status. status ≡ plain_status fault };
+
+    fn from(fault: PlainFault) -> Status {
+        match fault {
+            PlainFault::Memory(_) => Status::Memory,
+            refused => Status::PlainRefused(refused),
         }
     }
 }

@@ -6,6 +6,10 @@ jirrambeo infers what code may alias, freeze and write.
 
   jirrambeo infer < unit.json     writes what is inferred of a unit
   jirrambeo certify < unit.json   writes also what a checker of it needs
+  jirrambeo lint < unit.json      writes each report with the place that it comes from
+  jirrambeo explain <function> <identifier> < unit.json
+                                  writes why a range ends where it does
+  jirrambeo plain < unit.json     writes whether no rule of the inference can refuse it
   jirrambeo made <seed> <size>    makes a unit of 1 to 1,000 blocks, and writes counts
   jirrambeo --help                writes this
   jirrambeo --version             writes name and version
@@ -23,6 +27,8 @@ It ends with one of these statuses:
   8   the output can't be written
   9   the input is too long
   10  memory ran out
+  14  the identifier doesn't stand in that function
+  15  it isn't known whether the unit is plain
 
 docs/FORMAT.md describes units, what is written of them, and refusals.
 ";

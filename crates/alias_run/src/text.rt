@@ -1,14 +1,23 @@
 //! The text that a run writes: a result, the line of a refusal, or what a command tells of the program.
 ghost use Rattle.std.specs.Prelude.{◌≡◌, ◌++◌, OnOk, IfOk};
+ghost use Rattle.alias_lint_text.specs.Explanations.{explanation_text};
+ghost use Rattle.alias_lint_text.specs.Lints.{lints_text};
+ghost use Rattle.alias_plain_text.specs.Lines.{plainness_text};
 ghost use Rattle.alias_run.specs.Statuses.{refusal_line};
-ghost use Rattle.alias_run.specs.Texts.{inferred_text, result_or_line, text_of};
+ghost use Rattle.alias_run.specs.Texts.{inferred_text, answer_text, text_of};
 
+use crate::answer::Answer;
 use crate::command::Command;
 use crate::outcome::Outcome;
 use crate::status::Status;
 use crate::telling::{HELP, VERSION};
 use alias_base::Text;
+use alias_explain::Explanation;
+use alias_lint::Lint;
+use alias_lint_text::{push_explanation, push_lints};
 use alias_nested::Inferred;
+use alias_plain_laws::Plainness;
+use alias_plain_text::{push_plain_refusal, push_plainness};
 use alias_text::Detail;
 use alias_text::refusals::{push_not_unit, push_refusal, push_unfit};
 use alias_text::results::push_result;
@@ -24,7 +33,9 @@ pub fn push_refusal_line(alloc: Global, out: &mut Text, status: &Status) -> Resu
         Status::NotJson => out.push_str("refused NotJson\n"),
         Status::NotUnit { pointer, rule } => push_not_unit(alloc, out, pointer, *rule),
         Status::Unfit(fault) => push_unfit(out, *fault),
+        Status::PlainRefused(fault) => push_plain_refusal(out, fault),
         Status::Refused(error) => push_refusal(out, error),
+        Status::NotHere => out.push_str("refused NotHere\n"),
         Status::ReadFault => out.push_str("refused ReadFault\n"),
         Status::TooLong => out.push_str("refused TooLong\n"),
         Status::Done | Status::WriteFault | Status::Memory => Ok(()),
@@ -62,13 +73,43 @@ pub fn print_inferred(
     Ok(out)
 }
 
-/// The result, where there is one, and else the line of the refusal.
-fn print_outcome(alloc: Global, outcome: &Outcome, detail: Detail) -> Result<Text, AllocError>
-    ensures { IfOk result (λ t. t ≡ result_or_line detail outcome.now.status outcome.now.inferred) }
+/// The reports on a unit, each with the place that it comes from, as docs/FORMAT.md describes them.
+pub fn print_lints(alloc: Global, lints: &[Lint]) -> Result<Text, AllocError>
+    ensures { IfOk result (λ t. t ≡ lints_text lints.now) }
 {
-    match &outcome.inferred {
-        Some(inferred) => print_inferred(alloc, inferred, detail),
-        None => print_refusal(alloc, &outcome.status),
+    let mut out = Text::new(alloc);
+    push_lints(alloc, &mut out, lints)?;
+    Ok(out)
+}
+
+/// Why a range ends where it does, as docs/FORMAT.md describes it.
+pub fn print_explanation(alloc: Global, explanation: &Explanation) -> Result<Text, AllocError>
+    ensures { IfOk result (λ t. t ≡ explanation_text explanation.now) }
+{
+    let mut out = Text::new(alloc);
+    push_explanation(&mut out, explanation)?;
+    Ok(out)
+}
+
+/// Whether a unit is plain, as docs/FORMAT.md describes it.
+pub fn print_plainness(alloc: Global, plainness: Plainness) -> Result<Text, AllocError>
+    ensures { IfOk result (λ t. t ≡ plainness_text plainness) }
+{
+    let mut out = Text::new(alloc);
+    push_plainness(&mut out, plainness)?;
+    Ok(out)
+}
+
+/// The answer, where there is one, and else the line of the refusal.
+fn print_outcome(alloc: Global, outcome: &Outcome, detail: Detail) -> Result<Text, AllocError>
+    ensures { IfOk result (λ t. t ≡ answer_text detail outcome.now.status outcome.now.answer) }
+{
+    match &outcome.answer {
+        Answer::Nothing => print_refusal(alloc, &outcome.status),
+        Answer::Inferred(inferred) => print_inferred(alloc, inferred, detail),
+        Answer::Linted(lints) => print_lints(alloc, lints.as_slice()),
+        Answer::Explained(explanation) => print_explanation(alloc, explanation),
+        Answer::Decided(plainness) => print_plainness(alloc, *plainness),
     }
 }
 
@@ -78,12 +119,15 @@ pub(crate) fn text_of(
     asked: Option<Command>,
     outcome: &Outcome,
 ) -> Result<Text, AllocError>
-    ensures { IfOk result (λ t. t ≡ text_of asked outcome.now.status outcome.now.inferred) }
+    ensures { IfOk result (λ t. t ≡ text_of asked outcome.now.status outcome.now.answer) }
 {
     match asked {
         None => print_refusal(alloc, &outcome.status),
         Some(Command::Infer) => print_outcome(alloc, outcome, Detail::Infer),
         Some(Command::Certify) => print_outcome(alloc, outcome, Detail::Certify),
+        Some(Command::Lint | Command::Explain { .. } | Command::Plain) => {
+            print_outcome(alloc, outcome, Detail::Infer)
+        }
         Some(Command::Made { .. }) => print_outcome(alloc, outcome, Detail::Counts),
         Some(Command::Help) => Text::from_str(alloc, HELP),
         Some(Command::Version) => Text::from_str(alloc, VERSION),

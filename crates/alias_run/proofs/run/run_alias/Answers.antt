@@ -16,7 +16,7 @@ returns-in_default-clause-run g c =
     let held = g.K.Sink.held sink in
     let left = g.S.Source.left source in
     let o = c.unwritten.result in
-    subst (λ asked. IsRun asked left read_failed write_failed held held o.status o.inferred) c.from_words-asked.ensures.command
+    subst (λ asked. IsRun asked left read_failed write_failed held held o.status o.answer) c.from_words-asked.ensures.command
     (ran_out c.from_words-asked.result left read_failed write_failed held held c.find-outcome.result o c.unwritten.ensures c.find-outcome.ensures.found)
 
 pub returns-in_default-clause-headline : goal.returns-in_default-clause-headline
@@ -36,9 +36,9 @@ returns-in-Ok-write_whole-clause-run g c =
     let held' = g.K.Sink.held sink' in
     let left = g.S.Source.left source in
     let asked = c.from_words-asked.result in
-    let text : c.as_bytes.result.now ≡ text_of asked found.status found.inferred = c.as_bytes.ensures.value ∙ c.as_str.ensures ∙ c.in-Ok.ensures in
-    subst (λ command. IsRun command left read_failed write_failed held held' found.status found.inferred) c.from_words-asked.ensures.command
-    (ran left read_failed write_failed held held' asked found.status found.inferred c.find-outcome.ensures.found
+    let text : c.as_bytes.result.now ≡ text_of asked found.status found.answer = c.as_bytes.ensures.value ∙ c.as_str.ensures ∙ c.in-Ok.ensures in
+    subst (λ command. IsRun command left read_failed write_failed held held' found.status found.answer) c.from_words-asked.ensures.command
+    (ran left read_failed write_failed held held' asked found.status found.answer c.find-outcome.ensures.found
     (subst (λ t. Adds held t held') text c.in-Ok-write_whole.ensures.whole))
 
 pub returns-in-Ok-write_whole-clause-headline : goal.returns-in-Ok-write_whole-clause-headline
@@ -51,9 +51,9 @@ returns-in-Ok-write_whole-clause-headline g c =
     let held' = g.K.Sink.held c.write_whole.new.sink in
     let left = g.S.Source.left source in
     let asked = c.from_words-asked.result in
-    let text : c.as_bytes.result.now ≡ text_of asked found.status found.inferred = c.as_bytes.ensures.value ∙ c.as_str.ensures ∙ c.in-Ok.ensures in
-    subst (λ command. IsHeadline command left held held' found.status found.inferred) c.from_words-asked.ensures.command
-    (headline left read_failed (Unit {0}) held held' asked found.status found.inferred c.find-outcome.ensures.found
+    let text : c.as_bytes.result.now ≡ text_of asked found.status found.answer = c.as_bytes.ensures.value ∙ c.as_str.ensures ∙ c.in-Ok.ensures in
+    subst (λ command. IsHeadline command left held held' found.status found.answer) c.from_words-asked.ensures.command
+    (headline left read_failed (Unit {0}) held held' asked found.status found.answer c.find-outcome.ensures.found
     (subst (λ t. Adds held t held') text c.in-Ok-write_whole.ensures.whole))
 
 pub returns-clause-run : goal.returns-clause-run
@@ -69,10 +69,10 @@ returns-clause-run g c =
     let held' = g.K.Sink.held sink' in
     let left = g.S.Source.left source in
     let asked = c.from_words-asked.result in
-    let text : c.as_bytes.result.now ≡ text_of asked found.status found.inferred = c.as_bytes.ensures.value ∙ c.as_str.ensures ∙ c.in-Ok.ensures in
+    let text : c.as_bytes.result.now ≡ text_of asked found.status found.answer = c.as_bytes.ensures.value ∙ c.as_str.ensures ∙ c.in-Ok.ensures in
     let part = c.in-Err.ensures.part in
     let o = c.unwritten-in-Err.result in
-    subst (λ command. IsRun command left read_failed write_failed held held' o.status o.inferred) c.from_words-asked.ensures.command
+    subst (λ command. IsRun command left read_failed write_failed held held' o.status o.answer) c.from_words-asked.ensures.command
     (broke_off asked left read_failed write_failed held held' found part.0 c.in-Err.stop _ o c.unwritten-in-Err.ensures c.from.ensures
     c.find-outcome.ensures.found (subst (λ t. Adds held (take part.0 t) held') text part.2) (λ failed. c.in-Err.ensures.failed (ap Err failed)))
 

@@ -1,0 +1,21 @@
+//! What a run answers.
+use alias_base::List;
+use alias_explain::Explanation;
+use alias_lint::Lint;
+use alias_nested::Inferred;
+use alias_plain_laws::Plainness;
+
+/// What a run answers, where it has an answer.
+#[derive(Drop)]
+pub enum Answer {
+    /// Nothing: the run was refused or stopped, or the program told of itself.
+    Nothing,
+    /// What was inferred of a unit.
+    Inferred(Inferred),
+    /// The reports on a unit, each with the place that it comes from.
+    Linted(List<Lint>),
+    /// Why a range ends where it does.
+    Explained(Explanation),
+    /// Whether a unit is plain.
+    Decided(Plainness),
+}

@@ -1,0 +1,18 @@
+//! What can be asked about a unit.
+use alias_base::{FunctionId, IdentifierId};
+
+/// What is asked about a unit that keeps the rules.
+#[derive(Clone, Copy, Debug, PartialEq, Eq)]
+pub enum Query {
+    /// What is inferred of it.
+    Inference,
+    /// The reports on it, each with the place that it comes from.
+    Lints,
+    /// Why the range of an identifier ends where it does. `None` is the root.
+    Explanation {
+        function: Option<FunctionId>,
+        identifier: IdentifierId,
+    },
+    /// Whether it is plain.
+    Plainness,
+}
