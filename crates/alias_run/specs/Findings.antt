@@ -23,7 +23,7 @@ use Rattle.alias_hir.specs.declared.error.InferError.TheVariants as infer
 use Rattle.alias_lint.specs.Lints.{lints_of}
 use Rattle.alias_explain.specs.Explanations.{explained}
 use Rattle.alias_explain.specs.declared.explain.ExplainFault.TheVariants as explain
-use Rattle.alias_plain.specs.Answers.{answer_of, unit_end}
+use Rattle.alias_plain_laws.specs.Answers.{answer_of, unit_end}
 use Rattle.alias_nested.specs.declared.infer.Inferred.{Inferred as UnitInference}
 use Rattle.alias_nested.specs.Analysis.{Analysed, SolvesItsFlow}
 use Rattle.alias_nested.specs.Units.{unit_analysed}
