@@ -14,9 +14,9 @@ use Rattle.alias_lint_text.specs.Explanations.{explanation_text}
 use Rattle.alias_plain_text.specs.Lines.{plainness_text}
 use Rattle.alias_run.specs.Statuses.{refusal_line}
 
--- what `--help` writes
-abbrev pub help_text : List ℕ
-help_text =
+-- what `--help` writes of the commands
+abbrev pub commands_text : List ℕ
+commands_text =
     codes "jirrambeo infers what code may alias, freeze and write.\n"
     ++ codes "\n"
     ++ codes "  jirrambeo infer < unit.json     writes what is inferred of a unit\n"
@@ -28,7 +28,11 @@ help_text =
     ++ codes "  jirrambeo made <seed> <size>    makes a unit of 1 to 1,000 blocks, and writes counts\n"
     ++ codes "  jirrambeo --help                writes this\n"
     ++ codes "  jirrambeo --version             writes name and version\n"
-    ++ codes "\n"
+
+-- what it writes of the statuses
+abbrev pub statuses_text : List ℕ
+statuses_text =
+    codes "\n"
     ++ codes "It ends with one of these statuses:\n"
     ++ codes "\n"
     ++ codes "  0   done\n"
@@ -46,6 +50,10 @@ help_text =
     ++ codes "  15  it isn't known whether the unit is plain\n"
     ++ codes "\n"
     ++ codes "docs/FORMAT.md describes units, what is written of them, and refusals.\n"
+
+-- what `--help` writes
+abbrev pub help_text : List ℕ
+help_text = commands_text ++ statuses_text
 
 -- what `--version` writes
 abbrev pub version_text : List ℕ

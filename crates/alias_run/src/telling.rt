@@ -1,7 +1,12 @@
 //! What the program tells of itself.
+ghost use Rattle.std.specs.Prelude.{◌≡◌, ◌++◌, IfOk, OnOk};
+ghost use Rattle.alias_run.specs.Texts.{commands_text, statuses_text, help_text};
 
-/// What `--help` writes.
-pub(crate) const HELP: &str = "\
+use alias_base::Text;
+use std::alloc::{AllocError, Global};
+
+/// What `--help` writes of the commands.
+const COMMANDS: &str = "\
 jirrambeo infers what code may alias, freeze and write.
 
   jirrambeo infer < unit.json     writes what is inferred of a unit
@@ -13,6 +18,10 @@ jirrambeo infers what code may alias, freeze and write.
   jirrambeo made <seed> <size>    makes a unit of 1 to 1,000 blocks, and writes counts
   jirrambeo --help                writes this
   jirrambeo --version             writes name and version
+";
+
+/// What it writes of the statuses.
+const STATUSES: &str = "\
 
 It ends with one of these statuses:
 
@@ -35,3 +44,24 @@ docs/FORMAT.md describes units, what is written of them, and refusals.
 
 /// What `--version` writes.
 pub(crate) const VERSION: &str = "jirrambeo 0.1.0\n";
+
+fn commands(alloc: Global) -> Result<Text, AllocError>
+    ensures { IfOk result (λ t. t ≡ commands_text) }
+{
+    Text::from_str(alloc, COMMANDS)
+}
+
+fn push_statuses(out: &mut Text) -> Result<(), AllocError>
+    ensures { OnOk result (out.new ≡ out.old ++ statuses_text) }
+{
+    out.push_str(STATUSES)
+}
+
+/// What `--help` writes.
+pub(crate) fn help(alloc: Global) -> Result<Text, AllocError>
+    ensures { IfOk result (λ t. t ≡ help_text) }
+{
+    let mut out = commands(alloc)?;
+    push_statuses(&mut out)?;
+    Ok(out)
+}

@@ -10,7 +10,7 @@ use crate::answer::Answer;
 use crate::command::Command;
 use crate::outcome::Outcome;
 use crate::status::Status;
-use crate::telling::{HELP, VERSION};
+use crate::telling::{VERSION, help};
 use alias_base::Text;
 use alias_explain::Explanation;
 use alias_lint::Lint;
@@ -129,7 +129,7 @@ pub(crate) fn text_of(
             print_outcome(alloc, outcome, Detail::Infer)
         }
         Some(Command::Made { .. }) => print_outcome(alloc, outcome, Detail::Counts),
-        Some(Command::Help) => Text::from_str(alloc, HELP),
+        Some(Command::Help) => help(alloc),
         Some(Command::Version) => Text::from_str(alloc, VERSION),
     }
 }
