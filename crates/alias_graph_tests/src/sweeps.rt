@@ -13,8 +13,10 @@ use std::test::Fail;
 const OBJECTS: [NodeValue; 4] = [NodeValue::Object; 4];
 
 /// The node 0 is assigned to 1, and then 1 to 2.
-const ASSIGNED: [(EdgeKind, u32, u32, u32); 2] =
-    [(EdgeKind::Alias, 0, 0, 1), (EdgeKind::Alias, 1, 1, 2)];
+const ASSIGNED: [(EdgeKind, u32, u32, u32); 2] = [
+    (EdgeKind::Alias, 0, 0, 1),
+    (EdgeKind::Alias, 1, 1, 2),
+];
 
 fn walk(index: u32, start: u32, end: u32) -> RangeWalk {
     RangeWalk {
@@ -48,17 +50,33 @@ fn raised(alloc: Global, walks: &[RangeWalk]) -> Result<[u32; 4], AllocError> {
 #[test]
 fn raises_whatever_the_order_of_walks(rt: HostRuntime) -> Result<(), Fail> {
     let alloc = rt.alloc();
-    assert_eq!(rt; raised(alloc, &[walk(2, 2, 9), walk(1, 1, 3)])?, [9, 9, 9, 0]);
-    assert_eq!(rt; raised(alloc, &[walk(1, 1, 3), walk(2, 2, 9)])?, [9, 9, 9, 0]);
-    assert_eq!(rt; raised(alloc, &[walk(2, 2, 4), walk(1, 1, 9)])?, [9, 9, 4, 0]);
-    assert_eq!(rt; raised(alloc, &[walk(1, 1, 9), walk(2, 2, 4)])?, [9, 9, 4, 0]);
+    assert_eq!(rt;
+        raised(alloc, &[walk(2, 2, 9), walk(1, 1, 3)])?,
+        [9, 9, 9, 0]
+    );
+    assert_eq!(rt;
+        raised(alloc, &[walk(1, 1, 3), walk(2, 2, 9)])?,
+        [9, 9, 9, 0]
+    );
+    assert_eq!(rt;
+        raised(alloc, &[walk(2, 2, 4), walk(1, 1, 9)])?,
+        [9, 9, 4, 0]
+    );
+    assert_eq!(rt;
+        raised(alloc, &[walk(1, 1, 9), walk(2, 2, 4)])?,
+        [9, 9, 4, 0]
+    );
     Ok(())
 }
 
 /// How many forward links the nodes 0 and 2 have after the graph is cut off to 1, where 0 and 2 are assigned to 1 and 3, and the node of 1
 /// is made once more in between, so that it doesn't know of the link any more.
 fn left(alloc: Global) -> Result<(bool, bool), AllocError> {
-    let mut graph = graph(alloc, OBJECTS, &[(EdgeKind::Alias, 0, 0, 1), (EdgeKind::Alias, 1, 2, 3)])?;
+    let mut graph = graph(
+        alloc,
+        OBJECTS,
+        &[(EdgeKind::Alias, 0, 0, 1), (EdgeKind::Alias, 1, 2, 3)],
+    )?;
     graph.create(&place(1), NodeValue::Object)?;
     let env = environment(alloc)?;
     graph.cut_off(&[IdentifierId(1)], false, &env)?;
@@ -66,7 +84,9 @@ fn left(alloc: Global) -> Result<(bool, bool), AllocError> {
 }
 
 fn has_link(graph: &AliasGraph, number: u32) -> bool {
-    graph.link(IdentifierId(number), LinkList::Forward, 0).is_some()
+    graph
+        .link(IdentifierId(number), LinkList::Forward, 0)
+        .is_some()
 }
 
 #[test]
