@@ -54,9 +54,10 @@ class Input:
         self.file.flush()
 
     def run(self, words, wanted, sink=os.devnull):
-        """Seconds, seconds of a processor, and greatest memory in kilobytes of one run. Stops where it ends otherwise than wanted."""
+        """Seconds, seconds of a processor, and greatest memory in kilobytes of one run. Stops where it ends otherwise than wanted, by one status or
+        one of several."""
         seconds, taken, status, memory = STARTER.run(words, self.file.name, sink)
-        if status != wanted:
+        if status not in (wanted if isinstance(wanted, tuple) else (wanted,)):
             sys.exit('%s ended with status %d' % (' '.join(words), status))
         return seconds, taken, memory
 

@@ -1,5 +1,5 @@
 //! What the program tells of itself.
-ghost use Rattle.std.specs.Prelude.{◌≡◌, ◌++◌, IfOk, OnOk};
+ghost use Rattle.std.specs.Prelude.{◌≡◌, IfOk};
 ghost use Rattle.alias_run.specs.Texts.{commands_text, statuses_text, help_text};
 
 use alias_base::Text;
@@ -51,10 +51,10 @@ fn commands(alloc: Global) -> Result<Text, AllocError>
     Text::from_str(alloc, COMMANDS)
 }
 
-fn push_statuses(out: &mut Text) -> Result<(), AllocError>
-    ensures { OnOk result (out.new ≡ out.old ++ statuses_text) }
+fn statuses(alloc: Global) -> Result<Text, AllocError>
+    ensures { IfOk result (λ t. t ≡ statuses_text) }
 {
-    out.push_str(STATUSES)
+    Text::from_str(alloc, STATUSES)
 }
 
 /// What `--help` writes.
@@ -62,6 +62,7 @@ pub(crate) fn help(alloc: Global) -> Result<Text, AllocError>
     ensures { IfOk result (λ t. t ≡ help_text) }
 {
     let mut out = commands(alloc)?;
-    push_statuses(&mut out)?;
+    let statuses = statuses(alloc)?;
+    out.push_str(statuses.as_str())?;
     Ok(out)
 }

@@ -1,0 +1,8 @@
+use Rattle.alias_run.proofs.Running.{explained_of}
+use Rattle.alias_run.proofs.finding.explain_checked.Goals as goal
+
+pub returns-in-Ok : goal.returns-in-Ok
+returns-in-Ok c =
+    let is = c.in-Ok.ensures.answer in
+    let o = c.explain_inferred.result in
+    explained_of c.args.function c.args.identifier c.args.unit c.in-Ok.inferred o.status o.answer (is.0, is.1) c.explain_inferred.ensures
