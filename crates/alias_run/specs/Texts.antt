@@ -28,12 +28,12 @@ commands_text =
     ++ codes "  jirrambeo made <seed> <size>    makes a unit of 1 to 1,000 blocks, and writes counts\n"
     ++ codes "  jirrambeo --help                writes this\n"
     ++ codes "  jirrambeo --version             writes name and version\n"
+    ++ codes "\n"
 
 -- what it writes of the statuses
 abbrev pub statuses_text : List ℕ
 statuses_text =
-    codes "\n"
-    ++ codes "It ends with one of these statuses:\n"
+    codes "It ends with one of these statuses:\n"
     ++ codes "\n"
     ++ codes "  0   done\n"
     ++ codes "  1   the words can't be had, or the program can't be built\n"

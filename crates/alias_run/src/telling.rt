@@ -18,11 +18,11 @@ jirrambeo infers what code may alias, freeze and write.
   jirrambeo made <seed> <size>    makes a unit of 1 to 1,000 blocks, and writes counts
   jirrambeo --help                writes this
   jirrambeo --version             writes name and version
+
 ";
 
 /// What it writes of the statuses.
 const STATUSES: &str = "\
-
 It ends with one of these statuses:
 
   0   done
