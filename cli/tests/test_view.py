@@ -59,6 +59,16 @@ class Results(unittest.TestCase):
 
 @unittest.skipUnless(BROWSER, 'no chromium is installed (apt-get install chromium)')
 class Browser(unittest.TestCase):
+    @classmethod
+    def setUpClass(cls):
+        """A browser that doesn't start at all, as where it may not make its folders, tells nothing of the page."""
+        with tempfile.TemporaryDirectory() as folder:
+            words = [BROWSER, '--headless', '--no-sandbox', '--disable-gpu', '--user-data-dir=' + folder, '--dump-dom', 'about:blank']
+            try:
+                subprocess.run(words, stdout=subprocess.DEVNULL, stderr=subprocess.DEVNULL, check=True, timeout=60)
+            except (OSError, subprocess.SubprocessError):
+                raise unittest.SkipTest('the browser does not start here') from None
+
     def run_in(self, page, script):
         """What the script answers in the page, and the errors that came."""
         head = '<script>window.errors = []; window.onerror = (message) => { window.errors.push(message); };</script>'
