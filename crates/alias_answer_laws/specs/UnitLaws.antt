@@ -33,7 +33,11 @@ use Rattle.alias_answer_laws.specs.Applies.{InstructionsLackApply, NestedLackApp
 use Rattle.alias_answer_laws.specs.Avoiding.{is_unreplaced, Answered, avoids_then, avoids_naming, named_alike}
 use Rattle.alias_answer_laws.specs.FunctionLaws.{never_left, set_all, got_all, instructions_without_apply, RangesPlain, ranges_plain}
 use Rattle.alias_answer_laws.specs.PassLaws.{EndsPlain, pass_plain}
-use Rattle.alias_answer_laws.specs.ValidationLaws.{Says, validated_says}
+use Rattle.alias_answer_laws.specs.ValidationLaws.{validated_says}
+
+-- the answer says of no Apply that it is left
+abbrev Says : {A : Type 0} → Result A InferError → Type 0
+Says {A} r = Leads (Answered {A = A}) r
 
 -- ---- the environment after the effects pass
 
@@ -108,7 +112,7 @@ root_says f a h n =
     avoids_then is_unreplaced EndsPlain (Answered {A = RootAnalysis}) (pass_end a.env f false) _ (pass_plain a.env f false) (λ e p.
     let g : HirFunction = with_effects_of e.solved f in
     avoids_then is_unreplaced RangesPlain (Answered {A = RootAnalysis}) (range_pass false g (env_after a.env e)) _ (ranges_plain false g (env_after a.env e) (instructions_without_apply e.solved f p h) (after_lacks a.env e n)) (λ r q.
-    avoids_then is_unreplaced (Answered {A = Environment}) (Answered {A = RootAnalysis}) (validated r.after.0 r.after.1) _ (validated_says r.after.0 r.after.1) (λ more s. tt)))
+    avoids_then is_unreplaced (Answered {A = Environment}) (Answered {A = RootAnalysis}) (validated r.after.0 r.after.1) _ (validated_says is_unreplaced (λ x. refl) r.after.0 r.after.1) (λ more s. tt)))
 
 -- ---- a unit in which nothing is inferred
 

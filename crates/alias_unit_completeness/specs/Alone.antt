@@ -33,7 +33,7 @@ use Rattle.alias_completeness.specs.Passing.{IsPlainAnswer}
 use Rattle.alias_summary_laws.specs.Faces.{faces_callable}
 use Rattle.alias_answer_laws.specs.Avoiding.{Avoids, Answered, avoids_then}
 use Rattle.alias_unit_completeness.specs.Moments.{unit_holds}
-use Rattle.alias_unit_completeness.specs.Validations.{validated_says}
+use Rattle.alias_answer_laws.specs.ValidationLaws.{validated_says}
 
 -- the refusal blames a function for what it does: it reads what has no value, makes something twice, or calls what can't be called so
 abbrev pub is_blame : InferError → Bool

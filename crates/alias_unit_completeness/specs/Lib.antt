@@ -1,3 +1,2 @@
 pub mod Moments
-pub mod Validations
 pub mod Alone
