@@ -16,10 +16,8 @@ either_way k (y ∷ ys) =
     ap (λ t. t || list_any (λ (y : IdentifierId). k.0 == y.0) ys) (by_tests (k.0 == y.0) (y.0 == k.0) (λ h. eq-eqb _ _ (sym (eqb-true _ _ h))) (λ h. eq-eqb _ _ (sym (eqb-true _ _ h))))
     ∙ ap (λ t. (y.0 == k.0) || t) (either_way k ys)
 
-pub goes_last : (k : IdentifierId) (ks old new : List IdentifierId) → ks ≡ old → new ≡ (if list_any (λ (y : IdentifierId). k.0 == y.0) ks then ks else ks ++ k ∷ []) → is_made k old ≡ false → new ≡ old ++ k ∷ []
-goes_last k ks old new o e h =
-    e ∙ ap (λ xs. if list_any (λ (y : IdentifierId). k.0 == y.0) xs then xs else xs ++ k ∷ []) o ∙ ap (λ t. if t then old else old ++ k ∷ []) (either_way k old ∙ h)
+pub goes_last : (k : IdentifierId) (old new : List IdentifierId) → new ≡ (if list_any (λ (y : IdentifierId). k.0 == y.0) old then old else old ++ k ∷ []) → is_made k old ≡ false → new ≡ old ++ k ∷ []
+goes_last k old new e h = e ∙ ap (λ t. if t then old else old ++ k ∷ []) (either_way k old ∙ h)
 
-pub stays : (k : IdentifierId) (ks old new : List IdentifierId) → ks ≡ old → new ≡ (if list_any (λ (y : IdentifierId). k.0 == y.0) ks then ks else ks ++ k ∷ []) → is_made k old ≡ true → new ≡ old
-stays k ks old new o e h =
-    e ∙ ap (λ xs. if list_any (λ (y : IdentifierId). k.0 == y.0) xs then xs else xs ++ k ∷ []) o ∙ ap (λ t. if t then old else old ++ k ∷ []) (either_way k old ∙ h)
+pub stays : (k : IdentifierId) (old new : List IdentifierId) → new ≡ (if list_any (λ (y : IdentifierId). k.0 == y.0) old then old else old ++ k ∷ []) → is_made k old ≡ true → new ≡ old
+stays k old new e h = e ∙ ap (λ t. if t then old else old ++ k ∷ []) (either_way k old ∙ h)

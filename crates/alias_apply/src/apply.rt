@@ -16,7 +16,7 @@ use crate::leaves::apply_aliasing;
 use crate::mutation::{apply_freeze, apply_mutate, apply_mutate_conditionally};
 use crate::progress::{StepProgress, give, make, record};
 use crate::values::{apply_alias, apply_assign, apply_create, apply_create_from, apply_link};
-use alias_base::{FunctionId, List, TryClone};
+use alias_base::{FunctionId, List};
 use alias_freezing::context_of;
 use alias_hir::effect::{AliasingEffect, AliasingEffects, ValueKind, error_of};
 use alias_hir::place::{Effect, Place};
@@ -320,18 +320,17 @@ pub fn raise_plain(
     apply_plain(context, step, tables, first)
 }
 
-/// The steps of a list of effects that holds no call, in order.
+/// The steps of the effects of a list that holds no call, in order. No effect is copied.
 pub fn raise_all_plain(
     context: &StepContext<'_>,
     step: &mut StepProgress,
     tables: &mut Tables,
-    effects: &[AliasingEffect],
+    effects: AliasingEffects,
 ) -> Result<(), EffectFault>
-    ensures { Follows (raise_all_plain (held context.now) effects.now step.old tables.old) result step.new tables.new }
+    ensures { Follows (raise_all_plain (held context.now) effects step.old tables.old) result step.new tables.new }
 {
-    for effect in effects {
-        let copy = effect.try_clone(tables.alloc())?;
-        raise_plain(context, step, tables, copy)?;
+    for effect in effects.into_vec() {
+        raise_plain(context, step, tables, effect)?;
     }
     Ok(())
 }

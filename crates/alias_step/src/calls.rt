@@ -2,7 +2,7 @@
 //! signature of its type, or by default.
 
 ghost use Rattle.std.specs.Prelude.{◌≡◌, option_map};
-ghost use Rattle.alias_apply.specs.Apply.{raise_plain, raise_all_plain};
+ghost use Rattle.alias_apply.specs.Apply.{raise_plain};
 ghost use Rattle.alias_apply.specs.Contexts.{held};
 ghost use Rattle.alias_apply.specs.Progress.{Follows};
 ghost use Rattle.alias_step.specs.Operands.{held_call};
@@ -12,8 +12,8 @@ use crate::call::Call;
 use crate::defaults::apply_by_default;
 use crate::lists::{called_function, list_of_called, list_of_config, signature_of_type};
 use alias_apply::reports::incompatible_report;
-use alias_apply::{StepContext, StepProgress, raise_plain, raise_simple};
-use alias_base::{Text, TryClone, TypeId};
+use alias_apply::{StepContext, StepProgress, raise_all_plain, raise_plain, raise_simple};
+use alias_base::{Text, TypeId};
 use alias_calls::{CallSite, compute_effects_for_legacy_signature};
 use alias_hir::effect::{AliasingEffect, AliasingEffects};
 use alias_hir::signature::FunctionSignature;
@@ -27,21 +27,6 @@ fn note_missing(step: &mut StepProgress, missing: Option<MissingLook>)
     if step.missing.is_none() {
         step.missing = missing;
     }
-}
-
-/// The steps of a list of effects that holds no call, in order. No effect is copied.
-fn raise_list(
-    context: &StepContext<'_>,
-    step: &mut StepProgress,
-    tables: &mut Tables,
-    effects: AliasingEffects,
-) -> Result<(), EffectFault>
-    ensures { Follows (raise_all_plain (held context.now) effects step.old tables.old) result step.new tables.new }
-{
-    for effect in effects.into_vec() {
-        raise_plain(context, step, tables, effect)?;
-    }
-    Ok(())
 }
 
 /// The function may be written, and then the list of its summary is stepped.
@@ -62,7 +47,7 @@ fn apply_by_summary(
             value: call.function,
         },
     )?;
-    raise_list(context, step, tables, list)
+    raise_all_plain(context, step, tables, list)
 }
 
 fn apply_inner_call_by(
@@ -92,19 +77,6 @@ fn apply_inner_call(
     let called = called_function(&step.state, call.function);
     let list = list_of_called(context.env, tables, call, called)?;
     apply_inner_call_by(context, step, tables, list, call)
-}
-
-/// The step of a copy of an effect that is no call.
-fn raise_copy(
-    context: &StepContext<'_>,
-    step: &mut StepProgress,
-    tables: &mut Tables,
-    effect: &AliasingEffect,
-) -> Result<(), EffectFault>
-    ensures { Follows (raise_plain (held context.now) effect.now step.old tables.old) result step.new tables.new }
-{
-    let copy = effect.try_clone(tables.alloc())?;
-    raise_plain(context, step, tables, copy)
 }
 
 /// The step of an effect in the list of an aliasing part.
@@ -176,7 +148,7 @@ fn apply_by_legacy(
         call.args,
     )?;
     note_missing(step, legacy.missing);
-    raise_list(context, step, tables, legacy.effects)
+    raise_all_plain(context, step, tables, legacy.effects)
 }
 
 fn apply_by_config(
@@ -289,59 +261,6 @@ pub fn apply_effect(
     context: &StepContext<'_>,
     step: &mut StepProgress,
     tables: &mut Tables,
-    effect: &AliasingEffect,
-) -> Result<(), EffectFault>
-    ensures { Follows (apply_effect (held context.now) effect.now step.old tables.old) result step.new tables.new }
-{
-    match effect {
-        AliasingEffect::Apply {
-            receiver,
-            function,
-            mutates_function,
-            args,
-            into,
-            signature,
-            span,
-        } => apply_call(
-            context,
-            step,
-            tables,
-            *signature,
-            &Call {
-                site: CallSite {
-                    receiver: *receiver,
-                    into: *into,
-                    span: *span,
-                },
-                function: *function,
-                mutates_function: *mutates_function,
-                args: args.as_slice(),
-            },
-        ),
-        effect => raise_copy(context, step, tables, effect),
-    }
-}
-
-/// The steps of the effects, in order.
-pub fn apply_effects(
-    context: &StepContext<'_>,
-    step: &mut StepProgress,
-    tables: &mut Tables,
-    effects: &[AliasingEffect],
-) -> Result<(), EffectFault>
-    ensures { Follows (apply_effects (held context.now) effects.now step.old tables.old) result step.new tables.new }
-{
-    for effect in effects {
-        apply_effect(context, step, tables, effect)?;
-    }
-    Ok(())
-}
-
-/// The step of an effect that is no one else's.
-fn apply_own_effect(
-    context: &StepContext<'_>,
-    step: &mut StepProgress,
-    tables: &mut Tables,
     effect: AliasingEffect,
 ) -> Result<(), EffectFault>
     ensures { Follows (apply_effect (held context.now) effect step.old tables.old) result step.new tables.new }
@@ -376,7 +295,7 @@ fn apply_own_effect(
 }
 
 /// The steps of the effects of a list, in order. No effect is copied.
-pub(crate) fn apply_list(
+pub fn apply_effects(
     context: &StepContext<'_>,
     step: &mut StepProgress,
     tables: &mut Tables,
@@ -385,7 +304,7 @@ pub(crate) fn apply_list(
     ensures { Follows (apply_effects (held context.now) effects step.old tables.old) result step.new tables.new }
 {
     for effect in effects.into_vec() {
-        apply_own_effect(context, step, tables, effect)?;
+        apply_effect(context, step, tables, effect)?;
     }
     Ok(())
 }

@@ -15,7 +15,7 @@ ghost use Rattle.alias_apply.specs.Progress.{Follows};
 ghost use Rattle.alias_step.specs.Instructions.{written_by, is_frozen_context, record_mutate_frozen, record_write, record_write_if, check_write, check_effects, check_summary, check_created, begun, with_result, apply_instruction, intern_told, apply_signature_with, apply_signature};
 ghost use Rattle.alias_step.specs.Operands.{same_place};
 
-use crate::calls::apply_list;
+use crate::calls::apply_effects;
 use crate::operands::same_place;
 use alias_apply::context::summary_of;
 use alias_apply::kinds::{is_frozen, value_with};
@@ -219,7 +219,7 @@ fn apply_instruction(
 {
     begin(tables.alloc(), step);
     check_created(context, step, tables, function)?;
-    apply_list(context, step, tables, effects)?;
+    apply_effects(context, step, tables, effects)?;
     give_result(step, result_id)?;
     Ok(())
 }

@@ -33,7 +33,7 @@ fn stepped(
     alloc: Global,
     env: &Environment,
     step: &mut StepProgress,
-    effect: &AliasingEffect,
+    effect: AliasingEffect,
 ) -> &'static str {
     let hoisted = Hoisted::new(alloc);
     let context = StepContext {
@@ -53,7 +53,7 @@ fn called(
     ty: Option<TypeId>,
 ) -> Result<&'static str, AllocError> {
     let effect = call(alloc, argument, ty)?;
-    Ok(stepped(alloc, env, step, &effect))
+    Ok(stepped(alloc, env, step, effect))
 }
 
 fn plain() -> PlaceOrSpreadOrHole {

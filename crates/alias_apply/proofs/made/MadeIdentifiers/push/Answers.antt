@@ -1,8 +1,0 @@
-use Rattle.alias_apply.proofs.MadeKeys.{goes_last, stays}
-use Rattle.alias_apply.proofs.made.MadeIdentifiers.push.Goals as goal
-
-pub returns-clause-ok : goal.returns-clause-ok
-returns-clause-ok c = goes_last c.args.identifier c.self.inside.set.keys c.args.self.now c.insert.new.self.keys c.self.view_is c.in_ok-insert.ensures.keys
-
-pub returns-clause-there : goal.returns-clause-there
-returns-clause-there c = stays c.args.identifier c.self.inside.set.keys c.args.self.now c.insert.new.self.keys c.self.view_is c.in_ok-insert.ensures.keys
