@@ -1,5 +1,5 @@
 -- The slot of a node, and a change there.
-use Rattle.std.proofs.Common.{◌≡◌, ◌==◌, ℕ, ◌+◌, Bool, true, false, not, cond, [], ◌∷◌, Option, Some, None, nat_lt, length, option_map, slice_get, refl, ap, sym, ◌∙◌, arith, suc, zero}
+use Rattle.std.proofs.Common.{◌≡◌, ◌==◌, ℕ, ◌+◌, Bool, true, false, not, cond, [], ◌∷◌, Option, Some, None, nat_lt, length, option_map, is_some, slice_get, refl, ap, sym, ◌∙◌, arith, suc, zero}
 use Rattle.std.specs.List.{position_or_len}
 use Rattle.std.specs.Map.{keys_of}
 use Rattle.std.specs.Cmp.{IsEquivalence}
@@ -8,7 +8,7 @@ use Rattle.indexmap.specs.IndexMap.{set_value_at}
 use Rattle.indexmap.proofs.MapLemmas.{index-first}
 use Rattle.indexmap.proofs.RemoveLemmas.{own_first}
 use Rattle.alias_base.specs.declared.ids.IdentifierId.{IdentifierId}
-use Rattle.alias_ranges.specs.Nodes.{Entries, node_at, slot_of, same_id}
+use Rattle.alias_ranges.specs.Nodes.{Entries, node_at, has_node, slot_of, same_id}
 use Rattle.alias_ranges.specs.Graph.{changed}
 use Rattle.alias_ranges.proofs.Covering.{eqb_is, eqb_itself}
 
@@ -135,6 +135,13 @@ module _ {V : Type 0} where
 
   pub slot_missing : (g : Entries V) (id : IdentifierId) → slot_of g id ≡ None → node_at g id ≡ None
   slot_missing g id p = no_node g id (no_slot (nat_lt (slot g id) (length (keys_of g))) (slot g id) p)
+
+  -- an identifier has a node where it has a slot
+  pub slot_there : (g : Entries V) (id : IdentifierId) (i : ℕ) → Some i ≡ slot_of g id → has_node g id ≡ true
+  slot_there g id i p = let n = slot_some g id i (sym p) in ap is_some (found_node g id i n.0 n.1)
+
+  pub slot_nowhere : (g : Entries V) (id : IdentifierId) → None ≡ slot_of g id → has_node g id ≡ false
+  slot_nowhere g id p = ap is_some (slot_missing g id (sym p))
 
   -- a value that is put where it is changes nothing
   pub same_slot : (g : Entries V) (i : ℕ) (n w : V) → Some n ≡ option_map (λ (e : IdentifierId × V). e.1) (slice_get g i) → w ≡ n → set_value_at g i w ≡ g
