@@ -148,7 +148,7 @@ terminals_put env (e ∷ es) bs h a =
 
 -- ---- what is recorded is within the tables
 
-none_hold : {K : Type 0} (q : K → Type 0) (n : ℕ) → AllHold q (replicate n None)
+pub none_hold : {K : Type 0} (q : K → Type 0) (n : ℕ) → AllHold q (replicate n None)
 none_hold q zero = tt
 none_hold q (suc n) = (tt, none_hold q n)
 
@@ -162,7 +162,7 @@ module _ (func : HirFunction) (env : Environment) (f : Bool) (h : function_fits 
   c = context_of env func f
 
   -- a pass begins within the tables
-  begun_within : TablesWithin env (tables_of env)
+  pub begun_within : TablesWithin env (tables_of env)
   begun_within = record {
     first = tt;
     temporaries = tt;
@@ -195,11 +195,16 @@ module _ (func : HirFunction) (env : Environment) (f : Bool) (h : function_fits 
       let r = (block_inferred c (context_within func env f h) b.0 b.1 x t i (return_within func env n b h o) g).leads u (y, k) (outcome_is (infer_block c b.0 b.1 x t) y u k e) in
       record { tables = r.tables; state = r.value.0; said = r.value.1; still = λ j q. block_effects_grow env t u r.grown j q }
 
+  -- a step from tables and a state that are within
+  pub position_within : (n : ℕ) (t : TableLists) (x y : State) (u : TableLists) (k : BlockEffects) → TablesWithin env t → StateWithin env x → (numbered (context_of env func f)).flow.step t n x ≡ Stepped y u k
+      → StepKeeps (TablesWithin env) (StateWithin env) (BlockEffectsWithin env) t u y k
+  position_within n t x y u k i g s = step_within n (slice_get func.body.blocks n) t x y u k refl i g s
+
   -- where nothing is dirty any more, tables and what is recorded are within
   end_within : (w : SolverState (VisitLog State) TableLists BlockEffects) → visits_end c ≡ end.Solved w → TablesWithin env w.tables × AllHold (BlockEffectsWithin env w.tables) w.recorded
   end_within w e =
       solution_stands state_join state_below (numbered c) (TablesWithin env) (StateWithin env) (BlockEffectsWithin env) joins_within
-      (λ t n x y u k i g s. step_within n (slice_get func.body.blocks n) t x y u k refl i g s)
+      (λ t n x y u k i g s. position_within n t x y u k i g s)
       (tables_of env) (replicate (length func.body.blocks) None) w begun_within initial_within (none_hold (BlockEffectsWithin env (tables_of env)) (length func.body.blocks)) e
 
   all_instructions : (t : TableLists) (recorded : List (Option BlockEffects)) → AllHold (BlockEffectsWithin env t) recorded → AllByRecursion (λ (i : InstructionEffects). EffectsWithin env t i.effects) (flat_map instructions_recorded recorded)
@@ -227,12 +232,15 @@ module _ (func : HirFunction) (env : Environment) (f : Bool) (h : function_fits 
       let w : effects_within_tables more g ≡ true = rw (n, o) (l.1) in
       fits_with_other_effects func g more (recorded_differs s func) k (together (effects_within_tables more g) (holds_no_call g.aliasing_effects) w e.1)
 
-  solved_fits : (w : SolverState (VisitLog State) TableLists BlockEffects) → visits_end c ≡ end.Solved w → function_fits (with_effects_of (end_of func w).solved func) (env_after env (end_of func w)) ≡ true
-  solved_fits w e =
-      let a = end_within w e in
+  -- the function with what is recorded within tables that are
+  pub recorded_fits : (w : SolverState (VisitLog State) TableLists BlockEffects) → TablesWithin env w.tables × AllHold (BlockEffectsWithin env w.tables) w.recorded → function_fits (with_effects_of (end_of func w).solved func) (env_after env (end_of func w)) ≡ true
+  recorded_fits w a =
       put_fits (with_tables w.tables env) (end_of func w).solved (fits_with_tables env w.tables a.0 func h)
       (all_effects_written env w.tables a.0 (λ (i : InstructionEffects). i.effects) (flat_map instructions_recorded w.recorded) (all_instructions w.tables w.recorded a.1))
       (all_effects_written env w.tables a.0 (λ (i : TerminalEffects). i.effects) (flat_map terminal_recorded w.recorded) (all_terminals w.tables w.recorded a.1))
+
+  solved_fits : (w : SolverState (VisitLog State) TableLists BlockEffects) → visits_end c ≡ end.Solved w → function_fits (with_effects_of (end_of func w).solved func) (env_after env (end_of func w)) ≡ true
+  solved_fits w e = recorded_fits w (end_within w e)
 
   answer_fits : (r : End (VisitLog State) TableLists BlockEffects BlockRefusal) (e : PassEnd) → visits_end c ≡ r → answer_of env func r ≡ Ok e → function_fits (with_effects_of e.solved func) (env_after env e) ≡ true
   answer_fits (end.Solved w) e v i = let same : end_of func w ≡ e = cc in subst (λ (z : PassEnd). function_fits (with_effects_of z.solved func) (env_after env z) ≡ true) same (solved_fits w v)

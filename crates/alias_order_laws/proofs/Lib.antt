@@ -1,6 +1,6 @@
-mod Innermost
-mod Levels
-mod Ordering
-mod Solving
-mod Staying
-mod Unit
+pub mod Innermost
+pub mod Levels
+pub mod Ordering
+pub mod Solving
+pub mod Staying
+pub mod Unit

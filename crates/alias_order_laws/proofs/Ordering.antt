@@ -38,7 +38,7 @@ pub went : {A B E : Type 0} (r : Result A E) (k : A → Result B E) (b : B) → 
 went (Ok x) k b h = (x, refl, h)
 went (Err e) k b h = cc
 
-naming_ok : {A : Type 0} (id : FunctionId) (r : Result A InferError) (x : A) → naming id r ≡ Ok x → r ≡ Ok x
+pub naming_ok : {A : Type 0} (id : FunctionId) (r : Result A InferError) (x : A) → naming id r ≡ Ok x → r ≡ Ok x
 naming_ok id (Ok y) x h = h
 naming_ok id (Err e) x h = cc
 

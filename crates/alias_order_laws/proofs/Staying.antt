@@ -85,8 +85,12 @@ blocks_kept b zero k s = refl
 blocks_kept b (suc n) k s =
     blocks_kept b n (k + 1) (block_placed b k s) ∙ block_kept b k (option_map (λ (e : BlockId × BasicBlock). e.1) (slice_get s.0.body.blocks k)) s refl
 
+-- of a function placing changes the effects of its places alone
+pub placed_still : (b : Bool) (s : Placed) → but_effects (function_placed b s).0 ≡ but_effects s.0
+placed_still b s = blocks_kept b (length s.0.body.blocks) 0 s
+
 created_placed : (b : Bool) (s : Placed) → created_functions (function_placed b s).0 ≡ created_functions s.0
-created_placed b s = sym (created_but (function_placed b s).0) ∙ ap created_functions (blocks_kept b (length s.0.body.blocks) 0 s) ∙ created_but s.0
+created_placed b s = sym (created_but (function_placed b s).0) ∙ ap created_functions (placed_still b s) ∙ created_but s.0
 
 abbrev walks_done : Bool → Listing → Environment → Environment
 walks_done record_errors l env = renders_done record_errors l (mutations_done record_errors l env)

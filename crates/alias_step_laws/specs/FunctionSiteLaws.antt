@@ -76,7 +76,7 @@ module _ (F : FunctionId → Type 0) where
   pub has_empty : StateHas F empty_state
   has_empty x t e = cc
 
-  has_defined_as : (x : IdentifierId) (u : Sites) (s : State) → StateHas F s → SetHas F u → StateHas F (defined_as x u s)
+  pub has_defined_as : (x : IdentifierId) (u : Sites) (s : State) → StateHas F s → SetHas F u → StateHas F (defined_as x u s)
   has_defined_as x u s h g y t e = put_cases (SetHas F) (eq_by_cmp id_cmp y x) u t (find id_cmp y s.variables) (sym (find-put id_cmp ids_total y x u s.variables) ∙ e) g (h y t)
 
   pub has_given : (x : IdentifierId) (k : Site) (v : AbstractValue) (s : State) → StateHas F s → SiteHas F k → StateHas F (given x k v s)
