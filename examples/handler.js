@@ -1,0 +1,6 @@
+function Card(props) {
+  const reset = () => {
+    props.count = 0;
+  };
+  return <button onClick={reset} />;
+}
