@@ -1,5 +1,7 @@
 """Reports as JSON, one object a line, and as a SARIF 2.1.0 log."""
 import json
+import os
+from urllib.parse import quote
 
 VERSION = '0.1.0'
 SCHEMA = 'https://json.schemastore.org/sarif-2.1.0.json'
@@ -28,12 +30,25 @@ def json_lines(lints, source):
     return [json.dumps(object_of(lint, source), ensure_ascii=False) for lint in lints]
 
 
-def location(label, source, with_message):
-    region = {**place_in(source, label), 'byteOffset': label.start, 'byteLength': label.end - label.start}
-    if source and source.encoding != 'utf-8':
-        del region['byteOffset'], region['byteLength']
-    made = {'physicalLocation': {'artifactLocation': {'uri': source.name if source else 'unknown'}, 'region': region}}
-    if with_message and label.text:
+def region(label, source):
+    """The part of the source that a label points at, or nothing where it is none."""
+    made = place_in(source, label)
+    if (source is None or source.encoding == 'utf-8') and label.start <= label.end:
+        made |= {'byteOffset': label.start, 'byteLength': label.end - label.start}
+    return made
+
+
+def artifact(source):
+    """The source by a reference that is relative where its name is."""
+    return {'uri': quote(source.name.replace(os.sep, '/'), safe="/:~!$&'()*+,;=@") if source and source.name else 'unknown'}
+
+
+def location(label, source):
+    physical = {'artifactLocation': artifact(source), 'region': region(label, source)}
+    if not physical['region']:
+        del physical['region']
+    made = {'physicalLocation': physical}
+    if label.text:
         made['message'] = {'text': label.text}
     return made
 
@@ -42,11 +57,14 @@ def result(lint, source):
     """The result of a report: its first label is its location, and the others are related."""
     text = lint.message + ('\n' + lint.help if lint.help else '')
     made = {'ruleId': lint.category, 'level': 'error', 'message': {'text': text},
-            'properties': {'function': lint.function, 'block': lint.block, 'instruction': lint.instruction}}
+            'properties': {'function': lint.function, 'block': lint.block, 'instruction': lint.instruction,
+                           'labels': [[label.start, label.end, label.text] for label in lint.labels]}}
     if lint.labels:
-        made['locations'] = [location(lint.labels[0], source, True)]
+        made['locations'] = [location(lint.labels[0], source)]
+    elif source:
+        made['locations'] = [{'physicalLocation': {'artifactLocation': artifact(source)}}]
     if lint.labels[1:]:
-        made['relatedLocations'] = [{'id': number, **location(label, source, True)} for number, label in enumerate(lint.labels[1:])]
+        made['relatedLocations'] = [{'id': number, **location(label, source)} for number, label in enumerate(lint.labels[1:])]
     return made
 
 

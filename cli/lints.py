@@ -28,19 +28,24 @@ def text_from(line, at):
     return json.JSONDecoder().raw_decode(line, at)
 
 
-def lint_from(line):
-    """The report of one line."""
-    head = re.match(r'lint (root|\d+) (\d+) (end|\d+) (\w+) ', line)
-    function, block, instruction, category = head.groups()
-    message, at = text_from(line, head.end())
+def report_from(line, at):
+    """What stands at a position of the line: the category, the message, the help and the labels of a report."""
+    category = re.compile(r'\w+').match(line, at)
+    message, at = text_from(line, category.end() + 1)
     help_text, at = text_from(line, at + 1)
     labels = []
     while at < len(line):
         span = re.compile(r' (\d+)\.\.(\d+) ').match(line, at)
         text, at = text_from(line, span.end())
         labels.append(Label(int(span[1]), int(span[2]), text))
-    return Lint(None if function == 'root' else int(function), int(block), None if instruction == 'end' else int(instruction),
-                category, message, help_text, labels)
+    return category[0], message, help_text, labels
+
+
+def lint_from(line):
+    """The report of one line."""
+    head = re.match(r'lint (root|\d+) (\d+) (end|\d+) ', line)
+    function, block, instruction = head.groups()
+    return Lint(None if function == 'root' else int(function), int(block), None if instruction == 'end' else int(instruction), *report_from(line, head.end()))
 
 
 def lints_from(text):

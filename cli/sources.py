@@ -22,8 +22,8 @@ def stands_on():
     return {name: [low for low in lows if low in below] for name, lows in below.items()}
 
 
-def crates_in_order():
-    """The crates that the program stands on, each after those below it, and itself last."""
+def crates_in_order(top=PROGRAM):
+    """The crates that the program, or another crate, stands on, each after those below it, and itself last."""
     below, order = stands_on(), []
 
     def add(name):
@@ -33,7 +33,7 @@ def crates_in_order():
         if name not in order:
             order.append(name)
 
-    add(PROGRAM)
+    add(top)
     return order
 
 

@@ -11,6 +11,7 @@ from concurrent.futures import ThreadPoolExecutor
 
 from cli.building import say
 from cli.linting import source_of
+from cli.lints import report_from
 from cli.program import answer, is_proved
 from cli.results import Certified, explained
 
@@ -121,11 +122,23 @@ def explanations(functions, ranges, data):
     return made
 
 
+def label_of(label, source):
+    """A label, with the line, the column and the text of its span where it is one of the source."""
+    place = source.span(label.start, label.end) if source else None
+    told = {'place': '%d:%d' % (place[0][0] + 1, place[0][1] + 1), 'source': text_at(source, (label.start, label.end))} if place else {}
+    return {'start': label.start, 'end': label.end, 'text': label.text, **told}
+
+
+def report_of(line, source):
+    category, message, help_text, labels = report_from(line, 0)
+    return {'category': category, 'message': message, 'help': help_text, 'labels': [label_of(label, source) for label in labels]}
+
+
 def page_data(unit, certified, source, title, explains):
     functions = [function_data(found.name, unit['root'] if found.name == 'root' else unit['functions'][int(found.name)], found, source)
                  for found in certified.functions]
     names = {number: identifier.get('name') for number, identifier in enumerate(unit.get('identifiers', [])) if identifier.get('name')}
-    return {'title': title, 'functions': functions, 'names': names, 'ranges': certified.ranges, 'reports': certified.reports,
+    return {'title': title, 'functions': functions, 'names': names, 'ranges': certified.ranges, 'reports': [report_of(line, source) for line in certified.reports],
             'source': '\n'.join(source.lines) if source else None, 'explains': explains(functions)}
 
 

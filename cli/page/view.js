@@ -2,8 +2,11 @@
 // The page of a unit: its data is in the element `data`, made by cli/viewing.py.
 const DATA = JSON.parse(document.getElementById('data').textContent);
 const LINKS = { Assign: 'Alias', Alias: 'Alias', CreateFrom: 'Alias', Capture: 'Capture', MaybeAlias: 'MaybeAlias' };
+const WAY = 9; // the width of a way of control
+const MOST_WAYS = 12; // ways side by side; more share their room
 const LANE = 18; // the width of a lane, and of its bar with the space beside it
 const SVG = 'http://www.w3.org/2000/svg';
+const ERRORS = ['MutateFrozen', 'MutateGlobal', 'Impure'];
 const state = { names: true, short: false, chosen: null };
 
 function make(tag, attributes = {}, ...children) {
@@ -25,6 +28,7 @@ function draw(tag, attributes = {}, text = '') {
 
 const nameOf = (id) => (state.names && DATA.names[id] ? DATA.names[id] : `${id}`);
 const fullName = (id) => (DATA.names[id] ? `${DATA.names[id]} (${id})` : `${id}`);
+const isShort = (id) => DATA.ranges[id][1] - DATA.ranges[id][0] <= 1;
 const titleOf = (name) => (name === 'root' ? 'root' : `function ${name}`);
 
 // An identifier in a text, which can be chosen.
@@ -41,7 +45,7 @@ const PLACES = { Create: [1], CreateFrom: [1, 2], ImmutableCapture: [1, 2], Assi
 
 function effectSpan(view, effect) {
   const words = effect.split(' ');
-  const isError = ['MutateFrozen', 'MutateGlobal', 'Impure'].includes(words[0]);
+  const isError = ERRORS.includes(words[0]);
   const span = make('span', { class: isError ? 'error' : words[0] === 'Freeze' ? 'freeze' : '' });
   const places = words[0] === 'CreateFunction' ? words.map((_, at) => at).filter((at) => at === 1 || at > 2) : PLACES[words[0]] || [];
   words.forEach((word, at) => {
@@ -53,7 +57,7 @@ function effectSpan(view, effect) {
 
 function codeSpan(view, instruction) {
   const span = make('span', { class: 'code', title: instruction.kind });
-  if (instruction.text) {
+  if (instruction.text.trim()) {
     span.append(idSpan(view, instruction.lvalue), ' = ', instruction.text);
     return span;
   }
@@ -64,10 +68,21 @@ function codeSpan(view, instruction) {
   return span;
 }
 
+// The lane of each span of a list, in its order: two share one where they don't meet. A span is from its start to before its end.
+function lanesFor(spans) {
+  const ends = [];
+  return spans.map(({ start, end }) => {
+    let lane = ends.findIndex((last) => last <= start);
+    if (lane < 0) lane = ends.push(0) - 1;
+    ends[lane] = end + 1;
+    return lane;
+  });
+}
+
 // One function: its rows in order, what is drawn beside them, and what is known of its identifiers.
 class FunctionView {
   constructor(data) {
-    Object.assign(this, { data, spans: [], rows: [], links: [], frozen: [], writes: [] });
+    Object.assign(this, { data, spans: [], rows: [], links: [], frozen: [], writes: [], heads: new Map(), tails: new Map() });
     this.explains = (DATA.explains && DATA.explains[data.name]) || {};
     this.rowsElement = make('div', { class: 'rows' });
     this.element = make('section', { id: `function-${data.name}` }, this.heading(), make('div', { class: 'body' }, this.rowsElement), this.foot());
@@ -82,6 +97,8 @@ class FunctionView {
     facts.append(' · context ');
     list(data.context);
     facts.append(' · returns ', idSpan(this, data.returns));
+    this.unshown = make('span', {});
+    facts.append(this.unshown);
     return make('div', {}, make('h2', {}, titleOf(data.name)), facts);
   }
 
@@ -101,9 +118,11 @@ class FunctionView {
     const into = this.data.blocks.filter((other) => other.terminal.blocks.includes(block.id)).map((other) => other.id);
     const found = this.data.blocks_by_number[block.id];
     const open = () => showBlock(this, block, found);
-    this.rowsElement.append(make('div', { class: `block${found ? '' : ' unreached'}`, id: `block-${this.data.name}-${block.id}`, tabindex: 0, role: 'button',
-      on: { click: open, keydown: (event) => event.key === 'Enter' && open() } }, `block ${block.id} `,
-    make('span', { class: 'ways' }, `${into.length ? `← ${into.join(', ')} ` : ''}${block.terminal.blocks.length ? `→ ${block.terminal.blocks.join(', ')}` : ''}${found ? '' : ' (not reached)'}`)));
+    const press = (event) => { if (event.key === 'Enter' || event.key === ' ') { event.preventDefault(); open(); } };
+    const head = make('div', { class: `block${found ? '' : ' unreached'}`, id: `block-${this.data.name}-${block.id}`, tabindex: 0, role: 'button',
+      on: { click: open, keydown: press } }, `block ${block.id} `, make('span', { class: 'ways' }, `${into.length ? `← ${into.join(', ')} ` : ''}${block.terminal.blocks.length ? `→ ${block.terminal.blocks.join(', ')}` : ''}${found ? '' : ' (not reached)'}`));
+    this.heads.set(block.id, head);
+    this.rowsElement.append(head);
     block.phis.forEach((phi) => this.addPhi(phi, block));
     block.instructions.forEach((number) => {
       const instruction = this.data.instructions[number];
@@ -111,7 +130,7 @@ class FunctionView {
     });
     const code = make('span', { class: 'code' }, block.terminal.kind);
     block.terminal.places.forEach((id) => code.append(' ', idSpan(this, id)));
-    this.addRow(block.terminal.order, code, found ? found.end : [], null);
+    this.tails.set(block.id, this.addRow(block.terminal.order, code, found ? found.end : [], null));
   }
 
   addPhi(phi, block) {
@@ -140,6 +159,7 @@ class FunctionView {
   // What an effect says of identifiers: a link, a freeze, or a write that is reported.
   note(words, row) {
     const id = (at) => Number(words[at]);
+    if (ERRORS.includes(words[0])) row.element.classList.add('reported');
     if (LINKS[words[0]]) this.links.push({ from: id(1), into: id(2), kind: LINKS[words[0]], row });
     else if (words[0] === 'CreateFunction') words.slice(3).forEach((word) => this.links.push({ from: Number(word), into: id(1), kind: 'Capture', row }));
     else if (words[0] === 'Freeze') this.frozen.push({ id: id(1), row });
@@ -153,14 +173,8 @@ class FunctionView {
 
   // Identifiers with their lanes: two share one where their ranges don't meet.
   lanes() {
-    const ends = [];
-    return this.identifiers().filter((id) => state.short || id === state.chosen?.id || DATA.ranges[id][1] - DATA.ranges[id][0] > 1).map((id) => {
-      const [start, end] = DATA.ranges[id];
-      let lane = ends.findIndex((last) => last <= start);
-      if (lane < 0) lane = ends.push(0) - 1;
-      ends[lane] = end + 1;
-      return { id, lane, start, end };
-    });
+    const bars = this.identifiers().filter((id) => state.short || !isShort(id)).map((id) => ({ id, start: DATA.ranges[id][0], end: DATA.ranges[id][1] }));
+    return lanesFor(bars).map((lane, at) => ({ ...bars[at], lane }));
   }
 
   // All rows have their effects in one column.
@@ -170,59 +184,109 @@ class FunctionView {
     this.rowsElement.style.setProperty('--code', `${Math.max(160, ...codes.map((code) => code.offsetWidth)) + 4}px`);
   }
 
+  // The ways of control from the end of a block to the next, left of the rows. The way to the block below is short and straight.
+  drawWays() {
+    this.ways?.remove();
+    const middle = (element) => element.offsetTop + element.offsetHeight / 2;
+    const ways = this.data.blocks.flatMap((block) => block.terminal.blocks.filter((to) => this.heads.has(to)).map((to) => ({ from: this.tails.get(block.id).element, to: this.heads.get(to) })));
+    const spans = ways.map(({ from, to }) => ({ from: middle(from), to: middle(to) + 4 })).map((way) => ({ ...way, start: Math.min(way.from, way.to), end: Math.max(way.from, way.to) }))
+      .sort((a, b) => (a.end - a.start) - (b.end - b.start));
+    const lanes = spans.map((_, at) => spans.slice(0, at).filter((other) => other.start < spans[at].end && spans[at].start < other.end).length);
+    const width = WAY * Math.min(MOST_WAYS, Math.max(0, ...lanes.map((lane) => lane + 1)));
+    this.rowsElement.style.setProperty('--ways', `${width}px`);
+    this.ways = draw('svg', { class: 'ways-drawn', width: width + 14, height: this.rowsElement.offsetHeight, 'aria-hidden': 'true' });
+    spans.forEach((way, at) => {
+      const x = width + 4 - WAY * (1 + lanes[at] % MOST_WAYS);
+      this.ways.append(draw('path', { d: `M${width + 10} ${way.from}H${x}V${way.to}H${width + 8}m-4 -3l4 3l-4 3`, class: way.to < way.from ? 'back' : '' }));
+    });
+    this.rowsElement.append(this.ways);
+  }
+
+  // All that is laid out: what a choice changes is drawn by `mark` alone, since laying out many rows takes long.
   drawLanes() {
     this.align();
     this.svg?.remove();
+    const short = this.identifiers().filter(isShort).length;
+    this.unshown.textContent = short && !state.short ? ` · ${short} range${short > 1 ? 's' : ''} of one instruction not drawn` : '';
     const bars = this.lanes();
-    const tops = this.rows.map((row) => ({ order: row.order, top: row.element.offsetTop, bottom: row.element.offsetTop + row.element.offsetHeight, row }));
+    this.tops = this.rows.map((row) => ({ order: row.order, top: row.element.offsetTop, bottom: row.element.offsetTop + row.element.offsetHeight, row }));
     const left = Math.max(...this.rows.map((row) => row.element.lastChild.offsetLeft + row.element.lastChild.offsetWidth), 200) + 24;
-    const count = Math.max(0, ...bars.map((bar) => bar.lane + 1));
-    this.svg = draw('svg', { class: 'lanes', width: count * LANE + 60, height: this.rowsElement.offsetHeight });
+    this.count = Math.max(0, ...bars.map((bar) => bar.lane + 1));
+    this.svg = draw('svg', { class: 'lanes', width: this.count * LANE + 60, height: this.rowsElement.offsetHeight });
     this.svg.style.left = `${left}px`;
-    this.rowsElement.style.setProperty('--lanes', `${count * LANE + 24}px`);
+    this.rowsElement.style.setProperty('--lanes', `${(this.count + 1) * LANE + 24}px`);
     this.bars = new Map();
-    bars.forEach((bar) => this.drawBar(bar, tops));
+    bars.forEach((bar) => this.drawBar(bar, this.svg));
     this.rowsElement.append(this.svg);
-    this.drawPath(tops);
+    this.drawWays();
+    this.mark();
   }
 
-  drawBar(bar, tops) {
-    const within = tops.filter((at) => at.order >= bar.start && at.order < bar.end);
-    if (!within.length) return;
-    const top = within[0].top + 2;
-    const height = Math.max(within[within.length - 1].bottom - 2 - top, 4);
+  // The rows of a range: where the first begins and the last ends.
+  extent(bar) {
+    let [top, bottom] = [Infinity, -Infinity];
+    for (const at of this.tops) {
+      if (at.order >= bar.start && at.order < bar.end) [top, bottom] = [Math.min(top, at.top), Math.max(bottom, at.bottom)];
+    }
+    return { top: top + 2, height: Math.max(bottom - 4 - top, 4) };
+  }
+
+  drawBar(bar, onto) {
+    const { top, height } = this.extent(bar);
+    if (top === Infinity) return;
     const x = bar.lane * LANE;
-    const { chosen } = state;
-    const near = chosen && chosen.view === this && chosen.id !== bar.id && (this.explains[chosen.id]?.path || []).some((step) => step.identifier === bar.id);
-    const rect = draw('rect', { x, y: top, width: LANE - 4, height, rx: 3, class: chosen?.view === this && chosen.id === bar.id ? 'chosen' : near ? 'near' : '' });
+    const rect = draw('rect', { x, y: top, width: LANE - 4, height, rx: 3 });
     rect.append(draw('title', {}, `${fullName(bar.id)}: ${bar.start}..${bar.end}`));
     rect.addEventListener('click', () => choose(this, bar.id));
-    this.svg.append(rect);
+    onto.append(rect);
     const name = nameOf(bar.id);
-    if (name.length < 3) this.svg.append(draw('text', { class: 'name', x: x + (LANE - 4) / 2, y: top + 12, 'text-anchor': 'middle' }, name));
-    else if (height > 34) this.svg.append(draw('text', { class: 'name', transform: `translate(${x + 4} ${top + 6}) rotate(90)` }, name.slice(0, Math.floor(height / 7))));
-    this.bars.set(bar.id, { x: x + (LANE - 4) / 2, top, bottom: top + height });
-    const mark = (list, shape) => list.filter((item) => item.id === bar.id).forEach((item) => {
-      const place = tops.find((at) => at.row === item.row);
-      if (place) this.svg.append(shape(x, (place.top + place.bottom) / 2));
+    if (name.length < 3) onto.append(draw('text', { class: 'name', x: x + (LANE - 4) / 2, y: top + 12, 'text-anchor': 'middle' }, name));
+    else if (height > 34) onto.append(draw('text', { class: 'name', transform: `translate(${x + 4} ${top + 6}) rotate(90)` }, name.slice(0, Math.floor(height / 7))));
+    this.bars.set(bar.id, { rect, x: x + (LANE - 4) / 2, top, bottom: top + height });
+    const sign = (list, shape) => list.filter((item) => item.id === bar.id).forEach((item) => {
+      const place = this.tops.find((at) => at.row === item.row);
+      if (place) onto.append(shape(x, (place.top + place.bottom) / 2));
     });
-    mark(this.frozen, (left, y) => draw('path', { class: 'frozen', d: `M${left - 1} ${y}h${LANE - 2}` }));
-    mark(this.writes, (left, y) => draw('circle', { class: 'write', cx: left + (LANE - 4) / 2, cy: y, r: 4 }));
+    sign(this.frozen, (left, y) => draw('path', { class: 'frozen', d: `M${left - 1} ${y}h${LANE - 2}` }));
+    sign(this.writes, (left, y) => draw('circle', { class: 'write', cx: left + (LANE - 4) / 2, cy: y, r: 4 }));
+  }
+
+  // What is chosen, in this function: its bar, which gets a lane of its own where it has none, and the bars and the rows of its path.
+  mark() {
+    this.marked?.forEach((element) => element.classList.remove('chosen', 'near', 'on-path'));
+    this.marked = [];
+    this.above?.remove();
+    this.bars.forEach((bar, id) => { if (bar.isExtra) this.bars.delete(id); });
+    const { chosen } = state;
+    if (chosen?.view !== this) return;
+    this.above = draw('g');
+    this.svg.append(this.above);
+    const range = DATA.ranges[chosen.id];
+    if (range && !this.bars.has(chosen.id)) {
+      this.drawBar({ id: chosen.id, lane: this.count, start: range[0], end: range[1] }, this.above);
+      if (this.bars.has(chosen.id)) this.bars.get(chosen.id).isExtra = true;
+    }
+    const why = this.explains[chosen.id];
+    (why?.path || []).forEach((step) => this.paint(this.bars.get(step.identifier)?.rect, 'near'));
+    this.paint(this.bars.get(chosen.id)?.rect, 'chosen');
+    if (why) this.drawPath(why);
+  }
+
+  paint(element, name) {
+    if (!element) return;
+    element.classList.remove('near');
+    element.classList.add(name);
+    this.marked.push(element);
   }
 
   // The path by which a mutation reaches the chosen identifier, along the rows whose effects link its steps.
-  drawPath(tops) {
-    this.rows.forEach((row) => row.element.classList.remove('on-path'));
-    if (state.chosen?.view !== this) return;
-    const why = this.explains[state.chosen.id];
-    if (!why) return;
-    const at = this.rows.find((row) => row.number === why.instruction && row.number !== null);
-    at?.element.classList.add('on-path');
+  drawPath(why) {
+    this.paint(this.rows.find((row) => row.number === why.instruction && row.number !== null)?.element, 'on-path');
     this.linksOf(why.path).forEach(({ link, a, b }) => {
-      link.row.element.classList.add('on-path');
-      const place = tops.find((one) => one.row === link.row);
+      this.paint(link.row.element, 'on-path');
+      const place = this.tops.find((one) => one.row === link.row);
       const [from, to] = [this.bars.get(a), this.bars.get(b)];
-      if (place && from && to) this.svg.append(draw('path', { d: `M${from.x} ${place.top + 8}L${to.x} ${place.top + 8}` }));
+      if (place && from && to) this.above.append(draw('path', { d: `M${from.x} ${place.top + 8}L${to.x} ${place.top + 8}` }));
     });
   }
 
@@ -282,6 +346,14 @@ function graphOf(view) {
   return svg;
 }
 
+// A report as it is read: what it is about, what is wrong, what to do, and what it says of each part of the source.
+function reportItem(report) {
+  const item = make('li', {}, make('b', {}, report.category), ` ${report.message}`);
+  report.labels.forEach((label) => item.append(make('div', {}, `${label.place || `${label.start}..${label.end}`}${label.text ? `: ${label.text}` : ''}`, label.source ? make('code', {}, label.source) : '')));
+  if (report.help) item.append(make('div', { class: 'dim' }, report.help));
+  return item;
+}
+
 const panel = document.getElementById('panel');
 
 const CAUSES = {
@@ -291,11 +363,15 @@ const CAUSES = {
   nocause: () => 'No cause was found.',
 };
 
+function drawGraphs() {
+  document.querySelectorAll('details[open] .graph').forEach((box) => views.find((one) => one.element.contains(box))?.drawGraph(box));
+}
+
 function choose(view, id) {
   state.chosen = { view, id };
   document.querySelectorAll('.id').forEach((span) => span.classList.toggle('chosen', Number(span.dataset.id) === id));
-  views.forEach((one) => one.drawLanes());
-  document.querySelectorAll('details[open] .graph').forEach((box) => views.find((one) => one.element.contains(box))?.drawGraph(box));
+  views.forEach((one) => one.mark());
+  drawGraphs();
   const range = DATA.ranges[id];
   const why = view.explains[id];
   const parts = [make('h3', {}, `${fullName(id)} in ${titleOf(view.data.name)}`), make('p', {}, range ? `range ${range[0]}..${range[1]}` : 'no range')];
@@ -313,7 +389,7 @@ function choose(view, id) {
 function showBlock(view, block, found) {
   const lines = found ? found.state : [];
   panel.replaceChildren(make('h3', {}, `block ${block.id} of ${titleOf(view.data.name)}`), make('p', {}, lines.length ? 'is entered with' : found ? 'is entered with nothing' : 'is not reached'),
-    make('pre', { class: 'state' }, lines.join('\n')));
+    make('div', { class: 'state' }, ...lines.map((line) => make('div', {}, line))));
 }
 
 function step(by) {
@@ -321,9 +397,21 @@ function step(by) {
   const ids = view.identifiers();
   if (!ids.length) return;
   const at = ids.indexOf(state.chosen?.id);
-  choose(view, ids[(at + by + ids.length) % ids.length]);
+  const id = ids[(at + by + ids.length) % ids.length];
+  choose(view, id);
+  view.spans.find((span) => Number(span.dataset.id) === id)?.scrollIntoView({ block: 'nearest' });
 }
 
+// Nothing is chosen any more.
+function leave() {
+  state.chosen = null;
+  document.querySelectorAll('.id.chosen').forEach((span) => span.classList.remove('chosen'));
+  views.forEach((view) => view.mark());
+  drawGraphs();
+  panel.replaceChildren(hint);
+}
+
+const hint = panel.firstElementChild;
 const views = DATA.functions.map((data) => new FunctionView(data));
 
 function start() {
@@ -331,10 +419,10 @@ function start() {
   document.getElementById('title').textContent = DATA.title;
   const box = document.getElementById('functions');
   views.forEach((view) => box.append(view.element));
-  if (DATA.reports.length) box.prepend(make('ul', { class: 'reports' }, ...DATA.reports.map((line) => make('li', {}, line))));
+  if (DATA.reports.length) box.prepend(make('ul', { class: 'reports' }, ...DATA.reports.map(reportItem)));
   const redraw = () => views.forEach((view) => view.drawLanes());
   const bind = (id, act) => document.getElementById(id).addEventListener('change', (event) => { act(event.target.checked); redraw(); });
-  bind('show-names', (on) => { state.names = on; document.querySelectorAll('.id').forEach((span) => { span.textContent = nameOf(Number(span.dataset.id)); }); });
+  bind('show-names', (on) => { state.names = on; document.querySelectorAll('.id').forEach((span) => { span.textContent = nameOf(Number(span.dataset.id)); }); drawGraphs(); });
   bind('show-short', (on) => { state.short = on; });
   bind('show-effects', (on) => box.classList.toggle('no-effects', !on));
   document.getElementById('theme').addEventListener('click', () => {
@@ -344,6 +432,7 @@ function start() {
   document.addEventListener('keydown', (event) => {
     if (event.target instanceof HTMLInputElement) return;
     if (event.key === 'ArrowRight' || event.key === 'ArrowDown' && event.altKey) step(1);
+    else if (event.key === 'Escape') leave();
     else if (event.key === 'ArrowLeft' || event.key === 'ArrowUp' && event.altKey) step(-1);
   });
   window.addEventListener('resize', redraw);

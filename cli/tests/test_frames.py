@@ -1,11 +1,15 @@
 """Frames, JSON and SARIF of reports, by lines as `lint` writes them. Expected frames are written by hand."""
 import json
+import os
 import unittest
 
 from cli.formats import json_lines, sarif
 from cli.frames import frame, summary
 from cli.lints import lints_from
 from cli.source import Source, shown
+from cli.tests.schema import faults
+
+SARIF = os.path.join(os.path.dirname(os.path.abspath(__file__)), 'data', 'sarif.schema.json')
 
 CARD = '''function Card(props) {
   const reset = () => {
@@ -119,9 +123,28 @@ class Formats(unittest.TestCase):
         self.assertIn('Copy it', found['message']['text'])
 
     def test_sarif_without_a_source(self):
-        log = json.loads(sarif([self.lint], None))
-        region = log['runs'][0]['results'][0]['locations'][0]['physicalLocation']['region']
+        region = self.log_of([self.lint], None)['runs'][0]['results'][0]['locations'][0]['physicalLocation']['region']
         self.assertEqual(region, {'byteOffset': 51, 'byteLength': 5})
+
+    def log_of(self, lints, source):
+        """The log, which is one by its schema."""
+        log = json.loads(sarif(lints, source))
+        with open(SARIF, encoding='utf-8') as file:
+            self.assertEqual(list(faults(json.load(file), log)), [])
+        return log
+
+    def test_sarif_is_of_its_schema_whatever_the_labels_are(self):
+        sources = (None, self.source, Source('a b/100% é.jsx', CARD.encode()), Source('Card.js', CARD.encode(), 'utf16'), Source('', b''))
+        lints = [line(), line(labels=' 9..5 "turned"'), line(labels=' 0..900 "far"'), line(labels=' 3..3 -'), self.lint, line(labels=' 0..1 - 0..1 - 4294967295..4294967295 "x"')]
+        for source in sources:
+            self.log_of(lints, source)
+            self.log_of([], source)
+        self.assertEqual(self.log_of(lints, sources[2])['runs'][0]['results'][0]['locations'][0]['physicalLocation'], {'artifactLocation': {'uri': 'a%20b/100%25%20%C3%A9.jsx'}})
+
+    def test_sarif_holds_all_of_a_report(self):
+        found = self.log_of([self.lint], Source('Card.js', CARD.encode(), 'utf16'))['runs'][0]['results'][0]
+        self.assertEqual(found['properties'], {'function': None, 'block': 0, 'instruction': 1, 'labels': [[51, 56, 'here'], [0, 8, None]]})
+        self.assertEqual((found['ruleId'], found['message']), ('Immutability', {'text': 'No\nCopy it'}))
 
 
 if __name__ == '__main__':

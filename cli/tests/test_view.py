@@ -112,8 +112,26 @@ class Browser(unittest.TestCase):
         lines = ['function root', 'visits 0', 'block 0'] + ['%d Create %d Mutable Other' % (n - 1, n) for n in range(1, 1001)]
         lines += ['range %d %d %d' % (n, n, min(n + 40, 1001)) for n in range(1, 1001)]
         data = viewing.page_data(unit, Certified('\n'.join(lines)), None, 'many', lambda functions: {})
-        script = 'choose(views[0], 500); return [document.querySelectorAll(".row").length, document.querySelectorAll(".lanes rect").length];'
-        self.assertEqual(self.run_in(viewing.page(data), script), [1001, 999])  # the last range is of one instruction
+        script = ('const begun = performance.now(); for (let n = 0; n < 5; n += 1) choose(views[0], 500 + n); const each = (performance.now() - begun) / 5; '
+                  'return [document.querySelectorAll(".row").length, document.querySelectorAll(".lanes rect").length, each];')
+        rows, bars, milliseconds = self.run_in(viewing.page(data), script)
+        self.assertEqual((rows, bars), (1001, 999))  # the last range is of one instruction
+        self.assertLess(milliseconds, 1000)
+        print('a choice among 1,000 instructions takes %.0f ms' % milliseconds)
+
+    def test_ways_of_control_and_reports(self):
+        script = ('return [document.querySelectorAll("#function-root .ways-drawn path").length, document.querySelectorAll(".row.reported").length, '
+                  'document.querySelector(".reports li")?.innerText];')
+        self.assertEqual(self.run_in(page_of('panel'), script)[:2], [3, 0])
+        ways, reported, words = self.run_in(page_of('handler', Source('Card.js', CARD)), script)
+        self.assertEqual((ways, reported), (0, 1))
+        self.assertIn('3:5: `props` cannot be modified', words)
+
+    def test_escape_leaves_and_a_space_opens_a_block(self):
+        press = 'dispatchEvent(new KeyboardEvent("keydown", { key: "%s", bubbles: true }))'
+        script = ('choose(views[0], 3); document.%s; const left = document.querySelectorAll(".chosen").length; document.getElementById("block-root-1").%s; '
+                  'return [left, document.querySelector("#panel h3").textContent];') % (press % 'Escape', press % ' ')
+        self.assertEqual(self.run_in(page_of('panel'), script), [0, 'block 1 of root'])
 
 
 if __name__ == '__main__':

@@ -1,0 +1,113 @@
+"""Builds the library for hosts, hosts/lib/libjirrambeo.a: its crate proved and compiled, with what the kit's heap needs.
+
+Where `rt ci` has passed in this folder, by `./check`, the proved libraries below the crate stand in crates/*/out, and the crate is proved and compiled over
+them, in a minute; else `rt lib` proves all of them first. Either way nothing is compiled that isn't proved."""
+import os
+import shutil
+import subprocess
+import sys
+
+from cli.building import say
+from cli.sources import CRATES, HERE, crates_in_order, digest
+
+LIBRARY = 'jirrambeo'
+OUT = os.path.join(CRATES, LIBRARY, 'out')
+PASSED = os.path.join(OUT, 'passed')  # the digest of the sources over which rt ci passed here
+FOLDER = os.path.join(HERE, 'hosts', 'lib')
+ARCHIVE = os.path.join(FOLDER, 'libjirrambeo.a')
+STAMP = os.path.join(FOLDER, 'built_from')
+
+
+def read(path):
+    try:
+        with open(path, encoding='ascii') as file:
+            return file.read()
+    except OSError:
+        return None
+
+
+def write(path, text):
+    os.makedirs(os.path.dirname(path), exist_ok=True)
+    with open(path, 'w', encoding='ascii') as file:
+        file.write(text)
+
+
+def kit_folder():
+    told = subprocess.run(['rt', 'doc'], stdout=subprocess.PIPE, check=True, text=True).stdout
+    return os.path.dirname(told.strip().split('\n')[-1])
+
+
+def note_passed():
+    """Notes that rt ci passed over the sources that are there, with what it proved in crates/*/out."""
+    write(PASSED, digest(crates_in_order(LIBRARY)))
+
+
+def library_of(name):
+    return os.path.join(CRATES, name, 'out', 'rlib', name + '.rlib')
+
+
+def over_libraries(names, kit):
+    """The command that proves and compiles the crate over the proved libraries of those below it, as `rt lib` does over its own."""
+    words = [os.path.join(kit, 'bin', 'rattle'), 'build', '--crate-name', LIBRARY, 'src/lib.rt', '--extern', 'std=%s/rlibs/std.rlib' % kit,
+             '-L', 'dependency=%s/rlibs' % kit]
+    for name in names[:-1]:
+        words += ['-L', 'dependency=' + os.path.dirname(library_of(name))]
+    words += ['--extern', 'alias_host=' + library_of('alias_host'), '--antt-project', kit + '/rattle/logic/antt-project.json',
+              '--logic-built', kit + '/logic_built', '--jobs', '1', '--links', LIBRARY + '=', '--crate-type', 'staticlib',
+              '--toolchain', kit + '/toolchain', '--backend', 'llvm', '-o', 'out/libjirrambeo.a']
+    return words
+
+
+def ran(command):
+    """Whether a command in the crate's folder made the archive; what it said stands in out/build.log."""
+    made = os.path.join(OUT, 'libjirrambeo.a')
+    if os.path.exists(made):
+        os.remove(made)
+    with open(os.path.join(OUT, 'build.log'), 'wb') as log:
+        done = subprocess.run(command, cwd=os.path.join(CRATES, LIBRARY), stdin=subprocess.DEVNULL, stdout=log, stderr=subprocess.STDOUT, check=False)
+    return done.returncode == 0 and os.path.isfile(made)
+
+
+def compiled(names, wanted, kit):
+    """Whether the crate's archive was made, over what rt ci proved where it stands."""
+    os.makedirs(OUT, exist_ok=True)
+    if read(PASSED) == wanted and all(map(os.path.isdir, map(library_of, names[:-1]))) and ran(over_libraries(names, kit)):
+        return True
+    say('proving the library and the crates below it, which takes an hour where nothing is kept')
+    return ran(['rt', 'lib'])
+
+
+def merged(kit):
+    """Puts the crate's archive and the kit's heap into one. Answers whether that was done."""
+    os.makedirs(FOLDER, exist_ok=True)
+    parts = [('archive.a', os.path.join(OUT, 'libjirrambeo.a')), ('heap.a', os.path.join(kit, 'c', 'liblibc_c.a'))]
+    for name, path in parts:
+        shutil.copyfile(path, os.path.join(FOLDER, name))
+    script = 'create libjirrambeo.a\n%ssave\nend\n' % ''.join('addlib %s\n' % name for name, _ in parts)
+    done = subprocess.run(['ar', '-M'], cwd=FOLDER, input=script, text=True, check=False)
+    for name, _ in parts:
+        os.remove(os.path.join(FOLDER, name))
+    return done.returncode == 0
+
+
+def main():
+    names = crates_in_order(LIBRARY)
+    wanted = digest(names)
+    if read(STAMP) == wanted and os.path.isfile(ARCHIVE):
+        return 0
+    kit = kit_folder()
+    for path in (STAMP, ARCHIVE):
+        if os.path.exists(path):
+            os.remove(path)
+    if not compiled(names, wanted, kit) or not merged(kit):
+        say('the library was not built: see crates/%s/out/build.log' % LIBRARY)
+        return 1
+    if digest(names) != wanted:
+        say('the sources changed while the library was built: call again')
+        return 1
+    write(STAMP, wanted)
+    return 0
+
+
+if __name__ == '__main__':
+    sys.exit(main())

@@ -1,0 +1,2 @@
+mod Replying
+mod Splitting

@@ -1,0 +1,10 @@
+use Rattle.std.proofs.Common.{sym, ap, Some}
+use Rattle.alias_run.specs.Commands.{command_of}
+use Rattle.alias_host.proofs.Replying.{replies_as}
+use Rattle.alias_host.proofs.reply.reply_to_words.Goals as goal
+
+pub returns : goal.returns
+returns c =
+    let outcome = c.run_alias-outcome.result in
+    replies_as (command_of c.args.words.now) c.args.input.now c.into_bytes.result.items _ _ _ outcome.status c.replied.result.status outcome.answer c.replied.result.text.items
+    c.new-source.ensures c.new-sink.ensures c.into_bytes.ensures c.replied.ensures.status c.replied.ensures.text c.run_alias-outcome.ensures.run c.run_alias-outcome.ensures.headline

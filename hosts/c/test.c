@@ -1,0 +1,194 @@
+/* What no proof can say of the archive: how it is called, what a null pointer gets, that it keeps nothing, that threads don't disturb each other, and that
+ * each allocation may fail. Usage: test CASES ROUNDS, with a file that hosts/cases.py writes. Linked with --wrap for the functions of the heap. */
+#include "jirrambeo.h"
+#include <pthread.h>
+#include <stdatomic.h>
+#include <stdio.h>
+
+void *__real_malloc(size_t size);
+void *__real_calloc(size_t count, size_t size);
+void *__real_realloc(void *block, size_t size);
+void __real_free(void *block);
+static _Thread_local long calls, failing, blocks;
+
+static int fails(void) { return ++calls == failing; }
+
+static void *counted(void *block) {
+    blocks += block != NULL;
+    return block;
+}
+
+void *__wrap_malloc(size_t size) { return fails() ? NULL : counted(__real_malloc(size)); }
+
+void *__wrap_calloc(size_t count, size_t size) { return fails() ? NULL : counted(__real_calloc(count, size)); }
+
+void *__wrap_realloc(void *block, size_t size) {
+    if (fails()) {
+        return NULL;
+    }
+    return block == NULL ? counted(__real_realloc(block, size)) : __real_realloc(block, size);
+}
+
+void __wrap_free(void *block) {
+    blocks -= block != NULL;
+    __real_free(block);
+}
+
+static void expect(int holds, const char *what) {
+    if (!holds) {
+        fprintf(stderr, "failed: %s\n", what);
+        exit(1);
+    }
+}
+
+struct run {
+    uint32_t status, line_length, input_length, text_length;
+    char *line;
+    const uint8_t *input, *text;
+};
+
+static struct run *runs;
+static size_t run_count;
+static atomic_long done;
+
+static const uint8_t *bytes(const char *text) { return (const uint8_t *)text; }
+
+/* The runs of a file. They stay to the end of the process. */
+static void read_runs(const char *path) {
+    FILE *file = fopen(path, "rb");
+    uint32_t head[4];
+    expect(file != NULL, "the file of the cases is there");
+    while (fread(head, sizeof head, 1, file) == 1) {
+        size_t length = (size_t)head[1] + head[2] + head[3];
+        uint8_t *part = malloc(length + 1);
+        runs = realloc(runs, (run_count + 1) * sizeof *runs);
+        expect(part != NULL && runs != NULL && fread(part, 1, length, file) == length, "the file of the cases is whole");
+        char *line = calloc(head[1] + 1, 1);
+        expect(line != NULL, "memory for the test");
+        memcpy(line, part, head[1]);
+        runs[run_count++] = (struct run){head[0], head[1], head[2], head[3], line, part + head[1], part + head[1] + head[2]};
+    }
+    fclose(file);
+}
+
+static void same(const struct run *run) {
+    uint8_t *text;
+    size_t length;
+    uint8_t status = jirrambeo_call(run->line, run->input, run->input_length, &text, &length);
+    ++done;
+    int is_same = status == run->status && length == run->text_length && memcmp(text, run->text, length) == 0 && text[length] == 0;
+    expect(is_same, run->line);
+    jirrambeo_free(text);
+}
+
+static void *each_again(void *rounds) {
+    for (int round = 0; round < *(int *)rounds; ++round) {
+        for (size_t i = 0; i < run_count; ++i) {
+            if (runs[i].input_length < 65536) {
+                same(&runs[i]);
+            }
+        }
+    }
+    expect(blocks == 0, "no block is left of a thread's calls");
+    return NULL;
+}
+
+static void threads(int rounds) {
+    pthread_t all[4];
+    for (int i = 0; i < 4; ++i) {
+        expect(pthread_create(&all[i], NULL, each_again, &rounds) == 0, "a thread for the test");
+    }
+    for (int i = 0; i < 4; ++i) {
+        expect(pthread_join(all[i], NULL) == 0, "a thread's end");
+    }
+}
+
+static void rooms(void) {
+    char room[40], less[4] = "....";
+    size_t length = 7;
+    memset(room, '.', sizeof room);
+    expect(jirrambeo_run(bytes("infer"), 5, NULL, 0, (uint8_t *)room, sizeof room, &length) == JIRRAMBEO_NOT_JSON && length == 16, "no input");
+    expect(memcmp(room, "refused NotJson\n........................", sizeof room) == 0, "the line of a refusal, and what was behind it");
+    expect(jirrambeo_run(bytes("--version"), 9, NULL, 0, (uint8_t *)less, 3, &length) == JIRRAMBEO_DONE && length == 16, "too little room");
+    expect(memcmp(less, "jir.", 4) == 0, "a front of the text");
+    expect(jirrambeo_run(NULL, 0, NULL, 0, NULL, 0, &length) == JIRRAMBEO_WORDS && length == 14, "null pointers without bytes");
+    expect(jirrambeo_run(bytes("infer\xff"), 6, NULL, 0, NULL, 0, &length) == JIRRAMBEO_WORDS, "a line that isn't UTF-8");
+    expect(jirrambeo_run(bytes(" infer"), 6, NULL, 0, NULL, 0, &length) == JIRRAMBEO_WORDS, "a space before the word");
+}
+
+static void nulls(void) {
+    uint8_t *text = (uint8_t *)"";
+    size_t length = 7;
+    expect(jirrambeo_call("infer", NULL, 2, &text, &length) == JIRRAMBEO_NULL && text == NULL && length == 0, "a null input with a length");
+    expect(jirrambeo_call(NULL, bytes("{}"), 2, &text, &length) == JIRRAMBEO_NULL, "a null line");
+    expect(jirrambeo_call("infer", bytes("{}"), 2, NULL, &length) == JIRRAMBEO_NULL, "nowhere to put the text");
+    expect(jirrambeo_call("infer", bytes("{}"), 2, &text, NULL) == JIRRAMBEO_NULL, "nowhere to put its length");
+    expect(jirrambeo_call("infer", NULL, 0, &text, &length) == JIRRAMBEO_NOT_JSON && length == 16, "a null input without a length");
+    jirrambeo_free(text);
+    jirrambeo_free(NULL);
+}
+
+static void limits(void) {
+    size_t most = 16777216, length;
+    uint8_t *text, *input = malloc(most + 1);
+    expect(input != NULL, "memory for the test");
+    memset(input, ' ', most + 1);
+    expect(jirrambeo_call("infer", input, most, &text, &length) == JIRRAMBEO_NOT_JSON, "the longest input");
+    jirrambeo_free(text);
+    expect(jirrambeo_call("infer", input, most + 1, &text, &length) == JIRRAMBEO_TOO_LONG, "an input that is too long");
+    jirrambeo_free(text);
+    free(input);
+}
+
+/* Each allocation of a run fails once: the status says so, there is no text, and no block is left. */
+static long failures(const struct run *run) {
+    uint8_t *text;
+    size_t length;
+    calls = blocks = 0;
+    same(run);
+    expect(blocks == 0, "no block is left");
+    long all = calls;
+    for (long at = 1; at <= all; ++at) {
+        calls = 0;
+        failing = at;
+        uint8_t status = jirrambeo_call(run->line, run->input, run->input_length, &text, &length);
+        failing = 0;
+        expect(status == JIRRAMBEO_MEMORY && text == NULL && length == 0 && blocks == 0, "nothing is left of a run that had too little memory");
+    }
+    return all;
+}
+
+/* The first run of a command that ends well and has a small unit. */
+static long failures_of(const char *word) {
+    for (size_t i = 0; i < run_count; ++i) {
+        int is_asked = strncmp(runs[i].line, word, strlen(word)) == 0;
+        if (is_asked && runs[i].status == JIRRAMBEO_DONE && runs[i].input_length < 2000) {
+            return failures(&runs[i]);
+        }
+    }
+    return 0;
+}
+
+int main(int count, char **words) {
+    expect(count == 3, "usage: test CASES ROUNDS");
+    read_runs(words[1]);
+    rooms();
+    nulls();
+    limits();
+    for (size_t i = 0; i < run_count; ++i) {
+        same(&runs[i]);
+    }
+    static const char *const commands[] = {"infer", "certify", "lint", "explain", "plain", "check", "made"};
+    long failed = 0;
+    for (size_t i = 0; i < sizeof commands / sizeof *commands; ++i) {
+        failed += failures_of(commands[i]);
+    }
+    threads(atoi(words[2]));
+    printf("hosts: C: %ld calls with the program's own text, most from four threads; %ld calls in which an allocation failed\n", (long)done, failed);
+    for (size_t i = 0; i < run_count; ++i) {
+        free((void *)(uintptr_t)(runs[i].input - runs[i].line_length));
+        free(runs[i].line);
+    }
+    free(runs);
+    return 0;
+}

@@ -1,0 +1,43 @@
+//! Makes every call on the unit of standard input from four threads, so often as the first argument says.
+use jirrambeo::{FunctionName, IdentifierId};
+use std::error::Error;
+use std::io::{self, Read};
+use std::{env, thread};
+
+/// Every call once. Answers how many there were.
+fn all(unit: &[u8]) -> usize {
+    let mut count = 6;
+    let inference = jirrambeo::infer(unit).expect("an inference");
+    let certificate = jirrambeo::certify(unit).expect("a certificate");
+    for entry in &inference.ranges {
+        let why = jirrambeo::explain(unit, FunctionName::Root, entry.identifier);
+        assert_eq!(why.expect("an explanation").range, entry.range);
+        count += 1;
+    }
+    let _ = jirrambeo::check(unit, &certificate.to_string());
+    let lints = jirrambeo::lint(unit).expect("lints");
+    assert_eq!(lints.lints.len(), inference.reports.len());
+    jirrambeo::plain(unit).expect("an answer");
+    assert!(
+        jirrambeo::explain(unit, FunctionName::Root, IdentifierId(u32::MAX)).is_err(),
+        "no identifier has this number"
+    );
+    assert!(inference == certificate.into());
+    count
+}
+
+fn main() -> Result<(), Box<dyn Error>> {
+    let rounds: usize = env::args().nth(1).unwrap_or_default().parse()?;
+    let mut unit = Vec::new();
+    io::stdin().read_to_end(&mut unit)?;
+    let each = || (0..rounds).map(|_| all(&unit)).sum::<usize>();
+    let calls: usize = thread::scope(|scope| {
+        let threads = [(); 4].map(|()| scope.spawn(each));
+        threads
+            .map(|thread| thread.join().expect("a thread's end"))
+            .iter()
+            .sum()
+    });
+    println!("hosts: Rust: {calls} calls from four threads");
+    Ok(())
+}

@@ -1,0 +1,171 @@
+//! Jirrambeo in the caller's own process: what the code of a React component may alias, freeze and write, proved right.
+//!
+//! A unit is the JSON that docs/FORMAT.md describes. [`infer`] gives what is inferred of it as plain types, and [`certify`], [`check`], [`lint`],
+//! [`explain`] and [`plain`] do what the program's commands of these names do. Each call stands alone: nothing is kept between calls, and calls may
+//! run side by side in any number of threads.
+//!
+//! ```no_run
+//! let unit = std::fs::read("unit.json")?;
+//! let inference = jirrambeo::infer(&unit)?;
+//! for entry in &inference.ranges {
+//!     println!("{} may be written from {} to {}", entry.identifier, entry.range.start, entry.range.end);
+//! }
+//! # Ok::<(), Box<dyn std::error::Error>>(())
+//! ```
+//!
+//! Every result's text (`to_string`) is the program's own, and reads back (`parse`) as the same result.
+//!
+//! # Panics
+//!
+//! A call panics where the archive writes what this crate can't read, which is an error of one of the two: that the archive's text is as
+//! docs/FORMAT.md says is proved, and that this crate reads all of that is tested.
+//!
+//! # The stack
+//!
+//! A call runs on the caller's stack: hosts/README.md says how much it takes.
+#![warn(missing_docs)]
+
+mod answers;
+mod archive;
+mod certificate;
+mod check_fault;
+mod effect;
+mod faults;
+mod ids;
+mod inference;
+mod lines;
+mod refusal;
+mod report;
+mod site;
+mod words;
+
+pub use answers::{Accepted, Cause, Counts, Explanation, PathStep, Plainness};
+pub use certificate::{
+    Certificate, CertifiedBlock, CertifiedFunction, State, Temporary, TemporaryKey,
+};
+pub use check_fault::CheckFault;
+pub use effect::Effect;
+pub use faults::{Holder, InferError, PlainFault, UnitFault};
+pub use ids::{BlockId, FunctionId, FunctionName, IdentifierId, InstructionId, Order};
+pub use inference::{
+    Block, Function, IdentifierRange, Inference, InstructionEffects, MutableRange,
+};
+pub use lines::TextError;
+pub use refusal::Refusal;
+pub use report::{Label, Lint, Lints, Place, Report, Span};
+pub use site::{Site, SiteValue, Variable};
+pub use words::{Category, Counter, FormatRule, Table, ValueKind, ValueReason};
+
+use std::str::FromStr;
+
+/// What is inferred of a unit.
+///
+/// # Errors
+///
+/// Where the unit is none, breaks a rule, is refused or is too long, and where memory runs out.
+pub fn infer(unit: &[u8]) -> Result<Inference, Refusal> {
+    answer("infer", unit)
+}
+
+/// What is inferred of a unit, with what it can be checked by.
+///
+/// # Errors
+///
+/// As of [`infer`].
+pub fn certify(unit: &[u8]) -> Result<Certificate, Refusal> {
+    answer("certify", unit)
+}
+
+/// Whether a certificate is accepted for a unit. The certificate is the text of a [`Certificate`], or what another inference claims in that format.
+///
+/// # Errors
+///
+/// Where the unit is none, breaks a rule or is too long together with the certificate; where the certificate isn't in its grammar or isn't
+/// accepted, and where memory runs out.
+pub fn check(unit: &[u8], certificate: &str) -> Result<Accepted, Refusal> {
+    answer("check", &with_certificate(unit, certificate))
+}
+
+/// A unit and its certificate in one input, as `check` reads it. The first newline ends the unit, so those of the unit become carriage returns, which
+/// mean the same in JSON.
+fn with_certificate(unit: &[u8], certificate: &str) -> Vec<u8> {
+    let mut input: Vec<u8> = unit
+        .iter()
+        .map(|byte| if *byte == b'\n' { b'\r' } else { *byte })
+        .collect();
+    input.push(b'\n');
+    input.extend_from_slice(certificate.as_bytes());
+    input
+}
+
+/// The reports on a unit, each with the place that it comes from.
+///
+/// # Errors
+///
+/// As of [`infer`].
+pub fn lint(unit: &[u8]) -> Result<Lints, Refusal> {
+    answer("lint", unit)
+}
+
+/// Why the range of an identifier ends where it does.
+///
+/// # Errors
+///
+/// As of [`infer`], and where the identifier doesn't stand in the function.
+pub fn explain(
+    unit: &[u8],
+    function: FunctionName,
+    identifier: IdentifierId,
+) -> Result<Explanation, Refusal> {
+    answer(&format!("explain {function} {identifier}"), unit)
+}
+
+/// Whether a unit is plain, so that nothing in it leads the inference to refuse it.
+///
+/// # Errors
+///
+/// Where the unit is none, breaks a rule or is too long; where it isn't known whether it is plain, and where memory runs out.
+pub fn plain(unit: &[u8]) -> Result<Plainness, Refusal> {
+    answer("plain", unit)
+}
+
+/// How much is inferred of the unit of a seed and a size, which is from 1 to 1,000.
+///
+/// # Errors
+///
+/// Where the size is another, where the inference refuses the unit, and where memory runs out.
+pub fn made(seed: u64, size: u32) -> Result<Counts, Refusal> {
+    answer(&format!("made {seed} {size}"), b"")
+}
+
+/// The status and the text of a run of the program with these words, which single spaces part, on this input. The text is empty where memory ran out.
+///
+/// # Panics
+///
+/// Where the archive's text isn't UTF-8, which is an error of the archive.
+#[must_use]
+pub fn run(words: &str, input: &[u8]) -> (u8, String) {
+    // This much holds what most units lead to. A longer text is asked for anew.
+    let mut room = vec![0; 4096 + 2 * input.len()];
+    let mut answer = archive::run(words.as_bytes(), input, &mut room);
+    if answer.text_length > room.len() {
+        room = vec![0; answer.text_length];
+        answer = archive::run(words.as_bytes(), input, &mut room);
+    }
+    room.truncate(answer.text_length);
+    let text = String::from_utf8(room).expect("what the archive writes is UTF-8");
+    (answer.status, text)
+}
+
+/// What a run's text says, or its refusal.
+fn answer<T: FromStr<Err = TextError>>(words: &str, input: &[u8]) -> Result<T, Refusal> {
+    let (status, text) = run(words, input);
+    if status != 0 {
+        return Err(
+            Refusal::read(status, &text).expect("a refusal's line is as docs/FORMAT.md has it")
+        );
+    }
+    Ok(text
+        .parse()
+        .expect("a result's text is as docs/FORMAT.md has it"))
+}
