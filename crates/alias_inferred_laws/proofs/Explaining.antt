@@ -14,7 +14,6 @@ use Rattle.alias_hir.specs.declared.error.Counter.{Counter}
 use Rattle.alias_hir.specs.declared.error.HirError.{HirError}
 use Rattle.alias_hir.specs.declared.hir.HirFunction.{HirFunction}
 use Rattle.alias_hir.specs.declared.report.Report.{Report}
-use Rattle.alias_events.specs.BlockListings.{listed}
 use Rattle.alias_events.specs.declared.listing.Listing.{Listing}
 use Rattle.alias_events.specs.Recording.{graph_listed}
 use Rattle.alias_function_rules.specs.Rules.{is_among}
@@ -24,7 +23,7 @@ use Rattle.alias_effects.specs.Inference.{pass_end, env_after}
 use Rattle.alias_effects.specs.Recording.{with_effects_of}
 use Rattle.alias_effects.specs.declared.output.PassEnd.{PassEnd}
 use Rattle.alias_explain.specs.Causes.{first_cause, mutated_or_not, defined_by, defined_or, cause_of}
-use Rattle.alias_explain.specs.Explanations.{function_of, is_reset, with_range, explained_in, explained}
+use Rattle.alias_explain.specs.Explanations.{function_of, is_reset, with_range, explained_in}
 use Rattle.alias_explain.specs.Standing.{stands_in}
 use Rattle.alias_explain.specs.declared.cause.Cause.{Cause}
 use Rattle.alias_explain.specs.declared.cause.Cause.TheVariants.{Unset, Defined}
@@ -50,7 +49,7 @@ use Rattle.alias_order_laws.proofs.Solving.{root_apart}
 use Rattle.alias_order_laws.proofs.Staying.{count_alike}
 use Rattle.alias_order_laws.proofs.Unit.{order_once}
 use Rattle.alias_inferred_laws.specs.Explanations.{NeverTooMany}
-use Rattle.alias_inferred_laws.proofs.Listing.{IsListed, SlotIsListed, slot_alike, DoneAreListed, analysed_listed}
+use Rattle.alias_inferred_laws.proofs.Listing.{IsListed, SlotIsListed, slot_alike, analysed_listed}
 use Rattle.alias_inferred_laws.proofs.Ranging.{PassLeaves, pass_leaves, lists_still}
 
 -- ---- the root

@@ -1,8 +1,7 @@
 -- Each function of a unit that is inferred has a listing, in the unit that is handed out.
-use Rattle.std.specs.Prelude.{◌≡◌, ℕ, ◌||◌, nat_eq, Bool, true, false, List, [], ◌∷◌, ◌++◌, Option, Some, None, Result, Ok, map, option_map, slice_get, slice_set, refl}
-use Rattle.std.proofs.Common.{zero, suc, inl, inr, ◌⊎◌, ⊎_elim, ap, sym, ◌∙◌, subst}
+use Rattle.std.specs.Prelude.{◌≡◌, ℕ, nat_eq, true, false, List, [], ◌∷◌, ◌++◌, Option, Some, None, Result, Ok, map, option_map, slice_get, slice_set, refl}
+use Rattle.std.proofs.Common.{zero, suc, ⊎_elim, ap, sym, ◌∙◌, subst}
 use Rattle.std.proofs.lemmas.Bool.{eqb-true}
-use Rattle.alias_base.specs.Answer.{◌>>=◌}
 use Rattle.alias_base.specs.declared.ids.FunctionId.{FunctionId}
 use Rattle.alias_hir.specs.declared.effect.AliasingEffect.{AliasingEffect}
 use Rattle.alias_hir.specs.declared.env.Environment.{Environment}
@@ -16,11 +15,11 @@ use Rattle.alias_function_rules.specs.Rules.{is_among}
 use Rattle.alias_lint_laws.proofs.Placing.{listed_alike}
 use Rattle.alias_nesting_laws.specs.SlotLaws.{set_other}
 use Rattle.alias_nesting_laws.specs.Slots.{with_function}
-use Rattle.alias_range_pass.specs.Laws.{but_param, but_places}
+use Rattle.alias_range_pass.specs.Laws.{but_places}
 use Rattle.alias_range_pass.specs.Passes.{Ranged, range_pass}
 use Rattle.alias_range_places.specs.Keeping.{but_effect, but_context}
 use Rattle.alias_ranges.specs.Walks.{IsOneOf}
-use Rattle.alias_nested.specs.Analysis.{naming, Analysed, Analysis, analysis, each, effects_analysed, completed, completed_with, function_analysed, taken_analysed, put_back, found_analysed, slot_analysed, analysed}
+use Rattle.alias_nested.specs.Analysis.{naming, Analysis, analysis, each, effects_analysed, completed, completed_with, function_analysed, taken_analysed, put_back, found_analysed, slot_analysed, analysed}
 use Rattle.alias_nested.specs.Created.{created_functions}
 use Rattle.alias_nested.specs.Settling.{context_settled, summarized, settled}
 use Rattle.alias_nested.specs.Slots.{emptied}

@@ -1,7 +1,6 @@
 -- What the range pass leaves of a function and its environment, by its equation.
-use Rattle.std.specs.Prelude.{◌≡◌, ℕ, ◌+◌, ◌≤◌, ◌<◌, ◌⊎◌, Bool, true, false, cond, List, [], ◌∷◌, ◌++◌, Option, Some, None, Ok, if◌then◌else◌, length, map, refl}
-use Rattle.std.proofs.Common.{inl, inr, ⊎_elim, ap, sym, ◌∙◌, subst, arith, append_assoc, append-nil}
-use Rattle.std.proofs.lemmas.List.{length-map}
+use Rattle.std.specs.Prelude.{◌≡◌, Bool, true, false, cond, List, [], ◌∷◌, Ok, if◌then◌else◌, length, map, refl}
+use Rattle.std.proofs.Common.{inl, inr, ⊎_elim, ap, sym, ◌∙◌, subst, arith}
 use Rattle.alias_hir.specs.Diagnostics.{effect_reports}
 use Rattle.alias_hir.specs.declared.env.Environment.{Environment}
 use Rattle.alias_hir.specs.declared.env.Identifier.{Identifier}
@@ -10,10 +9,9 @@ use Rattle.alias_hir.specs.declared.hir.ParamPattern.{ParamPattern}
 use Rattle.alias_hir.specs.declared.hir.ParamPattern.TheVariants as param
 use Rattle.alias_hir.specs.declared.place.Effect.TheVariants.{Capture}
 use Rattle.alias_hir.specs.declared.place.Place.{Place}
-use Rattle.alias_hir.specs.declared.report.Report.{Report}
 use Rattle.alias_ranges.specs.Nodes.{Nodes}
-use Rattle.alias_ranges.specs.Reach.{but_end, end_at}
-use Rattle.alias_ranges.specs.Renders.{Grown, rendered, render_reports}
+use Rattle.alias_ranges.specs.Reach.{but_end}
+use Rattle.alias_ranges.specs.Renders.{rendered, render_reports}
 use Rattle.alias_events.specs.declared.listing.Listing.{Listing}
 use Rattle.alias_events.specs.declared.listing.RecordedMutation.{RecordedMutation}
 use Rattle.alias_events.specs.declared.listing.RecordedRender.{RecordedRender}

@@ -1,5 +1,5 @@
 -- The lints of what is inferred of a unit are there, and without their places they are its reports.
-use Rattle.std.specs.Prelude.{◌≡◌, ◌==◌, ◌&&◌, Bool, true, false, List, [], ◌∷◌, ◌++◌, Option, Some, None, Result, Ok, length, map, option_map, slice_get, refl}
+use Rattle.std.specs.Prelude.{◌≡◌, ◌==◌, ◌&&◌, Bool, true, false, List, [], ◌∷◌, ◌++◌, Option, Some, None, Result, Ok, length, option_map, slice_get, refl}
 use Rattle.std.specs.List.{list_all}
 use Rattle.std.proofs.Common.{ap, sym, ◌∙◌, subst, arith}
 use Rattle.std.proofs.lemmas.Bool.{eqb-true}
@@ -7,22 +7,18 @@ use Rattle.alias_base.specs.Answer.{◌>>=◌}
 use Rattle.alias_base.specs.AnswerLaws.{both_true}
 use Rattle.alias_base.specs.declared.ids.FunctionId.{FunctionId}
 use Rattle.alias_hir.specs.Diagnostics.{effect_reports, summary, summary_reports}
-use Rattle.alias_hir.specs.declared.effect.AliasingEffect.{AliasingEffect}
 use Rattle.alias_hir.specs.declared.env.Environment.{Environment}
 use Rattle.alias_hir.specs.declared.env.Unit.{Unit as HirUnit}
 use Rattle.alias_hir.specs.declared.error.InferError.{InferError}
 use Rattle.alias_hir.specs.declared.hir.HirFunction.{HirFunction}
 use Rattle.alias_hir.specs.declared.report.Report.{Report}
-use Rattle.alias_function_rules.specs.Rules.{identifier_is_uninferred, function_is_uninferred, environment_is_uninferred}
+use Rattle.alias_function_rules.specs.Rules.{identifier_is_uninferred, function_is_uninferred}
 use Rattle.alias_rules.specs.Functions.{rules_hold}
 use Rattle.alias_rules.specs.RuleLaws.{parts_of_rules}
 use Rattle.alias_effects.specs.Inference.{pass_end, env_after}
 use Rattle.alias_effects.specs.Recording.{with_effects_of}
 use Rattle.alias_effects.specs.declared.output.PassEnd.{PassEnd}
-use Rattle.alias_events.specs.BlockListings.{listed}
-use Rattle.alias_events.specs.declared.listing.Listing.{Listing}
-use Rattle.alias_lint.specs.LintLaws.{SameReports}
-use Rattle.alias_lint.specs.Lints.{root_lints, lints_of}
+use Rattle.alias_lint.specs.Lints.{root_lints}
 use Rattle.alias_lint.specs.Frozen.{frozen_lints}
 use Rattle.alias_lint.specs.Reassigned.{reassigned_lints}
 use Rattle.alias_lint.specs.Sites.{reports_of}
@@ -107,7 +103,7 @@ finished_reports g begun fs ra none h =
     let v = went (validated r.after.0 r.after.1) (λ (more : Environment). Ok (record { summary = r.summary; func = r.after.0; analysis = analysis more fs })) ra w.2 in
     let more : Environment = v.0 in
     let x = went (with_reassigned r.after.1 (reassigned_reports r.after.1 r.after.0)) (λ (m : Environment). Ok (with_reports m (frozen_reports m r.after.0))) more v.1 in
-    let y = went (reassigned_reports r.after.1 r.after.0) (λ (rs : List Report). Ok (with_reports r.after.1 rs)) x.0 x.2.0 in
+    let y = went (reassigned_reports r.after.1 r.after.0) (λ (rs : List Report). Ok (with_reports r.after.1 rs)) x.0 x.1 in
     let rs : List Report = y.0 in
     let first : with_reports r.after.1 rs ≡ x.0 = cc in
     let last : with_reports x.0 (frozen_reports x.0 r.after.0) ≡ more = cc in

@@ -1,8 +1,7 @@
 -- The analysis of nested functions records no report.
-use Rattle.std.specs.Prelude.{◌≡◌, ◌==◌, true, List, [], ◌∷◌, Option, Some, None, Result, Ok, length, slice_get, refl}
+use Rattle.std.specs.Prelude.{◌≡◌, true, List, [], ◌∷◌, ◌++◌, Option, Some, None, Result, Ok, slice_get, refl}
 use Rattle.std.proofs.Common.{zero, suc, ap, sym, ◌∙◌}
 use Rattle.std.specs.Prelude.{ℕ}
-use Rattle.alias_base.specs.Answer.{◌>>=◌}
 use Rattle.alias_base.specs.declared.ids.FunctionId.{FunctionId}
 use Rattle.alias_hir.specs.Tables.{with_identifier}
 use Rattle.alias_hir.specs.declared.env.Environment.{Environment}
@@ -17,7 +16,7 @@ use Rattle.alias_range_pass.specs.Passes.{Ranged, range_pass}
 use Rattle.alias_tables.specs.declared.temporaries.Temporary.{Temporary}
 use Rattle.alias_write_back.specs.WriteBack.{with_identifiers}
 use Rattle.alias_nesting_laws.specs.Slots.{with_function}
-use Rattle.alias_nested.specs.Analysis.{Analysed, naming, numbered, Analysis, analysis, each, effects_analysed, completed, completed_with, function_analysed, taken_analysed, put_back, found_analysed, slot_analysed, analysed}
+use Rattle.alias_nested.specs.Analysis.{naming, numbered, Analysis, analysis, each, effects_analysed, completed, completed_with, function_analysed, taken_analysed, put_back, found_analysed, slot_analysed, analysed}
 use Rattle.alias_nested.specs.Created.{created_functions}
 use Rattle.alias_nested.specs.Settling.{settled}
 use Rattle.alias_nested.specs.Slots.{emptied}

@@ -10,7 +10,6 @@ use alias_hir::env::Unit;
 
 /// The root of what is inferred of a unit that keeps the rules has lints, and without their places these are the reports, in
 /// order. Does nothing.
-#[tactic(auto, using(crate::proofs::Reporting::unit_lints))]
 pub fn lint_laws(unit: &Unit)
     ensures { (a : UnitAnalysis) → rules_hold unit.now ≡ Ok tt → unit_analysed unit.now ≡ Ok a → LintsAreReports a.inferred }
 {
@@ -18,7 +17,6 @@ pub fn lint_laws(unit: &Unit)
 }
 
 /// No explanation in what is inferred of a unit that keeps the rules is refused for want of numbers. Does nothing.
-#[tactic(auto, using(crate::proofs::Explaining::never_too_many))]
 pub fn explain_laws(unit: &Unit)
     ensures { (a : UnitAnalysis) → rules_hold unit.now ≡ Ok tt → unit_analysed unit.now ≡ Ok a → NeverTooMany a.inferred }
 {

@@ -5,6 +5,7 @@ use Rattle.alias_base.specs.Answer.{Gives}
 use Rattle.alias_base.specs.declared.ids.FunctionId.{FunctionId}
 use Rattle.alias_base.specs.declared.ids.IdentifierId.{IdentifierId}
 use Rattle.alias_hir.specs.Errors.{is_memory}
+use Rattle.alias_hir.specs.declared.env.Unit.{Unit as HirUnit}
 use Rattle.alias_hir.specs.declared.error.InferError.{InferError}
 use Rattle.alias_hir.specs.declared.error.InferError.TheVariants as infer
 use Rattle.alias_explain.specs.Explanations.{explained, is_want_of_memory}
@@ -14,6 +15,10 @@ use Rattle.alias_lint.specs.Lints.{lints_of}
 use Rattle.alias_lint.specs.Sites.{reports_of}
 use Rattle.alias_lint.specs.declared.sites.Lint.{Lint}
 use Rattle.alias_nested.specs.declared.infer.Inferred.{Inferred as UnitInference}
+use Rattle.alias_nested.specs.Units.{InfersUnit, unit_analysed}
+use Rattle.alias_rules.specs.Functions.{rules_hold}
+use Rattle.alias_inferred_laws.proofs.Explaining.{never_too_many}
+use Rattle.alias_inferred_laws.proofs.Reporting.{unit_lints}
 use Rattle.alias_inferred_laws.specs.Explanations.{NeverTooMany}
 use Rattle.alias_inferred_laws.specs.Reports.{LintsAreReports}
 use Rattle.alias_run.specs.declared.answer.Answer.TheVariants.{Nothing, Linted}
@@ -26,9 +31,16 @@ use Rattle.alias_run.proofs.Running.{ended_as}
 
 -- ---- lints
 
+-- of what is inferred of a unit that keeps the rules
+pub inferred_lints : (u v : HirUnit) (i : UnitInference) → v ≡ u → rules_hold v ≡ Ok tt → InfersUnit (unit_analysed u) (Ok i) → LintsAreReports i
+inferred_lints u v i same rules h = unit_lints u (record { functions = h.0; inferred = i }) (subst (λ z. rules_hold z ≡ Ok tt) same rules) h.1
+
 -- those that a call answers are the reports
-pub lints_found : (i : UnitInference) (ls : List Lint) → LintsAreReports i → lints_of i.unit ≡ Ok ls → IsLintedOf i Done (Linted ls)
+lints_found : (i : UnitInference) (ls : List Lint) → LintsAreReports i → lints_of i.unit ≡ Ok ls → IsLintedOf i Done (Linted ls)
 lints_found i ls l h = let same : l.lints ≡ ls = cc in (h, subst (λ z. reports_of z ≡ i.reports) same l.reports)
+
+pub lints_done : (i : UnitInference) (ls : List Lint) (o : Outcome) → o ≡ record { status = Done; answer = Linted ls } → LintsAreReports i → Gives is_memory (lints_of i.unit) (Ok ls) → IsLintedOf i o.status o.answer
+lints_done i ls o is l h = subst (λ (z : Outcome). IsLintedOf i z.status z.answer) (sym is) (lints_found i ls l h)
 
 none_refused : (i : UnitInference) (e : InferError) → LintsAreReports i → Gives is_memory (lints_of i.unit) (Err e) → IsLintedOf i (infer_status e) Nothing
 none_refused i (infer.Memory e) l h = refl
@@ -38,6 +50,9 @@ pub lints_fault : (i : UnitInference) (e : InferError) (status : Status) (o : Ou
 lints_fault i e status o is s l h = subst (λ (z : Outcome). IsLintedOf i z.status z.answer) (sym (is ∙ ap ended_as s)) (none_refused i e l h)
 
 -- ---- explanations
+
+pub inferred_explained : (u v : HirUnit) (i : UnitInference) → v ≡ u → rules_hold v ≡ Ok tt → InfersUnit (unit_analysed u) (Ok i) → NeverTooMany i
+inferred_explained u v i same rules h = never_too_many u (record { functions = h.0; inferred = i }) (subst (λ z. rules_hold z ≡ Ok tt) same rules) h.1
 
 not_refused : (f : Option FunctionId) (id : IdentifierId) (i : UnitInference) (e : ExplainFault) → NeverTooMany i → Gives is_want_of_memory (explained i.unit f id) (Err e) → IsExplainedOf f id i (explain_status e) Nothing
 not_refused f id i explain.NotHere n h = (h refl, refl)

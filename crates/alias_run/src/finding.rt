@@ -51,6 +51,7 @@ fn lint_inferred(alloc: Global, inferred: Inferred) -> Outcome
 }
 
 /// The reports on the unit, each with the place that it comes from.
+#[tactic(auto, using(crate::proofs::Asking::inferred_lints))]
 fn lint_checked(alloc: Global, unit: Checked) -> Outcome
     ensures { IsLinted unit result.status result.answer }
 {
@@ -79,6 +80,7 @@ fn explain_inferred(
 }
 
 /// Why the range of an identifier ends where it does in the unit.
+#[tactic(auto, using(crate::proofs::Asking::inferred_explained))]
 fn explain_checked(
     alloc: Global,
     unit: Checked,
