@@ -47,9 +47,16 @@ none_there [] k h e = absurd (omega arith)
 none_there (x ∷ xs) zero h e = cc
 none_there (x ∷ xs) (suc k) h e = none_there xs k (omega arith) e
 
-neither : (a b : Bool) → (a || b) ≡ false → (a ≡ false) × (b ≡ false)
+pub neither : (a b : Bool) → (a || b) ≡ false → (a ≡ false) × (b ≡ false)
 neither true b h = cc
 neither false b h = (refl, h)
+
+pub both_false : (a b : Bool) → a ≡ false → b ≡ false → (a || b) ≡ false
+both_false true b p q = cc
+both_false false b p q = q
+
+pub differs : (j k : ℕ) → nat_eq j k ≡ false → j ≡ k → ⊥
+differs j k h e = grind (arith, nat_tests)
 
 -- ---- what is said of an analysis
 
@@ -94,10 +101,10 @@ stands_alike fs out env more same s = record {
 -- ---- the passes over a nested function
 
 -- a nested function is analysed, and creates what it created
-record Finished (id : FunctionId) (f : HirFunction) (a : Analysis) (g : HirFunction) (b : Analysis) : Type 0 where
-  functions : done b ≡ done a ++ Some id ∷ []
-  creates : created_functions g ≡ created_functions f
-  contexts : map but_context b.env.functions ≡ map but_context a.env.functions
+pub record Finished (id : FunctionId) (f : HirFunction) (a : Analysis) (g : HirFunction) (b : Analysis) : Type 0 where
+  pub functions : done b ≡ done a ++ Some id ∷ []
+  pub creates : created_functions g ≡ created_functions f
+  pub contexts : map but_context b.env.functions ≡ map but_context a.env.functions
 
 abbrev effects_made : FunctionId → HirFunction → Analysis → PassEnd → HirFunction × Analysis
 effects_made id f a e = (with_effects_of e.solved f, analysis (env_after a.env e) (a.functions ++ record { env = a.env; func = f; is_function_expression = true; solved = numbered id e.solved } ∷ []))
@@ -127,7 +134,7 @@ ranges_completed id f env c h =
     let is : settled r.summary r.after ≡ c = cc in
     subst (λ (q : HirFunction × Environment). Completed f env q.0 q.1) is (record { creates = created_ranged f env r ran; contexts = ranged_contexts f env r ran })
 
-function_finished : (id : FunctionId) (f : HirFunction) (a : Analysis) (s : HirFunction × Analysis) → function_analysed id f a ≡ Ok s → Finished id f a s.0 s.1
+pub function_finished : (id : FunctionId) (f : HirFunction) (a : Analysis) (s : HirFunction × Analysis) → function_analysed id f a ≡ Ok s → Finished id f a s.0 s.1
 function_finished id f a s h =
     let w = went (effects_analysed id f a) (completed_with id) s h in
     let p : HirFunction × Analysis = w.0 in
@@ -181,9 +188,6 @@ module _ (fs : List HirFunction) (n : ℕ) where
         let other : k ≡ id.0 → ⊥ = λ e. differs k id.0 n.0 e in
         ap created_by_slot (set_other env.functions id.0 k g other) ∙ s.slots k n.1;
   }
-    where
-      differs : (j k : ℕ) → nat_eq j k ≡ false → j ≡ k → ⊥
-      differs j k h e = grind (arith, nat_tests)
 
   back_stands : (id : FunctionId) (out : List ℕ) (env : Environment) (g : HirFunction) → id.0 < length fs → created_functions g ≡ created_by_slot (slice_get fs id.0) → Stands fs (id.0 ∷ out) env → Stands fs out (with_function id g env)
   back_stands id out env g there creates s = record {
@@ -195,13 +199,6 @@ module _ (fs : List HirFunction) (n : ℕ) where
         ] refl;
   }
     where
-      differs : (j k : ℕ) → nat_eq j k ≡ false → j ≡ k → ⊥
-      differs j k h e = grind (arith, nat_tests)
-
-      both_false : (a b : Bool) → a ≡ false → b ≡ false → (a || b) ≡ false
-      both_false true b p q = cc
-      both_false false b p q = q
-
       put : (xs : List HirFunction) (k : ℕ) → k < length xs → slice_get (slice_set xs k g) k ≡ Some g
       put [] k h = absurd (omega arith)
       put (x ∷ xs) zero h = refl

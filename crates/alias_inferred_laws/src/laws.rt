@@ -1,0 +1,24 @@
+//! What holds of what is inferred of a unit that keeps the rules.
+
+ghost use Rattle.std.specs.Prelude.{◌≡◌, Ok};
+ghost use Rattle.alias_rules.specs.Functions.{rules_hold};
+ghost use Rattle.alias_nested.specs.Units.{UnitAnalysis, unit_analysed};
+ghost use Rattle.alias_inferred_laws.specs.Explanations.{NeverTooMany};
+ghost use Rattle.alias_inferred_laws.specs.Reports.{LintsAreReports};
+
+use alias_hir::env::Unit;
+
+/// The root of what is inferred of a unit that keeps the rules has lints, and without their places these are the reports, in
+/// order. Does nothing.
+pub fn lint_laws(unit: &Unit)
+    ensures { (a : UnitAnalysis) → rules_hold unit.now ≡ Ok tt → unit_analysed unit.now ≡ Ok a → LintsAreReports a.inferred }
+{
+    let _unit = unit;
+}
+
+/// No explanation in what is inferred of a unit that keeps the rules is refused for want of numbers. Does nothing.
+pub fn explain_laws(unit: &Unit)
+    ensures { (a : UnitAnalysis) → rules_hold unit.now ≡ Ok tt → unit_analysed unit.now ≡ Ok a → NeverTooMany a.inferred }
+{
+    let _unit = unit;
+}
