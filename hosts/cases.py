@@ -71,7 +71,7 @@ def checks_of(runs):
 def main(path, program=None):
     runs = rows() + list(examples())
     if program == '--few':
-        runs = [run for run in runs if len(run[1]) < FEW and run[0][:4] != b'made']
+        runs = [run for run in runs if len(run[1]) < FEW and run[0][:4] != b'made'][::3]
     elif program:
         units = {data for words, data, _, _ in runs if data and len(data) <= MOST and words != b'check'}
         runs += asked_of(program, sorted(units))

@@ -1,5 +1,6 @@
 /* What no proof can say of the archive: how it is called, what a null pointer gets, that it keeps nothing, that threads don't disturb each other, and that
- * each allocation may fail. Usage: test CASES ROUNDS, with a file that hosts/cases.py writes. Linked with --wrap for the functions of the heap. */
+ * each allocation may fail. Usage: test CASES ROUNDS FAILURES, with a file that hosts/cases.py writes, how often each thread makes all calls, and how many
+ * allocations of a command fail at most, one a run. Linked with --wrap for the functions of the heap. */
 #include "jirrambeo.h"
 #include <pthread.h>
 #include <stdatomic.h>
@@ -140,37 +141,38 @@ static void limits(void) {
     free(input);
 }
 
-/* Each allocation of a run fails once: the status says so, there is no text, and no block is left. */
-static long failures(const struct run *run) {
+/* Each allocation of a run fails once, or so many of them, evenly spread: the status says so, there is no text, and no block is left. */
+static long failures(const struct run *run, long most) {
     uint8_t *text;
     size_t length;
     calls = blocks = 0;
     same(run);
     expect(blocks == 0, "no block is left");
-    long all = calls;
-    for (long at = 1; at <= all; ++at) {
+    long all = calls, step = all / most + 1, tried = 0;
+    for (long at = 1; at <= all; at += step) {
+        ++tried;
         calls = 0;
         failing = at;
         uint8_t status = jirrambeo_call(run->line, run->input, run->input_length, &text, &length);
         failing = 0;
         expect(status == JIRRAMBEO_MEMORY && text == NULL && length == 0 && blocks == 0, "nothing is left of a run that had too little memory");
     }
-    return all;
+    return tried;
 }
 
 /* The first run of a command that ends well and has a small unit. */
-static long failures_of(const char *word) {
+static long failures_of(const char *word, long most) {
     for (size_t i = 0; i < run_count; ++i) {
         int is_asked = strncmp(runs[i].line, word, strlen(word)) == 0;
         if (is_asked && runs[i].status == JIRRAMBEO_DONE && runs[i].input_length < 2000) {
-            return failures(&runs[i]);
+            return failures(&runs[i], most);
         }
     }
     return 0;
 }
 
 int main(int count, char **words) {
-    expect(count == 3, "usage: test CASES ROUNDS");
+    expect(count == 4, "usage: test CASES ROUNDS FAILURES");
     read_runs(words[1]);
     rooms();
     nulls();
@@ -181,7 +183,7 @@ int main(int count, char **words) {
     static const char *const commands[] = {"infer", "certify", "lint", "explain", "plain", "check", "made"};
     long failed = 0;
     for (size_t i = 0; i < sizeof commands / sizeof *commands; ++i) {
-        failed += failures_of(commands[i]);
+        failed += failures_of(commands[i], atol(words[3]));
     }
     threads(atoi(words[2]));
     printf("hosts: C: %ld calls with the program's own text, most from four threads; %ld calls in which an allocation failed\n", (long)done, failed);
