@@ -78,6 +78,8 @@ pub fn certify(unit: &[u8]) -> Result<Certificate, Refusal> {
 
 /// Whether a certificate is accepted for a unit. The certificate is the text of a [`Certificate`], or what another inference claims in that format.
 ///
+/// The program has no command of this name yet: until it has, the answer is that the words are of no command.
+///
 /// # Errors
 ///
 /// Where the unit is none, breaks a rule or is too long together with the certificate; where the certificate isn't in its grammar or isn't
