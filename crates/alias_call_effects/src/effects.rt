@@ -52,8 +52,8 @@ pub(crate) fn has_numbers(
 ) -> bool
     ensures { result ≡ has_numbers identifier report.now reports.now }
 {
-    reports.identity_of(identifier, report) < 4294967295
-        && reports.instance_of(identifier, report) < 4294967295
+    let (identity, instance) = reports.numbers_of(identifier, report);
+    identity < 4294967295 && instance < 4294967295
 }
 
 /// The numbers of a report. A new one is kept, and takes the next number. After an `Err` nothing has changed.
@@ -67,8 +67,7 @@ pub(crate) fn intern(
     ensures err { OnErr result (reports.new ≡ reports.old) }
     ensures grown { Grows reports.old reports.new }
 {
-    let identity = reports.identity_of(identifier, &report);
-    let instance = reports.instance_of(identifier, &report);
+    let (identity, instance) = reports.numbers_of(identifier, &report);
     if identity < 4294967295 && instance < 4294967295 {
         keep_report(reports, instance, identifier, report)?;
         Ok(DiagnosticId {

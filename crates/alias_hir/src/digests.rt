@@ -1,6 +1,6 @@
 //! Digests of reports: numbers by which interned reports are found.
 ghost use Rattle.std.specs.Prelude.{◌≡◌, option_map};
-ghost use Rattle.alias_hir.specs.Digests.{mixed, with_text, with_help, with_label, with_labels, words_digest, report_digest};
+ghost use Rattle.alias_hir.specs.Digests.{mixed, with_text, with_help, with_label, with_labels, words_digest};
 
 use crate::report::{Label, Report};
 use alias_base::{IdentifierId, Text};
@@ -55,8 +55,8 @@ pub(crate) fn words_digest(identifier: IdentifierId, report: &Report) -> u32
 }
 
 /// The digest of a report with what it points at, from that of what it says.
-pub(crate) fn report_digest(identifier: IdentifierId, report: &Report) -> u32
-    ensures { result ≡ report_digest identifier report.now }
+pub(crate) fn report_digest(words: u32, report: &Report) -> u32
+    ensures { result ≡ with_labels words report.now.labels }
 {
-    with_labels(words_digest(identifier, report), report.labels.as_slice())
+    with_labels(words, report.labels.as_slice())
 }

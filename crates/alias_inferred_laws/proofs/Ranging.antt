@@ -1,16 +1,11 @@
 -- What the range pass leaves of a function and its environment, by its equation.
-use Rattle.std.specs.Prelude.{◌≡◌, Bool, true, false, cond, List, [], ◌∷◌, Ok, if◌then◌else◌, length, map, refl}
+use Rattle.std.specs.Prelude.{◌≡◌, Bool, true, false, cond, List, [], ◌∷◌, Ok, length, refl}
 use Rattle.std.proofs.Common.{inl, inr, ⊎_elim, ap, sym, ◌∙◌, subst, arith}
 use Rattle.alias_hir.specs.Diagnostics.{effect_reports}
 use Rattle.alias_hir.specs.declared.env.Environment.{Environment}
 use Rattle.alias_hir.specs.declared.env.Identifier.{Identifier}
 use Rattle.alias_hir.specs.declared.hir.HirFunction.{HirFunction}
-use Rattle.alias_hir.specs.declared.hir.ParamPattern.{ParamPattern}
-use Rattle.alias_hir.specs.declared.hir.ParamPattern.TheVariants as param
-use Rattle.alias_hir.specs.declared.place.Effect.TheVariants.{Capture}
-use Rattle.alias_hir.specs.declared.place.Place.{Place}
 use Rattle.alias_ranges.specs.Nodes.{Nodes}
-use Rattle.alias_ranges.specs.Reach.{but_end}
 use Rattle.alias_ranges.specs.Renders.{rendered, render_reports}
 use Rattle.alias_events.specs.declared.listing.Listing.{Listing}
 use Rattle.alias_events.specs.declared.listing.RecordedMutation.{RecordedMutation}
@@ -22,51 +17,26 @@ use Rattle.alias_lint_laws.proofs.Placing.{listed_alike}
 use Rattle.alias_order_laws.proofs.Staying.{placed_still}
 use Rattle.alias_range_laws.specs.AnswerLaws.{pass_is, recorded_is_listed}
 use Rattle.alias_range_laws.specs.PlacedLaws.{function_keeps}
+use Rattle.alias_range_pass.proofs.Keeps.{pass_keeps, pass_stays}
 use Rattle.alias_range_pass.specs.CheckLaws.{checked_fits}
-use Rattle.alias_range_pass.specs.Laws.{Causes, but_inferred, PassKeeps, but_param, but_places}
+use Rattle.alias_range_pass.specs.Laws.{Causes, PassKeeps, but_places}
 use Rattle.alias_range_pass.specs.Passes.{records, Ranged, ranged, range_pass}
 use Rattle.alias_range_pass.specs.Refusals.{recorded}
 use Rattle.alias_range_places.specs.Blocks.{Placed, function_placed}
 use Rattle.alias_range_places.specs.CauseLaws.{function_causes}
 use Rattle.alias_range_places.specs.Causes.{EndsCaused}
-use Rattle.alias_range_places.specs.Keeping.{but_range, but_effect, but_context, EnvKept}
+use Rattle.alias_range_places.specs.Keeping.{EnvKept}
 use Rattle.alias_range_summary.specs.FlowLaws.{ends_with_flows}
-use Rattle.alias_range_summary.specs.Keeping.{but_walks, WalksKeep}
+use Rattle.alias_range_summary.specs.Keeping.{WalksKeep}
 use Rattle.alias_range_summary.specs.KeepingLaws.{keeps_same, keeps_trans, walk_keeps, reports_keep}
 use Rattle.alias_range_summary.specs.Laws.{Covers, MutationCause, MutationCauses, EndsWithFlows}
-use Rattle.alias_range_summary.specs.Marks.{is_marked, captured, param_captured, function_captured}
+use Rattle.alias_range_summary.specs.Marks.{function_captured}
 use Rattle.alias_range_summary.specs.Summaries.{tracked, summarized}
 use Rattle.alias_range_summary.specs.WalkLaws.{listing_covers, listing_causes, done_links, done_before}
 use Rattle.alias_range_summary.specs.Walking.{start_origin, expanded, mutation_start, Walked, after_mutation, after_mutations, after_render, after_renders, env_reported, mutations_done, renders_done}
 use Rattle.alias_rules.specs.Fitting.{function_fits}
 
--- ---- the function
-
-place_captured : (b : Bool) (x : Place) → but_effect (if b then record x { effect = Capture } else x) ≡ but_effect x
-place_captured true x = refl
-place_captured false x = refl
-
-places_captured : (g : Nodes) (xs : List Place) → map but_effect (map (captured g) xs) ≡ map but_effect xs
-places_captured g [] = refl
-places_captured g (x ∷ xs) = ap (λ z. z ∷ map but_effect (map (captured g) xs)) (place_captured (is_marked g x.identifier) x) ∙ ap (λ z. but_effect x ∷ z) (places_captured g xs)
-
-param_place_captured : (g : Nodes) (p : ParamPattern) → but_param (param_captured g p) ≡ but_param p
-param_place_captured g (param.Place x) = ap param.Place (place_captured (is_marked g x.identifier) x)
-param_place_captured g (param.Spread s) = ap (λ z. param.Spread (record s { place = z })) (place_captured (is_marked g s.place.identifier) s.place)
-
-params_captured : (g : Nodes) (ps : List ParamPattern) → map but_param (map (param_captured g) ps) ≡ map but_param ps
-params_captured g [] = refl
-params_captured g (p ∷ ps) = ap (λ z. z ∷ map but_param (map (param_captured g) ps)) (param_place_captured g p) ∙ ap (λ z. but_param p ∷ z) (params_captured g ps)
-
-function_still : (g : Nodes) (f : HirFunction) → but_places (function_captured g f) ≡ but_places f
-function_still g f =
-    ap (λ z. record (but_places f) { params = z; context = map but_effect (map (captured g) f.context) }) (params_captured g f.params)
-    ∙ ap (λ z. record (but_places f) { context = z }) (places_captured g f.context)
-
-abbrev without_own_effects : HirFunction → HirFunction
-without_own_effects f = record f { params = map but_param f.params; context = map but_effect f.context }
-
--- ---- the environment
+-- ---- the walks
 
 walked_keep : (c : Bool) (ms : List RecordedMutation) (w : Walked) → WalksKeep w.1 (after_mutations c ms w).1
 walked_keep c [] w = keeps_same w.1
@@ -91,24 +61,6 @@ walks_keep c l env =
     keeps_trans env w.1 (renders_done c l w)
     (keeps_trans env mid w.1 (reports_keep env mid (cond c (effect_reports env.interned l.summary) []) refl) (walked_keep c l.mutations (graph_listed l, mid)))
     (renders_keep c l w)
-
-ends_alone : (ids : List Identifier) → map but_range (map but_end ids) ≡ map but_range ids
-ends_alone [] = refl
-ends_alone (x ∷ xs) = ap (λ z. but_range x ∷ z) (ends_alone xs)
-
-abbrev uninferred : Environment → Environment
-uninferred e = record e { identifiers = map but_range e.identifiers; functions = map but_context e.functions; errors = [] }
-
-walks_alone : (env : Environment) → uninferred (but_walks env) ≡ but_inferred env
-walks_alone env = ap (λ z. record (but_inferred env) { identifiers = z }) (ends_alone env.identifiers)
-
--- walks and renders, and then the effects of places
-both_keep : (a b c : Environment) → WalksKeep a b → EnvKept b c → PassKeeps a c
-both_keep a b c walked placed = record {
-  rest = ap (λ (e : Environment). record e { errors = [] }) placed.rest ∙ sym (walks_alone b) ∙ ap uninferred walked.rest ∙ walks_alone a;
-  ends = λ i. let p = walked.ends i in let q = placed.ends i in omega arith;
-  errors = (walked.errors.0, ap (λ (e : Environment). e.errors) placed.rest ∙ walked.errors.1);
-}
 
 -- ---- the pass
 
@@ -143,8 +95,8 @@ pass_leaves b f env r h =
       listing = l;
       recorded = p.1;
       lists = recorded_is_listed f l p.1;
-      still = ap without_own_effects (placed_still b begun) ∙ function_still w.0 f;
-      kept = both_keep env walked after.1 (walks_keep c l env) k;
+      still = pass_stays w.0 f begun.0 after.0 refl (placed_still b begun);
+      kept = pass_keeps env walked walked after.1 (walks_keep c l env) refl k;
       errors = ap (λ (e : Environment). e.errors) k.rest;
       causes = causes_both (graph_listed l) l.mutations f env.identifiers walked.identifiers after.1.identifiers (listing_causes c l env (graph_listed l) walked refl refl) (function_causes b begun);
     } in

@@ -1,3 +1,3 @@
-mod Keeps
+pub mod Keeps
 mod Refused
 mod Ranging

@@ -245,14 +245,6 @@ module _ (ks : List ℕ) (from into : IdentifierId) (unknown : is_known (ends fr
   pub is_no_link : (g : Nodes) (kind : EdgeKind) → AllKnown ks g → found_early from (sources_into g into kind) ≡ Some false → has_source from (sources_into g into kind) ≡ false
   is_no_link g kind h e = not_linked g kind h (found_is from (sources_into g into kind) false e)
 
--- where nothing is found early there are few
-pub few_there : (from : IdentifierId) (ss : List Source) → found_early from ss ≡ None → few ≤ length ss → ⊥
-few_there from ss h le = no_value (nat_lt (length ss) few) (has_source from (take few ss)) (no_less (length ss) few le) h
-  where
-    no_value : (c a : Bool) → c ≡ false → (if c then None else Some a) ≡ None → ⊥
-    no_value true a e h = cc
-    no_value false a e h = cc
-
 pub not_early : (b : Bool) → IsTrue (not b) → b ≡ false
 not_early true h = cc
 not_early false h = refl

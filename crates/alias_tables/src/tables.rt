@@ -179,8 +179,7 @@ impl Tables {
     ) -> Result<DiagnosticId, EffectFault>
         ensures { Leaves (intern_report identifier report self.old) result self.new }
     {
-        let identity = self.reports.identity_of(identifier, &report);
-        let instance = self.reports.instance_of(identifier, &report);
+        let (identity, instance) = self.reports.numbers_of(identifier, &report);
         if identity < 4294967295 && instance < 4294967295 {
             keep_report(&mut self.reports, instance, identifier, report)?;
             Ok(DiagnosticId {
