@@ -1,5 +1,5 @@
 -- In the unit that is handed out no explanation is refused for want of numbers.
-use Rattle.std.specs.Prelude.{◌≡◌, ℕ, ◌<◌, ◌≤◌, ◌==◌, ◌||◌, ◌&&◌, nat_eq, not, Bool, true, false, List, [], ◌∷◌, ◌++◌, Option, Some, None, Result, Ok, Err, length, map, slice_get, if◌then◌else◌, refl}
+use Rattle.std.specs.Prelude.{◌≡◌, ℕ, ◌<◌, ◌≤◌, ◌==◌, ◌||◌, ◌&&◌, nat_eq, not, Bool, true, false, List, [], ◌∷◌, Option, Some, None, Result, Ok, Err, length, map, slice_get, if◌then◌else◌, refl}
 use Rattle.std.proofs.Common.{zero, suc, inl, inr, ⊎_elim, ap, sym, ◌∙◌, subst, arith}
 use Rattle.std.proofs.lemmas.Bool.{eqb-true}
 use Rattle.alias_base.specs.Answer.{◌>>=◌}
@@ -13,13 +13,12 @@ use Rattle.alias_hir.specs.declared.env.Unit.{Unit as HirUnit}
 use Rattle.alias_hir.specs.declared.error.Counter.{Counter}
 use Rattle.alias_hir.specs.declared.error.HirError.{HirError}
 use Rattle.alias_hir.specs.declared.hir.HirFunction.{HirFunction}
-use Rattle.alias_hir.specs.declared.report.Report.{Report}
 use Rattle.alias_events.specs.declared.listing.Listing.{Listing}
 use Rattle.alias_events.specs.Recording.{graph_listed}
 use Rattle.alias_function_rules.specs.Rules.{is_among}
 use Rattle.alias_rules.specs.Functions.{rules_hold}
 use Rattle.alias_rules.specs.RuleLaws.{lt_or_le}
-use Rattle.alias_effects.specs.Inference.{pass_end, env_after}
+use Rattle.alias_effects.specs.Inference.{env_after}
 use Rattle.alias_effects.specs.Recording.{with_effects_of}
 use Rattle.alias_effects.specs.declared.output.PassEnd.{PassEnd}
 use Rattle.alias_explain.specs.Causes.{first_cause, mutated_or_not, defined_by, defined_or, cause_of}
@@ -33,24 +32,22 @@ use Rattle.alias_explain.specs.declared.explain.ExplainFault.TheVariants.{NotHer
 use Rattle.alias_range_pass.specs.Passes.{Ranged, range_pass}
 use Rattle.alias_range_places.specs.Keeping.{but_context}
 use Rattle.alias_ranges.specs.Walks.{IsOneOf}
-use Rattle.alias_validate.specs.Freezing.{frozen_reports}
-use Rattle.alias_validate.specs.Reassigning.{reassigned_reports, with_reassigned}
-use Rattle.alias_validate.specs.Reports.{with_reports}
-use Rattle.alias_nested.specs.Analysis.{Analysed, Analysis, analysis, most_levels, analysed}
+use Rattle.alias_nested.specs.Analysis.{Analysis, analysis, most_levels, analysed}
 use Rattle.alias_nested.specs.Created.{created_functions}
 use Rattle.alias_nested.specs.Order.{innermost_first, numbers}
-use Rattle.alias_nested.specs.Units.{RootAnalysis, validated, root_finished, root_analysed, all_analysed, UnitAnalysis, handed_out, unit_analysed}
+use Rattle.alias_nested.specs.Units.{UnitAnalysis, handed_out, unit_analysed}
 use Rattle.alias_nested.proofs.Changing.{slots_stay}
 use Rattle.alias_nested.proofs.Counting.{there_among}
 use Rattle.alias_nested.proofs.Evolving.{passed_contexts}
 use Rattle.alias_order_laws.specs.Order.{nested_innermost_first}
-use Rattle.alias_order_laws.proofs.Ordering.{went, done, Done, goes_over}
+use Rattle.alias_order_laws.proofs.Ordering.{done, Done, goes_over}
 use Rattle.alias_order_laws.proofs.Solving.{root_apart}
 use Rattle.alias_order_laws.proofs.Staying.{count_alike}
 use Rattle.alias_order_laws.proofs.Unit.{order_once}
 use Rattle.alias_inferred_laws.specs.Explanations.{NeverTooMany}
 use Rattle.alias_inferred_laws.proofs.Listing.{IsListed, SlotIsListed, slot_alike, analysed_listed}
 use Rattle.alias_inferred_laws.proofs.Ranging.{PassLeaves, pass_leaves, lists_still}
+use Rattle.alias_inferred_laws.proofs.Rooting.{root_begun, root_validated, root_ended}
 
 -- ---- the root
 
@@ -65,39 +62,21 @@ record RootRanged (u : HirUnit) (a : UnitAnalysis) : Type 0 where
   root : a.inferred.unit.function ≡ ranged.after.0
   functions : a.inferred.unit.env.functions ≡ ranged.after.1.functions
 
-validated_functions : (f : HirFunction) (env more : Environment) → validated f env ≡ Ok more → more.functions ≡ env.functions
-validated_functions f env more h =
-    let x = went (with_reassigned env (reassigned_reports env f)) (λ (m : Environment). Ok (with_reports m (frozen_reports m f))) more h in
-    let y = went (reassigned_reports env f) (λ (rs : List Report). Ok (with_reports env rs)) x.0 x.1 in
-    let first : with_reports env y.0 ≡ x.0 = cc in
-    let last : with_reports x.0 (frozen_reports x.0 f) ≡ more = cc in
-    ap (λ (m : Environment). m.functions) (sym last) ∙ ap (λ (m : Environment). m.functions) (sym first)
-
 root_ranged : (u : HirUnit) (a : UnitAnalysis) → unit_analysed u ≡ Ok a → RootRanged u a
 root_ranged u a h =
-    let w = went (all_analysed u.function (analysis u.env [])) (λ (r : RootAnalysis). Ok (handed_out r)) a h in
-    let ra : RootAnalysis = w.0 in
-    let out : handed_out ra ≡ a = cc in
-    let v = went (analysed most_levels u.function (analysis u.env [])) (root_analysed u.function) ra w.1 in
-    let b : Analysis = v.0 in
-    let x = went (pass_end b.env u.function false) (λ (e : PassEnd). root_finished (with_effects_of e.solved u.function) (env_after b.env e) (b.functions ++ record { env = b.env; func = u.function; is_function_expression = false; solved = e.solved } ∷ [])) ra v.2 in
-    let e : PassEnd = x.0 in
-    let fs : List Analysed = b.functions ++ record { env = b.env; func = u.function; is_function_expression = false; solved = e.solved } ∷ [] in
-    let f : HirFunction = with_effects_of e.solved u.function in
-    let y = went (range_pass false f (env_after b.env e)) _ ra x.2 in
-    let r : Ranged = y.0 in
-    let z = went (validated r.after.0 r.after.1) (λ (more : Environment). Ok (record { summary = r.summary; func = r.after.0; analysis = analysis more fs })) ra y.2 in
-    let is : ◌≡◌ {A = RootAnalysis} (record { summary = r.summary; func = r.after.0; analysis = analysis z.0 fs }) ra = cc in
-    let whole : handed_out (record { summary = r.summary; func = r.after.0; analysis = analysis z.0 fs }) ≡ a = ap handed_out is ∙ out in
+    let b = root_begun u a h in
+    let f : HirFunction = with_effects_of b.end.solved u.function in
+    let e = root_ended f (env_after b.nested.env b.end) b.functions b.root b.finishes in
+    let whole : handed_out (root_validated e.ranged e.reassigned b.functions) ≡ a = ap handed_out e.is ∙ b.out in
     record {
-      nested = b;
-      analyses = v.1;
-      end = e;
+      nested = b.nested;
+      analyses = b.analyses;
+      end = b.end;
       begun = f;
-      ranged = r;
-      ran = y.1;
+      ranged = e.ranged;
+      ran = e.ran;
       root = ap (λ (q : UnitAnalysis). q.inferred.unit.function) (sym whole);
-      functions = ap (λ (q : UnitAnalysis). q.inferred.unit.env.functions) (sym whole) ∙ validated_functions r.after.0 r.after.1 z.0 z.1;
+      functions = ap (λ (q : UnitAnalysis). q.inferred.unit.env.functions) (sym whole);
     }
 
 -- ---- each function

@@ -1,4 +1,5 @@
 pub mod Ranging
+pub mod Rooting
 pub mod Silence
 pub mod Reporting
 pub mod Listing

@@ -15,9 +15,8 @@ use Rattle.alias_hir.specs.declared.report.Report.{Report}
 use Rattle.alias_function_rules.specs.Rules.{identifier_is_uninferred, function_is_uninferred}
 use Rattle.alias_rules.specs.Functions.{rules_hold}
 use Rattle.alias_rules.specs.RuleLaws.{parts_of_rules}
-use Rattle.alias_effects.specs.Inference.{pass_end, env_after}
+use Rattle.alias_effects.specs.Inference.{env_after}
 use Rattle.alias_effects.specs.Recording.{with_effects_of}
-use Rattle.alias_effects.specs.declared.output.PassEnd.{PassEnd}
 use Rattle.alias_lint.specs.Lints.{root_lints}
 use Rattle.alias_lint.specs.Frozen.{frozen_lints}
 use Rattle.alias_lint.specs.Reassigned.{reassigned_lints}
@@ -31,14 +30,14 @@ use Rattle.alias_range_pass.specs.Passes.{Ranged, range_pass}
 use Rattle.alias_range_places.specs.Keeping.{but_context}
 use Rattle.alias_range_summary.specs.Walking.{mutations_done, renders_done}
 use Rattle.alias_validate.specs.Freezing.{frozen_reports}
-use Rattle.alias_validate.specs.Reassigning.{reassigned_reports, with_reassigned}
+use Rattle.alias_validate.specs.Reassigning.{reassigned_reports}
 use Rattle.alias_validate.specs.Reports.{with_reports, with_errors}
-use Rattle.alias_nested.specs.Analysis.{Analysed, Analysis, analysis, most_levels, analysed}
-use Rattle.alias_nested.specs.Units.{RootAnalysis, validated, root_finished, root_analysed, all_analysed, UnitAnalysis, handed_out, unit_analysed}
+use Rattle.alias_nested.specs.Analysis.{Analysed, analysis, most_levels}
+use Rattle.alias_nested.specs.Units.{RootAnalysis, root_finished, UnitAnalysis, handed_out, unit_analysed}
 use Rattle.alias_nested.proofs.Changing.{slots_stay}
-use Rattle.alias_order_laws.proofs.Ordering.{went}
 use Rattle.alias_inferred_laws.specs.Reports.{LintsAreReports}
 use Rattle.alias_inferred_laws.proofs.Ranging.{PassLeaves, pass_leaves, lists_still}
+use Rattle.alias_inferred_laws.proofs.Rooting.{root_begun, root_ended}
 use Rattle.alias_range_pass.specs.Laws.{PassKeeps}
 use Rattle.alias_inferred_laws.proofs.Silence.{effects_silent, analysed_silent}
 
@@ -98,21 +97,9 @@ no_errors (e ∷ es) h = let zero_is : length (e ∷ es) ≡ 0 = eqb-true (lengt
 
 finished_reports : (g : HirFunction) (begun : Environment) (fs : List Analysed) (ra : RootAnalysis) → begun.errors ≡ [] → root_finished g begun fs ≡ Ok ra → LintsAreReports (handed_out ra).inferred
 finished_reports g begun fs ra none h =
-    let w = went (range_pass false g begun) _ ra h in
-    let r : Ranged = w.0 in
-    let v = went (validated r.after.0 r.after.1) (λ (more : Environment). Ok (record { summary = r.summary; func = r.after.0; analysis = analysis more fs })) ra w.2 in
-    let more : Environment = v.0 in
-    let x = went (with_reassigned r.after.1 (reassigned_reports r.after.1 r.after.0)) (λ (m : Environment). Ok (with_reports m (frozen_reports m r.after.0))) more v.1 in
-    let y = went (reassigned_reports r.after.1 r.after.0) (λ (rs : List Report). Ok (with_reports r.after.1 rs)) x.0 x.1 in
-    let rs : List Report = y.0 in
-    let first : with_reports r.after.1 rs ≡ x.0 = cc in
-    let last : with_reports x.0 (frozen_reports x.0 r.after.0) ≡ more = cc in
-    let both : with_reports (with_reports r.after.1 rs) (frozen_reports (with_reports r.after.1 rs) r.after.0) ≡ more = ap (λ (m : Environment). with_reports m (frozen_reports m r.after.0)) first ∙ last in
-    let is : ◌≡◌ {A = RootAnalysis} (record { summary = r.summary; func = r.after.0; analysis = analysis more fs }) ra = cc in
-    let made : RootAnalysis = record { summary = r.summary; func = r.after.0; analysis = analysis (with_reports (with_reports r.after.1 rs) (frozen_reports (with_reports r.after.1 rs) r.after.0)) fs } in
-    let same : made ≡ ra = ap (λ (m : Environment). let z : RootAnalysis = record { summary = r.summary; func = r.after.0; analysis = analysis m fs } in z) both ∙ is in
-    let ls = lints_there begun g r w.1 rs y.1 none in
-    subst (λ (z : RootAnalysis). LintsAreReports (handed_out z).inferred) same (record { lints = ls.0; are = ls.1; reports = lints_recorded begun g r w.1 rs y.1 none ls.0 ls.1 })
+    let e = root_ended g begun fs ra h in
+    let ls = lints_there begun g e.ranged e.ran e.reassigned e.told none in
+    subst (λ (z : RootAnalysis). LintsAreReports (handed_out z).inferred) e.is (record { lints = ls.0; are = ls.1; reports = lints_recorded begun g e.ranged e.ran e.reassigned e.told none ls.0 ls.1 })
 
 -- the lints of what is inferred of a unit that keeps the rules are there, and are its reports
 pub unit_lints : (u : HirUnit) (a : UnitAnalysis) → rules_hold u ≡ Ok tt → unit_analysed u ≡ Ok a → LintsAreReports a.inferred
@@ -120,13 +107,6 @@ unit_lints u a rules h =
     let parts = parts_of_rules u rules in
     let uninferred = both_true ((length u.env.errors == 0) && (length u.env.interned == 0) && list_all identifier_is_uninferred u.env.identifiers) (list_all function_is_uninferred u.env.functions) parts.environment in
     let empty : u.env.errors ≡ [] = no_errors u.env.errors (both_true (length u.env.errors == 0) (length u.env.interned == 0) (both_true _ (list_all identifier_is_uninferred u.env.identifiers) uninferred.0).0).0 in
-    let w = went (all_analysed u.function (analysis u.env [])) (λ (r : RootAnalysis). Ok (handed_out r)) a h in
-    let ra : RootAnalysis = w.0 in
-    let is : handed_out ra ≡ a = cc in
-    let v = went (analysed most_levels u.function (analysis u.env [])) (root_analysed u.function) ra w.1 in
-    let b : Analysis = v.0 in
-    let x = went (pass_end b.env u.function false) (λ (e : PassEnd). root_finished (with_effects_of e.solved u.function) (env_after b.env e) (b.functions ++ record { env = b.env; func = u.function; is_function_expression = false; solved = e.solved } ∷ [])) ra v.2 in
-    let e : PassEnd = x.0 in
-    let none : (env_after b.env e).errors ≡ [] = effects_silent b.env e ∙ analysed_silent most_levels u.function (analysis u.env []) b v.1 ∙ empty in
-    subst (λ (z : UnitAnalysis). LintsAreReports z.inferred) is
-    (finished_reports (with_effects_of e.solved u.function) (env_after b.env e) (b.functions ++ record { env = b.env; func = u.function; is_function_expression = false; solved = e.solved } ∷ []) ra none x.2)
+    let b = root_begun u a h in
+    let none : (env_after b.nested.env b.end).errors ≡ [] = effects_silent b.nested.env b.end ∙ analysed_silent most_levels u.function (analysis u.env []) b.nested b.analyses ∙ empty in
+    subst (λ (z : UnitAnalysis). LintsAreReports z.inferred) b.out (finished_reports (with_effects_of b.end.solved u.function) (env_after b.nested.env b.end) b.functions b.root none b.finishes)
