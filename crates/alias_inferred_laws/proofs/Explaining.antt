@@ -1,5 +1,5 @@
 -- In the unit that is handed out no explanation is refused for want of numbers.
-use Rattle.std.specs.Prelude.{◌≡◌, ℕ, ◌<◌, ◌≤◌, ◌==◌, ◌||◌, ◌&&◌, nat_eq, not, Bool, true, false, List, [], ◌∷◌, Option, Some, None, Result, Ok, Err, length, map, slice_get, if◌then◌else◌, refl}
+use Rattle.std.specs.Prelude.{◌≡◌, ℕ, ◌<◌, ◌≤◌, ◌==◌, ◌||◌, ◌&&◌, nat_eq, not, Bool, true, false, List, [], ◌∷◌, ◌++◌, Option, Some, None, Result, Ok, Err, length, map, slice_get, if◌then◌else◌, refl}
 use Rattle.std.proofs.Common.{zero, suc, inl, inr, ⊎_elim, ap, sym, ◌∙◌, subst, arith}
 use Rattle.std.proofs.lemmas.Bool.{eqb-true}
 use Rattle.alias_base.specs.Answer.{◌>>=◌}
@@ -18,7 +18,7 @@ use Rattle.alias_events.specs.Recording.{graph_listed}
 use Rattle.alias_function_rules.specs.Rules.{is_among}
 use Rattle.alias_rules.specs.Functions.{rules_hold}
 use Rattle.alias_rules.specs.RuleLaws.{lt_or_le}
-use Rattle.alias_effects.specs.Inference.{env_after}
+use Rattle.alias_effects.specs.Inference.{pass_end, env_after}
 use Rattle.alias_effects.specs.Recording.{with_effects_of}
 use Rattle.alias_effects.specs.declared.output.PassEnd.{PassEnd}
 use Rattle.alias_explain.specs.Causes.{first_cause, mutated_or_not, defined_by, defined_or, cause_of}
@@ -32,7 +32,7 @@ use Rattle.alias_explain.specs.declared.explain.ExplainFault.TheVariants.{NotHer
 use Rattle.alias_range_pass.specs.Passes.{Ranged, range_pass}
 use Rattle.alias_range_places.specs.Keeping.{but_context}
 use Rattle.alias_ranges.specs.Walks.{IsOneOf}
-use Rattle.alias_nested.specs.Analysis.{Analysis, analysis, most_levels, analysed}
+use Rattle.alias_nested.specs.Analysis.{Analysed, Analysis, analysis, most_levels, analysed}
 use Rattle.alias_nested.specs.Created.{created_functions}
 use Rattle.alias_nested.specs.Order.{innermost_first, numbers}
 use Rattle.alias_nested.specs.Units.{UnitAnalysis, handed_out, unit_analysed}
@@ -45,38 +45,41 @@ use Rattle.alias_order_laws.proofs.Solving.{root_apart}
 use Rattle.alias_order_laws.proofs.Staying.{count_alike}
 use Rattle.alias_order_laws.proofs.Unit.{order_once}
 use Rattle.alias_inferred_laws.specs.Explanations.{NeverTooMany}
-use Rattle.alias_inferred_laws.proofs.Listing.{IsListed, SlotIsListed, slot_alike, analysed_listed}
+use Rattle.alias_inferred_laws.proofs.Lasting.{last_of, last_there, SlotHolds, slot_holds, analysed_holds, none_hold}
+use Rattle.alias_inferred_laws.proofs.Listing.{IsListed, IsRecorded, still_recorded, function_recorded}
 use Rattle.alias_inferred_laws.proofs.Ranging.{PassLeaves, pass_leaves, lists_still}
-use Rattle.alias_inferred_laws.proofs.Rooting.{root_begun, root_validated, root_ended}
+use Rattle.alias_inferred_laws.proofs.Rooting.{root_entry, root_begun, root_validated, root_ended}
 
 -- ---- the root
 
 -- what was there as the root's range pass ended
-record RootRanged (u : HirUnit) (a : UnitAnalysis) : Type 0 where
-  nested : Analysis
-  analyses : analysed most_levels u.function (analysis u.env []) ≡ Ok nested
-  end : PassEnd
-  begun : HirFunction
-  ranged : Ranged
-  ran : range_pass false begun (env_after nested.env end) ≡ Ok ranged
-  root : a.inferred.unit.function ≡ ranged.after.0
-  functions : a.inferred.unit.env.functions ≡ ranged.after.1.functions
+pub record RootRanged (u : HirUnit) (a : UnitAnalysis) : Type 0 where
+  pub nested : Analysis
+  pub analyses : analysed most_levels u.function (analysis u.env []) ≡ Ok nested
+  pub end : PassEnd
+  pub ended : pass_end nested.env u.function false ≡ Ok end
+  pub ranged : Ranged
+  pub ran : range_pass false (with_effects_of end.solved u.function) (env_after nested.env end) ≡ Ok ranged
+  pub root : a.inferred.unit.function ≡ ranged.after.0
+  pub slots : a.inferred.unit.env.functions ≡ ranged.after.1.functions
+  pub all : a.functions ≡ nested.functions ++ root_entry u nested end ∷ []
 
 root_ranged : (u : HirUnit) (a : UnitAnalysis) → unit_analysed u ≡ Ok a → RootRanged u a
 root_ranged u a h =
     let b = root_begun u a h in
-    let f : HirFunction = with_effects_of b.end.solved u.function in
-    let e = root_ended f (env_after b.nested.env b.end) b.functions b.root b.finishes in
-    let whole : handed_out (root_validated e.ranged e.reassigned b.functions) ≡ a = ap handed_out e.is ∙ b.out in
+    let fs : List Analysed = b.nested.functions ++ root_entry u b.nested b.end ∷ [] in
+    let e = root_ended (with_effects_of b.end.solved u.function) (env_after b.nested.env b.end) fs b.root b.finishes in
+    let whole : handed_out (root_validated e.ranged e.reassigned fs) ≡ a = ap handed_out e.is ∙ b.out in
     record {
       nested = b.nested;
       analyses = b.analyses;
       end = b.end;
-      begun = f;
+      ended = b.ended;
       ranged = e.ranged;
       ran = e.ran;
       root = ap (λ (q : UnitAnalysis). q.inferred.unit.function) (sym whole);
-      functions = ap (λ (q : UnitAnalysis). q.inferred.unit.env.functions) (sym whole);
+      slots = ap (λ (q : UnitAnalysis). q.inferred.unit.env.functions) (sym whole);
+      all = ap (λ (q : UnitAnalysis). q.functions) (sym whole);
     }
 
 -- ---- each function
@@ -99,30 +102,42 @@ none_past (x ∷ xs) zero g h e = absurd (omega arith)
 none_past (x ∷ xs) (suc k) g h e = none_past xs k g (omega arith) e
 
 module _ (u : HirUnit) (a : UnitAnalysis) (rules : rules_hold u ≡ Ok tt) (analysed_is : unit_analysed u ≡ Ok a) where
-  root : RootRanged u a
+  pub root : RootRanged u a
   root = root_ranged u a analysed_is
 
-  over : Done u.env.functions [] (analysis u.env []) root.nested (innermost_first most_levels u.env.functions (created_functions u.function))
+  abbrev pub begun : HirFunction
+  begun = with_effects_of root.end.solved u.function
+
+  pub over : Done u.env.functions [] (analysis u.env []) root.nested (innermost_first most_levels u.env.functions (created_functions u.function))
   over = goes_over u.env.functions most_levels u.function [] (analysis u.env []) root.nested (record { count = refl; slots = λ k h. refl }) (root_apart u rules) root.analyses
 
-  leaves : PassLeaves false root.begun (env_after root.nested.env root.end) root.ranged
-  leaves = pass_leaves false root.begun (env_after root.nested.env root.end) root.ranged root.ran
+  pub leaves : PassLeaves false begun (env_after root.nested.env root.end) root.ranged
+  leaves = pass_leaves false begun (env_after root.nested.env root.end) root.ranged root.ran
 
   -- from when the root's effects pass began
   contexts : map but_context a.inferred.unit.env.functions ≡ map but_context root.nested.env.functions
-  contexts = ap (map but_context) root.functions ∙ ap (λ (e : Environment). e.functions) leaves.kept.rest ∙ passed_contexts root.nested.env root.end
+  contexts = ap (map but_context) root.slots ∙ ap (λ (e : Environment). e.functions) leaves.kept.rest ∙ passed_contexts root.nested.env root.end
 
-  slot_listed : (id : FunctionId) (o : Option HirFunction) → slice_get a.inferred.unit.env.functions id.0 ≡ o → SlotIsListed o
-  slot_listed id None e = tt
-  slot_listed id (Some g) e =
+  -- what was recorded of the last function of a number is in its slot
+  pub slot_recorded : (id : FunctionId) → SlotHolds IsRecorded still_recorded function_recorded (last_of id root.nested.functions) (slice_get a.inferred.unit.env.functions id.0)
+  slot_recorded id =
+      slot_holds IsRecorded still_recorded function_recorded (last_of id root.nested.functions) (slice_get root.nested.env.functions id.0) (slice_get a.inferred.unit.env.functions id.0)
+      (slots_stay root.nested.env a.inferred.unit.env contexts id.0)
+      (analysed_holds IsRecorded still_recorded function_recorded most_levels u.function [] (analysis u.env []) root.nested (none_hold IsRecorded still_recorded function_recorded u.env) root.analyses id refl)
+
+  recorded_is_listed : (l : Option Analysed) (x : Analysed) (g : HirFunction) → l ≡ Some x → SlotHolds IsRecorded still_recorded function_recorded l (Some g) → IsListed g
+  recorded_is_listed None x g e h = cc
+  recorded_is_listed (Some y) x g e h = h.listed
+
+  slot_listed : (id : FunctionId) (g : HirFunction) → slice_get a.inferred.unit.env.functions id.0 ≡ Some g → IsListed g
+  slot_listed id g e =
       ⊎_elim
       (λ (there : id.0 < length u.env.functions).
       let once = order_once u rules id.0 there in
       let among : is_among (numbers (nested_innermost_first u)) id.0 ≡ true = there_among (numbers (nested_innermost_first u)) id.0 (omega arith) in
       let is_done : IsOneOf (Some id) (done root.nested) = subst (IsOneOf (Some id)) (sym over.functions) (named_there (nested_innermost_first u) id among) in
-      let before : SlotIsListed (slice_get root.nested.env.functions id.0) = analysed_listed most_levels u.function [] (analysis u.env []) root.nested (λ j h n. absurd n) root.analyses id refl is_done in
-      subst SlotIsListed e
-      (slot_alike (slice_get root.nested.env.functions id.0) (slice_get a.inferred.unit.env.functions id.0) (slots_stay root.nested.env a.inferred.unit.env contexts id.0) before))
+      let last = last_there id root.nested.functions is_done in
+      recorded_is_listed (last_of id root.nested.functions) last.0 g last.1 (subst (SlotHolds IsRecorded still_recorded function_recorded (last_of id root.nested.functions)) e (slot_recorded id)))
       (λ (past : length u.env.functions ≤ id.0).
       let count : length a.inferred.unit.env.functions ≡ length u.env.functions = count_alike root.nested.env.functions a.inferred.unit.env.functions contexts ∙ over.stands.count in
       absurd (none_past a.inferred.unit.env.functions id.0 g (omega arith) e))
@@ -132,8 +147,8 @@ module _ (u : HirUnit) (a : UnitAnalysis) (rules : rules_hold u ≡ Ok tt) (anal
   pub each_is_listed : (which : Option FunctionId) (g : HirFunction) → function_of a.inferred.unit which ≡ Some g → IsListed g
   each_is_listed None g e =
       let same : a.inferred.unit.function ≡ g = cc in
-      subst IsListed (sym root.root ∙ same) (leaves.listing, lists_still false root.begun (env_after root.nested.env root.end) root.ranged leaves)
-  each_is_listed (Some id) g e = slot_listed id (Some g) e
+      subst IsListed (sym root.root ∙ same) (leaves.listing, lists_still false begun (env_after root.nested.env root.end) root.ranged leaves)
+  each_is_listed (Some id) g e = slot_listed id g e
 
 -- ---- explanations
 

@@ -37,7 +37,7 @@ use Rattle.alias_nested.specs.Units.{RootAnalysis, root_finished, UnitAnalysis, 
 use Rattle.alias_nested.proofs.Changing.{slots_stay}
 use Rattle.alias_inferred_laws.specs.Reports.{LintsAreReports}
 use Rattle.alias_inferred_laws.proofs.Ranging.{PassLeaves, pass_leaves, lists_still}
-use Rattle.alias_inferred_laws.proofs.Rooting.{root_begun, root_ended}
+use Rattle.alias_inferred_laws.proofs.Rooting.{root_entry, root_begun, root_ended}
 use Rattle.alias_range_pass.specs.Laws.{PassKeeps}
 use Rattle.alias_inferred_laws.proofs.Silence.{effects_silent, analysed_silent}
 
@@ -109,4 +109,4 @@ unit_lints u a rules h =
     let empty : u.env.errors ≡ [] = no_errors u.env.errors (both_true (length u.env.errors == 0) (length u.env.interned == 0) (both_true _ (list_all identifier_is_uninferred u.env.identifiers) uninferred.0).0).0 in
     let b = root_begun u a h in
     let none : (env_after b.nested.env b.end).errors ≡ [] = effects_silent b.nested.env b.end ∙ analysed_silent most_levels u.function (analysis u.env []) b.nested b.analyses ∙ empty in
-    subst (λ (z : UnitAnalysis). LintsAreReports z.inferred) b.out (finished_reports (with_effects_of b.end.solved u.function) (env_after b.nested.env b.end) b.functions b.root none b.finishes)
+    subst (λ (z : UnitAnalysis). LintsAreReports z.inferred) b.out (finished_reports (with_effects_of b.end.solved u.function) (env_after b.nested.env b.end) (b.nested.functions ++ root_entry u b.nested b.end ∷ []) b.root none b.finishes)

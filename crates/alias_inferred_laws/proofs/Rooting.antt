@@ -16,14 +16,18 @@ use Rattle.alias_nested.specs.Analysis.{Analysed, Analysis, analysis, most_level
 use Rattle.alias_nested.specs.Units.{RootAnalysis, validated, root_finished, root_analysed, all_analysed, UnitAnalysis, handed_out, unit_analysed}
 use Rattle.alias_order_laws.proofs.Ordering.{went}
 
+-- the root as its effects pass began, with what was solved of it
+abbrev pub root_entry : HirUnit → Analysis → PassEnd → Analysed
+root_entry u a e = record { env = a.env; func = u.function; is_function_expression = false; solved = e.solved }
+
 -- the functions below the root, the root's effects pass, and what then came of the root
 pub record RootBegun (u : HirUnit) (a : UnitAnalysis) : Type 0 where
   pub nested : Analysis
   pub analyses : analysed most_levels u.function (analysis u.env []) ≡ Ok nested
   pub end : PassEnd
-  pub functions : List Analysed
   pub root : RootAnalysis
-  pub finishes : root_finished (with_effects_of end.solved u.function) (env_after nested.env end) functions ≡ Ok root
+  pub ended : pass_end nested.env u.function false ≡ Ok end
+  pub finishes : root_finished (with_effects_of end.solved u.function) (env_after nested.env end) (nested.functions ++ root_entry u nested end ∷ []) ≡ Ok root
   pub out : handed_out root ≡ a
 
 pub root_begun : (u : HirUnit) (a : UnitAnalysis) → unit_analysed u ≡ Ok a → RootBegun u a
@@ -31,15 +35,15 @@ root_begun u a h =
     let w = went (all_analysed u.function (analysis u.env [])) (λ (r : RootAnalysis). Ok (handed_out r)) a h in
     let v = went (analysed most_levels u.function (analysis u.env [])) (root_analysed u.function) w.0 w.1 in
     let b : Analysis = v.0 in
-    let x = went (pass_end b.env u.function false) (λ (e : PassEnd). root_finished (with_effects_of e.solved u.function) (env_after b.env e) (b.functions ++ record { env = b.env; func = u.function; is_function_expression = false; solved = e.solved } ∷ [])) w.0 v.2 in
+    let x = went (pass_end b.env u.function false) (λ (e : PassEnd). root_finished (with_effects_of e.solved u.function) (env_after b.env e) (b.functions ++ root_entry u b e ∷ [])) w.0 v.2 in
     let e : PassEnd = x.0 in
     let out : handed_out w.0 ≡ a = cc in
     record {
       nested = b;
       analyses = v.1;
       end = e;
-      functions = b.functions ++ record { env = b.env; func = u.function; is_function_expression = false; solved = e.solved } ∷ [];
       root = w.0;
+      ended = x.1;
       finishes = x.2;
       out = out;
     }

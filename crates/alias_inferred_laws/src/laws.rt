@@ -5,6 +5,7 @@ ghost use Rattle.alias_rules.specs.Functions.{rules_hold};
 ghost use Rattle.alias_nested.specs.Units.{UnitAnalysis, unit_analysed};
 ghost use Rattle.alias_inferred_laws.specs.Explanations.{NeverTooMany};
 ghost use Rattle.alias_inferred_laws.specs.Reports.{LintsAreReports};
+ghost use Rattle.alias_inferred_laws.specs.Solutions.{SolutionsAreCarried};
 
 use alias_hir::env::Unit;
 
@@ -19,6 +20,14 @@ pub fn lint_laws(unit: &Unit)
 /// No explanation in what is inferred of a unit that keeps the rules is refused for want of numbers. Does nothing.
 pub fn explain_laws(unit: &Unit)
     ensures { (a : UnitAnalysis) → rules_hold unit.now ≡ Ok tt → unit_analysed unit.now ≡ Ok a → NeverTooMany a.inferred }
+{
+    let _unit = unit;
+}
+
+/// Each function of what is inferred of a unit that keeps the rules carries, as it is handed out, the effects of its solution: nothing after
+/// its effects pass changed these. Does nothing.
+pub fn carry_laws(unit: &Unit)
+    ensures { (a : UnitAnalysis) → rules_hold unit.now ≡ Ok tt → unit_analysed unit.now ≡ Ok a → SolutionsAreCarried a }
 {
     let _unit = unit;
 }

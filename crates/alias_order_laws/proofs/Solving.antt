@@ -29,7 +29,7 @@ use Rattle.alias_order_laws.proofs.Ordering.{went, done, Apart, Done, goes_over}
 use Rattle.alias_order_laws.proofs.Unit.{order_once, order_past}
 
 -- the solution of the effects pass names no function
-end_names_none : (env : Environment) (f : HirFunction) (x : End (VisitLog State) TableLists BlockEffects BlockRefusal) (e : PassEnd) → answer_of env f x ≡ Ok e → e.solved.function ≡ None
+pub end_names_none : (env : Environment) (f : HirFunction) (x : End (VisitLog State) TableLists BlockEffects BlockRefusal) (e : PassEnd) → answer_of env f x ≡ Ok e → e.solved.function ≡ None
 end_names_none env f (end.Solved w) e h = let is : end_of f w ≡ e = cc in ap (λ (z : PassEnd). z.solved.function) (sym is)
 end_names_none env f (end.Fault n c) e h = cc
 end_names_none env f (end.NotSettled v) e h = cc
