@@ -1,6 +1,6 @@
 -- The functions of the unit that is handed out carry their solutions.
-use Rattle.std.specs.Prelude.{◌≡◌, ℕ, nat_eq, Bool, true, false, cond, List, [], ◌∷◌, ◌++◌, Option, Some, None, Ok, map, slice_get, refl}
-use Rattle.std.proofs.Common.{inl, inr, ⊎_elim, ap, sym, ◌∙◌, subst, arith, ◌+◌, ◌≤◌}
+use Rattle.std.specs.Prelude.{◌≡◌, ℕ, nat_eq, true, false, cond, List, [], ◌∷◌, Option, Some, None, Ok, map, slice_get, refl}
+use Rattle.std.proofs.Common.{⊎_elim, ap, sym, ◌∙◌, subst, arith, ◌+◌, ◌≤◌}
 use Rattle.std.proofs.lemmas.Bool.{eqb-true}
 use Rattle.alias_base.specs.declared.ids.FunctionId.{FunctionId}
 use Rattle.alias_hir.specs.declared.env.Unit.{Unit as HirUnit}
@@ -20,7 +20,7 @@ use Rattle.alias_order_laws.specs.Order.{nested_innermost_first}
 use Rattle.alias_order_laws.proofs.Solving.{end_names_none, root_apart}
 use Rattle.alias_inferred_laws.specs.Solutions.{CarriesItsSolution, SolutionsAreCarried}
 use Rattle.alias_inferred_laws.proofs.Explaining.{root, over, leaves, slot_recorded}
-use Rattle.alias_inferred_laws.proofs.Lasting.{later, own, number_itself, some_number, last_of, SlotHolds}
+use Rattle.alias_inferred_laws.proofs.Lasting.{is_numbered, later, own, number_itself, some_number, last_of, SlotHolds}
 use Rattle.alias_inferred_laws.proofs.Listing.{IsRecorded, still_recorded, function_recorded, without_summary}
 use Rattle.alias_inferred_laws.proofs.Rooting.{root_entry}
 
@@ -30,10 +30,7 @@ abbrev names_of : List Analysed → List (Option FunctionId)
 names_of xs = map (λ (x : Analysed). x.solved.function) xs
 
 not_own : (id k : FunctionId) (x : Analysed) → x.solved.function ≡ Some k → nat_eq id.0 k.0 ≡ false → own id x ≡ None
-not_own id k x e n = ap (λ o. own_by o) e ∙ ap (λ b. cond b (Some x) None) n
-  where
-    own_by : Option FunctionId → Option Analysed
-    own_by o = own id (record x { solved = record x.solved { function = o } })
+not_own id k x e n = ap (λ o. cond (is_numbered id o) (Some x) None) e ∙ ap (λ b. cond b (Some x) None) n
 
 first_counted : (k : ℕ) (ks : List ℕ) (n : ℕ) → k ≡ n → times (k ∷ ks) n ≡ 1 + times ks n
 first_counted k ks n e = subst (λ z. times (k ∷ ks) z ≡ 1 + times ks z) e (times_cons k ks k ∙ ap (λ b. cond b 1 0 + times ks k) (number_itself k))

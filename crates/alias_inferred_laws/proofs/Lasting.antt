@@ -1,7 +1,8 @@
 -- What holds of a function once it is analysed, whatever the effects of its context places are, holds of it ever after.
 use Rattle.std.specs.Prelude.{◌≡◌, ℕ, nat_eq, Bool, true, false, cond, List, [], ◌∷◌, ◌++◌, Option, Some, None, Result, Ok, map, option_map, slice_get, slice_set, refl}
-use Rattle.std.proofs.Common.{zero, suc, inl, inr, ⊎_elim, ap, sym, ◌∙◌, subst}
+use Rattle.std.proofs.Common.{zero, suc, ⊎_elim, ap, sym, ◌∙◌, subst, arith}
 use Rattle.std.proofs.lemmas.Bool.{eqb-true}
+use Rattle.std.proofs.lemmas.Bool.Decides.{nat_tests}
 use Rattle.alias_base.specs.declared.ids.FunctionId.{FunctionId}
 use Rattle.alias_hir.specs.declared.env.Environment.{Environment}
 use Rattle.alias_hir.specs.declared.error.InferError.{InferError}
@@ -15,7 +16,7 @@ use Rattle.alias_nested.specs.Analysis.{Analysed, Analysis, each, function_analy
 use Rattle.alias_nested.specs.Created.{created_functions}
 use Rattle.alias_nested.specs.Slots.{emptied}
 use Rattle.alias_nested.proofs.Changing.{slots_stay}
-use Rattle.alias_order_laws.proofs.Ordering.{went, neither, differs, both_false, done, Finished, function_finished}
+use Rattle.alias_order_laws.proofs.Ordering.{went, neither, differs, both_false, Finished, function_finished}
 
 -- ---- the last one of a number
 
@@ -54,8 +55,7 @@ last_put : (id j : FunctionId) (xs : List Analysed) (y : Analysed) → y.solved.
 last_put id j xs y e = last_longer j xs y ∙ ap (λ o. later o (last_of j xs)) (own_is id j y e)
 
 pub number_itself : (n : ℕ) → nat_eq n n ≡ true
-number_itself zero = refl
-number_itself (suc n) = number_itself n
+number_itself n = grind (arith, nat_tests)
 
 pub some_number : (id : FunctionId) (o : Option FunctionId) → Some id ≡ o → is_numbered id o ≡ true
 some_number id None e = cc

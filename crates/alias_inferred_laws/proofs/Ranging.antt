@@ -25,7 +25,6 @@ use Rattle.alias_range_pass.specs.Refusals.{recorded}
 use Rattle.alias_range_places.specs.Blocks.{Placed, function_placed}
 use Rattle.alias_range_places.specs.CauseLaws.{function_causes}
 use Rattle.alias_range_places.specs.Causes.{EndsCaused}
-use Rattle.alias_range_places.specs.Keeping.{EnvKept}
 use Rattle.alias_range_summary.specs.FlowLaws.{ends_with_flows}
 use Rattle.alias_range_summary.specs.Keeping.{WalksKeep}
 use Rattle.alias_range_summary.specs.KeepingLaws.{keeps_same, keeps_trans, walk_keeps, reports_keep}
