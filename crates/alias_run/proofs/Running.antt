@@ -26,8 +26,9 @@ use Rattle.alias_run.specs.declared.query.Query.{Query}
 use Rattle.alias_run.specs.declared.query.Query.TheVariants.{Inference, Lints, Explanation, Plainness}
 use Rattle.alias_run.specs.declared.outcome.Outcome.{Outcome}
 use Rattle.alias_rules.specs.Functions.{rules_hold}
-use Rattle.alias_run.specs.Findings.{Infers, IsExplained, IsExplainedOf, IsInferred, IsChecked, IsAnswered, IsFit, IsJudged, IsRead, IsFound, Leaves, greatest_input}
+use Rattle.alias_run.specs.Findings.{Infers, IsExplained, IsExplainedOf, IsChecked, IsAnswered, IsFit, IsJudged, IsRead, IsFound, Leaves, greatest_input}
 use Rattle.alias_run.specs.Inferences.{solved_tell}
+use Rattle.alias_inferred_laws.proofs.Carrying.{solutions_carried}
 use Rattle.alias_run.specs.Runs.{IsRun, IsInferredOf, IsAnsweredOf, IsUnitOf, IsDone, IsHeadline}
 use Rattle.alias_run.specs.Statuses.{text_status, write_status}
 use Rattle.alias_run.specs.Texts.{text_of, answer_text}
@@ -197,14 +198,14 @@ module _ (known : Option (List ℕ)) (read_failed write_failed : Type 0) (held h
   done_read printed (Inferred x) f t =
       let j = f.3 in
       let k = j.2.1 in
-      (j.0, k.0, known_unit known f.0 j.0 f.1 j.1, j.2.0, k.1, k.2, solved_tell k.0 k.2, t)
+      (j.0, k.0, known_unit known f.0 j.0 f.1 j.1, j.2.0, k.1, k.2, solved_tell k.0 k.2, solutions_carried j.0 (record { functions = k.0; inferred = x }) j.2.0 k.1, t)
 
   done_made : (made : HirUnit) (a : Answer) → IsFit made Done a → Adds held (answer_text detail.Counts Done a) held' → IsInferredOf (λ u. u ≡ made) detail.Counts held held' a
   done_made made Nothing f t = f.1
   done_made made (Linted ls) f t = f.1
   done_made made (Explained e) f t = f.1
   done_made made (Decided p) f t = f.1
-  done_made made (Inferred x) f t = let k = f.1 in (made, k.0, refl, f.0, k.1, k.2, solved_tell k.0 k.2, t)
+  done_made made (Inferred x) f t = let k = f.1 in (made, k.0, refl, f.0, k.1, k.2, solved_tell k.0 k.2, solutions_carried made (record { functions = k.0; inferred = x }) f.0 k.1, t)
 
   done_asked : (q : Query) (a : Answer) → IsRead q known read_failed Done a → Adds held (answer_text detail.Infer Done a) held' → IsAnsweredOf q known held held' a
   done_asked q a f t = let j = f.3 in (j.0, known_unit known f.0 j.0 f.1 j.1, j.2.0, j.2.1, t)

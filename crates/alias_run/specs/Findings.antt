@@ -17,10 +17,8 @@ use Rattle.alias_run.specs.declared.answer.Answer.{Answer}
 use Rattle.alias_run.specs.declared.answer.Answer.TheVariants.{Nothing, Inferred, Linted, Explained, Decided}
 use Rattle.alias_base.specs.declared.ids.FunctionId.{FunctionId}
 use Rattle.alias_base.specs.declared.ids.IdentifierId.{IdentifierId}
-use Rattle.alias_hir.specs.declared.error.Counter.{Counter}
-use Rattle.alias_hir.specs.declared.error.InferError.{InferError}
-use Rattle.alias_hir.specs.declared.error.InferError.TheVariants as infer
 use Rattle.alias_lint.specs.Lints.{lints_of}
+use Rattle.alias_lint.specs.Sites.{reports_of}
 use Rattle.alias_explain.specs.Explanations.{explained}
 use Rattle.alias_explain.specs.declared.explain.ExplainFault.TheVariants as explain
 use Rattle.alias_plain_laws.specs.Answers.{answer_of, unit_end}
@@ -49,10 +47,9 @@ IsRefusedAs u status a = ⊥
 abbrev pub Infers : HirUnit → UnitInference → Type 0
 Infers u i = (fs : List Analysed) × (unit_analysed u ≡ Ok (record { functions = fs; inferred = i }))
 
--- the reports of what was inferred, each with its place
+-- the reports of what was inferred, in order, each with its place
 abbrev pub IsLintedOf : UnitInference → Status → Answer → Type 0
-IsLintedOf i Done (Linted ls) = lints_of i.unit ≡ Ok ls
-IsLintedOf i (Refused e) a = (lints_of i.unit ≡ Err e) × (a ≡ Nothing)
+IsLintedOf i Done (Linted ls) = (lints_of i.unit ≡ Ok ls) × (reports_of ls ≡ i.reports)
 IsLintedOf i Memory a = a ≡ Nothing
 IsLintedOf i status a = ⊥
 
@@ -65,7 +62,6 @@ IsLinted u status a = IsRefusedAs u status a ⊎ ((i : UnitInference) × Infers 
 abbrev pub IsExplainedOf : Option FunctionId → IdentifierId → UnitInference → Status → Answer → Type 0
 IsExplainedOf f id i Done (Explained e) = explained i.unit f id ≡ Ok e
 IsExplainedOf f id i NotHere a = (explained i.unit f id ≡ Err explain.NotHere) × (a ≡ Nothing)
-IsExplainedOf f id i (Refused e) a = ((which : Counter) × (explained i.unit f id ≡ Err (explain.TooMany which)) × (e ≡ infer.TooMany which)) × (a ≡ Nothing)
 IsExplainedOf f id i Memory a = a ≡ Nothing
 IsExplainedOf f id i status a = ⊥
 

@@ -13,9 +13,10 @@ use Rattle.alias_run.specs.declared.command.Command.TheVariants.{Infer, Certify,
 use Rattle.alias_run.specs.declared.status.Status.{Status}
 use Rattle.alias_run.specs.declared.status.Status.TheVariants.{Done, WriteFault, Memory}
 use Rattle.alias_run.specs.declared.answer.Answer.{Answer}
-use Rattle.alias_run.specs.declared.answer.Answer.TheVariants.{Nothing, Inferred, Linted, Explained, Decided}
+use Rattle.alias_run.specs.declared.answer.Answer.TheVariants.{Nothing, Inferred}
 use Rattle.alias_nested.specs.Analysis.{Analysed, SolvesItsFlow}
 use Rattle.alias_nested.specs.Units.{unit_analysed}
+use Rattle.alias_inferred_laws.specs.Solutions.{SolutionsAreCarried}
 use Rattle.alias_run.specs.declared.query.Query.{Query}
 use Rattle.alias_run.specs.declared.query.Query.TheVariants.{Lints, Explanation, Plainness}
 use Rattle.alias_run.specs.Findings.{IsFound, IsAnswered}
@@ -34,12 +35,12 @@ module _ (asked : Option Command) (known : Option (List ℕ)) (read_failed write
   IsRun status a = IsFound asked known read_failed status a × Adds held (text_of asked status a) held'
 
 -- Where a unit was inferred: the unit is such a one; it keeps the rules; what is handed out is its inference, and of each of its functions, as its
--- effects pass begins, the entry states solve the flow, and what is written for certain and isn't to be written stands as an error effect; and the sink got
--- the text of what was recorded, in this detail.
+-- effects pass begins, the entry states solve the flow, and what is written for certain and isn't to be written stands as an error effect; each function that is
+-- handed out carries the effects of its solution; and the sink got the text of it, in this detail.
 abbrev pub IsInferredOf : (HirUnit → Type 0) → Detail → Option (List ℕ) → Option (List ℕ) → Answer → Type 0
 IsInferredOf IsInput printed held held' (Inferred i) =
     (u : HirUnit) × (fs : List Analysed) × IsInput u × (rules_hold u ≡ Ok tt) × (unit_analysed u ≡ Ok (record { functions = fs; inferred = i })) × AllByRecursion SolvesItsFlow fs × AllByRecursion TellsItsWrites fs
-    × Adds held (inferred_text printed i) held'
+    × SolutionsAreCarried (record { functions = fs; inferred = i }) × Adds held (inferred_text printed i) held'
 IsInferredOf IsInput printed held held' a = ⊥
 
 -- the unit whose JSON the source had, where it is known what it had: the whole of it is the JSON of this unit

@@ -1,5 +1,7 @@
 //! What the words and the input lead to, before anything is written.
 ghost use Rattle.std.specs.Prelude.{◌≡◌, ◌≤◌, true, false};
+ghost use Rattle.alias_inferred_laws.specs.Explanations.{NeverTooMany};
+ghost use Rattle.alias_inferred_laws.specs.Reports.{LintsAreReports};
 ghost use Rattle.alias_rules.specs.Fitting.{function_fits};
 ghost use Rattle.alias_stream.specs.Streams.{HasFailed};
 ghost use Rattle.alias_made.specs.Units.{made_unit as unit_of};
@@ -38,7 +40,8 @@ fn infer_checked(alloc: Global, unit: Checked) -> Outcome
 /// The reports of what was inferred of a unit.
 #[tactic(auto, using(alias_range_pass::specs::CheckLaws::checked_fits))]
 fn lint_inferred(alloc: Global, inferred: Inferred) -> Outcome
-    requires { function_fits inferred.unit.function inferred.unit.env ≡ true }
+    requires fits { function_fits inferred.unit.function inferred.unit.env ≡ true }
+    requires reports { LintsAreReports inferred }
     ensures { IsLintedOf inferred result.status result.answer }
 {
     match lint_lines(alloc, inferred.unit) {
@@ -52,6 +55,7 @@ fn lint_checked(alloc: Global, unit: Checked) -> Outcome
     ensures { IsLinted unit result.status result.answer }
 {
     let mut passes = KeepAll;
+    let _unit = unit.unit();
     match infer_unit(alloc, unit, &mut passes) {
         Ok(inferred) => lint_inferred(alloc, inferred),
         Err(error) => ended(Status::from(error)),
@@ -65,6 +69,7 @@ fn explain_inferred(
     function: Option<FunctionId>,
     identifier: IdentifierId,
 ) -> Outcome
+    requires { NeverTooMany inferred.now }
     ensures { IsExplainedOf function identifier inferred.now result.status result.answer }
 {
     match explain_range(alloc, &inferred.unit, function, identifier) {
@@ -83,6 +88,7 @@ fn explain_checked(
     ensures { IsExplained function identifier unit result.status result.answer }
 {
     let mut passes = KeepAll;
+    let _unit = unit.unit();
     match infer_unit(alloc, unit, &mut passes) {
         Ok(inferred) => explain_inferred(alloc, &inferred, function, identifier),
         Err(error) => ended(Status::from(error)),

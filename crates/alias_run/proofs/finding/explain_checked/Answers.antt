@@ -1,5 +1,11 @@
+use Rattle.alias_run.proofs.Asking.{inferred_explained}
 use Rattle.alias_run.proofs.Running.{explained_of}
 use Rattle.alias_run.proofs.finding.explain_checked.Goals as goal
+
+pub explain_inferred-requires : goal.explain_inferred-requires
+explain_inferred-requires c =
+    let rules = c.unit-unit.ensures in
+    inferred_explained c.args.unit c.unit-unit.result.now c.in-Ok.inferred rules.unit rules.checked c.in-Ok.ensures.answer
 
 pub returns-in-Ok : goal.returns-in-Ok
 returns-in-Ok c =
