@@ -50,9 +50,9 @@ loop-block-preserved g c =
       p.borrows ∙ inv.1,
       long ∙ ap (λ r. r.blocks) (sym p.same),
       λ differs claims.
-      ap (λ r. blocks_checked l.join l.below r differs c.args.entries.now (up (i + 1) (n - (i + 1))) v) p.same
-      ∙ blocks_next l.join l.below (g.F.Flow.rules f) differs c.args.entries.now i n w v lt (p.checks differs claims)
-      ∙ inv.3 differs claims,
+          ap (λ r. blocks_checked l.join l.below r differs c.args.entries.now (up (i + 1) (n - (i + 1))) v) p.same
+          ∙ blocks_next l.join l.below (g.F.Flow.rules f) differs c.args.entries.now i n w v lt (p.checks differs claims)
+          ∙ inv.3 differs claims,
     )
 
 pub returns-clause-checks : goal.returns-clause-checks

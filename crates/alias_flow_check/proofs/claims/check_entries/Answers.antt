@@ -39,7 +39,7 @@ returns-clause-checks g c =
     λ differs claims. (
       c.check_begun.new.arriving,
       checks_along g.F.Flow.cause (solution_checked l.join l.below r differs c.args.entries.now (g.F.Flow.tables f) (g.F.Flow.recorded f)) (begun_checked l.join l.below r differs c.args.entries.now (solver_state xs (g.F.Flow.tables f) (g.F.Flow.recorded f))) c.check_begun.result
-      (solver_state c.check_begun.new.arriving (g.F.Flow.tables now) (g.F.Flow.recorded now))
-      (has_begun l.join l.below r differs c.args.entries.now (g.F.Flow.tables f) (g.F.Flow.recorded f) xs begun)
-      (c.check_begun.ensures.checks differs claims),
+          (solver_state c.check_begun.new.arriving (g.F.Flow.tables now) (g.F.Flow.recorded now))
+          (has_begun l.join l.below r differs c.args.entries.now (g.F.Flow.tables f) (g.F.Flow.recorded f) xs begun)
+          (c.check_begun.ensures.checks differs claims),
     )

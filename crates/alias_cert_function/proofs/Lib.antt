@@ -1,0 +1,3 @@
+pub mod Stating
+pub mod Answering
+pub mod SolvesFunction
