@@ -22,10 +22,11 @@ use Rattle.alias_hir.specs.declared.error.InferError.{InferError}
 use Rattle.alias_hir.specs.declared.error.InferError.TheVariants as error
 use Rattle.alias_hir.specs.declared.hir.HirFunction.{HirFunction}
 use Rattle.alias_nested.proofs.InOrder.{created_numbers}
-use Rattle.alias_nested.specs.Analysis.{named, Analysis, analysis, analysed, most_levels}
+use Rattle.alias_nested.specs.Analysis.{named, Analysis, analysis, analysed, most_levels, is_free}
 use Rattle.alias_nested.specs.Created.{created_functions}
 use Rattle.alias_nested.specs.Order.{created_by_slot, innermost_first, numbers}
-use Rattle.alias_nested.specs.Units.{RootAnalysis, validated, root_analysed, all_analysed, UnitAnalysis, unit_analysed}
+use Rattle.alias_nested.specs.Units.{RootAnalysis, validated, root_analysed, all_analysed, UnitAnalysis, unit_analysed, InfersUnit}
+use Rattle.alias_nested.specs.declared.infer.Inferred.{Inferred}
 use Rattle.alias_order_laws.proofs.Levels.{fits_within}
 use Rattle.alias_order_laws.proofs.Solving.{root_apart}
 use Rattle.alias_order_laws.proofs.Unit.{slots_as_often}
@@ -144,6 +145,27 @@ named_unsettled id (error.IncompatibleLibrary f instruction report) = refl
 named_unsettled id (error.SpreadArgument f instruction span report) = refl
 named_unsettled id e = refl
 
+-- want of memory, and a fault of a pass of the caller, blame no function
+free_unsettled : (e : InferError) → is_free e ≡ true → is_blame_or_unsettled e ≡ false
+free_unsettled (error.Memory x) h = refl
+free_unsettled (error.PassFault f pass) h = refl
+free_unsettled e h = cc
+
+free_unblamed : (e : InferError) → is_free e ≡ true → is_blame e ≡ false
+free_unblamed (error.Memory x) h = refl
+free_unblamed (error.PassFault f pass) h = refl
+free_unblamed e h = cc
+
+-- what a call answers that infers what is stated
+answered_so : (is : InferError → Bool) (stated : Result UnitAnalysis InferError) → ((e : InferError) → is_free e ≡ true → is e ≡ false) → ((e : InferError) → stated ≡ Err e → is e ≡ false) → (r : Result Inferred InferError) → InfersUnit stated r
+    → (e : InferError) → r ≡ Err e → is e ≡ false
+answered_so is stated free h (Ok i) k e q = cc
+answered_so is stated free h (Err d) k e q = let same : d ≡ e = cc in subst (λ (z : InferError). is z ≡ false) same (by_cause (is_free d) refl)
+  where
+    by_cause : (b : Bool) → is_free d ≡ b → is d ≡ false
+    by_cause true f = free d f
+    by_cause false f = h d (k f)
+
 -- ---- a unit
 
 module _ (u : HirUnit) (rules : rules_hold u ≡ Ok tt) where
@@ -208,6 +230,10 @@ module _ (u : HirUnit) (rules : rules_hold u ≡ Ok tt) where
         refused_so is_blame (unit_analysed u) e
         (unit_avoids is_blame named_blame (range_avoids is_blame left_unblamed listing_unblamed room_unblamed (λ x. refl)) (root_avoids is_blame left_unblamed listing_unblamed room_unblamed (λ x. refl)) nested_unblamed root_unblamed) h
 
+    -- nor does the answer of a call that infers it
+    pub answer_unblamed : (r : Result Inferred InferError) → InfersUnit (unit_analysed u) r → (e : InferError) → r ≡ Err e → is_blame e ≡ false
+    answer_unblamed = answered_so is_blame (unit_analysed u) free_unblamed unit_unblamed
+
     module _ (root_forward : GoesForward u.env u.function false) (nested_forward : (k : ℕ) (f : HirFunction) → slice_get u.env.functions k ≡ Some f → GoesForward u.env f true) where
       nested_settled : (k : ℕ) (f g : HirFunction) (env : Environment) → slice_get u.env.functions k ≡ Some f → but_context g ≡ but_context f → AgreesOn f u.env env → AreCallable env
           → Avoids is_blame_or_unsettled (Answered {A = PassEnd}) (pass_end env g true)
@@ -226,3 +252,6 @@ module _ (u : HirUnit) (rules : rules_hold u ≡ Ok tt) where
           refused_so is_blame_or_unsettled (unit_analysed u) e
           (unit_avoids is_blame_or_unsettled named_unsettled (range_avoids is_blame_or_unsettled left_settled listing_settled room_settled (λ x. refl)) (root_avoids is_blame_or_unsettled left_settled listing_settled room_settled (λ x. refl))
           nested_settled root_settled) h
+
+      pub answer_settled : (r : Result Inferred InferError) → InfersUnit (unit_analysed u) r → (e : InferError) → r ≡ Err e → is_blame_or_unsettled e ≡ false
+      answer_settled = answered_so is_blame_or_unsettled (unit_analysed u) free_unsettled unit_settled
