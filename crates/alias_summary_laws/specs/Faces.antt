@@ -1,7 +1,6 @@
 -- What callers see of a function, and what the passes keep of it.
 use Rattle.std.specs.Prelude.{◌≡◌, ℕ, ◌<◌, ◌≤◌, ◌+◌, Bool, true, false, if◌then◌else◌, List, [], ◌∷◌, ◌++◌, Option, Some, None, Ok, map, length, slice_get, refl}
 use Rattle.std.proofs.Common.{zero, suc, ap, sym, ◌∙◌, subst, arith}
-use Rattle.std.proofs.lemmas.List.{length-map}
 use Rattle.std.specs.List.{AllByRecursion}
 use Rattle.alias_base.specs.declared.ids.InstructionId.{InstructionId}
 use Rattle.alias_function_rules.specs.Rules.{first_again, own_identifiers, repeated, places_distinct}
@@ -31,6 +30,7 @@ use Rattle.alias_range_summary.specs.Walking.{Walked, start_origin, expanded, af
 use Rattle.alias_completeness.specs.Calling.{IsCallable, AreCallable}
 use Rattle.alias_completeness.specs.Facing.{callable}
 use Rattle.alias_completeness.specs.Summarizing.{IsSummary}
+use Rattle.alias_summary_laws.specs.KeptTables.{TablesKept, tables_self, tables_then, tables_alike, bound_alike}
 
 -- ---- a face
 
@@ -105,10 +105,10 @@ same_own_then f g h a b = record { params = b.params ∙ a.params; context = b.c
 
 -- ---- functions in their slots
 
-context_ids : (f g : HirFunction) → but_context g ≡ but_context f → ids g.context ≡ ids f.context
+pub context_ids : (f g : HirFunction) → but_context g ≡ but_context f → ids g.context ≡ ids f.context
 context_ids f g e = sym (same_ids but_effect (λ p. refl) g.context) ∙ ap (λ (h : HirFunction). ids h.context) e ∙ same_ids but_effect (λ p. refl) f.context
 
-in_slot : (f g : HirFunction) → but_context g ≡ but_context f → SameOwn f g
+pub in_slot : (f g : HirFunction) → but_context g ≡ but_context f → SameOwn f g
 in_slot f g e = record { params = ap (λ (h : HirFunction). param_ids h.params) e; context = context_ids f g e; returns = ap (λ (h : HirFunction). h.returns) e }
 
 pub faces_alike : (n m : ℕ) (fs gs : List HirFunction) → map but_context gs ≡ map but_context fs → n ≤ m → HaveFaces n fs → HaveFaces m gs
@@ -122,33 +122,27 @@ faces_alike n m (f ∷ fs) (g ∷ gs) e l h =
 
 -- ---- environments
 
--- functions stay but for the effects of context places, and no identifier goes
+-- functions stay but for the effects of context places, and so do the entries of the tables
 pub record Stays (old new : Environment) : Type 0 where
   pub functions : map but_context new.functions ≡ map but_context old.functions
-  pub identifiers : length old.identifiers ≤ length new.identifiers
+  pub tables : TablesKept old new
 
 pub stays_self : (env : Environment) → Stays env env
-stays_self env = record { functions = refl; identifiers = omega arith }
+stays_self env = record { functions = refl; tables = tables_self env }
 
 pub stays_then : (a b c : Environment) → Stays a b → Stays b c → Stays a c
-stays_then a b c g h = record { functions = h.functions ∙ g.functions; identifiers = let p = g.identifiers in let q = h.identifiers in omega arith }
-
-as_long : {A B : Type 0} (f : A → B) (xs ys : List A) → map f ys ≡ map f xs → length ys ≡ length xs
-as_long f xs ys e = sym (length-map ys f) ∙ ap length e ∙ length-map xs f
-
-still_long : (n m : ℕ) → m ≡ n → n ≤ m
-still_long n m e = omega arith
+stays_then a b c g h = record { functions = h.functions ∙ g.functions; tables = tables_then a b c g.tables h.tables }
 
 kept_stays : (old new : Environment) → EnvKept old new → Stays old new
 kept_stays old new k = record {
   functions = ap (λ (e : Environment). e.functions) k.rest;
-  identifiers = still_long (length old.identifiers) (length new.identifiers) (as_long but_range old.identifiers new.identifiers (ap (λ (e : Environment). e.identifiers) k.rest));
+  tables = tables_alike old new (bound_alike but_range (λ i. refl) old.identifiers new.identifiers (ap (λ (e : Environment). e.identifiers) k.rest)) (ap (λ (e : Environment). e.types) k.rest) (ap (λ (e : Environment). e.shapes) k.rest) (ap (λ (e : Environment). e.config) k.rest);
 }
 
 walk_stays : (old new : Environment) → WalksKeep old new → Stays old new
 walk_stays old new k = record {
   functions = ap (λ (e : Environment). map but_context e.functions) k.rest;
-  identifiers = still_long (length old.identifiers) (length new.identifiers) (as_long but_end old.identifiers new.identifiers (ap (λ (e : Environment). e.identifiers) k.rest));
+  tables = tables_alike old new (bound_alike but_end (λ i. refl) old.identifiers new.identifiers (ap (λ (e : Environment). e.identifiers) k.rest)) (ap (λ (e : Environment). e.types) k.rest) (ap (λ (e : Environment). e.shapes) k.rest) (ap (λ (e : Environment). e.config) k.rest);
 }
 
 -- ---- the range pass
@@ -162,7 +156,8 @@ walks_stay r (m ∷ ms) w =
 pub mutations_stay : (l : Listing) (env : Environment) → Stays env (mutations_done false l env).1
 mutations_stay l env =
     let begun : Environment = env_reported false l env in
-    let reported : Stays env begun = record { functions = refl; identifiers = omega arith } in
+    let kept : TablesKept env begun = record { identifiers = λ k h. refl; longer = omega arith; types = λ k h. refl; more_types = omega arith; shapes = refl; config = refl } in
+    let reported : Stays env begun = record { functions = refl; tables = kept } in
     stays_then env begun (mutations_done false l env).1 reported (walks_stay false l.mutations (graph_listed l, begun))
 
 placed_stays : (is : List Instruction) (env : Environment) (id : InstructionId) (o : Option Instruction) → Stays env (placed_in is env id o).1

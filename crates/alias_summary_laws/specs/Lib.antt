@@ -1,2 +1,3 @@
+pub mod KeptTables
 pub mod SummaryOrder
 pub mod Faces

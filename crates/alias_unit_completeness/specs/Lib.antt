@@ -1,2 +1,4 @@
 pub mod Moments
-pub mod Alone
+pub mod Beginning
+pub mod Walking
+pub mod Complete

@@ -1,5 +1,5 @@
 -- At each moment of the analysis of a unit all functions of the table are callable.
-use Rattle.std.specs.Prelude.{◌≡◌, ℕ, ◌<◌, ◌≤◌, Bool, true, false, if◌then◌else◌, List, [], ◌∷◌, Option, Some, None, Result, Ok, Err, ⊤, is_none, nat_lt, length, slice_get, slice_set, refl}
+use Rattle.std.specs.Prelude.{◌≡◌, ℕ, ◌<◌, ◌≤◌, Bool, true, false, if◌then◌else◌, List, [], ◌∷◌, Option, Some, None, Result, Ok, Err, ⊤, is_none, nat_lt, length, map, slice_get, slice_set, refl}
 use Rattle.std.proofs.Common.{zero, suc, ap, sym, ◌∙◌, subst, arith}
 use Rattle.std.proofs.Common.{ltb-true}
 use Rattle.std.specs.List.{AllByRecursion, list_all}
@@ -20,15 +20,16 @@ use Rattle.alias_rules.specs.Functions.{rules_hold, of_function}
 use Rattle.alias_rules.specs.RuleLaws.{parts_of_rules, nested_of_rules}
 use Rattle.alias_rules.specs.declared.rules.Rule.TheVariants.{Numbers, Distinct}
 use Rattle.alias_effects.specs.Inference.{pass_end, end_tables, env_after}
-use Rattle.alias_hir.specs.Tables.{fresh_identifier, with_identifier}
+use Rattle.alias_hir.specs.Tables.{with_identifier}
 use Rattle.alias_tables.specs.declared.temporaries.Temporary.{Temporary}
 use Rattle.alias_write_back.specs.WriteBack.{with_identifiers}
 use Rattle.alias_nested.proofs.Evolving.{passed_contexts}
-use Rattle.std.proofs.lemmas.List.{length-append}
 use Rattle.alias_effects.specs.Recording.{with_effects_of}
 use Rattle.alias_effects.specs.declared.output.PassEnd.{PassEnd}
 use Rattle.alias_events.specs.declared.listing.Listing.{Listing}
+use Rattle.alias_bare_laws.specs.Bare.{without_range}
 use Rattle.alias_range_places.specs.Blocks.{Placed, function_placed}
+use Rattle.alias_range_places.specs.StayLaws.{set_stays}
 use Rattle.alias_range_summary.specs.Marks.{function_captured}
 use Rattle.alias_range_summary.specs.Walking.{mutations_done}
 use Rattle.alias_range_pass.specs.Passes.{Ranged, range_pass}
@@ -42,6 +43,7 @@ use Rattle.alias_completeness.specs.Calling.{AreCallable}
 use Rattle.alias_completeness.specs.Going.{all_both}
 use Rattle.alias_completeness.specs.Summarizing.{IsSummary}
 use Rattle.alias_summary_laws.specs.Faces.{HasPlaces, HasFace, HaveFaces, faces_callable, same_ids, SameOwn, same_own_then, places_alike, faces_alike, Stays, stays_then, mutations_stay, PlacedStays, function_stays, captured_own}
+use Rattle.alias_summary_laws.specs.KeptTables.{bound_to, TablesKept, tables_self, tables_then, tables_alike, tables_more}
 use Rattle.alias_summary_laws.specs.SummaryOrder.{summary_in_order}
 
 -- ---- answers
@@ -51,70 +53,63 @@ abbrev pub OnAnswer : {A : Type 0} → (A → Type 0) → Result A InferError �
 OnAnswer P (Ok x) = P x
 OnAnswer P (Err e) = Unit {0}
 
-answer_then : {A B : Type 0} (P : A → Type 0) (Q : B → Type 0) (r : Result A InferError) (g : A → Result B InferError) → OnAnswer P r → ((x : A) → P x → OnAnswer Q (g x)) → OnAnswer Q (r >>= g)
+pub answer_then : {A B : Type 0} (P : A → Type 0) (Q : B → Type 0) (r : Result A InferError) (g : A → Result B InferError) → OnAnswer P r → ((x : A) → P x → OnAnswer Q (g x)) → OnAnswer Q (r >>= g)
 answer_then P Q (Ok x) g h k = k x h
 answer_then P Q (Err e) g h k = tt
 
-answer_naming : {A : Type 0} (P : A → Type 0) (id : FunctionId) (r : Result A InferError) → OnAnswer P r → OnAnswer P (naming id r)
+pub answer_naming : {A : Type 0} (P : A → Type 0) (id : FunctionId) (r : Result A InferError) → OnAnswer P r → OnAnswer P (naming id r)
 answer_naming P id (Ok x) h = h
 answer_naming P id (Err e) h = tt
 
-answer_is : {A : Type 0} (P : A → Type 0) (r : Result A InferError) → ((x : A) → r ≡ Ok x → P x) → OnAnswer P r
+pub answer_is : {A : Type 0} (P : A → Type 0) (r : Result A InferError) → ((x : A) → r ≡ Ok x → P x) → OnAnswer P r
 answer_is P (Ok x) h = h x refl
 answer_is P (Err e) h = tt
 
 -- ---- the effects pass
 
-more_identifiers : (ts : List Temporary) (env : Environment) → length env.identifiers ≤ length (with_identifiers ts env).identifiers
-more_identifiers [] env = omega arith
-more_identifiers (t ∷ ts) env =
-    let one = length-append env.identifiers (fresh_identifier (length env.identifiers) (length env.types) ∷ []) in
-    let rest = more_identifiers ts (with_identifier env) in
-    omega (arith, one, rest)
+identifiers_kept : (ts : List Temporary) (env : Environment) → TablesKept env (with_identifiers ts env)
+identifiers_kept [] env = tables_self env
+identifiers_kept (t ∷ ts) env = tables_then env (with_identifier env) (with_identifiers ts (with_identifier env)) (tables_more env) (identifiers_kept ts (with_identifier env))
 
 pub pass_stays : (env : Environment) (e : PassEnd) → Stays env (env_after env e)
-pass_stays env e = record { functions = passed_contexts env e; identifiers = more_identifiers (end_tables e).temporaries env }
+pass_stays env e =
+    let k : TablesKept env (with_identifiers (end_tables e).temporaries env) = identifiers_kept (end_tables e).temporaries env in
+    record { functions = passed_contexts env e; tables = record { identifiers = k.identifiers; longer = k.longer; types = k.types; more_types = k.more_types; shapes = k.shapes; config = k.config } }
 
 -- ---- from the range pass on
 
-as_many : {X : Type 0} (xs : List X) (n : ℕ) (x : X) → length (slice_set xs n x) ≡ length xs
-as_many [] n x = refl
-as_many (y ∷ ys) zero x = refl
-as_many (y ∷ ys) (suc n) x = ap (λ (k : ℕ). suc k) (as_many ys n x)
+one_reset : (is : List Identifier) (n : ℕ) (o : Option Identifier) → slice_get is n ≡ o → map bound_to (reset_at is n o) ≡ map bound_to is
+one_reset is n None e = refl
+one_reset is n (Some i) e = set_stays bound_to is n i (without_range i) (sym e) refl
 
-one_reset : (is : List Identifier) (n : ℕ) (o : Option Identifier) → length (reset_at is n o) ≡ length is
-one_reset is n None = refl
-one_reset is n (Some i) = as_many is n _
-
-all_reset : (ps : List Place) (is : List Identifier) → length (reset ps is) ≡ length is
+all_reset : (ps : List Place) (is : List Identifier) → map bound_to (reset ps is) ≡ map bound_to is
 all_reset [] is = refl
-all_reset (p ∷ ps) is = all_reset ps (reset_at is p.identifier.0 (slice_get is p.identifier.0)) ∙ one_reset is p.identifier.0 (slice_get is p.identifier.0)
+all_reset (p ∷ ps) is = all_reset ps (reset_at is p.identifier.0 (slice_get is p.identifier.0)) ∙ one_reset is p.identifier.0 (slice_get is p.identifier.0) refl
 
--- a finished function has a face, and its environment stays
-record Finished (env : Environment) (c : HirFunction × Environment) : Type 0 where
-  face : HasFace (length c.1.identifiers) c.0
-  stays : Stays env c.1
-
-no_less : (n m : ℕ) → m ≡ n → n ≤ m
-no_less n m e = omega arith
+-- a finished function has a face and its own places, and its environment stays
+pub record Finished (env : Environment) (f : HirFunction) (c : HirFunction × Environment) : Type 0 where
+  pub own : SameOwn f c.0
+  pub face : HasFace (length c.1.identifiers) c.0
+  pub stays : Stays env c.1
 
 settled_finished : (env : Environment) (f : HirFunction) (summary : List AliasingEffect) (s : HirFunction × Environment) → SameOwn f s.0 → Stays env s.1 → HasPlaces (length env.identifiers) f → IsSummary f.returns.identifier.0 summary
-    → Finished env (settled summary s)
+    → Finished env f (settled summary s)
 settled_finished env f summary s own stays places order =
     let g : HirFunction = summarized summary s.0 in
     let same : SameOwn s.0 g = record { params = refl; context = same_ids (context_settled summary) (λ p. refl) s.0.context; returns = refl } in
     let all : SameOwn f g = same_own_then f s.0 g own same in
-    let long : length s.1.identifiers ≤ length (settled summary s).1.identifiers = no_less (length s.1.identifiers) _ (all_reset g.context s.1.identifiers) in
-    let after : Stays env (settled summary s).1 = stays_then env s.1 (settled summary s).1 stays (record { functions = refl; identifiers = long }) in
+    let reset_kept : TablesKept s.1 (settled summary s).1 = tables_alike s.1 (settled summary s).1 (all_reset g.context s.1.identifiers) refl refl refl in
+    let after : Stays env (settled summary s).1 = stays_then env s.1 (settled summary s).1 stays (record { functions = refl; tables = reset_kept }) in
     record {
+      own = all;
       face = record {
-        places = places_alike (length env.identifiers) (length (settled summary s).1.identifiers) f g all after.identifiers places;
+        places = places_alike (length env.identifiers) (length (settled summary s).1.identifiers) f g all after.tables.longer places;
         summary = λ es e. let is : summary ≡ es = cc in subst (IsSummary g.returns.identifier.0) is (subst (λ (p : Place). IsSummary p.identifier.0 summary) (sym all.returns) order);
       };
       stays = after;
     }
 
-ranged_finished : (f : HirFunction) (env : Environment) (r : Ranged) → HasPlaces (length env.identifiers) f → range_pass true f env ≡ Ok r → Finished env (settled r.summary r.after)
+ranged_finished : (f : HirFunction) (env : Environment) (r : Ranged) → HasPlaces (length env.identifiers) f → range_pass true f env ≡ Ok r → Finished env f (settled r.summary r.after)
 ranged_finished f env r places h =
     let p = pass_is true f env r h in
     let l : Listing = p.0 in
@@ -126,9 +121,9 @@ ranged_finished f env r places h =
     let order : IsSummary f.returns.identifier.0 r.summary = summary_in_order None true f env r places.distinct h in
     settled_finished env f r.summary r.after (subst (λ (z : Ranged). SameOwn f z.after.0) p.2 own) (subst (λ (z : Ranged). Stays env z.after.1) p.2 stays) places order
 
-completed_finished : (id : FunctionId) (f : HirFunction) (env : Environment) → HasPlaces (length env.identifiers) f → OnAnswer (Finished env) (completed id f env)
+pub completed_finished : (id : FunctionId) (f : HirFunction) (env : Environment) → HasPlaces (length env.identifiers) f → OnAnswer (Finished env f) (completed id f env)
 completed_finished id f env places =
-    answer_then (λ r. range_pass true f env ≡ Ok r) (Finished env) (naming id (range_pass true f env)) _ (answer_naming (λ r. range_pass true f env ≡ Ok r) id (range_pass true f env) (answer_is (λ r. range_pass true f env ≡ Ok r) (range_pass true f env) (λ r e. e)))
+    answer_then (λ r. range_pass true f env ≡ Ok r) (Finished env f) (naming id (range_pass true f env)) _ (answer_naming (λ r. range_pass true f env ≡ Ok r) id (range_pass true f env) (answer_is (λ r. range_pass true f env ≡ Ok r) (range_pass true f env) (λ r e. e)))
     (λ r e. ranged_finished f env r places e)
 
 -- ---- the analysis
@@ -162,8 +157,8 @@ record Done (a : Analysis) (s : HirFunction × Analysis) : Type 0 where
 stays_went : (a : Analysis) (env : Environment) (fs : List Analysed) → Holds a → Stays a.env env → AllByRecursion BeganCallable fs → Went a (analysis env fs)
 stays_went a env fs h s m =
     record {
-      holds = record { faces = faces_alike (length a.env.identifiers) (length env.identifiers) a.env.functions env.functions s.functions s.identifiers h.faces; moments = m };
-      identifiers = s.identifiers;
+      holds = record { faces = faces_alike (length a.env.identifiers) (length env.identifiers) a.env.functions env.functions s.functions s.tables.longer h.faces; moments = m };
+      identifiers = s.tables.longer;
     }
 
 effects_taken : (id : FunctionId) (f : HirFunction) (a : Analysis) → HasPlaces (length a.env.identifiers) f → Holds a → OnAnswer (Taken a) (effects_analysed id f a)
@@ -172,13 +167,13 @@ effects_taken id f a places h =
     (λ e u.
     let stays : Stays a.env (env_after a.env e) = pass_stays a.env e in
     record {
-      places = places_alike (length a.env.identifiers) (length (env_after a.env e).identifiers) f (with_effects_of e.solved f) (record { params = refl; context = refl; returns = refl }) stays.identifiers places;
+      places = places_alike (length a.env.identifiers) (length (env_after a.env e).identifiers) f (with_effects_of e.solved f) (record { params = refl; context = refl; returns = refl }) stays.tables.longer places;
       went = stays_went a (env_after a.env e) _ h stays (all_both BeganCallable a.functions (_ ∷ []) h.moments (faces_callable a.env h.faces, tt));
     })
 
 completed_done : (id : FunctionId) (a : Analysis) (s : HirFunction × Analysis) → Taken a s → OnAnswer (Done a) (completed_with id s)
 completed_done id a s h =
-    answer_then (Finished s.1.env) (Done a) (completed id s.0 s.1.env) _ (completed_finished id s.0 s.1.env h.places)
+    answer_then (Finished s.1.env s.0) (Done a) (completed id s.0 s.1.env) _ (completed_finished id s.0 s.1.env h.places)
     (λ c d. record { face = d.face; went = went_then a s.1 h.went (analysis c.1 s.1.functions) (stays_went s.1 c.1 s.1.functions h.went.holds d.stays h.went.holds.moments) })
 
 function_done : (id : FunctionId) (f : HirFunction) (a : Analysis) → HasPlaces (length a.env.identifiers) f → Holds a → OnAnswer (Done a) (function_analysed id f a)
@@ -187,7 +182,7 @@ function_done id f a places h = answer_then (Taken a) (Done a) (effects_analysed
 went_self : (a : Analysis) → Holds a → Went a a
 went_self a h = record { holds = h; identifiers = omega arith }
 
-on_answer : {A : Type 0} (P Q : A → Type 0) (r : Result A InferError) → ((x : A) → P x → Q x) → OnAnswer P r → OnAnswer Q r
+pub on_answer : {A : Type 0} (P Q : A → Type 0) (r : Result A InferError) → ((x : A) → P x → Q x) → OnAnswer P r → OnAnswer Q r
 on_answer P Q (Ok x) f h = f x h
 on_answer P Q (Err e) f h = tt
 
@@ -196,12 +191,12 @@ each_went step h [] a n = went_self a n
 each_went step h (x ∷ xs) a n =
     answer_then (Went a) (Went a) (step x a) (each step xs) (h x a n) (λ b w. on_answer (Went b) (Went a) (each step xs b) (λ c v. went_then a b w c v) (each_went step h xs b w.holds))
 
-set_face : (n : ℕ) (fs : List HirFunction) (k : ℕ) (f : HirFunction) → HasFace n f → HaveFaces n fs → HaveFaces n (slice_set fs k f)
+pub set_face : (n : ℕ) (fs : List HirFunction) (k : ℕ) (f : HirFunction) → HasFace n f → HaveFaces n fs → HaveFaces n (slice_set fs k f)
 set_face n [] k f p h = tt
 set_face n (g ∷ gs) zero f p h = (p, h.1)
 set_face n (g ∷ gs) (suc k) f p h = (h.0, set_face n gs k f p h.1)
 
-found_face : (n : ℕ) (fs : List HirFunction) (k : ℕ) (f : HirFunction) → slice_get fs k ≡ Some f → HaveFaces n fs → HasFace n f
+pub found_face : (n : ℕ) (fs : List HirFunction) (k : ℕ) (f : HirFunction) → slice_get fs k ≡ Some f → HaveFaces n fs → HasFace n f
 found_face n [] k f e h = cc
 found_face n (g ∷ gs) zero f e h = let same : g ≡ f = cc in subst (HasFace n) same h.0
 found_face n (g ∷ gs) (suc k) f e h = found_face n gs k f e h.1
@@ -211,7 +206,7 @@ no_summary r es None h e = cc
 no_summary r es (Some x) h e = cc
 
 -- what stands in for a function that is out
-stand_in : (n : ℕ) (f : HirFunction) → HasFace n f → HasFace n (emptied f.returns)
+pub stand_in : (n : ℕ) (f : HirFunction) → HasFace n f → HasFace n (emptied f.returns)
 stand_in n f h = record { places = record { distinct = refl; within = h.places.within }; summary = λ es e. no_summary f.returns.identifier.0 es None refl e }
 
 module _ (below : HirFunction → Analysis → Result Analysis InferError) (goes : (f : HirFunction) (a : Analysis) → Holds a → OnAnswer (Went a) (below f a)) where
@@ -249,7 +244,7 @@ not_again : (o : Option FunctionId) (r : Option ℕ) → repeated o r ≡ Ok tt 
 not_again o None h = refl
 not_again o (Some k) h = cc
 
-asked : (b : Bool) (e : UnitFault) → (let r : Result ⊤ UnitFault = if b then Ok tt else Err e in r ≡ Ok tt) → b ≡ true
+pub asked : (b : Bool) (e : UnitFault) → (let r : Result ⊤ UnitFault = if b then Ok tt else Err e in r ≡ Ok tt) → b ≡ true
 asked true e h = refl
 asked false e h = cc
 
@@ -266,7 +261,7 @@ is_nothing (Some x) h = cc
 uninferred_summary : (f : HirFunction) → function_is_uninferred f ≡ true → f.aliasing_effects ≡ None
 uninferred_summary f h = is_nothing f.aliasing_effects (both_true (is_none f.aliasing_effects) _ (both_true _ _ (both_true _ _ h).0).0).0
 
-all_at : {X : Type 0} (p : X → Bool) (xs : List X) (k : ℕ) (x : X) → list_all p xs ≡ true → slice_get xs k ≡ Some x → p x ≡ true
+pub all_at : {X : Type 0} (p : X → Bool) (xs : List X) (k : ℕ) (x : X) → list_all p xs ≡ true → slice_get xs k ≡ Some x → p x ≡ true
 all_at p [] k x h e = cc
 all_at p (y ∷ ys) zero x h e = let same : y ≡ x = cc in subst (λ z. p z ≡ true) same (both_true (p y) (list_all p ys) h).0
 all_at p (y ∷ ys) (suc k) x h e = all_at p ys k x (both_true (p y) (list_all p ys) h).1 e
