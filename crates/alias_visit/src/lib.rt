@@ -11,7 +11,5 @@ mod parts_mut;
 pub mod places;
 pub mod terminals;
 pub mod terminals_mut;
-#[cfg(test)]
-mod tests;
 
 pub use parts::PlaceList;

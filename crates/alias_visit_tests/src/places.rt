@@ -1,10 +1,10 @@
-use crate::lvalues::{each_instruction_lvalue_ids, each_instruction_value_lvalue};
-use crate::lvalues_mut::for_each_instruction_value_lvalue_mut;
-use crate::operands::each_instruction_value_operand;
-use crate::operands_mut::for_each_instruction_value_operand_mut;
-use crate::places::{each_place, effect_places, places_of};
-use crate::terminals::each_terminal_operand;
-use crate::terminals_mut::for_each_terminal_operand_mut;
+use alias_visit::lvalues::{each_instruction_lvalue_ids, each_instruction_value_lvalue};
+use alias_visit::lvalues_mut::for_each_instruction_value_lvalue_mut;
+use alias_visit::operands::each_instruction_value_operand;
+use alias_visit::operands_mut::for_each_instruction_value_operand_mut;
+use alias_visit::places::{each_place, effect_places, places_of};
+use alias_visit::terminals::each_terminal_operand;
+use alias_visit::terminals_mut::for_each_terminal_operand_mut;
 use alias_base::{BlockId, BlockMap, EvaluationOrder, FunctionId, IdentifierId, List};
 use alias_hir::effect::AliasingEffect;
 use alias_hir::env::Environment;

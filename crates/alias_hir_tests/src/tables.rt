@@ -1,15 +1,15 @@
-use crate::effect::{AliasingEffect, ValueKind, ValueReason, error_of};
-use crate::env::{Environment, Identifier, IdentifierName, MutableRange};
-use crate::error::{Counter, HirError};
-use crate::place::{Effect, Place, Span};
-use crate::printed::push_type;
-use crate::report::{
+use alias_hir::effect::{AliasingEffect, ValueKind, ValueReason, error_of};
+use alias_hir::env::{Environment, Identifier, IdentifierName, MutableRange};
+use alias_hir::error::{Counter, HirError};
+use alias_hir::place::{Effect, Place, Span};
+use alias_hir::printed::push_type;
+use alias_hir::report::{
     DiagnosticId, ErrorCategory, Label, Report, not_settled_report, uninitialized_report,
 };
-use crate::signature::{FunctionSignature, HookKind, Shape};
-use crate::successors::terminal_successors;
-use crate::terminal::{SwitchCase, Terminal};
-use crate::types::{
+use alias_hir::signature::{FunctionSignature, HookKind, Shape};
+use alias_hir::successors::terminal_successors;
+use alias_hir::terminal::{SwitchCase, Terminal};
+use alias_hir::types::{
     Ty, is_builtin_collection_type, is_jsx_type, is_primitive_at, is_primitive_type, is_ref_at,
     is_ref_or_ref_value, is_untyped_at, is_within, returns_jsx, type_of,
 };
