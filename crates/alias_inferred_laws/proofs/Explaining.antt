@@ -62,9 +62,10 @@ pub record RootRanged (u : HirUnit) (a : UnitAnalysis) : Type 0 where
   pub ran : range_pass false (with_effects_of end.solved u.function) (env_after nested.env end) ≡ Ok ranged
   pub root : a.inferred.unit.function ≡ ranged.after.0
   pub slots : a.inferred.unit.env.functions ≡ ranged.after.1.functions
+  pub identifiers : a.inferred.unit.env.identifiers ≡ ranged.after.1.identifiers
   pub all : a.functions ≡ nested.functions ++ root_entry u nested end ∷ []
 
-root_ranged : (u : HirUnit) (a : UnitAnalysis) → unit_analysed u ≡ Ok a → RootRanged u a
+pub root_ranged : (u : HirUnit) (a : UnitAnalysis) → unit_analysed u ≡ Ok a → RootRanged u a
 root_ranged u a h =
     let b = root_begun u a h in
     let fs : List Analysed = b.nested.functions ++ root_entry u b.nested b.end ∷ [] in
@@ -79,6 +80,7 @@ root_ranged u a h =
       ran = e.ran;
       root = ap (λ (q : UnitAnalysis). q.inferred.unit.function) (sym whole);
       slots = ap (λ (q : UnitAnalysis). q.inferred.unit.env.functions) (sym whole);
+      identifiers = ap (λ (q : UnitAnalysis). q.inferred.unit.env.identifiers) (sym whole);
       all = ap (λ (q : UnitAnalysis). q.functions) (sym whole);
     }
 

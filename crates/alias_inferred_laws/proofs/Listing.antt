@@ -34,7 +34,7 @@ context_places f g e = ap (λ (z : HirFunction). record (but_places z) { context
 
 -- ---- a nested function
 
-places_settled : (summary : List AliasingEffect) (ps : List Place) → map but_effect (map (context_settled summary) ps) ≡ map but_effect ps
+pub places_settled : (summary : List AliasingEffect) (ps : List Place) → map but_effect (map (context_settled summary) ps) ≡ map but_effect ps
 places_settled summary [] = refl
 places_settled summary (p ∷ ps) = ap (λ z. but_effect p ∷ z) (places_settled summary ps)
 

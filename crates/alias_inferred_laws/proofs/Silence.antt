@@ -20,7 +20,7 @@ use Rattle.alias_nested.specs.Analysis.{naming, numbered, Analysis, analysis, ea
 use Rattle.alias_nested.specs.Created.{created_functions}
 use Rattle.alias_nested.specs.Settling.{settled}
 use Rattle.alias_nested.specs.Slots.{emptied}
-use Rattle.alias_order_laws.proofs.Ordering.{went, naming_ok}
+use Rattle.alias_order_laws.proofs.Ordering.{went, naming_ok, effects_made}
 
 abbrev errors_of : Environment → List Report
 errors_of e = e.errors
@@ -32,9 +32,6 @@ identified (t ∷ ts) env = identified ts (with_identifier env)
 -- nor does an effects pass
 pub effects_silent : (env : Environment) (e : PassEnd) → (env_after env e).errors ≡ env.errors
 effects_silent env e = identified (end_tables e).temporaries env
-
-abbrev effects_made : FunctionId → HirFunction → Analysis → PassEnd → HirFunction × Analysis
-effects_made id f a e = (with_effects_of e.solved f, analysis (env_after a.env e) (a.functions ++ record { env = a.env; func = f; is_function_expression = true; solved = numbered id e.solved } ∷ []))
 
 -- a function and an analysis
 abbrev Taken : Type 0

@@ -106,7 +106,7 @@ pub record Finished (id : FunctionId) (f : HirFunction) (a : Analysis) (g : HirF
   pub creates : created_functions g ≡ created_functions f
   pub contexts : map but_context b.env.functions ≡ map but_context a.env.functions
 
-abbrev effects_made : FunctionId → HirFunction → Analysis → PassEnd → HirFunction × Analysis
+abbrev pub effects_made : FunctionId → HirFunction → Analysis → PassEnd → HirFunction × Analysis
 effects_made id f a e = (with_effects_of e.solved f, analysis (env_after a.env e) (a.functions ++ record { env = a.env; func = f; is_function_expression = true; solved = numbered id e.solved } ∷ []))
 
 effects_finished : (id : FunctionId) (f : HirFunction) (a : Analysis) (p : HirFunction × Analysis) → effects_analysed id f a ≡ Ok p → Finished id f a p.0 p.1

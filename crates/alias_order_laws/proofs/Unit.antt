@@ -44,7 +44,7 @@ fresh_among found (x ∷ xs) k h =
     among_more : (ys : List ℕ) → is_among (x ∷ ys) k ≡ true → (is_among ys k ≡ true → is_among xs k ≡ true) → is_among (x ∷ xs) k ≡ true
     among_more ys g rest = among_cases x ys k (is_among (x ∷ xs) k ≡ true) g here (λ l. later_among x xs k (rest l))
 
-reached_among : (n : ℕ) (env : Environment) (found level ks : List ℕ) → Among ks found → Among ks level → ((k : ℕ) → is_among ks k ≡ true → Among ks (created_at env k)) → Among ks (reached_from n env found level)
+pub reached_among : (n : ℕ) (env : Environment) (found level ks : List ℕ) → Among ks found → Among ks level → ((k : ℕ) → is_among ks k ≡ true → Among ks (created_at env k)) → Among ks (reached_from n env found level)
 unfolding reached_from
 reached_among zero env found level ks f l c = f
 reached_among (suc n) env found level ks f l c =

@@ -1,10 +1,3 @@
-use alias_visit::lvalues::{each_instruction_lvalue_ids, each_instruction_value_lvalue};
-use alias_visit::lvalues_mut::for_each_instruction_value_lvalue_mut;
-use alias_visit::operands::each_instruction_value_operand;
-use alias_visit::operands_mut::for_each_instruction_value_operand_mut;
-use alias_visit::places::{each_place, effect_places, places_of};
-use alias_visit::terminals::each_terminal_operand;
-use alias_visit::terminals_mut::for_each_terminal_operand_mut;
 use alias_base::{BlockId, BlockMap, EvaluationOrder, FunctionId, IdentifierId, List};
 use alias_hir::effect::AliasingEffect;
 use alias_hir::env::Environment;
@@ -15,6 +8,13 @@ use alias_hir::value::{
     InstructionKind, InstructionValue, JsxAttribute, JsxTag, LValue, LValuePattern,
     LoweredFunction, ObjectPattern, ObjectProperty, ObjectPropertyOrSpread, Pattern,
 };
+use alias_visit::lvalues::{each_instruction_lvalue_ids, each_instruction_value_lvalue};
+use alias_visit::lvalues_mut::for_each_instruction_value_lvalue_mut;
+use alias_visit::operands::each_instruction_value_operand;
+use alias_visit::operands_mut::for_each_instruction_value_operand_mut;
+use alias_visit::places::{each_place, effect_places, places_of};
+use alias_visit::terminals::each_terminal_operand;
+use alias_visit::terminals_mut::for_each_terminal_operand_mut;
 use std::alloc::{AllocError, Global};
 use std::test::Fail;
 
