@@ -1,3 +1,6 @@
+use alias_base::{
+    BlockId, Boxed, DeclarationId, EvaluationOrder, IdentifierId, List, Text, TryClone, TypeId,
+};
 use alias_hir::effect::{AliasingEffect, ValueKind, ValueReason, error_of};
 use alias_hir::env::{Environment, Identifier, IdentifierName, MutableRange};
 use alias_hir::error::{Counter, HirError};
@@ -12,9 +15,6 @@ use alias_hir::terminal::{SwitchCase, Terminal};
 use alias_hir::types::{
     Ty, is_builtin_collection_type, is_jsx_type, is_primitive_at, is_primitive_type, is_ref_at,
     is_ref_or_ref_value, is_untyped_at, is_within, returns_jsx, type_of,
-};
-use alias_base::{
-    BlockId, Boxed, DeclarationId, EvaluationOrder, IdentifierId, List, Text, TryClone, TypeId,
 };
 use std::alloc::{AllocError, Global};
 use std::test::Fail;
