@@ -1,8 +1,9 @@
 """Writes runs of the program into one file, for the hosts to do again: hosts/cases.py FILE [PROGRAM | --few]
 
 Each is the words, the input, the status and the text: the worked examples of alias_rows but those in which a stream fails, which no host has; what
-`infer` is to write of each of examples/; and, where the proved program is given, what it writes of the units of both for every command. `--few` leaves out the long ones, for a slow
-machine as valgrind's.
+`infer` is to write of each of examples/; and, where the proved program is given, what it writes of the units of both for every command. Each certificate
+that `certify` then writes has to be accepted by `check`, which is also asked about those of examples/ with a damage: without the first line of a kind, with
+another number in that line, and without its first byte. `--few` leaves out the long ones, for a slow machine as valgrind's.
 
 The file has for each run four numbers of 4 bytes, the lowest first: the status, and the lengths of words, input and text; and then these."""
 import glob
@@ -13,6 +14,9 @@ import subprocess
 import sys
 
 TOP = os.path.dirname(os.path.dirname(os.path.abspath(__file__)))
+sys.path.insert(0, TOP)
+from cli.checking import joined  # noqa: E402
+
 MOST = 1 << 20  # the longest input that every command is asked about
 FEW = 4096  # the inputs of a few runs are shorter
 
@@ -22,17 +26,22 @@ def read(*path):
         return file.read()
 
 
-def row(text):
-    """The run of a worked example, or None where a stream fails in it."""
+def row(text, unit):
+    """The run of a worked example, or None where a stream fails in it; and the unit that stood last, which was this one before it."""
     given = {'words': b'', 'input': b'', 'status': 0, 'text': b'', 'fails': False}
     for line in text.split(b'\n'):
-        key, _, value = line.partition(b' ')
+        key, blank, value = line.partition(b' ')
+        if not blank:
+            continue
+        unit = value if key == b'unit' else unit
         if key in (b'failing_read', b'failing_write'):
             given['fails'] = given['fails'] or int(value) > 0
         elif key == b'words':
             given['words'] = b' '.join(value.split())
-        elif key == b'unit':
-            given['input'] += value
+        elif key in (b'unit', b'same'):
+            given['input'] += unit
+        elif key == b'+':
+            given['input'] += b'\n' + value
         elif key == b'blanks':
             given['input'] += b' ' * int(value)
         elif key == b'status':
@@ -41,12 +50,15 @@ def row(text):
             given['text'] += value + b'\n'
         elif key == b'cut':
             given['text'] += value
-    return None if given['fails'] else (given['words'], given['input'], given['status'], given['text'])
+    return None if given['fails'] else (given['words'], given['input'], given['status'], given['text']), unit
 
 
 def rows():
-    parts = re.split(rb'^example ', read('crates', 'alias_rows', 'stdin'), flags=re.M)[1:]
-    return [run for run in map(row, parts) if run]
+    unit = b''
+    for text in re.split(rb'^example ', read('crates', 'alias_rows', 'stdin'), flags=re.M)[1:]:
+        run, unit = row(text, unit)
+        if run:
+            yield run
 
 
 def examples():
@@ -55,29 +67,56 @@ def examples():
         yield b'infer', read(path), 6 if text.startswith(b'refused ') else 0, text  # the inference alone refuses some
 
 
+def answered(program, words, data):
+    """The run of the program with these words on this input."""
+    done = subprocess.run([program, *words.decode().split()], input=data, stdout=subprocess.PIPE, check=False)
+    return words, data, done.returncode, done.stdout
+
+
 def asked_of(program, inputs):
-    """What the program writes of these inputs for every command that reads one."""
+    """What the program writes of these inputs for every command that reads a unit alone."""
     for words in (b'infer', b'certify', b'lint', b'plain', b'explain root 0', b'explain root 2', b'explain 0 1'):
         for data in inputs:
-            done = subprocess.run([program, *words.decode().split()], input=data, stdout=subprocess.PIPE, check=False)
-            yield words, data, done.returncode, done.stdout
+            yield answered(program, words, data)
 
 
-def checks_of(runs):
-    """What `check` is asked of what `certify` wrote: the unit in one line, and its certificate."""
-    return {data.replace(b'\n', b'\r') + b'\n' + text for words, data, status, text in runs if words == b'certify' and status == 0}
+def accepted_of(program, certified):
+    """What the program says of the certificates that it wrote."""
+    for unit, certificate in certified:
+        run = answered(program, b'check', joined(unit, certificate))
+        if run[2] != 0:
+            sys.exit('hosts: what certify writes is refused: %r of %r' % (run[3], unit[:200]))
+        yield run
+
+
+def damaged(certificate):
+    """The certificate with a damage: for each kind of line, without the first such line, with another number in it, and without its first byte."""
+    lines, firsts = certificate.split(b'\n')[:-1], {}
+    for at, line in enumerate(lines):
+        firsts.setdefault('effect' if line[:1].isdigit() else line.split(b' ')[0], at)
+    for at in firsts.values():
+        line = lines[at]
+        for other in ([], [re.sub(rb'\d+', lambda digits: b'%d' % (int(digits[0]) + 1), line, count=1)], [line[1:]]):
+            yield b'\n'.join(lines[:at] + other + lines[at + 1:]) + b'\n'
+
+
+def runs_of(program, runs):
+    """What the program writes of the units of these runs."""
+    units = {data for words, data, _, _ in runs if data and len(data) <= MOST and words != b'check'}
+    told = list(asked_of(program, sorted(units)))
+    certified = [(data, text) for words, data, status, text in told if words == b'certify' and status == 0]
+    shown = {data for _, data, _, _ in examples()}
+    told += accepted_of(program, certified)
+    told += [answered(program, b'check', joined(unit, other)) for unit, text in certified if unit in shown for other in damaged(text)]
+    return told
 
 
 def main(path, program=None):
-    runs = rows() + list(examples())
+    runs = list(rows()) + list(examples())
     if program == '--few':
         runs = [run for run in runs if len(run[1]) < FEW and run[0][:4] != b'made'][::3]
     elif program:
-        units = {data for words, data, _, _ in runs if data and len(data) <= MOST and words != b'check'}
-        runs += asked_of(program, sorted(units))
-        for data in sorted(checks_of(runs)):
-            done = subprocess.run([program, 'check'], input=data, stdout=subprocess.PIPE, check=False)
-            runs.append((b'check', data, done.returncode, done.stdout))
+        runs += runs_of(program, runs)
     with open(path, 'wb') as file:
         for words, data, status, text in runs:
             file.write(struct.pack('<4I', status, len(words), len(data), len(text)) + words + data + text)

@@ -47,13 +47,17 @@ static void start(char *program, const char *path) {
 enum { STACK = 1 << 28, PAINT = 0xA5 };
 
 static void *all_commands(void *length) {
-    static const char *const lines[] = {"infer", "certify", "lint", "plain", "explain root 1", "check"};
+    static const char *const lines[] = {"infer", "lint", "plain", "explain root 1"};
+    uint8_t *text, *certificate;
+    size_t unit_length = *(size_t *)length, text_length, certificate_length;
     for (size_t i = 0; i < sizeof lines / sizeof *lines; ++i) {
-        uint8_t *text;
-        size_t text_length;
-        jirrambeo_call(lines[i], input, *(size_t *)length, &text, &text_length);
+        jirrambeo_call(lines[i], input, unit_length, &text, &text_length);
         jirrambeo_free(text);
     }
+    jirrambeo_call("certify", input, unit_length, &certificate, &certificate_length);
+    jirrambeo_check(input, unit_length, certificate, certificate_length, &text, &text_length);
+    jirrambeo_free(text);
+    jirrambeo_free(certificate);
     return NULL;
 }
 

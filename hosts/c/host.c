@@ -1,4 +1,4 @@
-/* What the program does, in this process: host WORD.. < unit.json */
+/* What the program does, in this process: host WORD.. < unit.json; and host check UNIT.json CERTIFICATE, which reads two files in place of one input. */
 #include "jirrambeo.h"
 #include <stdio.h>
 
@@ -42,16 +42,45 @@ static char *line_of(int count, char **words) {
     return line;
 }
 
-int main(int count, char **words) {
-    size_t input_length = 0, text_length = 0;
-    uint8_t *text = NULL, *input = read_all(stdin, &input_length);
+/* All of a file; null where it, or memory for it, isn't there. */
+static uint8_t *read_file(const char *path, size_t *length) {
+    FILE *file = fopen(path, "rb");
+    if (file == NULL) {
+        return NULL;
+    }
+    uint8_t *bytes = read_all(file, length);
+    fclose(file);
+    return bytes;
+}
+
+static uint8_t run_words(int count, char **words, uint8_t **text, size_t *text_length) {
+    size_t input_length = 0;
+    uint8_t *input = read_all(stdin, &input_length);
     char *line = line_of(count, words);
-    uint8_t status = input == NULL ? 7 : jirrambeo_call(line, input, input_length, &text, &text_length);
+    uint8_t status = input == NULL ? 7 : jirrambeo_call(line, input, input_length, text, text_length);
+    free(line);
+    free(input);
+    return status;
+}
+
+static uint8_t check_files(const char *unit_path, const char *certificate_path, uint8_t **text, size_t *text_length) {
+    size_t unit_length = 0, certificate_length = 0;
+    uint8_t *unit = read_file(unit_path, &unit_length), *certificate = read_file(certificate_path, &certificate_length);
+    int is_read = unit != NULL && certificate != NULL;
+    uint8_t status = is_read ? jirrambeo_check(unit, unit_length, certificate, certificate_length, text, text_length) : 7;
+    free(certificate);
+    free(unit);
+    return status;
+}
+
+int main(int count, char **words) {
+    size_t text_length = 0;
+    uint8_t *text = NULL;
+    int is_of_files = count == 4 && strcmp(words[1], "check") == 0;
+    uint8_t status = is_of_files ? check_files(words[2], words[3], &text, &text_length) : run_words(count, words, &text, &text_length);
     if (text != NULL && (fwrite(text, 1, text_length, stdout) != text_length || fflush(stdout) != 0)) {
         status = 8;
     }
     jirrambeo_free(text);
-    free(line);
-    free(input);
     return status;
 }

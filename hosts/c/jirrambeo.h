@@ -26,10 +26,10 @@ enum {
     JIRRAMBEO_TOO_LONG = 9,       /* the input has more than 16,777,216 bytes */
     JIRRAMBEO_MEMORY = 10,        /* malloc or realloc gave nothing; the text is empty */
     JIRRAMBEO_BAD_LINE = 12,      /* a line of the certificate isn't in its grammar */
-    JIRRAMBEO_REJECTED = 13,      /* the certificate isn't accepted */
+    JIRRAMBEO_REJECTED = 13,      /* the certificate isn't one of the unit */
     JIRRAMBEO_NOT_HERE = 14,      /* the identifier doesn't stand in that function */
     JIRRAMBEO_PLAIN_REFUSED = 15, /* it isn't known whether the unit is plain */
-    JIRRAMBEO_NULL = 255          /* of jirrambeo_call alone: a pointer is null that must not be */
+    JIRRAMBEO_NULL = 255          /* of jirrambeo_call and jirrambeo_check alone: a pointer is null that must not be */
 };
 
 /* Does what the words of `line` ask for, which single spaces part ("infer", "explain root 8", "made 1 100"), on `input`. Returns the status, sets
@@ -55,7 +55,7 @@ uint8_t jirrambeo_run(const uint8_t *line, size_t line_length, const uint8_t *in
 
 /* The same, with the text in a block that jirrambeo_free gives back; it has a zero byte behind its `*text_length` bytes. The line ends with a zero byte. The
  * block is null where the status is JIRRAMBEO_MEMORY or JIRRAMBEO_NULL, which comes where `line`, `text` or `text_length` is null, or `input` is though
- * it has a length. For `check`, whose input is a unit, a newline and a certificate, put '\r' for each '\n' of the unit, which means the same in JSON. */
+ * it has a length. */
 static inline uint8_t jirrambeo_call(const char *line, const uint8_t *input, size_t input_length, uint8_t **text, size_t *text_length) {
     if (text != NULL) {
         *text = NULL;
@@ -87,7 +87,39 @@ static inline uint8_t jirrambeo_call(const char *line, const uint8_t *input, siz
     }
 }
 
-/* Gives back a text of jirrambeo_call, or null. */
+/* Whether a certificate is accepted for a unit: jirrambeo_call of "check", whose input is the unit, a newline and the certificate, which this puts together. The
+ * first newline ends the unit, so each of the unit's own becomes '\r', which means the same in JSON. The certificate is what "certify" writes, or what anybody
+ * says in its place. The input is a block of this call's, for which JIRRAMBEO_MEMORY may come too. JIRRAMBEO_NULL comes where `text` or `text_length` is null,
+ * or `unit` or `certificate` is though it has a length. */
+static inline uint8_t jirrambeo_check(const uint8_t *unit, size_t unit_length, const uint8_t *certificate, size_t certificate_length, uint8_t **text,
+                                      size_t *text_length) {
+    if (text != NULL) {
+        *text = NULL;
+    }
+    if (text_length != NULL) {
+        *text_length = 0;
+    }
+    if (text == NULL || text_length == NULL || (unit == NULL && unit_length > 0) || (certificate == NULL && certificate_length > 0)) {
+        return JIRRAMBEO_NULL;
+    }
+    size_t length = unit_length + 1 + certificate_length;
+    uint8_t *input = (uint8_t *)malloc(length);
+    if (input == NULL) {
+        return JIRRAMBEO_MEMORY;
+    }
+    for (size_t i = 0; i < unit_length; ++i) {
+        input[i] = unit[i] == '\n' ? '\r' : unit[i];
+    }
+    input[unit_length] = '\n';
+    if (certificate_length > 0) {
+        memcpy(input + unit_length + 1, certificate, certificate_length);
+    }
+    uint8_t status = jirrambeo_call("check", input, length, text, text_length);
+    free(input);
+    return status;
+}
+
+/* Gives back a text of jirrambeo_call or jirrambeo_check, or null. */
 static inline void jirrambeo_free(uint8_t *text) { free(text); }
 
 #ifdef __cplusplus

@@ -72,13 +72,38 @@ static void read_runs(const char *path) {
     fclose(file);
 }
 
+/* The call of a run: that of `check` by the parts of its input, where it has both. */
+static uint8_t called(const struct run *run, uint8_t **text, size_t *length) {
+    const uint8_t *cut = strcmp(run->line, "check") == 0 ? memchr(run->input, '\n', run->input_length) : NULL;
+    if (cut == NULL) {
+        return jirrambeo_call(run->line, run->input, run->input_length, text, length);
+    }
+    size_t unit_length = (size_t)(cut - run->input);
+    return jirrambeo_check(run->input, unit_length, cut + 1, run->input_length - unit_length - 1, text, length);
+}
+
+static int is_as_ever(const struct run *run, uint8_t status, const uint8_t *text, size_t length) {
+    return status == run->status && length == run->text_length && text != NULL && memcmp(text, run->text, length) == 0 && text[length] == 0;
+}
+
 static void same(const struct run *run) {
     uint8_t *text;
     size_t length;
-    uint8_t status = jirrambeo_call(run->line, run->input, run->input_length, &text, &length);
+    uint8_t status = called(run, &text, &length);
     ++done;
-    int is_same = status == run->status && length == run->text_length && memcmp(text, run->text, length) == 0 && text[length] == 0;
-    expect(is_same, run->line);
+    expect(is_as_ever(run, status, text, length), run->line);
+    jirrambeo_free(text);
+}
+
+/* What `certify` writes of a unit is accepted, also of a unit with newlines. */
+static void accepted(const struct run *run) {
+    uint8_t *text;
+    size_t length;
+    if (strcmp(run->line, "certify") != 0 || run->status != JIRRAMBEO_DONE) {
+        return;
+    }
+    expect(jirrambeo_check(run->input, run->input_length, run->text, run->text_length, &text, &length) == JIRRAMBEO_DONE, "a certificate is accepted");
+    expect(length > 9 && memcmp(text, "accepted ", 9) == 0, "what is said of a certificate that is accepted");
     jirrambeo_free(text);
 }
 
@@ -127,6 +152,14 @@ static void nulls(void) {
     expect(jirrambeo_call("infer", NULL, 0, &text, &length) == JIRRAMBEO_NOT_JSON && length == 16, "a null input without a length");
     jirrambeo_free(text);
     jirrambeo_free(NULL);
+    expect(jirrambeo_check(NULL, 2, NULL, 0, &text, &length) == JIRRAMBEO_NULL && text == NULL && length == 0, "a null unit with a length");
+    expect(jirrambeo_check(bytes("{}"), 2, NULL, 2, &text, &length) == JIRRAMBEO_NULL, "a null certificate with a length");
+    expect(jirrambeo_check(bytes("{}"), 2, NULL, 0, NULL, &length) == JIRRAMBEO_NULL, "nowhere to put what is said of a certificate");
+    expect(jirrambeo_check(bytes("{}"), 2, NULL, 0, &text, NULL) == JIRRAMBEO_NULL, "nowhere to put how long that is");
+    expect(jirrambeo_check(NULL, 0, NULL, 0, &text, &length) == JIRRAMBEO_NOT_JSON && length == 16, "a null unit and certificate without lengths");
+    jirrambeo_free(text);
+    expect(jirrambeo_check(bytes("{\n}"), 3, NULL, 0, &text, &length) == JIRRAMBEO_NOT_UNIT, "a newline of a unit doesn't end it");
+    jirrambeo_free(text);
 }
 
 static void limits(void) {
@@ -137,6 +170,8 @@ static void limits(void) {
     expect(jirrambeo_call("infer", input, most, &text, &length) == JIRRAMBEO_NOT_JSON, "the longest input");
     jirrambeo_free(text);
     expect(jirrambeo_call("infer", input, most + 1, &text, &length) == JIRRAMBEO_TOO_LONG, "an input that is too long");
+    jirrambeo_free(text);
+    expect(jirrambeo_check(bytes("{}"), 2, input, most, &text, &length) == JIRRAMBEO_TOO_LONG, "a unit and a certificate that are too long together");
     jirrambeo_free(text);
     free(input);
 }
@@ -154,11 +189,11 @@ static long failures(const struct run *run, long most) {
         ++tried;
         calls = 0;
         failing = at;
-        uint8_t status = jirrambeo_call(run->line, run->input, run->input_length, &text, &length);
+        uint8_t status = called(run, &text, &length);
         failing = 0;
         // A list that can't be made smaller stays as it is, so a run may also end as without a failure.
         int is_memory = status == JIRRAMBEO_MEMORY && text == NULL && length == 0;
-        int is_same = status == run->status && length == run->text_length && text != NULL && memcmp(text, run->text, length) == 0;
+        int is_same = is_as_ever(run, status, text, length);
         jirrambeo_free(text);
         expect((is_memory || is_same) && blocks == 0, "a run that had too little memory says so or ends as ever, and leaves nothing");
     }
@@ -184,6 +219,7 @@ int main(int count, char **words) {
     limits();
     for (size_t i = 0; i < run_count; ++i) {
         same(&runs[i]);
+        accepted(&runs[i]);
     }
     static const char *const commands[] = {"infer", "certify", "lint", "explain", "plain", "check", "made"};
     long failed = 0;

@@ -2,13 +2,13 @@
 use Rattle.std.proofs.Common.{ℕ, ◌≡◌, List, [], Option, Some, None, false, IsTrue, arith, refl, sym, subst, inl, inr, ⊎_elim}
 use Rattle.alias_stream.specs.Streams.{HasFailed}
 use Rattle.alias_run.specs.declared.command.Command.{Command}
-use Rattle.alias_run.specs.declared.command.Command.TheVariants.{Infer, Certify, Lint, Explain, Plain, Made, Help, Version}
+use Rattle.alias_run.specs.declared.command.Command.TheVariants.{Infer, Certify, Check, Lint, Explain, Plain, Made, Help, Version}
 use Rattle.alias_run.specs.declared.status.Status.{Status}
-use Rattle.alias_run.specs.declared.status.Status.TheVariants.{Done, Words, NotJson, NotUnit, Unfit, PlainRefused, Refused, NotHere, ReadFault, WriteFault, TooLong, Memory}
+use Rattle.alias_run.specs.declared.status.Status.TheVariants.{Done, Words, NotJson, NotUnit, Unfit, BadLine, Rejected, PlainRefused, Refused, NotHere, ReadFault, WriteFault, TooLong, Memory}
 use Rattle.alias_run.specs.declared.answer.Answer.{Answer}
 use Rattle.alias_run.specs.declared.query.Query.{Query}
-use Rattle.alias_run.specs.declared.query.Query.TheVariants.{Inference, Lints, Explanation, Plainness}
-use Rattle.alias_run.specs.Findings.{IsFound, IsRead, IsAnswered}
+use Rattle.alias_run.specs.declared.query.Query.TheVariants.{Inference, Acceptance, Lints, Explanation, Plainness}
+use Rattle.alias_run.specs.Findings.{parts_of, IsFound, IsRead, IsAnswered}
 use Rattle.alias_hir.specs.declared.env.Unit.{Unit as HirUnit}
 use Rattle.alias_run.specs.Runs.{IsRun, IsHeadline}
 use Rattle.alias_run.specs.Statuses.{status_code}
@@ -27,6 +27,8 @@ unread q known F unfailing Words i r = r
 unread q known F unfailing NotJson i r = r
 unread q known F unfailing (NotUnit pointer rule) i r = r
 unread q known F unfailing (Unfit fault) i r = r
+unread q known F unfailing (BadLine number) i r = r
+unread q known F unfailing (Rejected fault) i r = r
 unread q known F unfailing (PlainRefused fault) i r = r
 unread q known F unfailing (Refused error) i r = r
 unread q known F unfailing NotHere i r = r
@@ -40,6 +42,7 @@ unfolding IsFound
 found known F unfailing None status i f = f
 found known F unfailing (Some Infer) status i f = unread Inference known F unfailing status i f
 found known F unfailing (Some Certify) status i f = unread Inference known F unfailing status i f
+found known F unfailing (Some Check) status i f = unread Acceptance known F unfailing status i f
 found known F unfailing (Some Lint) status i f = unread Lints known F unfailing status i f
 found known F unfailing (Some (Explain function identifier)) status i f = unread (Explanation function identifier) known F unfailing status i f
 found known F unfailing (Some Plain) status i f = unread Plainness known F unfailing status i f
@@ -58,6 +61,8 @@ module _ (asked : Option Command) (input : List ℕ) (F : Type 0) (unfailing : F
   replies NotJson i r h = (i, found (Some input) F unfailing asked NotJson i r.0, h, some_held _ _ r.1)
   replies (NotUnit pointer rule) i r h = (i, found (Some input) F unfailing asked (NotUnit pointer rule) i r.0, h, some_held _ _ r.1)
   replies (Unfit fault) i r h = (i, found (Some input) F unfailing asked (Unfit fault) i r.0, h, some_held _ _ r.1)
+  replies (BadLine number) i r h = (i, found (Some input) F unfailing asked (BadLine number) i r.0, h, some_held _ _ r.1)
+  replies (Rejected fault) i r h = (i, found (Some input) F unfailing asked (Rejected fault) i r.0, h, some_held _ _ r.1)
   replies (PlainRefused fault) i r h = (i, found (Some input) F unfailing asked (PlainRefused fault) i r.0, h, some_held _ _ r.1)
   replies (Refused error) i r h = (i, found (Some input) F unfailing asked (Refused error) i r.0, h, some_held _ _ r.1)
   replies NotHere i r h = (i, found (Some input) F unfailing asked NotHere i r.0, h, some_held _ _ r.1)
@@ -88,20 +93,22 @@ ran_out_replies asked input status text s t = subst (λ z. IsReply asked input z
 
 -- ---- no read and no write fails
 
-unanswered_fault : (q : Query) (u : HirUnit) (i : Answer) → IsAnswered q u WriteFault i → ⊥
-unanswered_fault Inference u i h = h
-unanswered_fault Lints u i h = ⊎_elim (λ x. x) (λ y. y.2) h
-unanswered_fault (Explanation function identifier) u i h = ⊎_elim (λ x. x) (λ y. y.2) h
-unanswered_fault Plainness u i h = h
+unanswered_fault : (q : Query) (certificate : List ℕ) (u : HirUnit) (i : Answer) → IsAnswered q certificate u WriteFault i → ⊥
+unanswered_fault Inference certificate u i h = h
+unanswered_fault Acceptance certificate u i h = h.2
+unanswered_fault Lints certificate u i h = ⊎_elim (λ x. x) (λ y. y.2) h
+unanswered_fault (Explanation function identifier) certificate u i h = ⊎_elim (λ x. x) (λ y. y.2) h
+unanswered_fault Plainness certificate u i h = h
 
 unread_fault : (q : Query) (known : Option (List ℕ)) (i : Answer) → IsRead q known ⊥ WriteFault i → ⊥
-unread_fault q known i r = unanswered_fault q r.3.0 i r.3.2.1
+unread_fault q known i r = unanswered_fault q (parts_of q r.0).1 r.3.0 i r.3.2.1
 
 never_read_fault : (known : Option (List ℕ)) (asked : Option Command) (i : Answer) → IsFound asked known ⊥ ReadFault i → ⊥
 unfolding IsFound
 never_read_fault known None i f = let e : ReadFault ≡ Words = f.0 in cc
 never_read_fault known (Some Infer) i f = f.0
 never_read_fault known (Some Certify) i f = f.0
+never_read_fault known (Some Check) i f = f.0
 never_read_fault known (Some Lint) i f = f.0
 never_read_fault known (Some (Explain function identifier)) i f = f.0
 never_read_fault known (Some Plain) i f = f.0
@@ -114,6 +121,7 @@ unfolding IsFound
 never_write_fault known None i f = let e : WriteFault ≡ Words = f.0 in cc
 never_write_fault known (Some Infer) i f = unread_fault Inference known i f
 never_write_fault known (Some Certify) i f = unread_fault Inference known i f
+never_write_fault known (Some Check) i f = unread_fault Acceptance known i f
 never_write_fault known (Some Lint) i f = unread_fault Lints known i f
 never_write_fault known (Some (Explain function identifier)) i f = unread_fault (Explanation function identifier) known i f
 never_write_fault known (Some Plain) i f = unread_fault Plainness known i f
@@ -128,6 +136,8 @@ module _ (asked : Option Command) (input text : List ℕ) where
   unfailing_code NotJson a = (λ e. omega (arith, e), λ e. omega (arith, e))
   unfailing_code (NotUnit pointer rule) a = (λ e. omega (arith, e), λ e. omega (arith, e))
   unfailing_code (Unfit fault) a = (λ e. omega (arith, e), λ e. omega (arith, e))
+  unfailing_code (BadLine number) a = (λ e. omega (arith, e), λ e. omega (arith, e))
+  unfailing_code (Rejected fault) a = (λ e. omega (arith, e), λ e. omega (arith, e))
   unfailing_code (PlainRefused fault) a = (λ e. omega (arith, e), λ e. omega (arith, e))
   unfailing_code (Refused error) a = (λ e. omega (arith, e), λ e. omega (arith, e))
   unfailing_code NotHere a = (λ e. omega (arith, e), λ e. omega (arith, e))

@@ -1,5 +1,5 @@
 -- What a run in a host's process comes to.
-use Rattle.std.specs.Prelude.{ℕ, ◌≡◌, ◌⊎◌, ◌==◌, ◌++◌, List, [], Option, None, Some, length, take, drop}
+use Rattle.std.specs.Prelude.{ℕ, ◌≡◌, ◌⊎◌, ◌==◌, ◌++◌, Bool, true, false, if◌then◌else◌, List, [], Option, None, Some, length, take, drop}
 use Rattle.std.specs.List.{slice_split}
 use Rattle.std.specs.Str.{IsUtf8}
 use Rattle.alias_run.specs.Commands.{command_of}
@@ -26,10 +26,14 @@ IsReply asked input Memory text = text ≡ []
 IsReply asked input status text =
     (i : Answer) × IsFound asked (Some input) ⊥ status i × IsHeadline asked (Some input) (Some []) (Some text) status i × (text ≡ text_of asked status i)
 
+-- whether memory ran out
+abbrev pub is_memory : Status → Bool
+is_memory Memory = true
+is_memory status = false
+
 -- the text that is kept: none where memory ran out
 abbrev pub text_kept : Status → List ℕ → List ℕ
-text_kept Memory text = []
-text_kept status text = text
+text_kept status text = if is_memory status then [] else text
 
 -- what room holds once a text was put at its front: as much of the text as there is room for, and then what was there
 abbrev pub put_front : List ℕ → List ℕ → List ℕ

@@ -2,7 +2,7 @@
 ghost use Rattle.std.specs.Prelude.{◌≡◌, [], Option};
 ghost use Rattle.alias_run.specs.Commands.{command_of};
 ghost use Rattle.alias_run.specs.declared.command.Command.{Command as Asked};
-ghost use Rattle.alias_host.specs.Hosts.{IsAsked, IsReply, text_kept};
+ghost use Rattle.alias_host.specs.Hosts.{IsAsked, IsReply, is_memory, text_kept};
 
 use crate::bytes::{BytesSink, SliceSource};
 use crate::words::words_of;
@@ -28,14 +28,26 @@ fn ran_out(alloc: Global) -> Reply
     }
 }
 
+/// Whether memory ran out.
+fn is_memory(status: &Status) -> bool
+    ensures { result ≡ is_memory status.now }
+{
+    matches!(status, Status::Memory)
+}
+
 /// The reply of a run that wrote this text. Where memory ran out it has none.
 fn replied(alloc: Global, outcome: Outcome, text: Vec<u8>) -> Reply
     ensures status { result.status ≡ outcome.status }
     ensures text { result.text.items ≡ text_kept outcome.status text.items }
 {
-    match outcome.status {
-        Status::Memory => ran_out(alloc),
-        status => Reply { status, text },
+    let text = if is_memory(&outcome.status) {
+        Vec::new(alloc)
+    } else {
+        text
+    };
+    Reply {
+        status: outcome.status,
+        text,
     }
 }
 

@@ -55,15 +55,15 @@ use Rattle.alias_naming_laws.specs.StepLaws.{InstructionOwns}
 
 -- ---- lists
 
-parts_of : {X : Type 0} (Q : X → Type 0) (xs ys : List X) → AllByRecursion Q (xs ++ ys) → AllByRecursion Q xs × AllByRecursion Q ys
+pub parts_of : {X : Type 0} (Q : X → Type 0) (xs ys : List X) → AllByRecursion Q (xs ++ ys) → AllByRecursion Q xs × AllByRecursion Q ys
 parts_of Q [] ys h = (tt, h)
 parts_of Q (x ∷ xs) ys h = let b = parts_of Q xs ys h.1 in ((h.0, b.0), b.1)
 
-each_of : {A X : Type 0} (Q : X → Type 0) (f : A → List X) (as_ : List A) → AllByRecursion Q (flat_map f as_) → AllByRecursion (λ a. AllByRecursion Q (f a)) as_
+pub each_of : {A X : Type 0} (Q : X → Type 0) (f : A → List X) (as_ : List A) → AllByRecursion Q (flat_map f as_) → AllByRecursion (λ a. AllByRecursion Q (f a)) as_
 each_of Q f [] h = tt
 each_of Q f (a ∷ as_) h = let b = parts_of Q (f a) (flat_map f as_) h in (b.0, each_of Q f as_ b.1)
 
-all_on : {X : Type 0} (Q R : X → Type 0) → ((x : X) → Q x → R x) → (xs : List X) → AllByRecursion Q xs → AllByRecursion R xs
+pub all_on : {X : Type 0} (Q R : X → Type 0) → ((x : X) → Q x → R x) → (xs : List X) → AllByRecursion Q xs → AllByRecursion R xs
 all_on Q R f [] h = tt
 all_on Q R f (x ∷ xs) h = (f x h.0, all_on Q R f xs h.1)
 

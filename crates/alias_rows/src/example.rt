@@ -2,8 +2,8 @@
 
 use alias_base::{List, Text};
 use alias_run::{
-    Answer, Detail, Outcome, print_explanation, print_inferred, print_lints, print_plainness,
-    print_refusal, run_alias,
+    Answer, Detail, Outcome, print_accepted, print_explanation, print_inferred, print_lints,
+    print_plainness, print_refusal, run_alias,
 };
 use alias_stream::{MemorySink, MemorySource};
 use std::alloc::{AllocError, Global};
@@ -89,6 +89,7 @@ fn told(alloc: Global, words: &str, outcome: &Outcome) -> Result<Text, AllocErro
     match &outcome.answer {
         Answer::Nothing => print_refusal(alloc, &outcome.status),
         Answer::Inferred(inferred) => print_inferred(alloc, inferred, detail_of(words)),
+        Answer::Accepted(accepted) => print_accepted(alloc, accepted),
         Answer::Linted(lints) => print_lints(alloc, lints.as_slice()),
         Answer::Explained(explanation) => print_explanation(alloc, explanation),
         Answer::Decided(plainness) => print_plainness(alloc, *plainness),

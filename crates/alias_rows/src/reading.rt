@@ -10,6 +10,11 @@ fn push_line(text: &mut Text, line: &str) -> Result<(), AllocError> {
     text.push_str("\n")
 }
 
+fn push_line_behind(text: &mut Text, line: &str) -> Result<(), AllocError> {
+    text.push_str("\n")?;
+    text.push_str(line)
+}
+
 fn push_blanks(text: &mut Text, count: usize) -> Result<(), AllocError> {
     for _ in 0..count {
         text.push_str(" ")?;
@@ -35,6 +40,8 @@ fn take(example: &mut Example, key: &str, value: &str) -> Result<()> {
         example.words.push_str(value)?;
     } else if key == "unit" {
         example.input.push_str(value)?;
+    } else if key == "+" {
+        push_line_behind(&mut example.input, value)?;
     } else if key == "blanks" {
         push_blanks(
             &mut example.input,
@@ -61,14 +68,22 @@ fn take(example: &mut Example, key: &str, value: &str) -> Result<()> {
 /// The examples of a text, in its order.
 pub fn examples(alloc: Global, text: &str) -> Result<Vec<Example>> {
     let mut examples = Vec::new(alloc);
+    let mut unit = "";
     for line in text.lines() {
         let Some((key, value)) = line.split_once(' ') else {
             continue;
         };
+        if key == "unit" {
+            unit = value;
+        }
         if key == "example" {
             examples.push(Example::new(alloc, value)?)?;
         } else if let Some(example) = examples.last_mut() {
-            take(example, key, value)?;
+            if key == "same" {
+                example.input.push_str(unit)?;
+            } else {
+                take(example, key, value)?;
+            }
         }
     }
     Ok(examples)

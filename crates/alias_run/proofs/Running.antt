@@ -1,12 +1,15 @@
 -- From what a layer finds to what the run comes to.
 use Rattle.std.proofs.Common.{◌≡◌, ℕ, ◌≤◌, ⊎_elim, inr, List, [], length, take, Option, Some, None, refl, sym, ◌∙◌, ap, subst}
-use Rattle.std.specs.Prelude.{Ok, Err}
+use Rattle.std.specs.Prelude.{Result, Ok, Err, ⊤}
 use Rattle.std.proofs.lemmas.List.{append-nil}
 use Rattle.std.proofs.Math.Seq.{take-length}
+use Rattle.alias_base.specs.Answer.{◌>>=◌}
 use Rattle.alias_hir.specs.declared.env.Unit.{Unit as HirUnit}
 use Rattle.alias_base.specs.declared.ids.FunctionId.{FunctionId}
 use Rattle.alias_base.specs.declared.ids.IdentifierId.{IdentifierId}
 use Rattle.alias_nested.specs.declared.infer.Inferred.{Inferred as UnitInference}
+use Rattle.alias_cert_text.specs.Certificates.{certificate_of_text}
+use Rattle.alias_certificate.specs.declared.certificate.Certificate.{Certificate}
 use Rattle.alias_stream.specs.Streams.{Adds, IsAllOf}
 use Rattle.alias_stream.specs.declared.sink.SinkStop.{SinkStop}
 use Rattle.alias_stream.specs.declared.sink.SinkStop.TheVariants as sink
@@ -15,21 +18,22 @@ use Rattle.alias_read.specs.Units.{UnitReading, ReadsUnit}
 use Rattle.alias_read.specs.declared.fault.TextFault.{TextFault}
 use Rattle.alias_read.specs.declared.fault.TextFault.TheVariants as text
 use Rattle.alias_run.specs.declared.command.Command.{Command}
-use Rattle.alias_run.specs.declared.command.Command.TheVariants.{Infer, Certify, Lint, Explain, Plain, Made, Help, Version}
+use Rattle.alias_run.specs.declared.command.Command.TheVariants.{Infer, Certify, Check, Lint, Explain, Plain, Made, Help, Version}
 use Rattle.alias_run.specs.declared.status.Status.{Status}
-use Rattle.alias_run.specs.declared.status.Status.TheVariants.{Done, Words, NotJson, NotUnit, Unfit, PlainRefused, Refused, NotHere, ReadFault, WriteFault, TooLong, Memory}
+use Rattle.alias_run.specs.declared.status.Status.TheVariants.{Done, Words, NotJson, NotUnit, Unfit, BadLine, Rejected, PlainRefused, Refused, NotHere, ReadFault, WriteFault, TooLong, Memory}
 use Rattle.alias_text.specs.declared.detail.Detail.{Detail}
 use Rattle.alias_text.specs.declared.detail.Detail.TheVariants as detail
 use Rattle.alias_run.specs.declared.answer.Answer.{Answer}
-use Rattle.alias_run.specs.declared.answer.Answer.TheVariants.{Nothing, Inferred, Linted, Explained, Decided}
+use Rattle.alias_run.specs.declared.answer.Answer.TheVariants.{Nothing, Inferred, Accepted, Linted, Explained, Decided}
 use Rattle.alias_run.specs.declared.query.Query.{Query}
-use Rattle.alias_run.specs.declared.query.Query.TheVariants.{Inference, Lints, Explanation, Plainness}
+use Rattle.alias_run.specs.declared.query.Query.TheVariants.{Inference, Acceptance, Lints, Explanation, Plainness}
 use Rattle.alias_run.specs.declared.outcome.Outcome.{Outcome}
-use Rattle.alias_rules.specs.Functions.{rules_hold}
-use Rattle.alias_run.specs.Findings.{Infers, IsExplained, IsExplainedOf, IsChecked, IsAnswered, IsFit, IsJudged, IsRead, IsFound, Leaves, greatest_input}
+use Rattle.alias_rules.specs.Functions.{rules_hold, checks}
+use Rattle.alias_function_rules.specs.declared.fault.UnitFault.{UnitFault}
+use Rattle.alias_run.specs.Findings.{parts_of, IsAccepted, IsAcceptedOf, Infers, IsExplained, IsExplainedOf, IsInferred, IsChecked, IsAnswered, IsFit, IsJudged, IsRead, IsFound, Leaves, greatest_input}
 use Rattle.alias_run.specs.Inferences.{solved_tell}
 use Rattle.alias_inferred_laws.proofs.Carrying.{solutions_carried}
-use Rattle.alias_run.specs.Runs.{IsRun, IsInferredOf, IsAnsweredOf, IsUnitOf, IsDone, IsHeadline}
+use Rattle.alias_run.specs.Runs.{IsRun, IsInferredOf, IsAnsweredOf, IsUnitOf, ArePartsOf, IsDone, IsHeadline}
 use Rattle.alias_run.specs.Statuses.{text_status, write_status}
 use Rattle.alias_run.specs.Texts.{text_of, answer_text}
 
@@ -40,10 +44,10 @@ ended_as status = record { status = status; answer = Nothing }
 -- ---- units
 
 -- a unit that keeps the rules is refused by none
-pub checked_fit : (u : HirUnit) (status : Status) (i : Answer) → rules_hold u ≡ Ok tt → IsChecked Inference u status i → IsFit u status i
-checked_fit u (Unfit fault) i k h = let no : Ok tt ≡ Err fault = sym k ∙ h.0 in absurd (cc)
-checked_fit u Memory i k h = (k, h)
-checked_fit u status i k h = h
+pub checked_fit : (certificate : List ℕ) (u : HirUnit) (status : Status) (i : Answer) → rules_hold u ≡ Ok tt → IsChecked Inference certificate u status i → IsFit u status i
+checked_fit certificate u (Unfit fault) i k h = let no : Ok tt ≡ Err fault = sym k ∙ h.0 in absurd (cc)
+checked_fit certificate u Memory i k h = (k, h)
+checked_fit certificate u status i k h = h
 
 -- memory ran out before there was a unit
 pub ran_out_fit : (u : HirUnit) (o : Outcome) → o ≡ ended_as Memory → rules_hold u ≡ Ok tt → IsFit u o.status o.answer
@@ -54,46 +58,85 @@ pub explained_of : (f : Option FunctionId) (id : IdentifierId) (u : HirUnit) (i 
 explained_of f id u i Memory a inf h = h
 explained_of f id u i status a inf h = inr (i, inf, h)
 
+-- the check of the certificate that a text is
+pub accepted_of : (text : List ℕ) (u : HirUnit) (c : Certificate) (status : Status) (a : Answer) → certificate_of_text text ≡ Ok c → IsAcceptedOf c u status a → IsAccepted text u status a
+accepted_of text u c (BadLine number) a is h = absurd h
+accepted_of text u c Memory a is h = h
+accepted_of text u c status a is h = (c, is, h)
+
+-- what the query is answered of a unit that keeps the rules, the unit leads to
+not_unfit : (q : Query) (certificate : List ℕ) (u : HirUnit) (fault : UnitFault) (a : Answer) → IsAnswered q certificate u (Unfit fault) a → ⊥
+not_unfit Inference certificate u fault a h = h
+not_unfit Acceptance certificate u fault a h = h.2
+not_unfit Lints certificate u fault a h = ⊎_elim (λ x. x) (λ y. y.2) h
+not_unfit (Explanation f id) certificate u fault a h = ⊎_elim (λ x. x) (λ y. y.2) h
+not_unfit Plainness certificate u fault a h = h
+
+memory_answered : (q : Query) (certificate : List ℕ) (u : HirUnit) (a : Answer) → IsAnswered q certificate u Memory a → a ≡ Nothing
+memory_answered Inference certificate u a h = h
+memory_answered Acceptance certificate u a h = h
+memory_answered Lints certificate u a h = h
+memory_answered (Explanation f id) certificate u a h = h
+memory_answered Plainness certificate u a h = h
+
+pub answered_checked : (q : Query) (certificate : List ℕ) (u : HirUnit) (status : Status) (a : Answer) → rules_hold u ≡ Ok tt → IsAnswered q certificate u status a → IsChecked q certificate u status a
+answered_checked q certificate u (Unfit fault) a k h = absurd (not_unfit q certificate u fault a h)
+answered_checked q certificate u Memory a k h = memory_answered q certificate u a h
+answered_checked q certificate u status a k h = (k, h)
+
+rules_passed : (r : Result ⊤ UnitFault) (u v : HirUnit) → (r >>= (λ _. Ok u)) ≡ Ok v → (r ≡ Ok tt) × (u ≡ v)
+rules_passed (Ok tt) u v h = let same : u ≡ v = cc in (refl, same)
+rules_passed (Err e) u v h = cc
+
+pub judged_answered : (q : Query) (certificate : List ℕ) (u v : HirUnit) (status : Status) (a : Answer) → checks u ≡ Ok v → IsAnswered q certificate v status a → IsChecked q certificate u status a
+judged_answered q certificate u v status a h k =
+    let p = rules_passed (rules_hold u) u v h in
+    answered_checked q certificate u status a p.0 (subst (λ z. IsAnswered q certificate z status a) (sym p.1) k)
+
 -- ---- bytes
 
 -- no unit is read
-pub judged_none : (q : Query) (bytes : List ℕ) (e : TextFault) → ReadsUnit bytes (Err e) → IsJudged q bytes (text_status e) Nothing
-judged_none q bytes text.NotJson h = (h, refl)
-judged_none q bytes (text.NotUnit p r) h = (h, refl)
-judged_none q bytes (text.Memory e) h = refl
+pub judged_none : (q : Query) (parts : List ℕ × List ℕ) (e : TextFault) → ReadsUnit parts.0 (Err e) → IsJudged q parts (text_status e) Nothing
+judged_none q parts text.NotJson h = (h, refl)
+judged_none q parts (text.NotUnit p r) h = (h, refl)
+judged_none q parts (text.Memory e) h = refl
 
-pub judged_fault : (q : Query) (bytes : List ℕ) (e : TextFault) (status : Status) (o : Outcome) → o ≡ ended_as status → status ≡ text_status e → ReadsUnit bytes (Err e) → IsJudged q bytes o.status o.answer
-judged_fault q bytes e status o is s h =
+pub judged_fault : (q : Query) (parts : List ℕ × List ℕ) (e : TextFault) (status : Status) (o : Outcome) → o ≡ ended_as status → status ≡ text_status e → ReadsUnit parts.0 (Err e) → IsJudged q parts o.status o.answer
+judged_fault q parts e status o is s h =
     let both : o ≡ ended_as (text_status e) = is ∙ ap ended_as s in
-    subst (λ (z : Outcome). IsJudged q bytes z.status z.answer) (sym both) (judged_none q bytes e h)
+    subst (λ (z : Outcome). IsJudged q parts z.status z.answer) (sym both) (judged_none q parts e h)
 
 -- ---- sources
 
 -- what the bytes of the whole input lead to, the source leads to
-not_read : (q : Query) (u : HirUnit) (a : Answer) → IsAnswered q u ReadFault a → ⊥
-not_read Inference u a h = h
-not_read Lints u a h = ⊎_elim (λ x. x) (λ y. y.2) h
-not_read (Explanation f id) u a h = ⊎_elim (λ x. x) (λ y. y.2) h
-not_read Plainness u a h = h
+not_read : (q : Query) (certificate : List ℕ) (u : HirUnit) (a : Answer) → IsAnswered q certificate u ReadFault a → ⊥
+not_read Inference certificate u a h = h
+not_read Acceptance certificate u a h = h.2
+not_read Lints certificate u a h = ⊎_elim (λ x. x) (λ y. y.2) h
+not_read (Explanation f id) certificate u a h = ⊎_elim (λ x. x) (λ y. y.2) h
+not_read Plainness certificate u a h = h
 
-not_long : (q : Query) (u : HirUnit) (a : Answer) → IsAnswered q u TooLong a → ⊥
-not_long Inference u a h = h
-not_long Lints u a h = ⊎_elim (λ x. x) (λ y. y.2) h
-not_long (Explanation f id) u a h = ⊎_elim (λ x. x) (λ y. y.2) h
-not_long Plainness u a h = h
+not_long : (q : Query) (certificate : List ℕ) (u : HirUnit) (a : Answer) → IsAnswered q certificate u TooLong a → ⊥
+not_long Inference certificate u a h = h
+not_long Acceptance certificate u a h = h.2
+not_long Lints certificate u a h = ⊎_elim (λ x. x) (λ y. y.2) h
+not_long (Explanation f id) certificate u a h = ⊎_elim (λ x. x) (λ y. y.2) h
+not_long Plainness certificate u a h = h
 
-pub read_bytes : (q : Query) (known : Option (List ℕ)) (failed : Type 0) (bytes : List ℕ) (status : Status) (a : Answer) → IsAllOf known bytes → length bytes ≤ greatest_input → IsJudged q bytes status a → IsRead q known failed status a
+pub read_bytes : (q : Query) (known : Option (List ℕ)) (failed : Type 0) (bytes : List ℕ) (status : Status) (a : Answer) → IsAllOf known bytes → length bytes ≤ greatest_input → IsJudged q (parts_of q bytes) status a → IsRead q known failed status a
 read_bytes q known failed bytes Done i a l h = (bytes, a, l, h)
 read_bytes q known failed bytes Words i a l h = (bytes, a, l, h)
 read_bytes q known failed bytes NotJson i a l h = (bytes, a, l, h)
 read_bytes q known failed bytes (NotUnit pointer rule) i a l h = (bytes, a, l, h)
 read_bytes q known failed bytes (Unfit fault) i a l h = (bytes, a, l, h)
+read_bytes q known failed bytes (BadLine number) i a l h = (bytes, a, l, h)
+read_bytes q known failed bytes (Rejected fault) i a l h = (bytes, a, l, h)
 read_bytes q known failed bytes (PlainRefused e) i a l h = (bytes, a, l, h)
 read_bytes q known failed bytes (Refused e) i a l h = (bytes, a, l, h)
 read_bytes q known failed bytes NotHere i a l h = (bytes, a, l, h)
-read_bytes q known failed bytes ReadFault i a l h = absurd (not_read q h.0 i h.2.1)
+read_bytes q known failed bytes ReadFault i a l h = absurd (not_read q (parts_of q bytes).1 h.0 i h.2.1)
 read_bytes q known failed bytes WriteFault i a l h = (bytes, a, l, h)
-read_bytes q known failed bytes TooLong i a l h = absurd (not_long q h.0 i h.2.1)
+read_bytes q known failed bytes TooLong i a l h = absurd (not_long q (parts_of q bytes).1 h.0 i h.2.1)
 read_bytes q known failed bytes Memory i a l h = h
 
 unwritten : (stop : SinkStop) (left : Option (List ℕ)) → Leaves (write_status stop) left
@@ -127,6 +170,10 @@ known_unit : (o : Option (List ℕ)) (bytes : List ℕ) (u : HirUnit) → IsAllO
 known_unit None bytes u a r = tt
 known_unit (Some all) bytes u a r = subst (λ z. UnitReading z u) (sym a) r
 
+known_parts : (q : Query) (o : Option (List ℕ)) (bytes : List ℕ) (u : HirUnit) → IsAllOf o bytes → UnitReading (parts_of q bytes).0 u → ArePartsOf q o u (parts_of q bytes).1
+known_parts q None bytes u a r = tt
+known_parts q (Some all) bytes u a r = subst (λ z. UnitReading (parts_of q z).0 u × ((parts_of q z).1 ≡ (parts_of q bytes).1)) (sym a) (r, refl)
+
 pub adds_nothing : (held : Option (List ℕ)) → Adds held [] held
 adds_nothing None = refl
 adds_nothing (Some old) = ap Some (sym (append-nil old))
@@ -156,6 +203,7 @@ module _ (known : Option (List ℕ)) (read_failed : Type 0) where
   memory_alone None i f = f.1
   memory_alone (Some Infer) i f = f
   memory_alone (Some Certify) i f = f
+  memory_alone (Some Check) i f = f
   memory_alone (Some Lint) i f = f
   memory_alone (Some (Explain g id)) i f = f
   memory_alone (Some Plain) i f = f
@@ -163,20 +211,22 @@ module _ (known : Option (List ℕ)) (read_failed : Type 0) where
   memory_alone (Some Help) i f = f.1
   memory_alone (Some Version) i f = f.1
 
-  not_written : (q : Query) (u : HirUnit) (a : Answer) → IsAnswered q u WriteFault a → ⊥
-  not_written Inference u a h = h
-  not_written Lints u a h = ⊎_elim (λ x. x) (λ y. y.2) h
-  not_written (Explanation f id) u a h = ⊎_elim (λ x. x) (λ y. y.2) h
-  not_written Plainness u a h = h
+  not_written : (q : Query) (certificate : List ℕ) (u : HirUnit) (a : Answer) → IsAnswered q certificate u WriteFault a → ⊥
+  not_written Inference certificate u a h = h
+  not_written Acceptance certificate u a h = h.2
+  not_written Lints certificate u a h = ⊎_elim (λ x. x) (λ y. y.2) h
+  not_written (Explanation f id) certificate u a h = ⊎_elim (λ x. x) (λ y. y.2) h
+  not_written Plainness certificate u a h = h
 
   no_write_fault : (asked : Option Command) (a : Answer) → IsFound asked known read_failed WriteFault a → ⊥
   unfolding IsFound
   no_write_fault None a f = let e : WriteFault ≡ Words = f.0 in cc
-  no_write_fault (Some Infer) a f = not_written Inference f.3.0 a f.3.2.1
-  no_write_fault (Some Certify) a f = not_written Inference f.3.0 a f.3.2.1
-  no_write_fault (Some Lint) a f = not_written Lints f.3.0 a f.3.2.1
-  no_write_fault (Some (Explain g id)) a f = not_written (Explanation g id) f.3.0 a f.3.2.1
-  no_write_fault (Some Plain) a f = not_written Plainness f.3.0 a f.3.2.1
+  no_write_fault (Some Infer) a f = not_written Inference (parts_of Inference f.0).1 f.3.0 a f.3.2.1
+  no_write_fault (Some Certify) a f = not_written Inference (parts_of Inference f.0).1 f.3.0 a f.3.2.1
+  no_write_fault (Some Check) a f = not_written Acceptance (parts_of Acceptance f.0).1 f.3.0 a f.3.2.1
+  no_write_fault (Some Lint) a f = not_written Lints (parts_of Lints f.0).1 f.3.0 a f.3.2.1
+  no_write_fault (Some (Explain g id)) a f = not_written (Explanation g id) (parts_of (Explanation g id) f.0).1 f.3.0 a f.3.2.1
+  no_write_fault (Some Plain) a f = not_written Plainness (parts_of Plainness f.0).1 f.3.0 a f.3.2.1
   no_write_fault (Some (Made seed size)) a f = f.1
   no_write_fault (Some Help) a f = let e : WriteFault ≡ Done = f.0 in cc
   no_write_fault (Some Version) a f = let e : WriteFault ≡ Done = f.0 in cc
@@ -192,6 +242,7 @@ module _ (known : Option (List ℕ)) (read_failed write_failed : Type 0) (held h
 
   done_read : (printed : Detail) (a : Answer) → IsRead Inference known read_failed Done a → Adds held (answer_text printed Done a) held' → IsInferredOf (IsUnitOf known) printed held held' a
   done_read printed Nothing f t = f.3.2.1
+  done_read printed (Accepted x) f t = f.3.2.1
   done_read printed (Linted ls) f t = f.3.2.1
   done_read printed (Explained e) f t = f.3.2.1
   done_read printed (Decided p) f t = f.3.2.1
@@ -202,19 +253,21 @@ module _ (known : Option (List ℕ)) (read_failed write_failed : Type 0) (held h
 
   done_made : (made : HirUnit) (a : Answer) → IsFit made Done a → Adds held (answer_text detail.Counts Done a) held' → IsInferredOf (λ u. u ≡ made) detail.Counts held held' a
   done_made made Nothing f t = f.1
+  done_made made (Accepted x) f t = f.1
   done_made made (Linted ls) f t = f.1
   done_made made (Explained e) f t = f.1
   done_made made (Decided p) f t = f.1
   done_made made (Inferred x) f t = let k = f.1 in (made, k.0, refl, f.0, k.1, k.2, solved_tell k.0 k.2, solutions_carried made (record { functions = k.0; inferred = x }) f.0 k.1, t)
 
   done_asked : (q : Query) (a : Answer) → IsRead q known read_failed Done a → Adds held (answer_text detail.Infer Done a) held' → IsAnsweredOf q known held held' a
-  done_asked q a f t = let j = f.3 in (j.0, known_unit known f.0 j.0 f.1 j.1, j.2.0, j.2.1, t)
+  done_asked q a f t = let j = f.3 in (j.0, (parts_of q f.0).1, known_parts q known f.0 j.0 f.1 j.1, j.2.0, j.2.1, t)
 
   done : (asked : Option Command) (i : Answer) → IsFound asked known read_failed Done i → Adds held (text_of asked Done i) held' → IsDone asked known held held' i
   unfolding IsFound
   done None i f a = let e : Done ≡ Words = f.0 in cc
   done (Some Infer) i f a = done_read detail.Infer i f a
   done (Some Certify) i f a = done_read detail.Certify i f a
+  done (Some Check) i f a = done_asked Acceptance i f a
   done (Some Lint) i f a = done_asked Lints i f a
   done (Some (Explain g id)) i f a = done_asked (Explanation g id) i f a
   done (Some Plain) i f a = done_asked Plainness i f a

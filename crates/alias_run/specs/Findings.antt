@@ -1,5 +1,5 @@
 -- Why a run comes to a status.
-use Rattle.std.specs.Prelude.{◌≡◌, ℕ, ◌<◌, ◌≤◌, ◌⊎◌, List, length, Option, Some, None, Ok, Err}
+use Rattle.std.specs.Prelude.{◌≡◌, ℕ, ◌<◌, ◌≤◌, ◌⊎◌, List, [], length, Option, Some, None, Ok, Err}
 use Rattle.std.specs.List.{AllByRecursion}
 use Rattle.alias_rules.specs.Functions.{rules_hold}
 use Rattle.alias_hir.specs.declared.env.Unit.{Unit as HirUnit}
@@ -8,13 +8,18 @@ use Rattle.alias_read.specs.Units.{UnitReading, ReadsUnit}
 use Rattle.alias_read.specs.declared.fault.TextFault.TheVariants as text
 use Rattle.alias_stream.specs.Streams.{IsAllOf, IsAtEnd, IfKnown}
 use Rattle.alias_run.specs.declared.command.Command.{Command}
-use Rattle.alias_run.specs.declared.command.Command.TheVariants.{Infer, Certify, Lint, Explain, Plain, Made, Help, Version}
+use Rattle.alias_run.specs.declared.command.Command.TheVariants.{Infer, Certify, Check, Lint, Explain, Plain, Made, Help, Version}
 use Rattle.alias_run.specs.declared.query.Query.{Query}
-use Rattle.alias_run.specs.declared.query.Query.TheVariants.{Inference, Lints, Explanation, Plainness}
+use Rattle.alias_run.specs.declared.query.Query.TheVariants.{Inference, Acceptance, Lints, Explanation, Plainness}
 use Rattle.alias_run.specs.declared.status.Status.{Status}
-use Rattle.alias_run.specs.declared.status.Status.TheVariants.{Done, Words, NotJson, NotUnit, Unfit, PlainRefused, Refused, NotHere, ReadFault, WriteFault, TooLong, Memory}
+use Rattle.alias_run.specs.declared.status.Status.TheVariants.{Done, Words, NotJson, NotUnit, Unfit, BadLine, Rejected, PlainRefused, Refused, NotHere, ReadFault, WriteFault, TooLong, Memory}
 use Rattle.alias_run.specs.declared.answer.Answer.{Answer}
-use Rattle.alias_run.specs.declared.answer.Answer.TheVariants.{Nothing, Inferred, Linted, Explained, Decided}
+use Rattle.alias_run.specs.declared.answer.Answer.TheVariants.{Nothing, Inferred, Accepted, Linted, Explained, Decided}
+use Rattle.alias_cert.specs.Units.{unit_checked, Accepts}
+use Rattle.alias_cert_text.specs.Certificates.{certificate_of_text}
+use Rattle.alias_cert_text.specs.Input.{input_parts}
+use Rattle.alias_cert_text.specs.declared.fault.CertFault.TheVariants as text_fault
+use Rattle.alias_certificate.specs.declared.certificate.Certificate.{Certificate}
 use Rattle.alias_base.specs.declared.ids.FunctionId.{FunctionId}
 use Rattle.alias_base.specs.declared.ids.IdentifierId.{IdentifierId}
 use Rattle.alias_lint.specs.Lints.{lints_of}
@@ -47,6 +52,19 @@ IsRefusedAs u status a = ⊥
 abbrev pub Infers : HirUnit → UnitInference → Type 0
 Infers u i = (fs : List Analysed) × (unit_analysed u ≡ Ok (record { functions = fs; inferred = i }))
 
+-- what the check of a certificate leads to: it is accepted, and of each function its entry states solve the flow; or it is rejected, with the first fault
+abbrev pub IsAcceptedOf : Certificate → HirUnit → Status → Answer → Type 0
+IsAcceptedOf c u Done (Accepted x) = Accepts (unit_checked c.functions u) (Ok x)
+IsAcceptedOf c u (Rejected fault) a = (unit_checked c.functions u ≡ Err fault) × (a ≡ Nothing)
+IsAcceptedOf c u Memory a = a ≡ Nothing
+IsAcceptedOf c u status a = ⊥
+
+-- whether a text is a certificate of a unit: the line of this number is the first that isn't in the grammar, or it is the text of a certificate, which is checked
+abbrev pub IsAccepted : List ℕ → HirUnit → Status → Answer → Type 0
+IsAccepted text u (BadLine number) a = (certificate_of_text text ≡ Err (text_fault.BadLine number)) × (a ≡ Nothing)
+IsAccepted text u Memory a = a ≡ Nothing
+IsAccepted text u status a = (c : Certificate) × (certificate_of_text text ≡ Ok c) × IsAcceptedOf c u status a
+
 -- the reports of what was inferred, in order, each with its place
 abbrev pub IsLintedOf : UnitInference → Status → Answer → Type 0
 IsLintedOf i Done (Linted ls) = (lints_of i.unit ≡ Ok ls) × (reports_of ls ≡ i.reports)
@@ -77,29 +95,35 @@ IsDecided u (PlainRefused fault) a = (answer_of (unit_end u) ≡ Err fault) × (
 IsDecided u Memory a = a ≡ Nothing
 IsDecided u status a = ⊥
 
--- what a unit that keeps the rules leads to, by what is asked about it
-abbrev pub IsAnswered : Query → HirUnit → Status → Answer → Type 0
-IsAnswered Inference u status a = IsInferred u status a
-IsAnswered Lints u status a = IsLinted u status a
-IsAnswered (Explanation f id) u status a = IsExplained f id u status a
-IsAnswered Plainness u status a = IsDecided u status a
+-- what a unit that keeps the rules leads to, by what is asked about it, where this text is to be its certificate
+abbrev pub IsAnswered : Query → List ℕ → HirUnit → Status → Answer → Type 0
+IsAnswered Inference certificate u status a = IsInferred u status a
+IsAnswered Acceptance certificate u status a = IsAccepted certificate u status a
+IsAnswered Lints certificate u status a = IsLinted u status a
+IsAnswered (Explanation f id) certificate u status a = IsExplained f id u status a
+IsAnswered Plainness certificate u status a = IsDecided u status a
 
 -- what a unit leads to: it breaks this rule first, or it breaks none and the query is answered
-abbrev pub IsChecked : Query → HirUnit → Status → Answer → Type 0
-IsChecked q u (Unfit fault) a = (rules_hold u ≡ Err fault) × (a ≡ Nothing)
-IsChecked q u Memory a = a ≡ Nothing
-IsChecked q u status a = (rules_hold u ≡ Ok tt) × IsAnswered q u status a
+abbrev pub IsChecked : Query → List ℕ → HirUnit → Status → Answer → Type 0
+IsChecked q certificate u (Unfit fault) a = (rules_hold u ≡ Err fault) × (a ≡ Nothing)
+IsChecked q certificate u Memory a = a ≡ Nothing
+IsChecked q certificate u status a = (rules_hold u ≡ Ok tt) × IsAnswered q certificate u status a
 
 -- what a unit leads to that is known to be fit, which is to say that it keeps the rules
 abbrev pub IsFit : HirUnit → Status → Answer → Type 0
 IsFit u status a = (rules_hold u ≡ Ok tt) × IsInferred u status a
 
--- what the bytes of the whole input lead to: they are no JSON, or JSON of no unit, or that of one
-abbrev pub IsJudged : Query → List ℕ → Status → Answer → Type 0
-IsJudged q bytes NotJson a = ReadsUnit bytes (Err text.NotJson) × (a ≡ Nothing)
-IsJudged q bytes (NotUnit pointer rule) a = ReadsUnit bytes (Err (text.NotUnit pointer rule)) × (a ≡ Nothing)
-IsJudged q bytes Memory a = a ≡ Nothing
-IsJudged q bytes status a = (u : HirUnit) × UnitReading bytes u × IsChecked q u status a
+-- the parts of the whole input: where a certificate is asked about, the unit before the first newline and the certificate behind it; else the unit alone
+abbrev pub parts_of : Query → List ℕ → List ℕ × List ℕ
+parts_of Acceptance bytes = input_parts bytes
+parts_of q bytes = (bytes, [])
+
+-- what the unit's part of the input leads to: it is no JSON, or JSON of no unit, or that of one
+abbrev pub IsJudged : Query → List ℕ × List ℕ → Status → Answer → Type 0
+IsJudged q parts NotJson a = ReadsUnit parts.0 (Err text.NotJson) × (a ≡ Nothing)
+IsJudged q parts (NotUnit pointer rule) a = ReadsUnit parts.0 (Err (text.NotUnit pointer rule)) × (a ≡ Nothing)
+IsJudged q parts Memory a = a ≡ Nothing
+IsJudged q parts status a = (u : HirUnit) × UnitReading parts.0 u × IsChecked q parts.1 u status a
 
 -- What a source leads to. `known` is what it had at the call, where that is known, and `failed` says that its count of faults
 -- rose.
@@ -107,7 +131,7 @@ abbrev pub IsRead : Query → Option (List ℕ) → Type 0 → Status → Answer
 IsRead q known failed ReadFault a = failed × (a ≡ Nothing)
 IsRead q known failed TooLong a = IfKnown known (λ all. greatest_input < length all) × (a ≡ Nothing)
 IsRead q known failed Memory a = a ≡ Nothing
-IsRead q known failed status a = (bytes : List ℕ) × IsAllOf known bytes × (length bytes ≤ greatest_input) × IsJudged q bytes status a
+IsRead q known failed status a = (bytes : List ℕ) × IsAllOf known bytes × (length bytes ≤ greatest_input) × IsJudged q (parts_of q bytes) status a
 
 -- What the words and a source lead to, before anything is written: `asked` is the command of the words, where they are one. A made unit keeps the rules, so
 -- none of them refuses it.
@@ -115,6 +139,7 @@ unfoldable pub IsFound : Option Command → Option (List ℕ) → Type 0 → Sta
 IsFound None known failed status a = (status ≡ Words) × (a ≡ Nothing)
 IsFound (Some Infer) known failed status a = IsRead Inference known failed status a
 IsFound (Some Certify) known failed status a = IsRead Inference known failed status a
+IsFound (Some Check) known failed status a = IsRead Acceptance known failed status a
 IsFound (Some Lint) known failed status a = IsRead Lints known failed status a
 IsFound (Some (Explain f id)) known failed status a = IsRead (Explanation f id) known failed status a
 IsFound (Some Plain) known failed status a = IsRead Plainness known failed status a
@@ -128,6 +153,8 @@ Leaves Done left = IsAtEnd left
 Leaves NotJson left = IsAtEnd left
 Leaves (NotUnit pointer rule) left = IsAtEnd left
 Leaves (Unfit fault) left = IsAtEnd left
+Leaves (BadLine number) left = IsAtEnd left
+Leaves (Rejected fault) left = IsAtEnd left
 Leaves (PlainRefused fault) left = IsAtEnd left
 Leaves (Refused error) left = IsAtEnd left
 Leaves NotHere left = IsAtEnd left

@@ -9,7 +9,7 @@ use Rattle.alias_read.specs.Units.{UnitReading}
 use Rattle.alias_text.specs.declared.detail.Detail.{Detail}
 use Rattle.alias_text.specs.declared.detail.Detail.TheVariants as detail
 use Rattle.alias_run.specs.declared.command.Command.{Command}
-use Rattle.alias_run.specs.declared.command.Command.TheVariants.{Infer, Certify, Lint, Explain, Plain, Made, Help, Version}
+use Rattle.alias_run.specs.declared.command.Command.TheVariants.{Infer, Certify, Check, Lint, Explain, Plain, Made, Help, Version}
 use Rattle.alias_run.specs.declared.status.Status.{Status}
 use Rattle.alias_run.specs.declared.status.Status.TheVariants.{Done, WriteFault, Memory}
 use Rattle.alias_run.specs.declared.answer.Answer.{Answer}
@@ -18,8 +18,8 @@ use Rattle.alias_nested.specs.Analysis.{Analysed, SolvesItsFlow}
 use Rattle.alias_nested.specs.Units.{unit_analysed}
 use Rattle.alias_inferred_laws.specs.Solutions.{SolutionsAreCarried}
 use Rattle.alias_run.specs.declared.query.Query.{Query}
-use Rattle.alias_run.specs.declared.query.Query.TheVariants.{Lints, Explanation, Plainness}
-use Rattle.alias_run.specs.Findings.{IsFound, IsAnswered}
+use Rattle.alias_run.specs.declared.query.Query.TheVariants.{Acceptance, Lints, Explanation, Plainness}
+use Rattle.alias_run.specs.Findings.{parts_of, IsFound, IsAnswered}
 use Rattle.alias_run.specs.Inferences.{TellsItsWrites}
 use Rattle.alias_run.specs.Texts.{text_of, answer_text, inferred_text, help_text, version_text}
 
@@ -47,17 +47,22 @@ IsInferredOf IsInput printed held held' a = ⊥
 abbrev pub IsUnitOf : Option (List ℕ) → HirUnit → Type 0
 IsUnitOf known u = IfKnown known (λ bytes. UnitReading bytes u)
 
--- Where something else was asked about a unit: the unit is the one that was read; it keeps the rules; the query is answered of it; and the sink got the text of the
--- answer.
+-- the same of a unit and what is to be its certificate: these are the parts of what the source had
+abbrev pub ArePartsOf : Query → Option (List ℕ) → HirUnit → List ℕ → Type 0
+ArePartsOf q known u certificate = IfKnown known (λ bytes. UnitReading (parts_of q bytes).0 u × ((parts_of q bytes).1 ≡ certificate))
+
+-- Where something else was asked about a unit: the unit is the one that was read, and so is what is to be its certificate; it keeps the rules; the query is answered of
+-- it; and the sink got the text of the answer.
 abbrev pub IsAnsweredOf : Query → Option (List ℕ) → Option (List ℕ) → Option (List ℕ) → Answer → Type 0
 IsAnsweredOf q known held held' a =
-    (u : HirUnit) × IsUnitOf known u × (rules_hold u ≡ Ok tt) × IsAnswered q u Done a × Adds held (answer_text detail.Infer Done a) held'
+    (u : HirUnit) × (certificate : List ℕ) × ArePartsOf q known u certificate × (rules_hold u ≡ Ok tt) × IsAnswered q certificate u Done a × Adds held (answer_text detail.Infer Done a) held'
 
 -- What status Done means, by the command: the unit that was read was inferred, or the one that was made; or the sink got what the program tells of itself.
 abbrev pub IsDone : Option Command → Option (List ℕ) → Option (List ℕ) → Option (List ℕ) → Answer → Type 0
 IsDone None known held held' a = ⊥
 IsDone (Some Infer) known held held' a = IsInferredOf (IsUnitOf known) detail.Infer held held' a
 IsDone (Some Certify) known held held' a = IsInferredOf (IsUnitOf known) detail.Certify held held' a
+IsDone (Some Check) known held held' a = IsAnsweredOf Acceptance known held held' a
 IsDone (Some Lint) known held held' a = IsAnsweredOf Lints known held held' a
 IsDone (Some (Explain f id)) known held held' a = IsAnsweredOf (Explanation f id) known held held' a
 IsDone (Some Plain) known held held' a = IsAnsweredOf Plainness known held held' a

@@ -2,6 +2,11 @@
 use Rattle.std.specs.Prelude.{ℕ, List, [], codes}
 use Rattle.alias_hir.specs.declared.error.InferError.{InferError}
 use Rattle.alias_hir.specs.declared.error.InferError.TheVariants as infer
+use Rattle.alias_cert_text.specs.declared.fault.CertFault.{CertFault}
+use Rattle.alias_cert_text.specs.declared.fault.CertFault.TheVariants as text_fault
+use Rattle.alias_certificate.specs.declared.fault.CheckFault.{CheckFault}
+use Rattle.alias_certificate.specs.declared.fault.CheckFault.TheVariants as check
+use Rattle.alias_cert_lines.specs.CheckLines.{rejected_text}
 use Rattle.alias_explain.specs.declared.explain.ExplainFault.{ExplainFault}
 use Rattle.alias_explain.specs.declared.explain.ExplainFault.TheVariants as explain
 use Rattle.alias_plain_laws.specs.declared.answer.PlainFault.{PlainFault}
@@ -15,9 +20,9 @@ use Rattle.alias_stream.specs.declared.sink.SinkStop.{SinkStop}
 use Rattle.alias_stream.specs.declared.sink.SinkStop.TheVariants as sink
 use Rattle.alias_stream.specs.declared.whole.ReadStop.{ReadStop}
 use Rattle.alias_stream.specs.declared.whole.ReadStop.TheVariants as read
-use Rattle.alias_text.specs.Refusals.{refused_text, unfit_text, not_unit_text}
+use Rattle.alias_text.specs.Refusals.{number_text, refused_text, unfit_text, not_unit_text}
 use Rattle.alias_run.specs.declared.status.Status.{Status}
-use Rattle.alias_run.specs.declared.status.Status.TheVariants.{Done, Words, NotJson, NotUnit, Unfit, PlainRefused, Refused, NotHere, ReadFault, WriteFault, TooLong, Memory}
+use Rattle.alias_run.specs.declared.status.Status.TheVariants.{Done, Words, NotJson, NotUnit, Unfit, BadLine, Rejected, PlainRefused, Refused, NotHere, ReadFault, WriteFault, TooLong, Memory}
 
 -- ---- faults. Want of memory has one status, wherever it comes
 
@@ -34,6 +39,14 @@ text_status (text.Memory e) = Memory
 abbrev pub unit_status : UnitFault → Status
 unit_status (unit.Memory e) = Memory
 unit_status fault = Unfit fault
+
+abbrev pub cert_status : CertFault → Status
+cert_status (text_fault.BadLine number) = BadLine number
+cert_status (text_fault.Memory e) = Memory
+
+abbrev pub check_status : CheckFault → Status
+check_status (check.Memory e) = Memory
+check_status fault = Rejected fault
 
 abbrev pub infer_status : InferError → Status
 infer_status (infer.Memory e) = Memory
@@ -65,6 +78,8 @@ status_code ReadFault = 7
 status_code WriteFault = 8
 status_code TooLong = 9
 status_code Memory = 10
+status_code (BadLine number) = 12
+status_code (Rejected fault) = 13
 status_code NotHere = 14
 status_code (PlainRefused fault) = 15
 
@@ -75,6 +90,8 @@ refusal_line Words = codes "refused Words\n"
 refusal_line NotJson = codes "refused NotJson\n"
 refusal_line (NotUnit pointer rule) = not_unit_text pointer rule
 refusal_line (Unfit fault) = unfit_text fault
+refusal_line (BadLine number) = number_text (codes "BadLine") number
+refusal_line (Rejected fault) = rejected_text fault
 refusal_line (PlainRefused fault) = plain_refusal_text fault
 refusal_line (Refused error) = refused_text error
 refusal_line NotHere = codes "refused NotHere\n"

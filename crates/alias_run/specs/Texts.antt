@@ -1,14 +1,16 @@
 -- The text that a run writes.
-use Rattle.std.specs.Prelude.{ℕ, List, ◌++◌, Option, Some, None, codes}
+use Rattle.std.specs.Prelude.{ℕ, List, ◌++◌, length, Option, Some, None, codes}
 use Rattle.alias_text.specs.declared.detail.Detail.{Detail}
 use Rattle.alias_text.specs.declared.detail.Detail.TheVariants as detail
 use Rattle.alias_text.specs.Results.{result_text}
 use Rattle.alias_nested.specs.declared.infer.Inferred.{Inferred as UnitInference}
 use Rattle.alias_run.specs.declared.answer.Answer.{Answer}
-use Rattle.alias_run.specs.declared.answer.Answer.TheVariants.{Nothing, Inferred, Linted, Explained, Decided}
+use Rattle.alias_run.specs.declared.answer.Answer.TheVariants.{Nothing, Inferred, Accepted, Linted, Explained, Decided}
 use Rattle.alias_run.specs.declared.command.Command.{Command}
-use Rattle.alias_run.specs.declared.command.Command.TheVariants.{Infer, Certify, Lint, Explain, Plain, Made, Help, Version}
+use Rattle.alias_run.specs.declared.command.Command.TheVariants.{Infer, Certify, Check, Lint, Explain, Plain, Made, Help, Version}
 use Rattle.alias_run.specs.declared.status.Status.{Status}
+use Rattle.alias_cert.specs.declared.check.Accepted.{Accepted as AcceptedUnit}
+use Rattle.alias_cert_lines.specs.CheckLines.{accepted_text as functions_accepted}
 use Rattle.alias_lint_text.specs.Lints.{lints_text}
 use Rattle.alias_lint_text.specs.Explanations.{explanation_text}
 use Rattle.alias_plain_text.specs.Lines.{plainness_text}
@@ -21,6 +23,8 @@ commands_text =
     ++ codes "\n"
     ++ codes "  jirrambeo infer < unit.json     writes what is inferred of a unit\n"
     ++ codes "  jirrambeo certify < unit.json   writes also what a checker of it needs\n"
+    ++ codes "  jirrambeo check                 reads a unit, a newline and what certify writes of it,\n"
+    ++ codes "                                  and writes whether that is a certificate of the unit\n"
     ++ codes "  jirrambeo lint < unit.json      writes each report with the place that it comes from\n"
     ++ codes "  jirrambeo explain <function> <identifier> < unit.json\n"
     ++ codes "                                  writes why a range ends where it does\n"
@@ -46,6 +50,8 @@ statuses_text =
     ++ codes "  8   the output can't be written\n"
     ++ codes "  9   the input is too long\n"
     ++ codes "  10  memory ran out\n"
+    ++ codes "  12  a line of the certificate isn't in the grammar\n"
+    ++ codes "  13  the certificate isn't one of the unit\n"
     ++ codes "  14  the identifier doesn't stand in that function\n"
     ++ codes "  15  it isn't known whether the unit is plain\n"
     ++ codes "\n"
@@ -63,10 +69,15 @@ version_text = codes "jirrambeo 0.1.0\n"
 abbrev pub inferred_text : Detail → UnitInference → List ℕ
 inferred_text printed i = result_text printed i.unit i.solved i.summary i.reports
 
+-- how many functions a certificate has that is accepted
+abbrev pub accepted_text : AcceptedUnit → List ℕ
+accepted_text a = functions_accepted (length a.solved)
+
 -- the answer, where there is one, and else the line of the refusal
 abbrev pub answer_text : Detail → Status → Answer → List ℕ
 answer_text printed status Nothing = refusal_line status
 answer_text printed status (Inferred i) = inferred_text printed i
+answer_text printed status (Accepted a) = accepted_text a
 answer_text printed status (Linted ls) = lints_text ls
 answer_text printed status (Explained e) = explanation_text e
 answer_text printed status (Decided p) = plainness_text p
@@ -76,6 +87,7 @@ abbrev pub text_of : Option Command → Status → Answer → List ℕ
 text_of None status a = refusal_line status
 text_of (Some Infer) status a = answer_text detail.Infer status a
 text_of (Some Certify) status a = answer_text detail.Certify status a
+text_of (Some Check) status a = answer_text detail.Infer status a
 text_of (Some Lint) status a = answer_text detail.Infer status a
 text_of (Some (Explain f id)) status a = answer_text detail.Infer status a
 text_of (Some Plain) status a = answer_text detail.Infer status a

@@ -1,5 +1,6 @@
 //! What a run answers.
 use alias_base::List;
+use alias_cert::Accepted;
 use alias_explain::Explanation;
 use alias_lint::Lint;
 use alias_nested::Inferred;
@@ -12,6 +13,8 @@ pub enum Answer {
     Nothing,
     /// What was inferred of a unit.
     Inferred(Inferred),
+    /// The unit whose certificate is accepted, with what is solved of its functions.
+    Accepted(Accepted),
     /// The reports on a unit, each with the place that it comes from.
     Linted(List<Lint>),
     /// Why a range ends where it does.

@@ -6,7 +6,7 @@ ghost use Rattle.alias_rules.specs.Fitting.{function_fits};
 ghost use Rattle.alias_stream.specs.Streams.{HasFailed};
 ghost use Rattle.alias_made.specs.Units.{made_unit as unit_of};
 ghost use Rattle.alias_run.specs.Commands.{reads, IsSized};
-ghost use Rattle.alias_run.specs.Findings.{IsFound, IsRead, IsJudged, IsChecked, IsAnswered, IsInferred, IsLinted, IsLintedOf, IsExplained, IsExplainedOf, IsDecided, IsFit, Leaves};
+ghost use Rattle.alias_run.specs.Findings.{parts_of, IsFound, IsRead, IsJudged, IsChecked, IsAnswered, IsInferred, IsAccepted, IsAcceptedOf, IsLinted, IsLintedOf, IsExplained, IsExplainedOf, IsDecided, IsFit, Leaves};
 
 use crate::answer::Answer;
 use crate::command::Command;
@@ -14,6 +14,9 @@ use crate::outcome::{Outcome, done, ended};
 use crate::query::Query;
 use crate::status::Status;
 use alias_base::{FunctionId, IdentifierId};
+use alias_cert::check_certificate;
+use alias_cert_text::{read_certificate, unit_and_certificate};
+use alias_certificate::Certificate;
 use alias_explain::explain_range;
 use alias_hir::env::Unit;
 use alias_inner_passes::KeepAll;
@@ -34,6 +37,26 @@ fn infer_checked(alloc: Global, unit: Checked) -> Outcome
     match infer_unit(alloc, unit, &mut passes) {
         Ok(inferred) => done(Answer::Inferred(inferred)),
         Err(error) => ended(Status::from(error)),
+    }
+}
+
+/// Whether a certificate is one of the unit.
+fn accept_certificate(alloc: Global, unit: Checked, certificate: &Certificate) -> Outcome
+    ensures { IsAcceptedOf certificate.now unit result.status result.answer }
+{
+    match check_certificate(alloc, unit, certificate) {
+        Ok(accepted) => done(Answer::Accepted(accepted)),
+        Err(fault) => ended(Status::from(fault)),
+    }
+}
+
+/// Whether a text is a certificate of the unit.
+fn accept_checked(alloc: Global, unit: Checked, text: &[u8]) -> Outcome
+    ensures { IsAccepted text.now unit result.status result.answer }
+{
+    match read_certificate(alloc, text) {
+        Ok(certificate) => accept_certificate(alloc, unit, &certificate),
+        Err(fault) => ended(Status::from(fault)),
     }
 }
 
@@ -105,12 +128,13 @@ fn decide_checked(alloc: Global, unit: Checked) -> Outcome
     }
 }
 
-/// What a unit that keeps the rules leads to, by what is asked about it.
-fn answer(alloc: Global, query: Query, unit: Checked) -> Outcome
-    ensures { IsAnswered query unit result.status result.answer }
+/// What a unit that keeps the rules leads to, by what is asked about it, where the text is to be its certificate.
+fn answer(alloc: Global, query: Query, unit: Checked, certificate: &[u8]) -> Outcome
+    ensures { IsAnswered query certificate.now unit result.status result.answer }
 {
     match query {
         Query::Inference => infer_checked(alloc, unit),
+        Query::Acceptance => accept_checked(alloc, unit, certificate),
         Query::Lints => lint_checked(alloc, unit),
         Query::Explanation {
             function,
@@ -121,23 +145,41 @@ fn answer(alloc: Global, query: Query, unit: Checked) -> Outcome
 }
 
 /// What a unit leads to.
-fn judge_unit(alloc: Global, query: Query, unit: Unit) -> Outcome
-    ensures { IsChecked query unit result.status result.answer }
+fn judge_unit(alloc: Global, query: Query, unit: Unit, certificate: &[u8]) -> Outcome
+    ensures { IsChecked query certificate.now unit result.status result.answer }
 {
     match check_unit(alloc, unit) {
-        Ok(checked) => answer(alloc, query, checked),
+        Ok(checked) => answer(alloc, query, checked, certificate),
+        Err(fault) => ended(Status::from(fault)),
+    }
+}
+
+/// The bytes of the unit in the whole input, and those of what is to be its certificate.
+fn parts_of(query: Query, bytes: &[u8]) -> (&[u8], &[u8])
+    ensures { (result.0.now, result.1.now) ≡ parts_of query bytes.now }
+{
+    match query {
+        Query::Acceptance => unit_and_certificate(bytes),
+        _ => (bytes, &[]),
+    }
+}
+
+/// What the unit's part of the input leads to.
+fn judge(alloc: Global, query: Query, unit: &[u8], certificate: &[u8]) -> Outcome
+    ensures { IsJudged query (unit.now, certificate.now) result.status result.answer }
+{
+    match read_unit(alloc, unit) {
+        Ok(read) => judge_unit(alloc, query, read, certificate),
         Err(fault) => ended(Status::from(fault)),
     }
 }
 
 /// What the bytes of the whole input lead to.
-fn judge(alloc: Global, query: Query, bytes: &[u8]) -> Outcome
-    ensures { IsJudged query bytes.now result.status result.answer }
+fn judge_whole(alloc: Global, query: Query, bytes: &[u8]) -> Outcome
+    ensures { IsJudged query (parts_of query bytes.now) result.status result.answer }
 {
-    match read_unit(alloc, bytes) {
-        Ok(unit) => judge_unit(alloc, query, unit),
-        Err(fault) => ended(Status::from(fault)),
-    }
+    let (unit, certificate) = parts_of(query, bytes);
+    judge(alloc, query, unit, certificate)
 }
 
 /// What a source leads to, read to its end.
@@ -147,7 +189,7 @@ fn ask_source<S: Source>(alloc: Global, query: Query, source: &mut S) -> Outcome
     ensures faults { S.faults source.old ≤ S.faults source.new }
 {
     match read_whole(alloc, source) {
-        Ok(bytes) => judge(alloc, query, bytes.as_slice()),
+        Ok(bytes) => judge_whole(alloc, query, bytes.as_slice()),
         Err(stop) => ended(Status::from(stop)),
     }
 }
@@ -159,7 +201,7 @@ fn infer_made(alloc: Global, seed: u64, size: u32) -> Outcome
     ensures { IsFit (unit_of seed size) result.status result.answer }
 {
     match made_unit(alloc, seed, size) {
-        Ok(unit) => judge_unit(alloc, Query::Inference, unit),
+        Ok(unit) => judge_unit(alloc, Query::Inference, unit, &[]),
         Err(_) => ended(Status::Memory),
     }
 }
@@ -176,6 +218,7 @@ pub(crate) fn find<S: Source>(alloc: Global, asked: Option<Command>, source: &mu
     match asked {
         None => ended(Status::Words),
         Some(Command::Infer | Command::Certify) => ask_source(alloc, Query::Inference, source),
+        Some(Command::Check) => ask_source(alloc, Query::Acceptance, source),
         Some(Command::Lint) => ask_source(alloc, Query::Lints, source),
         Some(
             Command::Explain {

@@ -11,6 +11,7 @@ pub mod status;
 mod telling;
 pub mod text;
 
+pub use alias_cert::Accepted;
 pub use alias_nested::{Inferred, infer_unit};
 pub use alias_text::Detail;
 pub use alias_text::effects::print_effect;
@@ -21,4 +22,6 @@ pub use outcome::Outcome;
 pub use query::Query;
 pub use run::run_alias;
 pub use status::Status;
-pub use text::{print_explanation, print_inferred, print_lints, print_plainness, print_refusal};
+pub use text::{
+    print_accepted, print_explanation, print_inferred, print_lints, print_plainness, print_refusal,
+};

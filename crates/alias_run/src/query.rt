@@ -6,6 +6,8 @@ use alias_base::{FunctionId, IdentifierId};
 pub enum Query {
     /// What is inferred of it.
     Inference,
+    /// Whether what follows it in the input is a certificate of it.
+    Acceptance,
     /// The reports on it, each with the place that it comes from.
     Lints,
     /// Why the range of an identifier ends where it does. `None` is the root.

@@ -1,9 +1,11 @@
 //! How a run ends.
 ghost use Rattle.std.specs.Prelude.{◌≡◌};
 ghost use Rattle.alias_run.specs.Explanations.{explanation};
-ghost use Rattle.alias_run.specs.Statuses.{status_code, read_status, text_status, unit_status, infer_status, explain_status, plain_status, write_status};
+ghost use Rattle.alias_run.specs.Statuses.{status_code, read_status, text_status, unit_status, cert_status, check_status, infer_status, explain_status, plain_status, write_status};
 
 use alias_base::Text;
+use alias_cert_text::CertFault;
+use alias_certificate::CheckFault;
 use alias_explain::ExplainFault;
 use alias_function_rules::fault::UnitFault;
 use alias_hir::error::InferError;
@@ -26,6 +28,10 @@ pub enum Status {
     NotUnit { pointer: Text, rule: TextRule },
     /// The unit breaks this rule first.
     Unfit(UnitFault),
+    /// The line of the certificate with this number, from 1, is the first that isn't in the grammar.
+    BadLine(usize),
+    /// The certificate isn't accepted, for this reason first.
+    Rejected(CheckFault),
     /// It isn't known whether the unit is plain.
     PlainRefused(PlainFault),
     /// The inference refuses the unit.
@@ -58,6 +64,8 @@ impl Status {
             Status::WriteFault => 8,
             Status::TooLong => 9,
             Status::Memory => 10,
+            Status::BadLine(_) => 12,
+            Status::Rejected(_) => 13,
             Status::NotHere => 14,
             Status::PlainRefused(_) => 15,
         }
@@ -78,6 +86,12 @@ impl Status {
             }
             Status::Unfit(_) => {
                 "the unit breaks the rule of this number: see docs/FORMAT.md, The rules of a well-formed unit"
+            }
+            Status::BadLine(_) => {
+                "the line of this number of the certificate isn't in the grammar: see docs/FORMAT.md, Certificates"
+            }
+            Status::Rejected(_) => {
+                "the certificate isn't one of the unit: see docs/FORMAT.md, Certificates"
             }
             Status::PlainRefused(_) => {
                 "it isn't known whether the unit is plain: see docs/FORMAT.md, Statuses"
@@ -130,6 +144,30 @@ impl From<UnitFault> for Status {
         match fault {
             UnitFault::Memory(_) => Status::Memory,
             broken => Status::Unfit(broken),
+        }
+    }
+}
+
+/// The status of a text that is no certificate.
+impl From<CertFault> for Status {
+    ghost from_gives = { λ fault status. status ≡ cert_status fault };
+
+    fn from(fault: CertFault) -> Status {
+        match fault {
+            CertFault::BadLine { number } => Status::BadLine(number),
+            CertFault::Memory(_) => Status::Memory,
+        }
+    }
+}
+
+/// The status of a certificate that isn't accepted.
+impl From<CheckFault> for Status {
+    ghost from_gives = { λ fault status. status ≡ check_status fault };
+
+    fn from(fault: CheckFault) -> Status {
+        match fault {
+            CheckFault::Memory(_) => Status::Memory,
+            rejected => Status::Rejected(rejected),
         }
     }
 }

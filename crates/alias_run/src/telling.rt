@@ -11,6 +11,8 @@ jirrambeo infers what code may alias, freeze and write.
 
   jirrambeo infer < unit.json     writes what is inferred of a unit
   jirrambeo certify < unit.json   writes also what a checker of it needs
+  jirrambeo check                 reads a unit, a newline and what certify writes of it,
+                                  and writes whether that is a certificate of the unit
   jirrambeo lint < unit.json      writes each report with the place that it comes from
   jirrambeo explain <function> <identifier> < unit.json
                                   writes why a range ends where it does
@@ -36,6 +38,8 @@ It ends with one of these statuses:
   8   the output can't be written
   9   the input is too long
   10  memory ran out
+  12  a line of the certificate isn't in the grammar
+  13  the certificate isn't one of the unit
   14  the identifier doesn't stand in that function
   15  it isn't known whether the unit is plain
 

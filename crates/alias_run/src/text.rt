@@ -4,7 +4,7 @@ ghost use Rattle.alias_lint_text.specs.Explanations.{explanation_text};
 ghost use Rattle.alias_lint_text.specs.Lints.{lints_text};
 ghost use Rattle.alias_plain_text.specs.Lines.{plainness_text};
 ghost use Rattle.alias_run.specs.Statuses.{refusal_line};
-ghost use Rattle.alias_run.specs.Texts.{inferred_text, answer_text, text_of};
+ghost use Rattle.alias_run.specs.Texts.{inferred_text, accepted_text, answer_text, text_of};
 
 use crate::answer::Answer;
 use crate::command::Command;
@@ -12,6 +12,8 @@ use crate::outcome::Outcome;
 use crate::status::Status;
 use crate::telling::{VERSION, help};
 use alias_base::Text;
+use alias_cert::Accepted;
+use alias_cert_lines::{push_accepted, push_bad_line, push_rejected};
 use alias_explain::Explanation;
 use alias_lint::Lint;
 use alias_lint_text::{push_explanation, push_lints};
@@ -33,6 +35,8 @@ pub fn push_refusal_line(alloc: Global, out: &mut Text, status: &Status) -> Resu
         Status::NotJson => out.push_str("refused NotJson\n"),
         Status::NotUnit { pointer, rule } => push_not_unit(alloc, out, pointer, *rule),
         Status::Unfit(fault) => push_unfit(out, *fault),
+        Status::BadLine(number) => push_bad_line(out, *number),
+        Status::Rejected(fault) => push_rejected(out, fault),
         Status::PlainRefused(fault) => push_plain_refusal(out, fault),
         Status::Refused(error) => push_refusal(out, error),
         Status::NotHere => out.push_str("refused NotHere\n"),
@@ -73,6 +77,15 @@ pub fn print_inferred(
     Ok(out)
 }
 
+/// How many functions a certificate has that is accepted, as docs/FORMAT.md describes it.
+pub fn print_accepted(alloc: Global, accepted: &Accepted) -> Result<Text, AllocError>
+    ensures { IfOk result (λ t. t ≡ accepted_text accepted.now) }
+{
+    let mut out = Text::new(alloc);
+    push_accepted(&mut out, accepted.solved.len())?;
+    Ok(out)
+}
+
 /// The reports on a unit, each with the place that it comes from, as docs/FORMAT.md describes them.
 pub fn print_lints(alloc: Global, lints: &[Lint]) -> Result<Text, AllocError>
     ensures { IfOk result (λ t. t ≡ lints_text lints.now) }
@@ -107,6 +120,7 @@ fn print_outcome(alloc: Global, outcome: &Outcome, detail: Detail) -> Result<Tex
     match &outcome.answer {
         Answer::Nothing => print_refusal(alloc, &outcome.status),
         Answer::Inferred(inferred) => print_inferred(alloc, inferred, detail),
+        Answer::Accepted(accepted) => print_accepted(alloc, accepted),
         Answer::Linted(lints) => print_lints(alloc, lints.as_slice()),
         Answer::Explained(explanation) => print_explanation(alloc, explanation),
         Answer::Decided(plainness) => print_plainness(alloc, *plainness),
@@ -125,7 +139,7 @@ pub(crate) fn text_of(
         None => print_refusal(alloc, &outcome.status),
         Some(Command::Infer) => print_outcome(alloc, outcome, Detail::Infer),
         Some(Command::Certify) => print_outcome(alloc, outcome, Detail::Certify),
-        Some(Command::Lint | Command::Explain { .. } | Command::Plain) => {
+        Some(Command::Check | Command::Lint | Command::Explain { .. } | Command::Plain) => {
             print_outcome(alloc, outcome, Detail::Infer)
         }
         Some(Command::Made { .. }) => print_outcome(alloc, outcome, Detail::Counts),

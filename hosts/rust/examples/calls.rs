@@ -1,12 +1,12 @@
 //! Makes every call on the unit of standard input from four threads, so often as the first argument says.
-use jirrambeo::{FunctionName, IdentifierId};
+use jirrambeo::{FunctionName, IdentifierId, Refusal};
 use std::error::Error;
 use std::io::{self, Read};
 use std::{env, thread};
 
 /// Every call once. Answers how many there were.
 fn all(unit: &[u8]) -> usize {
-    let mut count = 6;
+    let mut count = 7;
     let inference = jirrambeo::infer(unit).expect("an inference");
     let certificate = jirrambeo::certify(unit).expect("a certificate");
     for entry in &inference.ranges {
@@ -14,7 +14,11 @@ fn all(unit: &[u8]) -> usize {
         assert_eq!(why.expect("an explanation").range, entry.range);
         count += 1;
     }
-    let _ = jirrambeo::check(unit, &certificate.to_string());
+    let text = certificate.to_string();
+    let accepted = jirrambeo::check(unit, text.as_bytes()).expect("an accepted certificate");
+    assert_eq!(accepted.functions, inference.functions.len() as u64);
+    let broken = jirrambeo::check(unit, &text.as_bytes()[1..]);
+    assert_eq!(broken, Err(Refusal::BadLine { number: 1 }));
     let lints = jirrambeo::lint(unit).expect("lints");
     assert_eq!(lints.lints.len(), inference.reports.len());
     jirrambeo::plain(unit).expect("an answer");

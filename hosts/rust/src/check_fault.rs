@@ -5,23 +5,23 @@ use crate::lines::{Line, TextError};
 use crate::words::Counter;
 use std::fmt;
 
-/// Why a certificate isn't accepted for a unit: the first cause.
+/// Why a certificate isn't accepted for a unit: the first fault. docs/FORMAT.md, Certificates, has each by its number, with an example.
 #[derive(Clone, Copy, Debug, PartialEq, Eq, Hash)]
 pub enum CheckFault {
     /// 1: the function at this position of the certificate, from 0, is missing, is another, or is one too many.
     Functions { position: u64 },
     /// 2: the function's blocks aren't its reached blocks in stored order.
     Blocks { function: FunctionName },
-    /// 3: what is said of the block names what isn't there.
+    /// 3: what the block is said to be entered with names what isn't there, or a site of a variable has no value.
     State {
         function: FunctionName,
         block: BlockId,
     },
-    /// 4: the function's temporaries aren't those that it may add.
+    /// 4: the key of a temporary stands twice or names what isn't there, or the identifiers aren't the next new numbers in order.
     Temporaries { function: FunctionName },
-    /// 5: the initial state isn't below the entry's.
+    /// 5: the state that the function begins with isn't below what its entry is said to be entered with.
     Initial { function: FunctionName },
-    /// 6: the step of the block is refused.
+    /// 6: the step of the block is refused, or reads what has no value there.
     Step {
         function: FunctionName,
         block: BlockId,
@@ -36,20 +36,20 @@ pub enum CheckFault {
         function: FunctionName,
         block: BlockId,
     },
-    /// 9: what leaves the block isn't below what the successor is entered with.
+    /// 9: what the block is left with isn't below what the successor is said to be entered with.
     NotBelow {
         function: FunctionName,
         block: BlockId,
         successor: BlockId,
     },
-    /// 10: all edges of the function go to later blocks, and the block isn't entered with the join of what arrives.
+    /// 10: all edges of the function go to later blocks, and what the block is said to be entered with isn't the join of what arrives there.
     NotJoin {
         function: FunctionName,
         block: BlockId,
     },
     /// 11: the summary isn't the one that is told.
     Summary { function: FunctionName },
-    /// 12: no number is left.
+    /// 12: no number is left for a new identifier, a report, or a position of the alias graph.
     TooMany { which: Counter },
 }
 

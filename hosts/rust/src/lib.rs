@@ -76,27 +76,38 @@ pub fn certify(unit: &[u8]) -> Result<Certificate, Refusal> {
     answer("certify", unit)
 }
 
-/// Whether a certificate is accepted for a unit. The certificate is the text of a [`Certificate`], or what another inference claims in that format.
+/// Whether a certificate is accepted for a unit, without inferring anything anew. The certificate is the text of a [`Certificate`], or what anybody
+/// says in its place, in that format: docs/FORMAT.md, Certificates.
 ///
-/// The program has no command of this name yet: until it has, the answer is that the words are of no command.
+/// ```no_run
+/// let unit = std::fs::read("unit.json")?;
+/// let claimed = std::fs::read("unit.certificate")?;
+/// match jirrambeo::check(&unit, &claimed) {
+///     Ok(accepted) => println!("accepted; functions: {}", accepted.functions),
+///     Err(jirrambeo::Refusal::BadLine { number }) => println!("line {number} isn't one of a certificate"),
+///     Err(jirrambeo::Refusal::Rejected(fault)) => println!("not accepted: fault {fault}"),
+///     Err(refusal) => return Err(refusal.into()),
+/// }
+/// # Ok::<(), Box<dyn std::error::Error>>(())
+/// ```
 ///
 /// # Errors
 ///
-/// Where the unit is none, breaks a rule or is too long together with the certificate; where the certificate isn't in its grammar or isn't
-/// accepted, and where memory runs out.
-pub fn check(unit: &[u8], certificate: &str) -> Result<Accepted, Refusal> {
+/// Where the unit is none, breaks a rule or is too long together with the certificate; where the certificate isn't in its grammar
+/// ([`Refusal::BadLine`]) or isn't accepted ([`Refusal::Rejected`]), and where memory runs out.
+pub fn check(unit: &[u8], certificate: &[u8]) -> Result<Accepted, Refusal> {
     answer("check", &with_certificate(unit, certificate))
 }
 
 /// A unit and its certificate in one input, as `check` reads it. The first newline ends the unit, so those of the unit become carriage returns, which
 /// mean the same in JSON.
-fn with_certificate(unit: &[u8], certificate: &str) -> Vec<u8> {
+fn with_certificate(unit: &[u8], certificate: &[u8]) -> Vec<u8> {
     let mut input: Vec<u8> = unit
         .iter()
         .map(|byte| if *byte == b'\n' { b'\r' } else { *byte })
         .collect();
     input.push(b'\n');
-    input.extend_from_slice(certificate.as_bytes());
+    input.extend_from_slice(certificate);
     input
 }
 

@@ -29,12 +29,12 @@ pub enum Refusal {
     TooLong,
     /// 10: memory ran out.
     Memory,
-    /// 12: a line of the certificate isn't in its grammar: its number, from 1.
+    /// 12: a line of the certificate isn't in its grammar.
     BadLine {
-        /// The number, from 1.
+        /// The number of the first such line, from 1.
         number: u64,
     },
-    /// 13: the certificate isn't accepted for the unit.
+    /// 13: the certificate isn't one of the unit: the first fault.
     Rejected(CheckFault),
     /// 14: the identifier doesn't stand in the function that it was asked of.
     NotHere,
@@ -141,8 +141,10 @@ impl Refusal {
             Refusal::Refused(_) => "the unit can't be inferred",
             Refusal::TooLong => "the input has more than 16,777,216 bytes",
             Refusal::Memory => "memory ran out",
-            Refusal::BadLine { .. } => "the line of this number isn't one of a certificate",
-            Refusal::Rejected(_) => "the certificate isn't accepted for the unit",
+            Refusal::BadLine { .. } => {
+                "the line of this number of the certificate isn't in the grammar"
+            }
+            Refusal::Rejected(_) => "the certificate isn't one of the unit",
             Refusal::NotHere => {
                 "the identifier doesn't stand in that function, or is of its context"
             }
@@ -169,7 +171,7 @@ mod tests {
     use super::Refusal;
 
     /// A line of each form that docs/FORMAT.md has, with its status.
-    const LINES: [(u8, &str); 48] = [
+    const LINES: [(u8, &str); 52] = [
         (2, "Words"),
         (3, "NotJson"),
         (4, "NotUnit \"/root/a~1b\\\"\" Missing"),
@@ -210,9 +212,13 @@ mod tests {
         (13, "Rejected 1 0"),
         (13, "Rejected 2 root"),
         (13, "Rejected 3 root 1"),
+        (13, "Rejected 4 2"),
         (13, "Rejected 5 root"),
+        (13, "Rejected 6 root 0"),
+        (13, "Rejected 7 0 3"),
         (13, "Rejected 8 root 0"),
         (13, "Rejected 9 root 0 1"),
+        (13, "Rejected 10 root 1"),
         (13, "Rejected 11 4"),
         (13, "Rejected 12 GraphPositions"),
         (14, "NotHere"),
@@ -243,6 +249,17 @@ mod tests {
             (5, "refused Unfit 02 root\n"),
             (4, "refused NotUnit \"/a Kind\n"),
             (7, "refused ReadFault\n"),
+            (12, "refused BadLine\n"),
+            (12, "refused BadLine 3 1\n"),
+            (12, "refused Rejected 2 root\n"),
+            (13, "refused BadLine 3\n"),
+            (13, "refused Rejected 0 root\n"),
+            (13, "refused Rejected 13 root 0\n"),
+            (13, "refused Rejected 1 root\n"),
+            (13, "refused Rejected 3 root\n"),
+            (13, "refused Rejected 9 root 0\n"),
+            (13, "refused Rejected 11 root 0\n"),
+            (13, "refused Rejected 12 Functions\n"),
             (2, ""),
         ] {
             assert!(Refusal::read(status, text).is_err(), "{text}");

@@ -1,7 +1,7 @@
 //! Calls on small inputs, and what is told of them.
 use jirrambeo::{
-    Cause, Effect, FormatRule, FunctionName, IdentifierId, InstructionId, Order, Refusal, check,
-    explain, infer, lint, made, run,
+    Accepted, BlockId, Cause, CheckFault, Effect, FormatRule, FunctionName, IdentifierId,
+    InstructionId, Order, Refusal, certify, check, explain, infer, lint, made, run,
 };
 
 /// The component of README.md.
@@ -50,6 +50,63 @@ fn an_explanation_has_a_path() {
     );
 }
 
+/// What `check` says of the panel's certificate with this part for that one, which stands in it.
+fn checked_with(part: &str, other: &str) -> Result<Accepted, Refusal> {
+    let certificate = certify(PANEL).expect("the panel is inferred").to_string();
+    assert!(certificate.contains(part), "{part} in {certificate}");
+    check(PANEL, certificate.replacen(part, other, 1).as_bytes())
+}
+
+#[test]
+fn a_certificate_is_accepted_or_the_first_fault_is_told() {
+    let (function, block) = (FunctionName::Root, BlockId(0));
+    assert!(PANEL.contains(&b'\n'), "a unit may have newlines");
+    assert_eq!(
+        checked_with("visits ", "visits "),
+        Ok(Accepted { functions: 1 })
+    );
+    for (part, other, fault) in [
+        (
+            "0 Create 1 Mutable Other\n",
+            "",
+            CheckFault::Effects { function, block },
+        ),
+        ("block 1\n", "block 7\n", CheckFault::Blocks { function }),
+        (
+            "summary Create 0 Mutable",
+            "summary Create 0 Frozen",
+            CheckFault::Summary { function },
+        ),
+        (
+            "function root\n",
+            "function 0\n",
+            CheckFault::Functions { position: 0 },
+        ),
+    ] {
+        assert_eq!(checked_with(part, other), Err(Refusal::Rejected(fault)));
+    }
+    assert_eq!(
+        check(PANEL, b""),
+        Err(Refusal::Rejected(CheckFault::Functions { position: 0 }))
+    );
+}
+
+#[test]
+fn a_certificate_that_is_none_is_told_by_its_line() {
+    assert_eq!(
+        checked_with("block 0\n", "blok 0\n"),
+        Err(Refusal::BadLine { number: 3 })
+    );
+    assert_eq!(
+        check(PANEL, b"function root\n\xff\n"),
+        Err(Refusal::BadLine { number: 2 })
+    );
+    assert_eq!(
+        check(b"{}\n", b"x").map_err(|refusal| refusal.status()),
+        Err(4)
+    );
+}
+
 #[test]
 fn a_refusal_tells_its_data() {
     assert_eq!(infer(b""), Err(Refusal::NotJson));
@@ -66,5 +123,6 @@ fn a_refusal_tells_its_data() {
     assert_eq!(infer(&vec![b' '; 16_777_217]), Err(Refusal::TooLong));
     assert_eq!(made(1, 1001), Err(Refusal::Words));
     assert_eq!(run("", b""), (2, "refused Words\n".to_owned()));
-    assert!(check(b"", "").is_err());
+    assert_eq!(check(b"", b""), Err(Refusal::NotJson));
+    assert_eq!(check(PANEL, &vec![b' '; 16_777_216]), Err(Refusal::TooLong));
 }

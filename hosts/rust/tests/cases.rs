@@ -4,7 +4,7 @@ use jirrambeo::{
     plain, run,
 };
 use std::str::FromStr;
-use std::{env, fs, str, thread};
+use std::{env, fs, thread};
 
 struct Case {
     words: String,
@@ -69,8 +69,7 @@ fn printed_back(case: &Case) -> Option<Result<String, Refusal>> {
         ["plain"] => text_of(plain(&case.input)),
         ["check"] => {
             let cut = case.input.iter().position(|byte| *byte == b'\n')?;
-            let certificate = str::from_utf8(&case.input[cut + 1..]).ok()?;
-            text_of(check(&case.input[..cut], certificate))
+            text_of(check(&case.input[..cut], &case.input[cut + 1..]))
         }
         ["explain", function, identifier] => {
             let identifier = IdentifierId(number_of(identifier)?);
@@ -113,6 +112,18 @@ fn what_a_call_answers_prints_back_as_its_text() {
         }
     }
     assert!(tried > 200);
+}
+
+#[test]
+fn what_certify_writes_is_accepted() {
+    for case in cases() {
+        if case.words == "certify" && case.status == 0 {
+            let certificate = certify(&case.input).expect("a certificate");
+            let accepted = check(&case.input, certificate.to_string().as_bytes())
+                .expect("what certify writes is accepted");
+            assert_eq!(accepted.functions, certificate.functions.len() as u64);
+        }
+    }
 }
 
 #[test]

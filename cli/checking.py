@@ -1,0 +1,44 @@
+"""`./jirrambeo check UNIT.json CERTIFICATE`: whether a certificate is accepted for a unit.
+
+The certificate is what `certify` writes of the unit, or what anybody says in its place. The program has one input, the unit in one line and the
+certificate behind it; this makes it of two files. Without files the program reads that input from standard input. The exit status is the
+program's."""
+import argparse
+import sys
+
+from cli.building import say
+from cli.program import answer, run
+
+
+def options(words):
+    parser = argparse.ArgumentParser(prog='jirrambeo check', description=__doc__, formatter_class=argparse.RawDescriptionHelpFormatter)
+    parser.add_argument('unit', metavar='UNIT.json')
+    parser.add_argument('certificate', metavar='CERTIFICATE', help='a file, or - for standard input')
+    return parser.parse_args(words)
+
+
+def read(path):
+    if path == '-':
+        return sys.stdin.buffer.read()
+    with open(path, 'rb') as file:
+        return file.read()
+
+
+def joined(unit, certificate):
+    """The program's input. The first newline ends the unit, so those of the unit become carriage returns, which mean the same in JSON."""
+    return unit.replace(b'\n', b'\r') + b'\n' + certificate
+
+
+def check(words):
+    """Prints whether the certificate is accepted. Answers the exit status."""
+    if not words:
+        return run(['check'])
+    given = options(words)
+    try:
+        data = joined(read(given.unit), read(given.certificate))
+    except OSError as error:
+        say('%s: %s' % (error.filename, error.strerror))
+        return 1
+    status, text = answer(['check'], data)
+    sys.stdout.buffer.write(text)
+    return status

@@ -1,0 +1,14 @@
+//! Entry states that are handed out.
+ghost use Rattle.alias_cert.specs.Known.{AreKnown};
+
+use alias_effects::BlockEntry;
+use alias_lattice::Lattice;
+
+/// Tells the prover that all entry states are proper. Does nothing.
+pub(crate) fn entries_known(entries: &[BlockEntry])
+    ensures { AreKnown entries.now }
+{
+    for entry in entries {
+        entry.state.known();
+    }
+}

@@ -1,0 +1,11 @@
+//! Checks whether a certificate is one of a unit: whether its entry states solve each function, with the effects, the
+//! temporaries and the summaries that it tells.
+#![tactic(auto)]
+
+pub mod check;
+mod entries;
+mod functions;
+mod nested;
+mod summaries;
+
+pub use check::{Accepted, check_certificate};
