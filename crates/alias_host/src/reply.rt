@@ -35,16 +35,22 @@ fn is_memory(status: &Status) -> bool
     matches!(status, Status::Memory)
 }
 
-/// The reply of a run that wrote this text. Where memory ran out it has none.
+/// The text that is kept of what a run wrote: none where memory ran out.
+fn text_kept(alloc: Global, status: &Status, text: Vec<u8>) -> Vec<u8>
+    ensures { result.items ≡ text_kept status.now text.items }
+{
+    if is_memory(status) {
+        return Vec::new(alloc);
+    }
+    text
+}
+
+/// The reply of a run that wrote this text.
 fn replied(alloc: Global, outcome: Outcome, text: Vec<u8>) -> Reply
     ensures status { result.status ≡ outcome.status }
     ensures text { result.text.items ≡ text_kept outcome.status text.items }
 {
-    let text = if is_memory(&outcome.status) {
-        Vec::new(alloc)
-    } else {
-        text
-    };
+    let text = text_kept(alloc, &outcome.status, text);
     Reply {
         status: outcome.status,
         text,

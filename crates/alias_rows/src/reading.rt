@@ -68,19 +68,19 @@ fn take(example: &mut Example, key: &str, value: &str) -> Result<()> {
 /// The examples of a text, in its order.
 pub fn examples(alloc: Global, text: &str) -> Result<Vec<Example>> {
     let mut examples = Vec::new(alloc);
-    let mut unit = "";
+    let mut unit = Text::new(alloc);
     for line in text.lines() {
         let Some((key, value)) = line.split_once(' ') else {
             continue;
         };
         if key == "unit" {
-            unit = value;
+            unit = Text::from_str(alloc, value)?;
         }
         if key == "example" {
             examples.push(Example::new(alloc, value)?)?;
         } else if let Some(example) = examples.last_mut() {
             if key == "same" {
-                example.input.push_str(unit)?;
+                example.input.push_str(unit.as_str())?;
             } else {
                 take(example, key, value)?;
             }

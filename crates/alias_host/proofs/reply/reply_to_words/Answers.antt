@@ -1,4 +1,3 @@
-use Rattle.std.proofs.Common.{sym, ap, Some}
 use Rattle.alias_run.specs.Commands.{command_of}
 use Rattle.alias_host.proofs.Replying.{replies_as}
 use Rattle.alias_host.proofs.reply.reply_to_words.Goals as goal
