@@ -206,7 +206,7 @@ end_comes env f (end.Solved w) = tt
 end_comes env f (end.Fault n c) = (block_refused env (block_at f.body.blocks n) c).1
 end_comes env f (end.NotSettled visits) = refl
 
-pass_comes : (env : Environment) (f : HirFunction) (b : Bool) → Passes (pass_end env f b)
+pub pass_comes : (env : Environment) (f : HirFunction) (b : Bool) → Passes (pass_end env f b)
 pass_comes env f b = end_comes env f (visits_end (context_of env f b))
 
 -- ---- the range pass
@@ -270,7 +270,7 @@ listed_comes f =
 abbrev pub Finished : HirFunction → Environment → Placed → Type 0
 Finished f env s = FunctionKnown s.0 × SameListing f s.0 × SlotsKeep env.functions s.1.functions
 
-range_comes : (b : Bool) (f : HirFunction) (env : Environment) → Comes (λ (r : Ranged). Finished f env r.after) (range_pass b f env)
+pub range_comes : (b : Bool) (f : HirFunction) (env : Environment) → Comes (λ (r : Ranged). Finished f env r.after) (range_pass b f env)
 range_comes b f env =
     avoids_then is_not_inferred (Answered {A = Listing}) (λ (r : Ranged). Finished f env r.after) (recorded f) _ (listed_comes f) (λ l p.
     let w : Walked = mutations_done (records b env) l env in

@@ -28,7 +28,7 @@ pub(crate) enum Ending {
 }
 
 /// The ending of a refusal.
-fn refused(error: &InferError) -> Ending {
+pub(crate) fn refused(error: &InferError) -> Ending {
     match error {
         InferError::PassFault { function, pass } => Ending::Failed(*function, *pass),
         InferError::Uninitialized { function, .. } => Ending::Uninitialized(*function),

@@ -1,9 +1,14 @@
 //! Tests of `infer_unit` and of the calls that analyse functions, on units with nested functions: the order in which they are inferred, at which
-//! call a pass of the caller runs on which function, and how often the logger is called. A crate of its own, so that `alias_nested` is proved once.
+//! call a pass of the caller runs on which function, what a pass that drops an instruction changes, and how often the logger is called. A crate of
+//! its own, so that `alias_nested` is proved once.
 #![tactic(auto)]
+
+pub mod dropping;
 
 #[cfg(test)]
 mod analyses;
+#[cfg(test)]
+mod changes;
 #[cfg(test)]
 mod endings;
 #[cfg(test)]

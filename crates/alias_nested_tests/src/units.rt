@@ -96,3 +96,26 @@ pub(crate) const NO_VALUE: &str = r#"{"format":1,"types":[{"kind":"Var"}],
 {"id":2,"lvalue":2,"value":{"kind":"FunctionExpression","function":0}},
 {"id":3,"lvalue":3,"value":{"kind":"CallExpression","callee":2,"args":[]}}],
 "blocks":[{"id":0,"instructions":[0,1,2],"terminal":{"kind":"Return","id":4,"value":3}}]}}"#;
+
+/// The root makes function 0. Function 0 makes function 1, which writes a property of identifier 8, then makes the object that
+/// 8 is, and returns function 1.
+pub(crate) const WRITES_LATER: &str = r#"{"format":1,"types":[{"kind":"Var"}],
+"identifiers":[
+{"declaration":0,"type":0},{"declaration":1,"type":0},{"declaration":2,"type":0},
+{"declaration":3,"type":0},{"declaration":4,"type":0},{"declaration":5,"type":0},
+{"declaration":6,"type":0},{"declaration":7,"type":0},{"declaration":8,"type":0}],
+"functions":[
+{"fn_type":"Other","returns":2,"entry":0,
+"instructions":[
+{"id":1,"lvalue":3,"value":{"kind":"FunctionExpression","function":1}},
+{"id":2,"lvalue":8,"value":{"kind":"ObjectExpression"}}],
+"blocks":[{"id":0,"instructions":[0,1],"terminal":{"kind":"Return","id":3,"value":3}}]},
+{"fn_type":"Other","context":[8],"returns":4,"entry":0,
+"instructions":[
+{"id":1,"lvalue":5,"value":{"kind":"Primitive"}},
+{"id":2,"lvalue":6,"value":{"kind":"PropertyStore","object":8,"property":"a","value":5}}],
+"blocks":[{"id":0,"instructions":[0,1],"terminal":{"kind":"Return","id":3,"value":5}}]}],
+"root":{"fn_type":"Other","returns":0,"entry":0,
+"instructions":[
+{"id":1,"lvalue":1,"value":{"kind":"FunctionExpression","function":0}}],
+"blocks":[{"id":0,"instructions":[0],"terminal":{"kind":"Return","id":2,"value":1}}]}}"#;

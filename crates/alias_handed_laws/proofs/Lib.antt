@@ -1,0 +1,2 @@
+pub mod Preceding
+pub mod Handing

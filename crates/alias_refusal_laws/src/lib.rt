@@ -1,0 +1,4 @@
+//! Which refusals never come of an analysis, whatever the passes of the caller change.
+#![tactic(auto)]
+
+pub mod laws;
