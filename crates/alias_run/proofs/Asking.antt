@@ -11,17 +11,20 @@ use Rattle.alias_hir.specs.declared.error.InferError.TheVariants as infer
 use Rattle.alias_explain.specs.Explanations.{explained, is_want_of_memory}
 use Rattle.alias_explain.specs.declared.explain.ExplainFault.{ExplainFault}
 use Rattle.alias_explain.specs.declared.explain.ExplainFault.TheVariants as explain
+use Rattle.alias_explain.specs.declared.explain.Explanation.{Explanation}
 use Rattle.alias_lint.specs.Lints.{lints_of}
 use Rattle.alias_lint.specs.Sites.{reports_of}
 use Rattle.alias_lint.specs.declared.sites.Lint.{Lint}
 use Rattle.alias_nested.specs.declared.infer.Inferred.{Inferred as UnitInference}
 use Rattle.alias_nested.specs.Units.{InfersUnit, unit_analysed}
 use Rattle.alias_rules.specs.Functions.{rules_hold}
+use Rattle.alias_cause_laws.proofs.Caused.{each_has_cause}
+use Rattle.alias_cause_laws.specs.Causes.{EachHasCause}
 use Rattle.alias_inferred_laws.proofs.Explaining.{never_too_many}
 use Rattle.alias_inferred_laws.proofs.Reporting.{unit_lints}
 use Rattle.alias_inferred_laws.specs.Explanations.{NeverTooMany}
 use Rattle.alias_inferred_laws.specs.Reports.{LintsAreReports}
-use Rattle.alias_run.specs.declared.answer.Answer.TheVariants.{Nothing, Linted}
+use Rattle.alias_run.specs.declared.answer.Answer.TheVariants.{Nothing, Linted, Explained}
 use Rattle.alias_run.specs.declared.outcome.Outcome.{Outcome}
 use Rattle.alias_run.specs.declared.status.Status.{Status}
 use Rattle.alias_run.specs.declared.status.Status.TheVariants.{Done}
@@ -53,6 +56,13 @@ lints_fault i e status o is s l h = subst (λ (z : Outcome). IsLintedOf i z.stat
 
 pub inferred_explained : (u v : HirUnit) (i : UnitInference) → v ≡ u → rules_hold v ≡ Ok tt → InfersUnit (unit_analysed u) (Ok i) → NeverTooMany i
 inferred_explained u v i same rules h = never_too_many u (record { functions = h.0; inferred = i }) (subst (λ z. rules_hold z ≡ Ok tt) same rules) h.1
+
+pub inferred_caused : (u v : HirUnit) (i : UnitInference) → v ≡ u → rules_hold v ≡ Ok tt → InfersUnit (unit_analysed u) (Ok i) → EachHasCause i
+inferred_caused u v i same rules h = each_has_cause u (record { functions = h.0; inferred = i }) (subst (λ z. rules_hold z ≡ Ok tt) same rules) h.1
+
+pub explanation_done : (f : Option FunctionId) (id : IdentifierId) (i : UnitInference) (e : Explanation) (o : Outcome) → o ≡ record { status = Done; answer = Explained e } → EachHasCause i
+    → Gives is_want_of_memory (explained i.unit f id) (Ok e) → IsExplainedOf f id i o.status o.answer
+explanation_done f id i e o is caused h = subst (λ (z : Outcome). IsExplainedOf f id i z.status z.answer) (sym is) (h, caused f id e h)
 
 not_refused : (f : Option FunctionId) (id : IdentifierId) (i : UnitInference) (e : ExplainFault) → NeverTooMany i → Gives is_want_of_memory (explained i.unit f id) (Err e) → IsExplainedOf f id i (explain_status e) Nothing
 not_refused f id i explain.NotHere n h = (h refl, refl)

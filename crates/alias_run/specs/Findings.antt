@@ -25,7 +25,9 @@ use Rattle.alias_base.specs.declared.ids.IdentifierId.{IdentifierId}
 use Rattle.alias_lint.specs.Lints.{lints_of}
 use Rattle.alias_lint.specs.Sites.{reports_of}
 use Rattle.alias_explain.specs.Explanations.{explained}
+use Rattle.alias_explain.specs.declared.cause.Cause.TheVariants.{NoCause}
 use Rattle.alias_explain.specs.declared.explain.ExplainFault.TheVariants as explain
+use Rattle.alias_explain.specs.declared.explain.Explanation.{Explanation as RangeExplanation}
 use Rattle.alias_plain_laws.specs.Answers.{answer_of, unit_end}
 use Rattle.alias_nested.specs.declared.infer.Inferred.{Inferred as UnitInference}
 use Rattle.alias_nested.specs.Analysis.{Analysed, SolvesItsFlow}
@@ -76,9 +78,13 @@ abbrev pub IsLinted : HirUnit → Status → Answer → Type 0
 IsLinted u Memory a = a ≡ Nothing
 IsLinted u status a = IsRefusedAs u status a ⊎ ((i : UnitInference) × Infers u i × IsLintedOf i status a)
 
+-- a range that is explained has a cause, or no end at all
+abbrev pub HasCause : RangeExplanation → Type 0
+HasCause e = e.cause ≡ NoCause → ⊥
+
 -- why the range of an identifier ends where it does in what was inferred
 abbrev pub IsExplainedOf : Option FunctionId → IdentifierId → UnitInference → Status → Answer → Type 0
-IsExplainedOf f id i Done (Explained e) = explained i.unit f id ≡ Ok e
+IsExplainedOf f id i Done (Explained e) = (explained i.unit f id ≡ Ok e) × HasCause e
 IsExplainedOf f id i NotHere a = (explained i.unit f id ≡ Err explain.NotHere) × (a ≡ Nothing)
 IsExplainedOf f id i Memory a = a ≡ Nothing
 IsExplainedOf f id i status a = ⊥

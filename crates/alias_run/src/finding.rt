@@ -1,5 +1,6 @@
 //! What the words and the input lead to, before anything is written.
 ghost use Rattle.std.specs.Prelude.{◌≡◌, ◌≤◌, true, false};
+ghost use Rattle.alias_cause_laws.specs.Causes.{EachHasCause};
 ghost use Rattle.alias_inferred_laws.specs.Explanations.{NeverTooMany};
 ghost use Rattle.alias_inferred_laws.specs.Reports.{LintsAreReports};
 ghost use Rattle.alias_rules.specs.Fitting.{function_fits};
@@ -92,7 +93,8 @@ fn explain_inferred(
     function: Option<FunctionId>,
     identifier: IdentifierId,
 ) -> Outcome
-    requires { NeverTooMany inferred.now }
+    requires numbered { NeverTooMany inferred.now }
+    requires caused { EachHasCause inferred.now }
     ensures { IsExplainedOf function identifier inferred.now result.status result.answer }
 {
     match explain_range(alloc, &inferred.unit, function, identifier) {

@@ -1,11 +1,16 @@
-use Rattle.alias_run.proofs.Asking.{inferred_explained}
+use Rattle.alias_run.proofs.Asking.{inferred_caused, inferred_explained}
 use Rattle.alias_run.proofs.Running.{explained_of}
 use Rattle.alias_run.proofs.finding.explain_checked.Goals as goal
 
-pub explain_inferred-requires : goal.explain_inferred-requires
-explain_inferred-requires c =
+pub explain_inferred-requires-clause-numbered : goal.explain_inferred-requires-clause-numbered
+explain_inferred-requires-clause-numbered c =
     let rules = c.unit-unit.ensures in
     inferred_explained c.args.unit c.unit-unit.result.now c.in-Ok.inferred rules.unit rules.checked c.in-Ok.ensures.answer
+
+pub explain_inferred-requires-clause-caused : goal.explain_inferred-requires-clause-caused
+explain_inferred-requires-clause-caused c =
+    let rules = c.unit-unit.ensures in
+    inferred_caused c.args.unit c.unit-unit.result.now c.in-Ok.inferred rules.unit rules.checked c.in-Ok.ensures.answer
 
 pub returns-in-Ok : goal.returns-in-Ok
 returns-in-Ok c =

@@ -1,0 +1,10 @@
+pub mod Alike
+pub mod Apart
+pub mod Below
+pub mod Caused
+pub mod Chain
+pub mod Ends
+pub mod Passes
+pub mod Ranges
+pub mod Recorded
+pub mod Walking

@@ -1,0 +1,4 @@
+//! Which ranges the range pass ends.
+#![tactic(auto)]
+
+pub mod laws;
