@@ -6,7 +6,8 @@ ghost use Rattle.alias_rules.specs.Functions.{rules_hold};
 ghost use Rattle.alias_plain_laws.specs.Answers.{AllPlain, StopsIn, end_in, reports_of, then_nested, unit_end, answer_of, is_fault_memory};
 ghost use Rattle.alias_plain.specs.Ends.{EndsAs, EntriesExist};
 ghost use Rattle.alias_plain_laws.specs.Scopes.{scope_of};
-ghost use Rattle.alias_plain_laws.specs.UnitLaws.{NamesDiffer, TellsOf};
+ghost use Rattle.alias_plain_laws.specs.FunctionLaws.{NamesDiffer};
+ghost use Rattle.alias_plain_laws.specs.UnitLaws.{TellsOf};
 ghost use Rattle.std.specs.List.{AllByRecursion};
 ghost use Rattle.alias_plain_laws.specs.Scans.{scan_function};
 

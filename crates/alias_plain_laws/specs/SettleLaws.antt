@@ -30,7 +30,7 @@ use Rattle.alias_plain_laws.specs.RuleFacts.{Looks}
 use Rattle.alias_plain_laws.specs.Scans.{counted, count_told, count_part, count_row, count_call, failing_of, stops_at, check, check_at, scan_instructions, scan_block, scan_from, scan_after, scan_function}
 use Rattle.alias_plain_laws.specs.ScanLaws.{Scanned}
 use Rattle.alias_plain_laws.specs.Scopes.{Scope, scope_of}
-use Rattle.alias_plain_laws.specs.UnitLaws.{NamesDiffer, flow_laws}
+use Rattle.alias_plain_laws.specs.FunctionLaws.{NamesDiffer, flow_laws}
 use Rattle.alias_unsure.specs.WayLaws.{state_laws}
 use Rattle.alias_unsure.specs.Ways.{UnsureState, state_join, state_below}
 use Rattle.alias_plain_laws.specs.UnsureFlow.{unsure_flow, unsure_end, list_in, through, entered}

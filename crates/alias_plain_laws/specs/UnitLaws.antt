@@ -1,22 +1,13 @@
 -- What is answered of a unit, and what it says by paths.
-use Rattle.std.specs.Prelude.{◌≡◌, ℕ, ◌+◌, ◌<◌, List, [], ◌∷◌, length, Option, Some, None, Result, Ok, Err, ⊤, slice_get, replicate, refl}
-use Rattle.std.specs.List.{AllByRecursion, IsDistinct}
-use Rattle.std.specs.Map.{keys_of}
+use Rattle.std.specs.Prelude.{◌≡◌, ℕ, ◌+◌, ◌<◌, List, [], ◌∷◌, length, Option, Some, None, Result, Ok, Err, ⊤, slice_get, refl}
+use Rattle.std.specs.List.{AllByRecursion}
 use Rattle.std.proofs.Common.{zero, suc, ap, sym, ◌∙◌, subst, arith}
-use Rattle.std.proofs.lemmas.List.{length-replicate}
 use Rattle.alias_base.specs.Answer.{Gives}
-use Rattle.alias_base.specs.Find.{same_block}
 use Rattle.alias_base.specs.declared.ids.FunctionId.{FunctionId}
 use Rattle.alias_base.specs.declared.ids.InstructionId.{InstructionId}
 use Rattle.alias_hir.specs.declared.env.Environment.{Environment}
 use Rattle.alias_hir.specs.declared.env.Unit.{Unit as HirUnit}
 use Rattle.alias_hir.specs.declared.hir.HirFunction.{HirFunction}
-use Rattle.alias_lattice.specs.Flows.{IsSolution}
-use Rattle.alias_flow.specs.Machine.{VisitLog, SolverState, End, FlowLaws}
-use Rattle.alias_flow.specs.Machine as end
-use Rattle.alias_flow.specs.Solutions.{entry_at}
-use Rattle.alias_flow.proofs.DirtyFlags.{as_work_list_state, as_work_list_end, solution_work_list}
-use Rattle.alias_flow.proofs.Solving.{solution_solves}
 use Rattle.alias_rules.specs.Functions.{rules_hold}
 use Rattle.alias_tables.specs.Tables.{TableLists}
 use Rattle.alias_plainness.specs.Calls.{no_tables}
@@ -26,52 +17,13 @@ use Rattle.alias_plain_laws.specs.declared.stop.Stop.TheVariants as stop
 use Rattle.alias_plain_laws.specs.declared.answer.Plainness.{Plainness}
 use Rattle.alias_plain_laws.specs.declared.answer.Plainness.TheVariants.{Plain, NotPlain}
 use Rattle.alias_plain_laws.specs.declared.answer.PlainFault.{PlainFault}
+use Rattle.alias_plain_laws.specs.declared.answer.PlainFault.TheVariants as fault
 use Rattle.alias_plain_laws.specs.Answers.{UnitEnd, AllPlain, StopsIn, reports_of, end_in, then_function, then_nested, unit_end, answer_of, is_fault_memory}
-use Rattle.alias_plain_laws.specs.FlowLaws.{unsure_laws}
-use Rattle.alias_plain_laws.specs.PlainLaws.{scanned_is_plain, stopped_breaks_first}
+use Rattle.alias_plain_laws.specs.FunctionLaws.{NamesDiffer, function_is_plain, function_breaks_first}
 use Rattle.alias_plain_laws.specs.RuleFacts.{Looks, root_looks, nested_looks}
-use Rattle.alias_plain_laws.specs.Scans.{scan_after, scan_function}
-use Rattle.alias_plain_laws.specs.Scopes.{Scope, scope_of}
-use Rattle.alias_unsure.specs.WayLaws.{state_laws}
-use Rattle.alias_unsure.specs.Ways.{UnsureState, StateProper, state_join, state_below}
-use Rattle.alias_plain_laws.specs.UnsureFlow.{unsure_flow, unsure_end}
-
--- no two blocks of the function have one name
-abbrev pub NamesDiffer : HirFunction → Type 0
-NamesDiffer func = IsDistinct same_block (keys_of func.body.blocks)
-
--- ---- a function
-
-module _ (func : HirFunction) (env : Environment) (distinct : NamesDiffer func) (looks : Looks func env) where
-  abbrev c : Scope
-  c = scope_of func env
-
-  abbrev none_yet : List (Option (Unit {0}))
-  none_yet = replicate (length func.body.blocks) None
-
-  pub flow_laws : FlowLaws StateProper (λ (t u : Unit {0}). Unit {0}) (unsure_flow c) none_yet
-  flow_laws = unsure_laws c looks.entry none_yet (length-replicate (length func.body.blocks) None)
-
-  pub solves : (w : SolverState (VisitLog UnsureState) (Unit {0}) (Unit {0})) → unsure_end c ≡ end.Solved w → IsSolution state_below (unsure_flow c).flow tt (entry_at w.progress.joined_input)
-  solves w e = (solution_solves state_laws flow_laws tt (as_work_list_state state_below w) (solution_work_list state_laws flow_laws tt ∙ ap (as_work_list_end state_below) e)).solves
-
-  plain_case : (t : TableLists) (p : ⊤ × TableLists) (e : End (VisitLog UnsureState) (Unit {0}) (Unit {0}) (Unit {0})) → unsure_end c ≡ e → scan_after c e t ≡ Ok p → IsPlain func env
-  plain_case t p (end.Solved w) g h = scanned_is_plain func env distinct looks.entry w g (solves w g) looks.phis looks.needs t p h
-  plain_case t p (end.Fault b u) g h = cc
-  plain_case t p (end.NotSettled n) g h = cc
-
-  -- a function that is gone through is plain
-  pub function_is_plain : (t : TableLists) (p : ⊤ × TableLists) → scan_function c t ≡ Ok p → IsPlain func env
-  function_is_plain t p h = plain_case t p (unsure_end c) refl h
-
-  breaks_case : (t : TableLists) (i : InstructionId) (rule : ℕ) (e : End (VisitLog UnsureState) (Unit {0}) (Unit {0}) (Unit {0})) → unsure_end c ≡ e → scan_after c e t ≡ Err (stop.Broken i rule) → BreaksFirst func env i rule
-  breaks_case t i rule (end.Solved w) g h = stopped_breaks_first func env distinct looks.entry w g (solves w g) looks.phis looks.needs t i rule h
-  breaks_case t i rule (end.Fault b u) g h = cc
-  breaks_case t i rule (end.NotSettled n) g h = cc
-
-  -- one that is stopped at an instruction breaks a condition there first
-  pub function_breaks_first : (t : TableLists) (i : InstructionId) (rule : ℕ) → scan_function c t ≡ Err (stop.Broken i rule) → BreaksFirst func env i rule
-  function_breaks_first t i rule h = breaks_case t i rule (unsure_end c) refl h
+use Rattle.alias_plain_laws.specs.Scans.{scan_function}
+use Rattle.alias_plain_laws.specs.Scopes.{scope_of}
+use Rattle.alias_plain_laws.specs.SettleLaws.{NeverSettles, function_never_settles}
 
 -- ---- functions one after the other
 
@@ -165,10 +117,17 @@ pub record UnitBreaksFirst (u : HirUnit) (f : Option FunctionId) (i : Instructio
   pub first : IsFirstOf u f func
   pub breaks : BreaksFirst func u.env i rule
 
+-- which function is the first that isn't settled, where those before it are plain
+pub record UnitNeverSettles (u : HirUnit) (f : Option FunctionId) : Type 0 where
+  pub func : HirFunction
+  pub first : IsFirstOf u f func
+  pub never : NeverSettles func u.env
+
 -- what an answer says
 abbrev pub TellsOf : HirUnit → Result Plainness PlainFault → Type 0
 TellsOf u (Ok Plain) = IsPlainUnit u
 TellsOf u (Ok (NotPlain f i rule)) = UnitBreaksFirst u f i rule
+TellsOf u (Err (fault.NotSettled f)) = UnitNeverSettles u f
 TellsOf u (Err e) = Unit {0}
 
 stop_is : (f g : Option FunctionId) (s r : Stop) → StopsIn f s ≡ StopsIn g r → (f ≡ g) × (s ≡ r)
@@ -183,7 +142,7 @@ module _ (u : HirUnit) (rules : rules_hold u ≡ Ok tt) (root : NamesDiffer u.fu
 
   stop_tells : (f : Option FunctionId) (func : HirFunction) (s : Stop) → IsFirstOf u f func → NamesDiffer func → Looks func u.env → IsStopped func u.env s → TellsOf u (answer_of (StopsIn f s))
   stop_tells f func (stop.Broken i rule) first differ looks h = record { func = func; first = first; breaks = function_breaks_first func u.env differ looks h.tables i rule h.is }
-  stop_tells f func stop.NotSettled first differ looks h = tt
+  stop_tells f func stop.NotSettled first differ looks h = record { func = func; first = first; never = function_never_settles func u.env differ looks h.tables h.is }
   stop_tells f func (stop.TooMany which) first differ looks h = tt
   stop_tells f func (stop.Memory e) first differ looks h = tt
 
@@ -216,7 +175,8 @@ module _ (u : HirUnit) (rules : rules_hold u ≡ Ok tt) (root : NamesDiffer u.fu
       subst (λ (x : UnitEnd). TellsOf u (answer_of x)) (sym (ap (then_nested u.env 0 u.env.functions) is ∙ stays_stopped u.env 0 u.env.functions None s))
       (stop_tells None u.function s root_first root (root_looks u rules) h)
 
-  -- `Plain` is answered of plain units alone, and `NotPlain` of others alone, with what comes first
+  -- `Plain` is answered of plain units alone, and `NotPlain` of others alone, with what comes first, and `NotSettled`
+  -- of those of which a function isn't settled
   pub answer_tells : TellsOf u (answer_of (unit_end u))
   answer_tells = root_case (then_function (AllPlain no_tables) None u.function u.env) (one_end None u.function u.env no_tables)
 
@@ -228,7 +188,9 @@ each_differs (f ∷ fs) h (suc k) g e = each_differs fs h.1 k g e
 
 told_of : (u : HirUnit) (r : Result Plainness PlainFault) → Gives is_fault_memory (answer_of (unit_end u)) r → TellsOf u (answer_of (unit_end u)) → TellsOf u r
 told_of u (Ok x) h t = subst (TellsOf u) h t
-told_of u (Err e) h t = tt
+told_of u (Err (fault.NotSettled f)) h t = subst (TellsOf u) (h refl) t
+told_of u (Err (fault.TooMany which)) h t = tt
+told_of u (Err (fault.Memory e)) h t = tt
 
 -- what is answered tells of the unit
 pub given_tells : (u : HirUnit) (r : Result Plainness PlainFault) → rules_hold u ≡ Ok tt → NamesDiffer u.function → AllByRecursion NamesDiffer u.env.functions → Gives is_fault_memory (answer_of (unit_end u)) r → TellsOf u r

@@ -1,14 +1,20 @@
--- A plain unit is never refused, but for want of numbers or memory, or since its visits aren't settled.
-use Rattle.std.specs.Prelude.{◌≡◌, ℕ, ◌+◌, ◌≤◌, Bool, true, false, if◌then◌else◌, nat_le, [], Option, Some, None, Result, Ok, Err, ⊤, length, map, slice_get, refl}
+-- Each refusal of an inference has its cause in the unit: it blames a function that isn't plain, or that isn't
+-- forward, or numbers are wanting.
+use Rattle.std.specs.Prelude.{◌≡◌, ◌≢◌, ℕ, ◌+◌, ◌≤◌, Bool, true, false, if◌then◌else◌, nat_le, List, [], Option, Some, None, Result, Ok, Err, ⊤, is_some, length, map, slice_get, refl}
+use Rattle.alias_base.specs.Answer.{◌>>=◌}
+use Rattle.alias_base.specs.Find.{value_at}
 use Rattle.std.proofs.Common.{ap, sym, subst, arith}
 use Rattle.alias_base.specs.declared.ids.FunctionId.{FunctionId}
 use Rattle.alias_base.specs.declared.ids.IdentifierId.{IdentifierId}
 use Rattle.alias_base.specs.declared.ids.InstructionId.{InstructionId}
 use Rattle.alias_answer_laws.specs.Avoiding.{Avoids, Answered, avoids_then}
+use Rattle.alias_answer_laws.specs.KnownUnitLaws.{unit_always_known}
+use Rattle.alias_answer_laws.specs.UnitLaws.{unit_never_left}
 use Rattle.alias_answer_laws.specs.ValidationLaws.{validated_says}
 use Rattle.alias_effects.specs.Inference.{pass_end, env_after}
 use Rattle.alias_effects.specs.Recording.{with_effects_of}
 use Rattle.alias_effects.specs.declared.output.PassEnd.{PassEnd}
+use Rattle.alias_effects.specs.declared.solved.Solved.{Solved}
 use Rattle.alias_events.specs.BlockListings.{listed}
 use Rattle.alias_events.specs.declared.listing.Listing.{Listing}
 use Rattle.alias_function_rules.specs.Rules.{tables_fit}
@@ -21,8 +27,10 @@ use Rattle.alias_hir.specs.declared.error.HirError.TheVariants as hir
 use Rattle.alias_hir.specs.declared.error.InferError.{InferError}
 use Rattle.alias_hir.specs.declared.error.InferError.TheVariants as error
 use Rattle.alias_hir.specs.declared.hir.HirFunction.{HirFunction}
+use Rattle.alias_hir.specs.declared.report.Report.{Report}
 use Rattle.alias_nested.proofs.InOrder.{created_numbers}
 use Rattle.alias_nested.specs.Analysis.{named, Analysis, analysis, analysed, most_levels, is_free}
+use Rattle.alias_nested.specs.Answers.{FunctionAnalysed, AnalysedWith, Analyses, AnalysesInto}
 use Rattle.alias_nested.specs.Created.{created_functions}
 use Rattle.alias_nested.specs.Order.{created_by_slot, innermost_first, numbers}
 use Rattle.alias_nested.specs.Units.{RootAnalysis, validated, root_analysed, all_analysed, UnitAnalysis, unit_analysed, InfersUnit}
@@ -40,131 +48,95 @@ use Rattle.alias_rules.specs.RuleLaws.{parts_of_rules, rules_make_function_fit}
 use Rattle.alias_validate.specs.Levels.{is_within}
 use Rattle.alias_visit.specs.Places.{created_places}
 use Rattle.alias_plainness.specs.Making.{number}
-use Rattle.alias_plainness.specs.Plainness.{IsPlainUnit}
+use Rattle.alias_plainness.specs.Plainness.{IsPlain}
 use Rattle.alias_completeness.specs.AgreeingFacts.{AgreesOn}
 use Rattle.alias_completeness.specs.Calling.{AreCallable}
-use Rattle.alias_completeness.specs.Completeness.{with_context, grown_pass, grown_forward_pass}
-use Rattle.alias_completeness.specs.Forward.{GoesForward, IsOkOrTooMany}
+use Rattle.alias_completeness.specs.Completeness.{with_context, grown_pass}
+use Rattle.alias_completeness.specs.Grown.{forward_alike}
 use Rattle.alias_completeness.specs.Passing.{IsPlainAnswer}
-use Rattle.alias_summary_laws.specs.Faces.{HaveFaces, faces_callable, context_ids}
+use Rattle.alias_summary_laws.specs.Faces.{HasPlaces, HaveFaces, faces_callable, context_ids}
+use Rattle.alias_unit_completeness.specs.Answering.{Meets, AllMeet, meets_then, caused_meets, meets_error, One, Below, AsStated, below_with, below_stated}
 use Rattle.alias_unit_completeness.specs.Beginning.{agrees_kept, root_inside, nested_inside, root_entry, nested_entry}
+use Rattle.alias_unit_completeness.specs.Counted.{IsCounted, listed_counted}
 use Rattle.alias_unit_completeness.specs.Moments.{unit_holds}
-use Rattle.alias_unit_completeness.specs.Walking.{Stands, stands_self, After, Once, goes}
+use Rattle.alias_unit_completeness.specs.Passing.{pass_of, forward_is_settled, Caused, nested_blamed, root_blamed}
+use Rattle.alias_unit_completeness.specs.Refusals.{BlamesRightly, IsCaused}
+use Rattle.alias_unit_completeness.specs.Turning.{turns_stated, turns_by_passes}
+use Rattle.alias_unit_completeness.specs.Walking.{Stands, stands_self, After, Once, Turned, goes}
 
--- the refusal blames a function for what it does: it reads what has no value, makes something twice, or calls what can't be called so
-abbrev pub is_blame : InferError → Bool
-is_blame (error.Uninitialized f block identifier span report) = true
-is_blame (error.Reinitialized f instruction identifier) = true
-is_blame (error.AliasBeforeCreate f instruction identifier) = true
-is_blame (error.IncompatibleLibrary f instruction report) = true
-is_blame (error.SpreadArgument f instruction span report) = true
-is_blame e = false
+-- ---- behind the effects pass
 
--- or its visits aren't settled
-abbrev pub is_blame_or_unsettled : InferError → Bool
-is_blame_or_unsettled (error.NotSettled f visits report) = true
-is_blame_or_unsettled e = is_blame e
+-- not that a counter is at its last value, nor that an Apply is left or an operand lacks an effect: for no other
+-- reason is anything refused behind the effects pass
+abbrev is_early : InferError → Bool
+is_early (error.TooMany which) = false
+is_early (error.UnreplacedApply i report) = false
+is_early (error.EffectsNotInferred x) = false
+is_early e = true
 
-pass_unblamed : (r : Result PassEnd InferError) → IsPlainAnswer r → Avoids is_blame (Answered {A = PassEnd}) r
-pass_unblamed (Ok x) h = tt
-pass_unblamed (Err (error.TooMany which)) h = refl
-pass_unblamed (Err (error.NotSettled f visits report)) h = refl
-pass_unblamed (Err e) h = absurd h
+abbrev IsLate : {A : Type 0} → Result A InferError → Type 0
+IsLate {A} r = Avoids is_early (Answered {A = A}) r
 
-pass_settled : (r : Result PassEnd InferError) → IsOkOrTooMany r → Avoids is_blame_or_unsettled (Answered {A = PassEnd}) r
-pass_settled (Ok x) h = tt
-pass_settled (Err (error.TooMany which)) h = refl
-pass_settled (Err e) h = absurd h
+late_then : {A B : Type 0} (r : Result A InferError) (g : A → Result B InferError) → IsLate r → ((x : A) → IsLate (g x)) → IsLate (r >>= g)
+late_then {A} {B} r g h k = avoids_then is_early (Answered {A = A}) (Answered {A = B}) r g h (λ x t. k x)
 
--- what is refused behind the effects pass is so for none of these reasons
-module _ (is : InferError → Bool) (left : (i : InstructionId) → (o : Option InstructionId) → o ≡ Some i → Avoids is (Answered {A = ⊤}) (none_unreplaced o)) (listing : (r : Result Listing HirError) → Avoids is (Answered {A = Listing}) (listing_or r))
-    (room : (b : Bool) → (let r : Result ⊤ InferError = if b then Ok tt else Err (error.TooMany GraphPositions) in Avoids is (Answered {A = ⊤}) r)) (operand : (x : IdentifierId) → is (error.EffectsNotInferred x) ≡ false) where
-  replaced : (o : Option InstructionId) → Avoids is (Answered {A = ⊤}) (none_unreplaced o)
-  replaced None = tt
-  replaced (Some i) = left i (Some i) refl
+late_left : (o : Option InstructionId) → IsLate (none_unreplaced o)
+late_left None = tt
+late_left (Some i) = refl
 
-  record_avoids : (f : HirFunction) → Avoids is (Answered {A = Listing}) (recorded f)
-  record_avoids f =
-      avoids_then is (Answered {A = ⊤}) (Answered {A = Listing}) (none_unreplaced (unreplaced f)) _ (replaced (unreplaced f)) (λ r q.
-      avoids_then is (Answered {A = Listing}) (Answered {A = Listing}) (listing_or (listed f)) _ (listing (listed f)) (λ l p.
-      avoids_then is (Answered {A = ⊤}) (Answered {A = Listing}) (positions_left l.next (length (tracked f))) _ (room (nat_le (l.next + length (tracked f)) 4294967295)) (λ s t. tt)))
+late_listing : (r : Result Listing HirError) → IsCounted r → IsLate (listing_or r)
+late_listing (Ok l) h = tt
+late_listing (Err (hir.TooMany which)) h = refl
+late_listing (Err (hir.Memory e)) h = absurd h
 
-  range_avoids : (b : Bool) (f : HirFunction) (env : Environment) → Avoids is (Answered {A = Ranged}) (range_pass b f env)
-  range_avoids b f env = avoids_then is (Answered {A = Listing}) (Answered {A = Ranged}) (recorded f) (λ l. Ok (ranged b f env l)) (record_avoids f) (λ l p. tt)
+late_room : (b : Bool) → (let r : Result ⊤ InferError = if b then Ok tt else Err (error.TooMany GraphPositions) in IsLate r)
+late_room true = tt
+late_room false = refl
 
-  root_avoids : (f : HirFunction) (a : Analysis) → Avoids is (Answered {A = PassEnd}) (pass_end a.env f false) → Avoids is (Answered {A = RootAnalysis}) (root_analysed f a)
-  root_avoids f a h =
-      avoids_then is (Answered {A = PassEnd}) (Answered {A = RootAnalysis}) (pass_end a.env f false) _ h (λ e p.
-      avoids_then is (Answered {A = Ranged}) (Answered {A = RootAnalysis}) (range_pass false (with_effects_of e.solved f) (env_after a.env e)) _ (range_avoids false (with_effects_of e.solved f) (env_after a.env e)) (λ r q.
-      avoids_then is (Answered {A = Environment}) (Answered {A = RootAnalysis}) (validated r.after.0 r.after.1) _ (validated_says is operand r.after.0 r.after.1) (λ more s. tt)))
+late_ranges : (b : Bool) (f : HirFunction) (env : Environment) → IsLate (range_pass b f env)
+late_ranges b f env =
+    late_then (recorded f) (λ l. Ok (ranged b f env l))
+    (late_then (none_unreplaced (unreplaced f)) _ (late_left (unreplaced f)) (λ q.
+    late_then (listing_or (listed f)) _ (late_listing (listed f) (listed_counted f)) (λ l.
+    late_then (positions_left l.next (length (tracked f))) _ (late_room (nat_le (l.next + length (tracked f)) 4294967295)) (λ t. tt)))) (λ l. tt)
 
-listing_unblamed : (r : Result Listing HirError) → Avoids is_blame (Answered {A = Listing}) (listing_or r)
-listing_unblamed (Ok l) = tt
-listing_unblamed (Err (hir.TooMany which)) = refl
-listing_unblamed (Err (hir.Memory e)) = refl
+late_error : {A : Type 0} (r : Result A InferError) (e : InferError) → IsLate r → r ≡ Err e → is_early e ≡ false
+late_error {A} r e h q = subst (Avoids is_early (Answered {A = A})) q h
 
-listing_settled : (r : Result Listing HirError) → Avoids is_blame_or_unsettled (Answered {A = Listing}) (listing_or r)
-listing_settled (Ok l) = tt
-listing_settled (Err (hir.TooMany which)) = refl
-listing_settled (Err (hir.Memory e)) = refl
+-- ---- whatever has its cause
 
-left_unblamed : (i : InstructionId) (o : Option InstructionId) → o ≡ Some i → Avoids is_blame (Answered {A = ⊤}) (none_unreplaced o)
-left_unblamed i None h = tt
-left_unblamed i (Some j) h = refl
+module _ (u : HirUnit) where
+  late_caused : (e : InferError) → is_early e ≡ false → Caused u e
+  late_caused (error.TooMany which) h = (tt, refl)
+  late_caused (error.UnreplacedApply i report) h = (tt, refl)
+  late_caused (error.EffectsNotInferred x) h = (tt, refl)
+  late_caused e h = cc
 
-left_settled : (i : InstructionId) (o : Option InstructionId) → o ≡ Some i → Avoids is_blame_or_unsettled (Answered {A = ⊤}) (none_unreplaced o)
-left_settled i None h = tt
-left_settled i (Some j) h = refl
+  late_named : (id : FunctionId) (e : InferError) → is_early e ≡ false → Caused u (named id e)
+  late_named id (error.TooMany which) h = (tt, refl)
+  late_named id (error.UnreplacedApply i report) h = (tt, refl)
+  late_named id (error.EffectsNotInferred x) h = (tt, refl)
+  late_named id e h = cc
 
-room_unblamed : (b : Bool) → (let r : Result ⊤ InferError = if b then Ok tt else Err (error.TooMany GraphPositions) in Avoids is_blame (Answered {A = ⊤}) r)
-room_unblamed true = tt
-room_unblamed false = refl
+  late_meets : {A : Type 0} (r : Result A InferError) → IsLate r → Meets (Caused u) (λ x. Unit {0}) r
+  late_meets r h = caused_meets (Caused u) r (λ e q. late_caused e (late_error r e h q))
 
-room_settled : (b : Bool) → (let r : Result ⊤ InferError = if b then Ok tt else Err (error.TooMany GraphPositions) in Avoids is_blame_or_unsettled (Answered {A = ⊤}) r)
-room_settled true = tt
-room_settled false = refl
+  -- the root, whose effects pass is refused with cause
+  root_meets : (f : HirFunction) (a : Analysis) → ((e : InferError) → pass_end a.env f false ≡ Err e → Caused u e) → Meets (Caused u) (λ (r : RootAnalysis). Unit {0}) (root_analysed f a)
+  root_meets f a h =
+      meets_then (Caused u) (λ (e : PassEnd). Unit {0}) (λ (r : RootAnalysis). Unit {0}) (pass_end a.env f false) _ (caused_meets (Caused u) (pass_end a.env f false) h) (λ e p.
+      meets_then (Caused u) (λ (r : Ranged). Unit {0}) (λ (r : RootAnalysis). Unit {0}) (range_pass false (with_effects_of e.solved f) (env_after a.env e)) _
+      (late_meets (range_pass false (with_effects_of e.solved f) (env_after a.env e)) (late_ranges false (with_effects_of e.solved f) (env_after a.env e))) (λ r q.
+      meets_then (Caused u) (λ (m : Environment). Unit {0}) (λ (r : RootAnalysis). Unit {0}) (validated r.after.0 r.after.1) _
+      (late_meets (validated r.after.0 r.after.1) (validated_says is_early (λ x. refl) r.after.0 r.after.1)) (λ more t. tt)))
 
-refused_so : {A : Type 0} (is : InferError → Bool) (r : Result A InferError) (e : InferError) → Avoids is (Answered {A = A}) r → r ≡ Err e → is e ≡ false
-refused_so {A} is r e h i = subst (Avoids is (Answered {A = A})) i h
-
-named_blame : (id : FunctionId) (e : InferError) → is_blame (named id e) ≡ is_blame e
-named_blame id (error.NotSettled f visits report) = refl
-named_blame id (error.Uninitialized f block identifier span report) = refl
-named_blame id (error.Reinitialized f instruction identifier) = refl
-named_blame id (error.AliasBeforeCreate f instruction identifier) = refl
-named_blame id (error.IncompatibleLibrary f instruction report) = refl
-named_blame id (error.SpreadArgument f instruction span report) = refl
-named_blame id e = refl
-
-named_unsettled : (id : FunctionId) (e : InferError) → is_blame_or_unsettled (named id e) ≡ is_blame_or_unsettled e
-named_unsettled id (error.NotSettled f visits report) = refl
-named_unsettled id (error.Uninitialized f block identifier span report) = refl
-named_unsettled id (error.Reinitialized f instruction identifier) = refl
-named_unsettled id (error.AliasBeforeCreate f instruction identifier) = refl
-named_unsettled id (error.IncompatibleLibrary f instruction report) = refl
-named_unsettled id (error.SpreadArgument f instruction span report) = refl
-named_unsettled id e = refl
-
--- want of memory, and a fault of a pass of the caller, blame no function
-free_unsettled : (e : InferError) → is_free e ≡ true → is_blame_or_unsettled e ≡ false
-free_unsettled (error.Memory x) h = refl
-free_unsettled (error.PassFault f pass) h = refl
-free_unsettled e h = cc
-
-free_unblamed : (e : InferError) → is_free e ≡ true → is_blame e ≡ false
-free_unblamed (error.Memory x) h = refl
-free_unblamed (error.PassFault f pass) h = refl
-free_unblamed e h = cc
-
--- what a call answers that infers what is stated
-answered_so : (is : InferError → Bool) (stated : Result UnitAnalysis InferError) → ((e : InferError) → is_free e ≡ true → is e ≡ false) → ((e : InferError) → stated ≡ Err e → is e ≡ false) → (r : Result Inferred InferError) → InfersUnit stated r
-    → (e : InferError) → r ≡ Err e → is e ≡ false
-answered_so is stated free h (Ok i) k e q = cc
-answered_so is stated free h (Err d) k e q = let same : d ≡ e = cc in subst (λ (z : InferError). is z ≡ false) same (by_cause (is_free d) refl)
-  where
-    by_cause : (b : Bool) → is_free d ≡ b → is d ≡ false
-    by_cause true f = free d f
-    by_cause false f = h d (k f)
+-- neither since an Apply is left nor since an operand lacks an effect
+is_caused : (u : HirUnit) (r : Result UnitAnalysis InferError) → ((i : InstructionId) (report : Report) → r ≢ Err (error.UnreplacedApply i report)) → ((x : IdentifierId) → r ≢ Err (error.EffectsNotInferred x)) → (e : InferError) → r ≡ Err e → Caused u e → IsCaused u e
+is_caused u r apply operand (error.UnreplacedApply i report) q h = apply i report q
+is_caused u r apply operand (error.EffectsNotInferred x) q h = operand x q
+is_caused u r apply operand (error.PassFault f pass) q h = let no : true ≡ false = h.1 in cc
+is_caused u r apply operand (error.Memory x) q h = let no : true ≡ false = h.1 in cc
+is_caused u r apply operand e q h = h.0
 
 -- ---- a unit
 
@@ -194,64 +166,98 @@ module _ (u : HirUnit) (rules : rules_hold u ≡ Ok tt) where
   all_once : Once [] (λ k. Unit {0}) (innermost_first most_levels u.env.functions (created_functions u.function))
   all_once = record { once = (root_apart u rules).once; waits = λ j h. tt }
 
-  -- where the effects passes of its functions avoid a reason, over tables that have grown, so does the inference of the unit
-  unit_avoids : (is : InferError → Bool) → ((id : FunctionId) (e : InferError) → is (named id e) ≡ is e) → ((b : Bool) (f : HirFunction) (env : Environment) → Avoids is (Answered {A = Ranged}) (range_pass b f env))
-      → ((f : HirFunction) (a : Analysis) → Avoids is (Answered {A = PassEnd}) (pass_end a.env f false) → Avoids is (Answered {A = RootAnalysis}) (root_analysed f a))
-      → ((k : ℕ) (f g : HirFunction) (env : Environment) → slice_get u.env.functions k ≡ Some f → but_context g ≡ but_context f → AgreesOn f u.env env → AreCallable env → Avoids is (Answered {A = PassEnd}) (pass_end env g true))
-      → ((env : Environment) → AgreesOn u.function u.env env → AreCallable env → Avoids is (Answered {A = PassEnd}) (pass_end env u.function false))
-      → Avoids is (Answered {A = UnitAnalysis}) (unit_analysed u)
-  unit_avoids is same ranges root nested_passes root_passes =
-      let deep : is_within 64 u.env u.function ≡ true = fits_within u.function u.env (rules_make_function_fit u rules) in
-      let W : ℕ → Type 0 = After (λ k. Unit {0}) (innermost_first most_levels u.env.functions (created_functions u.function)) in
-      avoids_then is (Answered {A = RootAnalysis}) (Answered {A = UnitAnalysis}) (all_analysed u.function (analysis u.env [])) _
-      (avoids_then is (λ (b : Analysis). Stands u.env [] W b.env) (Answered {A = RootAnalysis}) (analysed most_levels u.function (analysis u.env [])) (root_analysed u.function)
-      (goes is same (ranges true) u.env tables faces listed_creations nested_passes most_levels u.function u.function [] (λ k. Unit {0}) (analysis u.env []) refl deep (stands_self u.env faces) all_once)
-      (λ b s. root u.function b (root_passes b.env (root_agrees W b.env s) (faces_callable b.env s.faces)))) (λ r t. tt)
+  deep : is_within 64 u.env u.function ≡ true
+  deep = fits_within u.function u.env (rules_make_function_fit u rules)
 
-  -- ---- a plain unit
+  -- ---- effects passes, over tables that have grown
 
-  module _ (plain : IsPlainUnit u) where
-    -- a function that is another one but for the effects of its context places
-    other_context : (f g : HirFunction) → but_context g ≡ but_context f → g ≡ with_context g.context f
-    other_context f g same = ap (λ (z : HirFunction). record z { context = g.context }) same
+  -- a function that is another one but for the effects of its context places
+  other_context : (f g : HirFunction) → but_context g ≡ but_context f → g ≡ with_context g.context f
+  other_context f g same = ap (λ (z : HirFunction). record z { context = g.context }) same
 
-    nested_unblamed : (k : ℕ) (f g : HirFunction) (env : Environment) → slice_get u.env.functions k ≡ Some f → but_context g ≡ but_context f → AgreesOn f u.env env → AreCallable env → Avoids is_blame (Answered {A = PassEnd}) (pass_end env g true)
-    nested_unblamed k f g env at same agrees callable =
-        subst (λ (z : HirFunction). Avoids is_blame (Answered {A = PassEnd}) (pass_end env z true)) (sym (other_context f g same))
-        (pass_unblamed (pass_end env (with_context g.context f) true) (grown_pass f u.env env g.context true (nested_entry u rules k f at) callable agrees (nested_inside u rules k f at) (context_ids f g same) (plain.nested k f at)))
+  module _ (id : FunctionId) (f g : HirFunction) (env : Environment) (at : slice_get u.env.functions id.0 ≡ Some f) (same : but_context g ≡ but_context f) (agrees : AgreesOn f u.env env) (callable : AreCallable env) where
+    nested_plain : IsPlain f u.env → IsPlainAnswer (pass_end env g true)
+    nested_plain plain =
+        subst (λ (z : HirFunction). IsPlainAnswer (pass_end env z true)) (sym (other_context f g same))
+        (grown_pass f u.env env g.context true (nested_entry u rules id.0 f at) callable agrees (nested_inside u rules id.0 f at) (context_ids f g same) plain)
 
-    root_unblamed : (env : Environment) → AgreesOn u.function u.env env → AreCallable env → Avoids is_blame (Answered {A = PassEnd}) (pass_end env u.function false)
-    root_unblamed env agrees callable =
-        pass_unblamed (pass_end env u.function false) (grown_pass u.function u.env env u.function.context false (root_entry u rules) callable agrees (root_inside u rules) refl plain.root)
+    same_entry : is_some (value_at g.body.blocks g.body.entry) ≡ true
+    same_entry = subst (λ (z : HirFunction). is_some (value_at z.body.blocks z.body.entry) ≡ true) (sym (other_context f g same)) (nested_entry u rules id.0 f at)
 
-    -- its inference blames no function
-    pub unit_unblamed : (e : InferError) → unit_analysed u ≡ Err e → is_blame e ≡ false
-    unit_unblamed e h =
-        refused_so is_blame (unit_analysed u) e
-        (unit_avoids is_blame named_blame (range_avoids is_blame left_unblamed listing_unblamed room_unblamed (λ x. refl)) (root_avoids is_blame left_unblamed listing_unblamed room_unblamed (λ x. refl)) nested_unblamed root_unblamed) h
+    same_body : g.body ≡ f.body
+    same_body = ap (λ (z : HirFunction). z.body) same
 
-    -- nor does the answer of a call that infers it
-    pub answer_unblamed : (r : Result Inferred InferError) → InfersUnit (unit_analysed u) r → (e : InferError) → r ≡ Err e → is_blame e ≡ false
-    answer_unblamed = answered_so is_blame (unit_analysed u) free_unblamed unit_unblamed
+    nested_caused : (e : InferError) → pass_end env g true ≡ Err e → Caused u (named id e)
+    nested_caused e q =
+        nested_blamed u id f at e (pass_of env g true e q) (λ plain. subst IsPlainAnswer q (nested_plain plain))
+        (λ forward. forward_is_settled env g true same_entry (forward_alike f g u.env env true same_body forward) e q)
 
-    module _ (root_forward : GoesForward u.env u.function false) (nested_forward : (k : ℕ) (f : HirFunction) → slice_get u.env.functions k ≡ Some f → GoesForward u.env f true) where
-      nested_settled : (k : ℕ) (f g : HirFunction) (env : Environment) → slice_get u.env.functions k ≡ Some f → but_context g ≡ but_context f → AgreesOn f u.env env → AreCallable env
-          → Avoids is_blame_or_unsettled (Answered {A = PassEnd}) (pass_end env g true)
-      nested_settled k f g env at same agrees callable =
-          subst (λ (z : HirFunction). Avoids is_blame_or_unsettled (Answered {A = PassEnd}) (pass_end env z true)) (sym (other_context f g same))
-          (pass_settled (pass_end env (with_context g.context f) true)
-          (grown_forward_pass f u.env env g.context true (nested_entry u rules k f at) callable agrees (nested_inside u rules k f at) (context_ids f g same) (plain.nested k f at) (nested_forward k f at)))
+  root_caused : (env : Environment) → AgreesOn u.function u.env env → AreCallable env → (e : InferError) → pass_end env u.function false ≡ Err e → Caused u e
+  root_caused env agrees callable e q =
+      root_blamed u e (pass_of env u.function false e q)
+      (λ plain. subst IsPlainAnswer q (grown_pass u.function u.env env u.function.context false (root_entry u rules) callable agrees (root_inside u rules) refl plain))
+      (λ forward. forward_is_settled env u.function false (root_entry u rules) (forward_alike u.function u.function u.env env false refl forward) e q)
 
-      root_settled : (env : Environment) → AgreesOn u.function u.env env → AreCallable env → Avoids is_blame_or_unsettled (Answered {A = PassEnd}) (pass_end env u.function false)
-      root_settled env agrees callable =
-          pass_settled (pass_end env u.function false) (grown_forward_pass u.function u.env env u.function.context false (root_entry u rules) callable agrees (root_inside u rules) refl plain.root root_forward)
+  ranges_caused : (id : FunctionId) (f : HirFunction) (env : Environment) (e : InferError) → range_pass true f env ≡ Err e → Caused u (named id e)
+  ranges_caused id f env e q = late_named u id e (late_error (range_pass true f env) e (late_ranges true f env) q)
 
-      -- and where all edges go to later blocks, it is settled
-      pub unit_settled : (e : InferError) → unit_analysed u ≡ Err e → is_blame_or_unsettled e ≡ false
-      unit_settled e h =
-          refused_so is_blame_or_unsettled (unit_analysed u) e
-          (unit_avoids is_blame_or_unsettled named_unsettled (range_avoids is_blame_or_unsettled left_settled listing_settled room_settled (λ x. refl)) (root_avoids is_blame_or_unsettled left_settled listing_settled room_settled (λ x. refl))
-          nested_settled root_settled) h
+  -- ---- the analysis of nested functions
 
-      pub answer_settled : (r : Result Inferred InferError) → InfersUnit (unit_analysed u) r → (e : InferError) → r ≡ Err e → is_blame_or_unsettled e ≡ false
-      answer_settled = answered_so is_blame_or_unsettled (unit_analysed u) free_unsettled unit_settled
+  -- those that wait for nothing more
+  abbrev NoneWaits : ℕ → Type 0
+  NoneWaits = After (λ k. Unit {0}) (innermost_first most_levels u.env.functions (created_functions u.function))
+
+  abbrev AllStand : Analysis → Type 0
+  AllStand b = Stands u.env [] NoneWaits b.env
+
+  module _ (one : One)
+      (turns : (id : FunctionId) (g : HirFunction) (a : Analysis) → HasPlaces (length a.env.identifiers) g → ((e : InferError) → pass_end a.env g true ≡ Err e → Caused u (named id e)) → AllMeet (Caused u) (Turned g a) (one id g a)) where
+    below_root : AllMeet (Caused u) AllStand (Below one most_levels u.function (analysis u.env []))
+    below_root =
+        goes (Caused u) one u.env tables faces listed_creations (λ id f g a at same agrees callable places. turns id g a places (nested_caused id f g a.env at same agrees callable)) most_levels u.function u.function [] (λ k. Unit {0})
+        (analysis u.env []) refl deep (stands_self u.env faces) all_once
+
+  -- where the passes keep all
+  nested_stated : Meets (Caused u) AllStand (analysed most_levels u.function (analysis u.env []))
+  nested_stated =
+      below_root AsStated (λ id g a places caused. turns_stated (Caused u) id (ranges_caused id) g a places caused) (analysed most_levels u.function (analysis u.env []))
+      (below_stated most_levels u.function (analysis u.env []) (analysed most_levels u.function (analysis u.env [])) refl)
+
+  -- over passes of the caller, whatever their law lets them change
+  pub passes_blame : (b : Bool) (e : InferError) → AnalysedWith b most_levels u.function (analysis u.env []) (Err e) → BlamesRightly u e
+  passes_blame b e h =
+      (below_root (FunctionAnalysed b) (λ id g a places caused. turns_by_passes (Caused u) id (ranges_caused id) g a places caused b) (Err e) (below_with b most_levels u.function (analysis u.env []) (Err e) h)).0
+
+  -- ---- the whole inference
+
+  unit_meets : Meets (Caused u) (λ (a : UnitAnalysis). Unit {0}) (unit_analysed u)
+  unit_meets =
+      meets_then (Caused u) (λ (r : RootAnalysis). Unit {0}) (λ (a : UnitAnalysis). Unit {0}) (all_analysed u.function (analysis u.env [])) _
+      (meets_then (Caused u) AllStand (λ (r : RootAnalysis). Unit {0}) (analysed most_levels u.function (analysis u.env [])) (root_analysed u.function) nested_stated
+      (λ b s. root_meets u u.function b (root_caused b.env (root_agrees NoneWaits b.env s) (faces_callable b.env s.faces)))) (λ r t. tt)
+
+  -- each refusal has its cause
+  pub unit_caused : (e : InferError) → unit_analysed u ≡ Err e → IsCaused u e
+  unit_caused e q = is_caused u (unit_analysed u) (unit_never_left u rules) (unit_always_known u) e q (meets_error (Caused u) (λ (a : UnitAnalysis). Unit {0}) (unit_analysed u) e unit_meets q)
+
+  -- so has one of a call that infers the unit, but for what is free
+  pub call_caused : (answer : Result Inferred InferError) → InfersUnit (unit_analysed u) answer → (e : InferError) → answer ≡ Err e → is_free e ≡ false → IsCaused u e
+  call_caused answer h e q free = unit_caused e (subst (InfersUnit (unit_analysed u)) q h free)
+
+-- ---- calls that analyse the functions below the root
+
+free_blames : (u : HirUnit) (e : InferError) → is_free e ≡ true → BlamesRightly u e
+free_blames u (error.Memory x) h = tt
+free_blames u (error.PassFault f pass) h = tt
+free_blames u e h = cc
+
+answer_blames : (u : HirUnit) (rules : rules_hold u ≡ Ok tt) (b : Bool) (e : InferError) → (is_free e ≡ false → AnalysedWith b most_levels u.function (analysis u.env []) (Err e)) → (free : Bool) → is_free e ≡ free → BlamesRightly u e
+answer_blames u rules b e h true free = free_blames u e free
+answer_blames u rules b e h false free = passes_blame u rules b e (h free)
+
+pub analyses_blame : (u : HirUnit) → rules_hold u ≡ Ok tt → (b : Bool) (answer : Result (List Solved) InferError) (env : Environment) → Analyses (AnalysedWith b most_levels u.function (analysis u.env [])) answer env → (e : InferError) → answer ≡ Err e
+    → BlamesRightly u e
+analyses_blame u rules b answer env h e q = answer_blames u rules b e (subst (λ r. Analyses (AnalysedWith b most_levels u.function (analysis u.env [])) r env) q h) (is_free e) refl
+
+pub into_blame : (u : HirUnit) → rules_hold u ≡ Ok tt → (b : Bool) (answer : Result ⊤ InferError) (env : Environment) → AnalysesInto (AnalysedWith b most_levels u.function (analysis u.env [])) answer env → (e : InferError) → answer ≡ Err e → BlamesRightly u e
+into_blame u rules b answer env h e q = answer_blames u rules b e (subst (λ r. AnalysesInto (AnalysedWith b most_levels u.function (analysis u.env [])) r env) q h) (is_free e) refl

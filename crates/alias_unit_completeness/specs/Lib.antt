@@ -1,4 +1,9 @@
+pub mod Refusals
+pub mod Counted
+pub mod Answering
 pub mod Moments
 pub mod Beginning
 pub mod Walking
+pub mod Turning
+pub mod Passing
 pub mod Complete

@@ -92,7 +92,7 @@ pub record Finished (env : Environment) (f : HirFunction) (c : HirFunction × En
   pub face : HasFace (length c.1.identifiers) c.0
   pub stays : Stays env c.1
 
-settled_finished : (env : Environment) (f : HirFunction) (summary : List AliasingEffect) (s : HirFunction × Environment) → SameOwn f s.0 → Stays env s.1 → HasPlaces (length env.identifiers) f → IsSummary f.returns.identifier.0 summary
+pub settled_finished : (env : Environment) (f : HirFunction) (summary : List AliasingEffect) (s : HirFunction × Environment) → SameOwn f s.0 → Stays env s.1 → HasPlaces (length env.identifiers) f → IsSummary f.returns.identifier.0 summary
     → Finished env f (settled summary s)
 settled_finished env f summary s own stays places order =
     let g : HirFunction = summarized summary s.0 in
@@ -109,8 +109,14 @@ settled_finished env f summary s own stays places order =
       stays = after;
     }
 
-ranged_finished : (f : HirFunction) (env : Environment) (r : Ranged) → HasPlaces (length env.identifiers) f → range_pass true f env ≡ Ok r → Finished env f (settled r.summary r.after)
-ranged_finished f env r places h =
+-- what the range pass leaves: the function's own places, the environment, and a summary in order
+pub record RangesDone (env : Environment) (f : HirFunction) (r : Ranged) : Type 0 where
+  pub own : SameOwn f r.after.0
+  pub stays : Stays env r.after.1
+  pub order : IsSummary f.returns.identifier.0 r.summary
+
+pub ranges_done : (f : HirFunction) (env : Environment) (r : Ranged) → HasPlaces (length env.identifiers) f → range_pass true f env ≡ Ok r → RangesDone env f r
+ranges_done f env r places h =
     let p = pass_is true f env r h in
     let l : Listing = p.0 in
     let w = mutations_done false l env in
@@ -118,8 +124,14 @@ ranged_finished f env r places h =
     let placed : PlacedStays begun (function_placed true begun) = function_stays true begun in
     let own : SameOwn f (function_placed true begun).0 = same_own_then f begun.0 (function_placed true begun).0 (captured_own w.0 f) placed.own in
     let stays : Stays env (function_placed true begun).1 = stays_then env w.1 (function_placed true begun).1 (mutations_stay l env) placed.env in
-    let order : IsSummary f.returns.identifier.0 r.summary = summary_in_order None true f env r places.distinct h in
-    settled_finished env f r.summary r.after (subst (λ (z : Ranged). SameOwn f z.after.0) p.2 own) (subst (λ (z : Ranged). Stays env z.after.1) p.2 stays) places order
+    record {
+      own = subst (λ (z : Ranged). SameOwn f z.after.0) p.2 own;
+      stays = subst (λ (z : Ranged). Stays env z.after.1) p.2 stays;
+      order = summary_in_order None true f env r places.distinct h;
+    }
+
+pub ranged_finished : (f : HirFunction) (env : Environment) (r : Ranged) → HasPlaces (length env.identifiers) f → range_pass true f env ≡ Ok r → Finished env f (settled r.summary r.after)
+ranged_finished f env r places h = let d : RangesDone env f r = ranges_done f env r places h in settled_finished env f r.summary r.after d.own d.stays places d.order
 
 pub completed_finished : (id : FunctionId) (f : HirFunction) (env : Environment) → HasPlaces (length env.identifiers) f → OnAnswer (Finished env f) (completed id f env)
 completed_finished id f env places =

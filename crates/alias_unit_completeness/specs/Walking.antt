@@ -1,5 +1,6 @@
--- The analysis of the functions below a function is refused for no reason that the effects passes of the unit's functions avoid, over tables that keep those of the unit.
-use Rattle.std.specs.Prelude.{◌≡◌, ◌⊎◌, ℕ, ◌+◌, ◌<◌, ◌≤◌, ◌==◌, nat_eq, Bool, true, false, cond, List, [], ◌∷◌, ◌++◌, Option, Some, None, Result, Ok, Err, option_map, length, map, slice_get, slice_set, refl}
+-- The analysis of the functions below a function is refused for the causes alone for which the passes of the unit's
+-- functions are, over tables that keep those of the unit.
+use Rattle.std.specs.Prelude.{◌≡◌, ◌⊎◌, ℕ, ◌+◌, ◌<◌, ◌≤◌, ◌==◌, nat_eq, Bool, true, false, cond, List, [], ◌∷◌, ◌++◌, Option, Some, None, Ok, option_map, length, map, slice_get, slice_set, refl}
 use Rattle.std.proofs.Common.{zero, suc, ap, sym, ◌∙◌, subst, inl, inr, arith}
 use Rattle.std.proofs.lemmas.Bool.Decides.{nat_tests}
 use Rattle.std.proofs.lemmas.Bool.{eqb-true}
@@ -9,9 +10,6 @@ use Rattle.std.specs.Option.{option_map_or}
 use Rattle.alias_base.specs.declared.ids.BlockId.{BlockId}
 use Rattle.alias_base.specs.declared.ids.FunctionId.{FunctionId}
 use Rattle.alias_base.specs.declared.ids.InstructionId.{InstructionId}
-use Rattle.alias_answer_laws.specs.Avoiding.{Avoids, Answered, avoids_then, avoids_on, avoids_naming}
-use Rattle.alias_effects.specs.Inference.{pass_end}
-use Rattle.alias_effects.specs.declared.output.PassEnd.{PassEnd}
 use Rattle.alias_function_rules.specs.Rules.{is_among, tables_fit}
 use Rattle.alias_hir.specs.Values.{created}
 use Rattle.alias_hir.specs.declared.env.Environment.{Environment}
@@ -22,7 +20,8 @@ use Rattle.alias_hir.specs.declared.hir.Instruction.{Instruction}
 use Rattle.alias_nested.proofs.Changing.{slots_stay}
 use Rattle.alias_nested.proofs.Counting.{numbers_innermost_first, listed_level}
 use Rattle.alias_nested.proofs.InOrder.{times_append, created_numbers, order_numbers}
-use Rattle.alias_nested.specs.Analysis.{named, naming, Analysis, each, effects_analysed, completed, completed_with, function_analysed, taken_analysed, found_analysed, slot_analysed, analysed}
+use Rattle.alias_nested.specs.Analysis.{Analysis, put_back}
+use Rattle.alias_nested.specs.Answers.{Answers, Each}
 use Rattle.alias_nested.specs.Created.{one_of, created_by, created_by_all, created_functions}
 use Rattle.alias_nested.specs.Order.{created_by_slot, innermost_first, numbers}
 use Rattle.alias_nested.specs.Slots.{emptied}
@@ -30,7 +29,6 @@ use Rattle.alias_nesting_laws.specs.PartLaws.{absent}
 use Rattle.alias_nesting_laws.specs.SlotLaws.{length_set, set_other}
 use Rattle.alias_nesting_laws.specs.Slots.{with_function}
 use Rattle.alias_order_laws.proofs.Ordering.{neither, both_false, differs}
-use Rattle.alias_range_pass.specs.Passes.{Ranged, range_pass}
 use Rattle.alias_range_places.specs.Keeping.{but_context}
 use Rattle.alias_rules.specs.Nesting.{number_of, created_in, times}
 use Rattle.alias_rules.specs.TreeLaws.{times_cons, times_both, counted}
@@ -40,11 +38,12 @@ use Rattle.alias_plainness.specs.Making.{number}
 use Rattle.alias_completeness.specs.Calling.{AreCallable}
 use Rattle.alias_completeness.specs.Fitting.{among_both}
 use Rattle.alias_completeness.specs.Going.{all_both}
-use Rattle.alias_summary_laws.specs.Faces.{HasPlaces, HasFace, HaveFaces, faces_callable, SameOwn, same_own_then, context_ids, in_slot, places_alike, faces_alike, Stays, stays_then}
+use Rattle.alias_summary_laws.specs.Faces.{HasPlaces, HasFace, HaveFaces, faces_callable, SameOwn, context_ids, in_slot, places_alike, faces_alike, Stays}
 use Rattle.alias_summary_laws.specs.KeptTables.{TablesKept, tables_self, tables_then}
 use Rattle.alias_completeness.specs.AgreeingFacts.{AgreesOn}
 use Rattle.alias_unit_completeness.specs.Beginning.{agrees_kept}
-use Rattle.alias_unit_completeness.specs.Moments.{OnAnswer, answer_then, answer_naming, answer_is, pass_stays, Finished, completed_finished, set_face, found_face, stand_in, all_at}
+use Rattle.alias_unit_completeness.specs.Answering.{AllMeet, meets_on, only_meets, then_meets, One, Taken, Found, InSlot, Below}
+use Rattle.alias_unit_completeness.specs.Moments.{set_face, found_face, stand_in, all_at}
 
 -- ---- what stands while functions are out
 
@@ -307,110 +306,83 @@ module _ (base : Environment) where
         ]
 
 -- a function's passes leave its own places and the environment
-record Turned (g : HirFunction) (a : Analysis) (s : HirFunction × Analysis) : Type 0 where
-  own : SameOwn g s.0
-  face : HasFace (length s.1.env.identifiers) s.0
-  stays : Stays a.env s.1.env
+pub record Turned (g : HirFunction) (a : Analysis) (s : HirFunction × Analysis) : Type 0 where
+  pub own : SameOwn g s.0
+  pub face : HasFace (length s.1.env.identifiers) s.0
+  pub stays : Stays a.env s.1.env
 
-record Passed (g : HirFunction) (a : Analysis) (s : HirFunction × Analysis) : Type 0 where
-  own : SameOwn g s.0
-  stays : Stays a.env s.1.env
+-- what a function leaves that is out of its slot
+record Left (base : Environment) (id : FunctionId) (out : List ℕ) (W : ℕ → Type 0) (t : HirFunction × Analysis) : Type 0 where
+  contexts : map number t.0.context ≡ context_numbers (slice_get base.functions id.0)
+  face : HasFace (length t.1.env.identifiers) t.0
+  stands : Stands base (id.0 ∷ out) W t.1.env
 
-turned : (id : FunctionId) (g : HirFunction) (a : Analysis) → HasPlaces (length a.env.identifiers) g → OnAnswer (Turned g a) (function_analysed id g a)
-turned id g a places =
-    answer_then (Passed g a) (Turned g a) (effects_analysed id g a) (completed_with id)
-    (answer_then (λ (e : PassEnd). Unit {0}) (Passed g a) (naming id (pass_end a.env g true)) _ (answer_naming (λ (e : PassEnd). Unit {0}) id (pass_end a.env g true) (answer_is (λ (e : PassEnd). Unit {0}) (pass_end a.env g true) (λ e i. tt)))
-    (λ e t. record { own = record { params = refl; context = refl; returns = refl }; stays = pass_stays a.env e }))
-    (λ s p. answer_then (Finished s.1.env s.0) (Turned g a) (completed id s.0 s.1.env) _
-    (completed_finished id s.0 s.1.env (places_alike (length a.env.identifiers) (length s.1.env.identifiers) g s.0 p.own p.stays.tables.longer places))
-    (λ c d. record { own = same_own_then g s.0 c.0 p.own d.own; face = d.face; stays = stays_then a.env s.1.env c.1 p.stays d.stays }))
+module _ (E : InferError → Type 0) (one : One) (base : Environment) (fit : tables_fit base ≡ Ok tt) (faces : HaveFaces (length base.identifiers) base.functions)
+    (listed : (k : ℕ) (f : HirFunction) → slice_get base.functions k ≡ Some f → (j : ℕ) → 1 ≤ times (created_in f) j → 1 ≤ times (numbers (created_functions f)) j)
+    (turns : (id : FunctionId) (f g : HirFunction) (a : Analysis) → slice_get base.functions id.0 ≡ Some f → but_context g ≡ but_context f → AgreesOn f base a.env → AreCallable a.env → HasPlaces (length a.env.identifiers) g → AllMeet E (Turned g a) (one id g a)) where
+  abbrev AllStand : List ℕ → (ℕ → Type 0) → List FunctionId → Answers Analysis → Type 0
+  AllStand out W ids answers = AllMeet E (λ (b : Analysis). Stands base out (After W ids) b.env) answers
 
-module _ (is : InferError → Bool) (same_named : (id : FunctionId) (e : InferError) → is (named id e) ≡ is e) (ranges : (f : HirFunction) (env : Environment) → Avoids is (Answered {A = Ranged}) (range_pass true f env)) where
-  both_say : {A : Type 0} (P : A → Type 0) (r : Result A InferError) → OnAnswer P r → Avoids is (Answered {A = A}) r → Avoids is P r
-  both_say P (Ok x) h g = h
-  both_say P (Err e) h g = g
+  abbrev Goes : ℕ → Type 1
+  Goes n = (f g : HirFunction) (out : List ℕ) (W : ℕ → Type 0) (a : Analysis) → but_context g ≡ but_context f → is_within (suc n) base f ≡ true → Stands base out W a.env → Once out W (innermost_first n base.functions (created_functions f))
+      → AllStand out W (innermost_first n base.functions (created_functions f)) (Below one n g a)
 
-  -- where the effects pass avoids the reason, so do the passes of a nested function
-  function_avoids : (id : FunctionId) (g : HirFunction) (a : Analysis) → Avoids is (Answered {A = PassEnd}) (pass_end a.env g true) → Avoids is (Answered {A = HirFunction × Analysis}) (function_analysed id g a)
-  function_avoids id g a h =
-      avoids_then is (Answered {A = HirFunction × Analysis}) (Answered {A = HirFunction × Analysis}) (effects_analysed id g a) (completed_with id)
-      (avoids_then is (Answered {A = PassEnd}) (Answered {A = HirFunction × Analysis}) (naming id (pass_end a.env g true)) _ (avoids_naming is (Answered {A = PassEnd}) id (pass_end a.env g true) (same_named id) h) (λ e t. tt))
-      (λ s t. avoids_then is (Answered {A = HirFunction × Environment}) (Answered {A = HirFunction × Analysis}) (completed id s.0 s.1.env) _
-      (avoids_then is (Answered {A = Ranged}) (Answered {A = HirFunction × Environment}) (naming id (range_pass true s.0 s.1.env)) _ (avoids_naming is (Answered {A = Ranged}) id (range_pass true s.0 s.1.env) (same_named id) (ranges s.0 s.1.env)) (λ r t. tt))
-      (λ c t. tt))
+  module _ (n : ℕ) (goes : Goes n) (id : FunctionId) (out : List ℕ) (W : ℕ → Type 0) (once : Once out W (ids_of base n id)) where
+    module _ (g : HirFunction) (slot : InUnit base id.0 g) (deep : is_within (suc n) base slot.func ≡ true) where
+      same_order : innermost_first n base.functions (created_functions slot.func) ≡ ids_below base n id
+      same_order = ap (λ (o : Option HirFunction). innermost_first n base.functions (created_by_slot o)) (sym slot.at)
 
-  module _ (base : Environment) (fit : tables_fit base ≡ Ok tt) (faces : HaveFaces (length base.identifiers) base.functions)
-      (listed : (k : ℕ) (f : HirFunction) → slice_get base.functions k ≡ Some f → (j : ℕ) → 1 ≤ times (created_in f) j → 1 ≤ times (numbers (created_functions f)) j)
-      (passes : (k : ℕ) (f g : HirFunction) (env : Environment) → slice_get base.functions k ≡ Some f → but_context g ≡ but_context f → AgreesOn f base env → AreCallable env → Avoids is (Answered {A = PassEnd}) (pass_end env g true)) where
-    abbrev AllStand : List ℕ → (ℕ → Type 0) → List FunctionId → Result Analysis InferError → Type 0
-    AllStand out W ids r = Avoids is (λ (b : Analysis). Stands base out (After W ids) b.env) r
+      once_slot : Once (id.0 ∷ out) W (innermost_first n base.functions (created_functions slot.func))
+      once_slot = subst (Once (id.0 ∷ out) W) (sym same_order) (once_below base n id out W once)
 
-    abbrev Goes : ℕ → Type 1
-    Goes n = (f g : HirFunction) (out : List ℕ) (W : ℕ → Type 0) (a : Analysis) → but_context g ≡ but_context f → is_within (suc n) base f ≡ true → Stands base out W a.env → Once out W (innermost_first n base.functions (created_functions f))
-        → AllStand out W (innermost_first n base.functions (created_functions f)) (analysed n g a)
+      -- its own passes, once those below it are analysed
+      own_passes : (b : Analysis) → Stands base (id.0 ∷ out) (After W (ids_below base n id)) b.env → AllMeet E (Left base id out (After W (ids_below base n id))) (one id g b)
+      own_passes b s =
+          let V : ℕ → Type 0 = After W (ids_below base n id) in
+          let agrees : AgreesOn slot.func base b.env = agrees_now base fit listed n id.0 slot.func (id.0 ∷ out) V W b.env slot.at deep once_slot s in
+          let places : HasPlaces (length b.env.identifiers) g
+          = places_alike (length base.identifiers) (length b.env.identifiers) slot.func g (in_slot slot.func g slot.same) s.tables.longer (found_face (length base.identifiers) base.functions id.0 slot.func slot.at faces).places in
+          let turned : AllMeet E (Turned g b) (one id g b) = turns id slot.func g b slot.at slot.same agrees (faces_callable b.env s.faces) places in
+          λ r h. meets_on E (Turned g b) (Left base id out V) r
+          (λ t k. record {
+            contexts = k.own.context ∙ context_ids slot.func g slot.same ∙ sym (ap context_numbers slot.at);
+            face = k.face;
+            stands = stands_stays base (id.0 ∷ out) V b.env t.1.env s k.stays;
+          }) (turned r h)
 
-    -- what a function leaves that is out of its slot
-    record Left (id : FunctionId) (out : List ℕ) (W : ℕ → Type 0) (t : HirFunction × Analysis) : Type 0 where
-      contexts : map number t.0.context ≡ context_numbers (slice_get base.functions id.0)
-      face : HasFace (length t.1.env.identifiers) t.0
-      stands : Stands base (id.0 ∷ out) W t.1.env
+      taken_goes : (a : Analysis) → Stands base (id.0 ∷ out) W a.env → AllMeet E (Left base id out (After W (ids_below base n id))) (Taken one (Below one n) id g a)
+      taken_goes a s =
+          then_meets E (λ (b : Analysis). Stands base (id.0 ∷ out) (After W (ids_below base n id)) b.env) (Left base id out (After W (ids_below base n id))) (Below one n g a) (one id g)
+          (subst (λ ids. AllStand (id.0 ∷ out) W ids (Below one n g a)) same_order (goes slot.func g (id.0 ∷ out) W a slot.same deep s once_slot)) own_passes
 
-    module _ (n : ℕ) (goes : Goes n) (id : FunctionId) (out : List ℕ) (W : ℕ → Type 0) (once : Once out W (ids_of base n id)) where
-      module _ (g : HirFunction) (slot : InUnit base id.0 g) (deep : is_within (suc n) base slot.func ≡ true) where
-        same_order : innermost_first n base.functions (created_functions slot.func) ≡ ids_below base n id
-        same_order = ap (λ (o : Option HirFunction). innermost_first n base.functions (created_by_slot o)) (sym slot.at)
+    found_goes : (a : Analysis) → IsDeep base (suc n) id → Stands base out W a.env → (o : Option HirFunction) → slice_get a.env.functions id.0 ≡ o → AllStand out W (ids_of base n id) (Found one (Below one n) id a o)
+    found_goes a deep s None e = only_meets E (λ (b : Analysis). Stands base out (After W (ids_of base n id)) b.env) (Ok a) (stands_fewer base out W (After W (ids_of base n id)) a.env (λ k h. h.0) s)
+    found_goes a deep s (Some g) e =
+        let slot : InUnit base id.0 g = in_unit base id.0 g (slice_get base.functions id.0) refl (sym (ap (λ (o : Option HirFunction). option_map but_context o) e) ∙ s.waiting id.0 (not_out base n id out W once) (itself_waits base n id out W once)) in
+        let below : is_within (suc n) base slot.func ≡ true = sym (ap (function_within (is_within (suc n) base)) slot.at) ∙ deep in
+        let out_of : Analysis = record a { env = with_function id (emptied g.returns) a.env } in
+        then_meets E (Left base id out (After W (ids_below base n id))) (λ (b : Analysis). Stands base out (After W (ids_of base n id)) b.env) (Taken one (Below one n) id g out_of) _
+        (taken_goes g slot below out_of (stands_out base id g out W a.env e s))
+        (λ t h. only_meets E (λ (b : Analysis). Stands base out (After W (ids_of base n id)) b.env) (Ok (put_back id t))
+        (stands_fewer base out (λ k. After W (ids_below base n id) k × (nat_eq k id.0 ≡ false)) (After W (ids_of base n id)) (with_function id t.0 t.1.env) (fewer_after base n id out W once)
+        (stands_back base id t.0 out (After W (ids_below base n id)) t.1.env (found_below base.functions id.0 slot.func slot.at) h.contexts h.face h.stands)))
 
-        once_slot : Once (id.0 ∷ out) W (innermost_first n base.functions (created_functions slot.func))
-        once_slot = subst (Once (id.0 ∷ out) W) (sym same_order) (once_below base n id out W once)
+  each_goes : (n : ℕ) → Goes n → (ids : List FunctionId) → AllByRecursion (IsDeep base (suc n)) ids → (out : List ℕ) (W : ℕ → Type 0) (a : Analysis) → Stands base out W a.env → Once out W (flat_map (ids_of base n) ids)
+      → AllStand out W (flat_map (ids_of base n) ids) (Each (InSlot one (Below one n)) ids a)
+  each_goes n goes [] deep out W a s once = only_meets E (λ (b : Analysis). Stands base out (After W []) b.env) (Ok a) (stands_fewer base out W (After W []) a.env (λ k h. h.0) s)
+  each_goes n goes (id ∷ ids) deep out W a s once =
+      then_meets E (λ (b : Analysis). Stands base out (After W (ids_of base n id)) b.env) (λ (b : Analysis). Stands base out (After W (flat_map (ids_of base n) (id ∷ ids))) b.env) (InSlot one (Below one n) id a) (Each (InSlot one (Below one n)) ids)
+      (found_goes n goes id out W (once_first out W (ids_of base n id) (flat_map (ids_of base n) ids) once) a deep.0 s (slice_get a.env.functions id.0) refl)
+      (λ b t r h. meets_on E (λ (c : Analysis). Stands base out (After (After W (ids_of base n id)) (flat_map (ids_of base n) ids)) c.env) (λ (c : Analysis). Stands base out (After W (flat_map (ids_of base n) (id ∷ ids))) c.env) r
+      (λ c k. stands_fewer base out (After (After W (ids_of base n id)) (flat_map (ids_of base n) ids)) (After W (flat_map (ids_of base n) (id ∷ ids))) c.env
+      (λ j l. let p = among_append (ids_of base n id) (flat_map (ids_of base n) ids) j l.1 in ((l.0, p.0), p.1)) k)
+      (each_goes n goes ids deep.1 out (After W (ids_of base n id)) b t (once_rest out W (ids_of base n id) (flat_map (ids_of base n) ids) once) r h))
 
-        -- its own passes, once those below it are analysed
-        own_passes : (b : Analysis) → Stands base (id.0 ∷ out) (After W (ids_below base n id)) b.env → Avoids is (Left id out (After W (ids_below base n id))) (function_analysed id g b)
-        own_passes b s =
-            let V : ℕ → Type 0 = After W (ids_below base n id) in
-            let agrees : AgreesOn slot.func base b.env = agrees_now base fit listed n id.0 slot.func (id.0 ∷ out) V W b.env slot.at deep once_slot s in
-            let places : HasPlaces (length b.env.identifiers) g
-            = places_alike (length base.identifiers) (length b.env.identifiers) slot.func g (in_slot slot.func g slot.same) s.tables.longer (found_face (length base.identifiers) base.functions id.0 slot.func slot.at faces).places in
-            let avoids = function_avoids id g b (passes id.0 slot.func g b.env slot.at slot.same agrees (faces_callable b.env s.faces)) in
-            avoids_on is (Turned g b) (Left id out V) (function_analysed id g b)
-            (λ t h. record {
-              contexts = h.own.context ∙ context_ids slot.func g slot.same ∙ sym (ap context_numbers slot.at);
-              face = h.face;
-              stands = stands_stays base (id.0 ∷ out) V b.env t.1.env s h.stays;
-            })
-            (both_say (Turned g b) (function_analysed id g b) (turned id g b places) avoids)
-
-        taken_goes : (a : Analysis) → Stands base (id.0 ∷ out) W a.env → Avoids is (Left id out (After W (ids_below base n id))) (taken_analysed (analysed n) id g a)
-        taken_goes a s =
-            avoids_then is (λ (b : Analysis). Stands base (id.0 ∷ out) (After W (ids_below base n id)) b.env) (Left id out (After W (ids_below base n id))) (analysed n g a) (function_analysed id g)
-            (subst (λ ids. AllStand (id.0 ∷ out) W ids (analysed n g a)) same_order (goes slot.func g (id.0 ∷ out) W a slot.same deep s once_slot)) own_passes
-
-      found_goes : (a : Analysis) → IsDeep base (suc n) id → Stands base out W a.env → (o : Option HirFunction) → slice_get a.env.functions id.0 ≡ o → AllStand out W (ids_of base n id) (found_analysed (analysed n) id a o)
-      found_goes a deep s None e = stands_fewer base out W (After W (ids_of base n id)) a.env (λ k h. h.0) s
-      found_goes a deep s (Some g) e =
-          let slot : InUnit base id.0 g = in_unit base id.0 g (slice_get base.functions id.0) refl (sym (ap (λ (o : Option HirFunction). option_map but_context o) e) ∙ s.waiting id.0 (not_out base n id out W once) (itself_waits base n id out W once)) in
-          let below : is_within (suc n) base slot.func ≡ true = sym (ap (function_within (is_within (suc n) base)) slot.at) ∙ deep in
-          let out_of : Analysis = record a { env = with_function id (emptied g.returns) a.env } in
-          avoids_then is (Left id out (After W (ids_below base n id))) (λ (b : Analysis). Stands base out (After W (ids_of base n id)) b.env) (taken_analysed (analysed n) id g out_of) _
-          (taken_goes g slot below out_of (stands_out base id g out W a.env e s))
-          (λ t h. stands_fewer base out (λ k. After W (ids_below base n id) k × (nat_eq k id.0 ≡ false)) (After W (ids_of base n id)) (with_function id t.0 t.1.env) (fewer_after base n id out W once)
-          (stands_back base id t.0 out (After W (ids_below base n id)) t.1.env (found_below base.functions id.0 slot.func slot.at) h.contexts h.face h.stands))
-
-    each_goes : (n : ℕ) → Goes n → (ids : List FunctionId) → AllByRecursion (IsDeep base (suc n)) ids → (out : List ℕ) (W : ℕ → Type 0) (a : Analysis) → Stands base out W a.env → Once out W (flat_map (ids_of base n) ids)
-        → AllStand out W (flat_map (ids_of base n) ids) (each (slot_analysed (analysed n)) ids a)
-    each_goes n goes [] deep out W a s once = stands_fewer base out W (After W []) a.env (λ k h. h.0) s
-    each_goes n goes (id ∷ ids) deep out W a s once =
-        avoids_then is (λ (b : Analysis). Stands base out (After W (ids_of base n id)) b.env) (λ (b : Analysis). Stands base out (After W (flat_map (ids_of base n) (id ∷ ids))) b.env) (slot_analysed (analysed n) id a) (each (slot_analysed (analysed n)) ids)
-        (found_goes n goes id out W (once_first out W (ids_of base n id) (flat_map (ids_of base n) ids) once) a deep.0 s (slice_get a.env.functions id.0) refl)
-        (λ b t. avoids_on is (λ (c : Analysis). Stands base out (After (After W (ids_of base n id)) (flat_map (ids_of base n) ids)) c.env) (λ (c : Analysis). Stands base out (After W (flat_map (ids_of base n) (id ∷ ids))) c.env) (each (slot_analysed (analysed n)) ids b)
-        (λ c k. stands_fewer base out (After (After W (ids_of base n id)) (flat_map (ids_of base n) ids)) (After W (flat_map (ids_of base n) (id ∷ ids))) c.env
-        (λ j h. let p = among_append (ids_of base n id) (flat_map (ids_of base n) ids) j h.1 in ((h.0, p.0), p.1)) k)
-        (each_goes n goes ids deep.1 out (After W (ids_of base n id)) b t (once_rest out W (ids_of base n id) (flat_map (ids_of base n) ids) once)))
-
-    -- the analysis of the functions on n levels
-    pub goes : (n : ℕ) → Goes n
-    unfolding analysed innermost_first
-    goes zero f g out W a same deep s once = stands_fewer base out W (After W []) a.env (λ k h. h.0) s
-    goes (suc n) f g out W a same deep s once =
-        let same_created : created_functions f ≡ created_functions g = sym (ap created_functions same) in
-        subst (λ ids. AllStand out W (flat_map (ids_of base n) (created_functions f)) (each (slot_analysed (analysed n)) ids a)) same_created
-        (each_goes n (goes n) (created_functions f) (all_deep base (suc n) f deep) out W a s once)
+  -- the analysis of the functions on n levels
+  pub goes : (n : ℕ) → Goes n
+  unfolding Below innermost_first
+  goes zero f g out W a same deep s once = only_meets E (λ (b : Analysis). Stands base out (After W []) b.env) (Ok a) (stands_fewer base out W (After W []) a.env (λ k h. h.0) s)
+  goes (suc n) f g out W a same deep s once =
+      let same_created : created_functions f ≡ created_functions g = sym (ap created_functions same) in
+      subst (λ ids. AllStand out W (flat_map (ids_of base n) (created_functions f)) (Each (InSlot one (Below one n)) ids a)) same_created
+      (each_goes n (goes n) (created_functions f) (all_deep base (suc n) f deep) out W a s once)

@@ -1,17 +1,18 @@
-//! All functions of the table are callable at each moment of an analysis, and a plain unit is inferred.
+//! All functions of the table are callable at each moment of an analysis, and each refusal has its cause in the unit.
 
-ghost use Rattle.std.specs.Prelude.{◌≡◌, ℕ, [], Some, Ok, Err, slice_get, true, false};
+ghost use Rattle.std.specs.Prelude.{◌≡◌, ℕ, Bool, List, [], Result, Ok, Err, false, ⊤};
 ghost use Rattle.std.specs.List.{AllByRecursion};
 ghost use Rattle.alias_rules.specs.Functions.{rules_hold};
 ghost use Rattle.alias_hir.specs.declared.error.InferError.{InferError};
-ghost use Rattle.alias_hir.specs.declared.hir.HirFunction.{HirFunction};
-ghost use Rattle.alias_nested.specs.Units.{unit_analysed};
-ghost use Rattle.alias_plainness.specs.Plainness.{IsPlainUnit};
-ghost use Rattle.alias_completeness.specs.Forward.{GoesForward};
-ghost use Rattle.alias_unit_completeness.specs.Complete.{is_blame, is_blame_or_unsettled};
-ghost use Rattle.alias_nested.specs.Analysis.{Analysis, analysis, analysed};
+ghost use Rattle.alias_hir.specs.declared.env.Environment.{Environment};
+ghost use Rattle.alias_effects.specs.declared.solved.Solved.{Solved};
+ghost use Rattle.alias_nested.specs.Analysis.{Analysis, analysis, analysed, most_levels, is_free};
+ghost use Rattle.alias_nested.specs.Answers.{AnalysedWith, Analyses, AnalysesInto};
+ghost use Rattle.alias_nested.specs.Units.{unit_analysed, InfersUnit};
+ghost use Rattle.alias_nested.specs.declared.infer.Inferred.{Inferred};
 ghost use Rattle.alias_completeness.specs.Calling.{AreCallable};
 ghost use Rattle.alias_unit_completeness.specs.Moments.{BeganCallable};
+ghost use Rattle.alias_unit_completeness.specs.Refusals.{BlamesRightly, IsCaused, BlamesNoPlain};
 
 use alias_hir::env::Unit;
 
@@ -23,14 +24,25 @@ pub fn callable_laws(unit: &Unit)
     let _unit = unit;
 }
 
-/// Of a plain unit that keeps the rules: its inference is never refused with `Uninitialized`, `Reinitialized`, `AliasBeforeCreate`,
-/// `IncompatibleLibrary` or `SpreadArgument`; and where all edges of its functions go to later blocks, not with `NotSettled` either.
-/// Does nothing.
+/// Each refusal of the inference of a unit that keeps the rules has its cause in the unit: a function that it blames
+/// for what it does isn't plain, one that isn't settled isn't forward, and else a counter was at its last value. So
+/// has a refusal of a call that infers the unit, but for want of memory and a fault of a pass of the caller; and what
+/// has such a cause blames no plain unit. Does nothing.
 pub fn complete_laws(unit: &Unit)
-    requires rules { rules_hold unit.now ≡ Ok tt }
-    requires plain { IsPlainUnit unit.now }
-    ensures unblamed { (e : InferError) → unit_analysed unit.now ≡ Err e → is_blame e ≡ false }
-    ensures settled { GoesForward unit.now.env unit.now.function false → ((k : ℕ) (f : HirFunction) → slice_get unit.now.env.functions k ≡ Some f → GoesForward unit.now.env f true) → (e : InferError) → unit_analysed unit.now ≡ Err e → is_blame_or_unsettled e ≡ false }
+    ensures unit { rules_hold unit.now ≡ Ok tt → (e : InferError) → unit_analysed unit.now ≡ Err e → IsCaused unit.now e }
+    ensures calls { rules_hold unit.now ≡ Ok tt → (answer : Result Inferred InferError) → InfersUnit (unit_analysed unit.now) answer → (e : InferError) → answer ≡ Err e → is_free e ≡ false → IsCaused unit.now e }
+    ensures plain { (e : InferError) → IsCaused unit.now e → BlamesNoPlain unit.now e }
+{
+    let _unit = unit;
+}
+
+/// Of a unit that keeps the rules: where the functions below its root are analysed over passes of the caller,
+/// whatever their law lets these change, a function that a refusal blames for what it does isn't plain in the unit as
+/// it was handed in, and one that isn't settled isn't forward. So it is of both forms of `analyse_functions`. Does
+/// nothing.
+pub fn passes_laws(unit: &Unit)
+    ensures certified { rules_hold unit.now ≡ Ok tt → (keeps_all : Bool) (answer : Result (List Solved) InferError) (env : Environment) → Analyses (AnalysedWith keeps_all most_levels unit.now.function (analysis unit.now.env [])) answer env → (e : InferError) → answer ≡ Err e → BlamesRightly unit.now e }
+    ensures plain { rules_hold unit.now ≡ Ok tt → (keeps_all : Bool) (answer : Result ⊤ InferError) (env : Environment) → AnalysesInto (AnalysedWith keeps_all most_levels unit.now.function (analysis unit.now.env [])) answer env → (e : InferError) → answer ≡ Err e → BlamesRightly unit.now e }
 {
     let _unit = unit;
 }

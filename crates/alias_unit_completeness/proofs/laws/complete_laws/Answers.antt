@@ -1,8 +1,6 @@
-use Rattle.alias_unit_completeness.specs.Complete.{unit_unblamed, unit_settled}
+use Rattle.alias_unit_completeness.specs.Complete.{unit_caused, call_caused}
+use Rattle.alias_unit_completeness.specs.Refusals.{blames_no_plain}
 use Rattle.alias_unit_completeness.proofs.laws.complete_laws.Goals as goal
 
 pub returns : goal.returns
-returns c = record {
-  unblamed = unit_unblamed c.args.unit.now c.requires.rules c.requires.plain;
-  settled = λ root nested. unit_settled c.args.unit.now c.requires.rules c.requires.plain root nested;
-}
+returns c = record { unit = unit_caused c.args.unit.now; calls = call_caused c.args.unit.now; plain = blames_no_plain c.args.unit.now }
