@@ -1,7 +1,7 @@
 -- What the calls of a check come to.
 use Rattle.std.specs.Prelude.{⊤}
 use Rattle.std.specs.List.{AllByRecursion}
-use Rattle.std.proofs.Common.{◌≡◌, Bool, true, false, List, [], ◌∷◌, ◌++◌, length, map, Option, Some, None, Result, Ok, Err, refl, ap, sym, subst, ◌∙◌}
+use Rattle.std.proofs.Common.{◌≡◌, Bool, true, false, List, [], ◌∷◌, ◌++◌, length, Option, Some, None, Result, Ok, Err, refl, ap, sym, subst, ◌∙◌}
 use Rattle.std.proofs.lemmas.List.{length-map, map-append}
 use Rattle.alias_base.specs.Answer.{◌>>=◌, Gives}
 use Rattle.alias_base.specs.declared.ids.FunctionId.{FunctionId}
@@ -44,7 +44,7 @@ comes_as stated also r f env solved same h = subst (λ z. ComesWith z r f env so
 pub as_many : (fs : List CheckedFunction) (solved : List Solved) → Accounts fs solved → length fs ≡ length solved
 as_many fs solved a = sym (length-map fs (λ (x : CheckedFunction). x.solved)) ∙ ap length a.same
 
-all_appended : {X : Type 0} (p : X → Type 0) (xs : List X) (x : X) → AllByRecursion p xs → p x → AllByRecursion p (xs ++ x ∷ [])
+pub all_appended : {X : Type 0} (p : X → Type 0) (xs : List X) (x : X) → AllByRecursion p xs → p x → AllByRecursion p (xs ++ x ∷ [])
 all_appended p [] x h k = (k, tt)
 all_appended p (y ∷ ys) x h k = (h.0, all_appended p ys x h.1 k)
 

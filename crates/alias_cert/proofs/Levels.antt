@@ -1,6 +1,6 @@
 -- What the check of the functions below a function comes to.
 use Rattle.std.specs.Prelude.{⊤, slice_get}
-use Rattle.std.proofs.Common.{◌≡◌, ℕ, ◌+◌, ◌≤◌, zero, suc, false, List, [], ◌∷◌, length, drop, Some, Result, Ok, Err, refl, ap, sym, subst, ◌∙◌}
+use Rattle.std.proofs.Common.{◌≡◌, ℕ, ◌+◌, ◌≤◌, suc, List, length, drop, Some, Result, Ok, Err, refl, ap, sym, ◌∙◌}
 use Rattle.alias_base.specs.Answer.{◌>>=◌}
 use Rattle.alias_base.specs.declared.ids.FunctionId.{FunctionId}
 use Rattle.alias_hir.specs.declared.env.Environment.{Environment}
@@ -12,7 +12,6 @@ use Rattle.alias_nested.specs.Slots.{emptied}
 use Rattle.alias_nested.proofs.Leading.{from_here, nothing_from}
 use Rattle.alias_certificate.specs.declared.certificate.CertFunction.{CertFunction}
 use Rattle.alias_certificate.specs.declared.fault.CheckFault.{CheckFault}
-use Rattle.alias_cert_function.specs.Faults.{is_memory}
 use Rattle.alias_cert.specs.Functions.{CheckedFunction, Checking, checking, nested_checked, Accounts, Comes, ComesWith}
 use Rattle.alias_cert.specs.Units.{each, put_back, taken_checked, found_checked, slot_checked, below_checked}
 use Rattle.alias_cert.proofs.Coming.{comes_as}

@@ -3,6 +3,7 @@ pub mod Levels
 pub mod Naming
 pub mod Recording
 pub mod Running
+pub mod Saying
 pub mod Stated
 pub mod Whole
 pub mod Knowing

@@ -1,7 +1,6 @@
 -- The inference takes a checked function again, with what its steps record, in the environment that took over what they added.
 use Rattle.std.specs.Prelude.{slice_get, replicate}
-use Rattle.std.proofs.Common.{◌≡◌, ℕ, ◌+◌, ◌<◌, zero, suc, Bool, true, false, ◌&&◌, ◌==◌, if◌then◌else◌, List, [], ◌∷◌, ◌++◌, length, Option, Some, None, Result, Ok, Err, refl, ap, sym, subst, ◌∙◌, arith}
-use Rattle.alias_base.specs.Answer.{◌>>=◌}
+use Rattle.std.proofs.Common.{◌≡◌, ℕ, ◌+◌, ◌<◌, zero, suc, Bool, true, false, ◌&&◌, ◌==◌, if◌then◌else◌, List, [], ◌∷◌, ◌++◌, length, Option, Some, None, Result, Ok, Err, refl, sym, subst, arith}
 use Rattle.alias_base.specs.declared.ids.BlockId.{BlockId}
 use Rattle.alias_base.specs.declared.ids.FunctionId.{FunctionId}
 use Rattle.alias_hir.specs.declared.env.Environment.{Environment}
@@ -20,14 +19,13 @@ use Rattle.alias_tables.specs.declared.faults.Refusal.{Refusal}
 use Rattle.alias_tables.specs.declared.faults.Refusal.TheVariants as refused
 use Rattle.alias_step_laws.specs.FunctionSites.{StateHas}
 use Rattle.alias_step_laws.specs.TableLaws.{within_temporary}
-use Rattle.alias_step_laws.specs.Within.{FunctionWithin, PlaceWithin, TablesWithin}
-use Rattle.alias_block.specs.Contexts.{context_of}
+use Rattle.alias_step_laws.specs.Within.{FunctionWithin, TablesWithin}
 use Rattle.alias_block.specs.declared.recorded.BlockEffects.{BlockEffects}
 use Rattle.alias_block_laws.specs.BlockLaws.{BlockEffectsWithin, StateWithin}
 use Rattle.alias_block_laws.specs.WrittenLaws.{tables_extended}
 use Rattle.alias_write_back.specs.WriteBack.{tables_of}
-use Rattle.alias_effects.specs.Inference.{block_at, entries_of, end_of, end_tables, env_after}
-use Rattle.alias_effects.specs.Numbered.{Blocks, numbered}
+use Rattle.alias_effects.specs.Inference.{entries_of, end_tables, env_after}
+use Rattle.alias_effects.specs.Numbered.{Blocks}
 use Rattle.alias_effects.specs.Recording.{with_effects_of}
 use Rattle.alias_effects.specs.declared.output.PassEnd.{PassEnd}
 use Rattle.alias_effects.specs.declared.solved.BlockEntry.{BlockEntry}
@@ -48,7 +46,7 @@ use Rattle.alias_cert_function.specs.Functions.{marked_positions, flow_rules, ma
 use Rattle.alias_cert_function.specs.Temporaries.{is_key_there, next_number, given, temporary_stated, temporaries_stated}
 use Rattle.alias_cert_function.proofs.Answering.{unfaulted}
 use Rattle.alias_cert.specs.Known.{AreKnown}
-use Rattle.alias_cert.proofs.Running.{After, after, check_stands}
+use Rattle.alias_cert.proofs.Running.{after, check_stands}
 use Rattle.alias_cert.proofs.Stated.{stated_has, created_within}
 
 -- ---- temporaries that are said

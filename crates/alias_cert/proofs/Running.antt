@@ -7,7 +7,6 @@ use Rattle.alias_flow.specs.Machine.{Rules, up}
 use Rattle.alias_flow.specs.RecordingLaws.{HoldsOf, AllHold}
 use Rattle.alias_flow.specs.Solutions.{entry_at}
 use Rattle.alias_flow_check.specs.Checks.{Arriving, first_not_above, passed, outcome_checked, state_checked, block_checked, blocks_checked, joined_unless, joins_checked, begun_with, begins, first_arriving, is_below_entry, not_joined, solution_checked}
-use Rattle.alias_flow_check.specs.declared.fault.Unsolved.{Unsolved}
 use Rattle.alias_block_laws.specs.SolutionLaws.{StepKeeps}
 
 -- what comes after an answer

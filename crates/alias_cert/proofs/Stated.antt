@@ -2,15 +2,14 @@
 use Rattle.std.specs.Prelude.{slice_get, IsTrue, cond}
 use Rattle.std.specs.FinMap.{find}
 use Rattle.std.specs.FinMap.Entries.{find-put}
-use Rattle.std.specs.List.{AllByRecursion, list_all, list_any, flat_map}
+use Rattle.std.specs.List.{AllByRecursion, list_all, flat_map}
 use Rattle.std.specs.Option.{is_some}
 use Rattle.std.specs.Ordering.{eq_by_cmp}
-use Rattle.std.proofs.Common.{◌≡◌, ℕ, ◌==◌, ◌&&◌, ◌||◌, zero, suc, Bool, true, false, if◌then◌else◌, List, [], ◌∷◌, Option, Some, None, refl, ap, sym, subst, ◌∙◌}
+use Rattle.std.proofs.Common.{◌≡◌, ℕ, ◌==◌, ◌&&◌, ◌||◌, suc, Bool, true, false, if◌then◌else◌, List, [], ◌∷◌, Option, Some, None, refl, sym, subst}
 use Rattle.std.proofs.lemmas.Bool.{eqb-true}
 use Rattle.std.proofs.Math.Dec.{T}
 use Rattle.alias_base.specs.AnswerLaws.{both_true}
 use Rattle.alias_base.specs.declared.ids.FunctionId.{FunctionId}
-use Rattle.alias_base.specs.declared.ids.IdentifierId.{IdentifierId}
 use Rattle.alias_hir.specs.Values.{created}
 use Rattle.alias_hir.specs.declared.env.Environment.{Environment}
 use Rattle.alias_hir.specs.declared.hir.HirFunction.{HirFunction}
@@ -19,8 +18,6 @@ use Rattle.alias_function_rules.specs.Rules.{is_among}
 use Rattle.alias_rules.specs.Fitting.{function_fits}
 use Rattle.alias_rules.specs.Nesting.{number_of, created_in}
 use Rattle.alias_nesting_laws.specs.PartLaws.{among_cases, append_cases}
-use Rattle.alias_lattice.specs.Keys.{id_cmp}
-use Rattle.alias_lattice.specs.KeyLaws.{ids_total}
 use Rattle.alias_lattice.specs.MapLaws.{equal}
 use Rattle.alias_lattice.specs.SiteOrder.{site_cmp}
 use Rattle.alias_lattice.specs.SiteOrderLaws.{sites_apart, sites_total}

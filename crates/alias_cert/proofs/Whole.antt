@@ -1,6 +1,6 @@
 -- What the check of a whole unit comes to.
 use Rattle.std.specs.Prelude.{◌<◌, ◌≤◌, nat_lt}
-use Rattle.std.proofs.Common.{◌≡◌, Bool, true, false, if◌then◌else◌, List, [], length, Result, Ok, Err, ap, sym, subst, ◌∙◌}
+use Rattle.std.proofs.Common.{◌≡◌, Bool, false, if◌then◌else◌, List, [], length, Result, Ok, Err, ap, sym, subst, ◌∙◌}
 use Rattle.std.proofs.lemmas.Bool.{lt-ltb, le-ltb}
 use Rattle.alias_base.specs.Answer.{◌>>=◌}
 use Rattle.alias_hir.specs.declared.env.Environment.{Environment}
@@ -17,8 +17,8 @@ use Rattle.alias_cert.specs.Units.{below_checked, none_left, unit_checked, Accep
 use Rattle.alias_cert.proofs.Coming.{as_many}
 
 -- a call that found a fault
-pub accepts_fault : (stated : Result (HirFunction × Checking) CheckFault) (r : Result Accepted CheckFault) (e : CheckFault) → r ≡ Err e → (is_memory e ≡ false → stated ≡ Err e) → Accepts stated r
-accepts_fault stated r e is h = subst (Accepts stated) (sym is) h
+pub accepts_fault : (functions : List CertFunction) (u : HirUnit) (r : Result Accepted CheckFault) (e : CheckFault) → r ≡ Err e → (is_memory e ≡ false → unit_checked functions u ≡ Err e) → Accepts functions u r
+accepts_fault functions u r e is h = subst (Accepts functions u) (sym is) h
 
 module _ (functions also : List CertFunction) (listed : functions ≡ also) (u v : HirUnit) (same : u ≡ v) where
   of_unit : (r : Result (HirFunction × Checking) CheckFault) → unit_checked functions u ≡ r → unit_checked also v ≡ r

@@ -8,8 +8,9 @@ use Rattle.alias_hir.specs.declared.env.Environment.{Environment}
 use Rattle.alias_hir.specs.declared.error.InferError.{InferError}
 use Rattle.alias_hir.specs.declared.error.InferError.TheVariants as error
 use Rattle.alias_hir.specs.declared.hir.HirFunction.{HirFunction}
+use Rattle.alias_lattice.specs.States.{State}
 use Rattle.alias_tables.specs.Tables.{TableLists}
-use Rattle.alias_effects.specs.Inference.{env_after, end_tables}
+use Rattle.alias_effects.specs.Inference.{env_after, end_tables, entries_of}
 use Rattle.alias_effects.specs.Recording.{with_effects_of}
 use Rattle.alias_effects.specs.Solutions.{IsSolvedUnder}
 use Rattle.alias_effects.specs.declared.output.PassEnd.{PassEnd}
@@ -21,7 +22,7 @@ use Rattle.alias_certificate.specs.declared.fault.CheckFault.{CheckFault}
 use Rattle.alias_certificate.specs.declared.fault.CheckFault.TheVariants as fault
 use Rattle.alias_cert_effects.specs.Telling.{is_summary_told}
 use Rattle.alias_cert_function.specs.Faults.{is_memory}
-use Rattle.alias_cert_function.specs.Functions.{function_solved}
+use Rattle.alias_cert_function.specs.Functions.{entries_checked, function_solved}
 
 -- ---- what is checked
 
@@ -135,6 +136,17 @@ abbrev pub root_checked : List CertFunction → HirFunction → Checking → Res
 root_checked functions f a = said functions (length a.functions) None >>= root_as_said f a
 
 -- ---- what calls answer
+
+-- what is handed out of a function enters its blocks with the states that the certificate says, block by block
+abbrev pub EntersAsSaid : CheckedFunction → Type 0
+EntersAsSaid x =
+    (states : List (Option State)) × (entries_checked x.said x.env x.func x.is_function_expression ≡ Ok states)
+    × (x.solved.entries ≡ entries_of x.func.body.blocks states)
+
+-- the functions that were checked are those of the certificate, one after the other, and each enters its blocks as it says
+pub record AreAsSaid (functions : List CertFunction) (fs : List CheckedFunction) : Type 0 where
+  pub same : map (λ (x : CheckedFunction). x.said) fs ≡ functions
+  pub enter : AllByRecursion EntersAsSaid fs
 
 -- what is handed out of a function that is checked solves its flow, under the tables that its steps end with
 abbrev pub SolvesItsFlow : CheckedFunction → Type 0

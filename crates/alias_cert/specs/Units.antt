@@ -2,7 +2,6 @@
 use Rattle.std.specs.Prelude.{◌≡◌, ℕ, zero, suc, nat_lt, false, if◌then◌else◌, List, [], ◌∷◌, length, Option, Some, None, Result, Ok, Err, slice_get}
 use Rattle.alias_base.specs.Answer.{◌>>=◌}
 use Rattle.alias_base.specs.declared.ids.FunctionId.{FunctionId}
-use Rattle.alias_hir.specs.declared.env.Environment.{Environment}
 use Rattle.alias_hir.specs.declared.env.Unit.{Unit as HirUnit}
 use Rattle.alias_hir.specs.declared.hir.HirFunction.{HirFunction}
 use Rattle.alias_nesting_laws.specs.Slots.{with_function}
@@ -14,7 +13,7 @@ use Rattle.alias_certificate.specs.declared.fault.CheckFault.{CheckFault}
 use Rattle.alias_certificate.specs.declared.fault.CheckFault.TheVariants as fault
 use Rattle.alias_cert.specs.declared.check.Accepted.{Accepted}
 use Rattle.alias_cert_function.specs.Faults.{is_memory}
-use Rattle.alias_cert.specs.Functions.{CheckedFunction, Checking, checking, nested_checked, root_checked, Accounts}
+use Rattle.alias_cert.specs.Functions.{CheckedFunction, Checking, checking, nested_checked, root_checked, Accounts, AreAsSaid}
 
 -- one after the other, up to the first fault
 abbrev pub each : {X : Type 0} → (X → Checking → Result Checking CheckFault) → List X → Checking → Result Checking CheckFault
@@ -54,7 +53,9 @@ module _ (functions : List CertFunction) where
 
 -- ---- what the call answers
 
--- the unit that is handed out is what the check comes to, with one solution for each function, which solves its flow
-abbrev pub Accepts : Result (HirFunction × Checking) CheckFault → Result Accepted CheckFault → Type 0
-Accepts stated (Ok a) = (fs : List CheckedFunction) × (stated ≡ Ok (a.unit.function, checking a.unit.env fs)) × Accounts fs a.solved
-Accepts stated (Err e) = is_memory e ≡ false → stated ≡ Err e
+-- the unit that is handed out is what the check comes to, with one solution for each function, which solves its flow and enters its blocks
+-- with the states that the certificate says
+abbrev pub Accepts : List CertFunction → HirUnit → Result Accepted CheckFault → Type 0
+Accepts functions u (Ok a) =
+    (fs : List CheckedFunction) × (unit_checked functions u ≡ Ok (a.unit.function, checking a.unit.env fs)) × Accounts fs a.solved × AreAsSaid functions fs
+Accepts functions u (Err e) = is_memory e ≡ false → unit_checked functions u ≡ Err e

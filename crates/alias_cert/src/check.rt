@@ -1,6 +1,6 @@
 //! The check of a certificate: the functions of a unit, innermost first, and then its root.
 ghost use Rattle.std.specs.Prelude.{◌≡◌};
-ghost use Rattle.alias_cert.specs.Units.{unit_checked, Accepts};
+ghost use Rattle.alias_cert.specs.Units.{Accepts};
 
 use crate::functions::check_root;
 use crate::nested::check_created;
@@ -39,7 +39,7 @@ pub fn check_certificate(
     unit: Checked,
     certificate: &Certificate,
 ) -> Result<Accepted, CheckFault>
-    ensures { Accepts (unit_checked certificate.now.functions unit) result }
+    ensures { Accepts certificate.now.functions unit result }
 {
     let Unit {
         mut function,

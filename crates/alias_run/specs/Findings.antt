@@ -54,9 +54,9 @@ IsRefusedAs u status a = ⊥
 abbrev pub Infers : HirUnit → UnitInference → Type 0
 Infers u i = (fs : List Analysed) × (unit_analysed u ≡ Ok (record { functions = fs; inferred = i }))
 
--- what the check of a certificate leads to: it is accepted, and of each function its entry states solve the flow; or it is rejected, with the first fault
+-- what the check of a certificate leads to: it is accepted, and of each function the entry states that it says solve the flow; or it is rejected, with the first fault
 abbrev pub IsAcceptedOf : Certificate → HirUnit → Status → Answer → Type 0
-IsAcceptedOf c u Done (Accepted x) = Accepts (unit_checked c.functions u) (Ok x)
+IsAcceptedOf c u Done (Accepted x) = Accepts c.functions u (Ok x)
 IsAcceptedOf c u (Rejected fault) a = (unit_checked c.functions u ≡ Err fault) × (a ≡ Nothing)
 IsAcceptedOf c u Memory a = a ≡ Nothing
 IsAcceptedOf c u status a = ⊥

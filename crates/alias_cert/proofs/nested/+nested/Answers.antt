@@ -1,4 +1,4 @@
-use Rattle.std.proofs.Common.{◌≡◌, ◌∙◌, ◌-◌, suc, [], ◌∷◌, Ok, Err, Some, refl, subst, drop, rules, arith}
+use Rattle.std.proofs.Common.{◌≡◌, ◌∙◌, ◌-◌, suc, Err, Some, refl, subst, rules, arith}
 use Rattle.std.specs.Prelude.{slice_get, slice_index_or}
 use Rattle.alias_base.specs.declared.ids.FunctionId.{FunctionId}
 use Rattle.alias_certificate.specs.declared.fault.CheckFault.{CheckFault}

@@ -1,0 +1,5 @@
+pub mod Sending
+pub mod Accepting
+pub mod Solutions
+pub mod Repeating
+pub mod Likeness

@@ -1,0 +1,90 @@
+-- Entry states that solve the flow of a function are accepted under the same tables.
+use Rattle.std.proofs.Common.{◌≡◌, ℕ, ◌+◌, ◌<◌, ◌≤◌, ⊎_elim, Bool, true, false, nat_lt, ◌&&◌, IsTrue, List, [], ◌∷◌, length, replicate, Option, Some, None, Ok, zero, suc, refl, ap, sym, ◌∙◌, arith}
+use Rattle.std.specs.Prelude.{⊤}
+use Rattle.std.proofs.lemmas.List.{length-replicate}
+use Rattle.std.proofs.lemmas.Bool.{cases_eq, ltb-true}
+use Rattle.std.specs.List.{AllByRecursion, list_all}
+use Rattle.std.specs.Option.{is_some}
+use Rattle.alias_base.specs.Find.{value_at}
+use Rattle.alias_hir.specs.declared.env.Environment.{Environment}
+use Rattle.alias_hir.specs.declared.hir.HirFunction.{HirFunction}
+use Rattle.alias_lattice.specs.Flows.{Stepped}
+use Rattle.alias_lattice.specs.JoinLaws.{state_laws}
+use Rattle.alias_lattice.specs.ProperStates.{StateProper}
+use Rattle.alias_lattice.specs.States.{State, state_join, state_below}
+use Rattle.alias_flow.specs.Machine.{Rules, up, FlowLaws}
+use Rattle.alias_flow.specs.Solutions.{entry_at, goes_forward, IsForward}
+use Rattle.alias_flow_check.specs.Checks.{Arriving, solution_checked}
+use Rattle.alias_tables.specs.GrowingLaws.{Extends}
+use Rattle.alias_tables.specs.Tables.{TableLists}
+use Rattle.alias_block.specs.Contexts.{context_of}
+use Rattle.alias_block.specs.declared.faults.BlockRefusal.{BlockRefusal}
+use Rattle.alias_block.specs.declared.recorded.BlockEffects.{BlockEffects}
+use Rattle.alias_effects.specs.Numbered.{numbered}
+use Rattle.alias_effects.specs.PassLaws.{pass_laws}
+use Rattle.alias_accept_laws.specs.Passing.{AreSolved, Passes, goes, Accepts, accepted, refused}
+use Rattle.alias_accept_laws.specs.Accepting.{rules, SolvesUnder, AreTold, IsAccepted}
+use Rattle.alias_accept_laws.proofs.Accepting.{check_accepts}
+
+-- ---- edges that pass the test go forward
+
+both : (a b : Bool) → (a && b) ≡ true → (a ≡ true) × (b ≡ true)
+both true b h = (refl, h)
+both false b h = cc
+
+all_later : (b : ℕ) (es : List ℕ) → list_all (λ e. nat_lt b e) es ≡ true → AllByRecursion (λ e. b < e) es
+all_later b [] h = tt
+all_later b (e ∷ es) h = let p = both (nat_lt b e) (list_all (λ e. nat_lt b e) es) h in (ltb-true b e p.0, all_later b es p.1)
+
+all_up : (test : ℕ → Bool) (i n : ℕ) → list_all test (up i n) ≡ true → (b : ℕ) → i ≤ b → b < i + n → test b ≡ true
+all_up test i zero h b le lt = let no : ⊥ = omega arith in absurd no
+all_up test i (suc n) h b le lt =
+    let p = both (test i) (list_all test (up (i + 1) n)) h in
+    ⊎_elim (λ same. ap test same ∙ p.0) (λ other. all_up test (i + 1) n p.1 b (omega (arith, other)) (omega arith)) (cases_eq b i)
+
+pub forward_is : {P T K C : Type 0} (r : Rules P T K C) → goes_forward r ≡ true → IsForward r
+forward_is r h b lt = all_later b (r.flow.edges b) (all_up (λ b. list_all (λ e. nat_lt b e) (r.flow.edges b)) 0 r.blocks h b (omega arith) (omega arith))
+
+some_state : (o : Option State) → IsTrue (is_some o) → (s : State) × (o ≡ Some s)
+some_state None h = cc
+some_state (Some s) h = (s, refl)
+
+-- ---- the flow of a function
+
+module _ (env : Environment) (func : HirFunction) (is_function_expression : Bool) (entered : is_some (value_at func.body.blocks func.body.entry) ≡ true) (tables : TableLists) (entries : List (Option State)) (s : SolvesUnder env func is_function_expression tables entries) where
+  abbrev flow_rules : Rules State TableLists BlockEffects BlockRefusal
+  flow_rules = rules env func is_function_expression
+
+  laws : FlowLaws StateProper Extends (numbered (context_of env func is_function_expression)) (replicate (length func.body.blocks) None)
+  laws = pass_laws (context_of env func is_function_expression) entered (replicate (length func.body.blocks) None) (length-replicate (length func.body.blocks) None)
+
+  -- the block steps so under the tables
+  abbrev Gives : ℕ → State → State → Type 0
+  Gives b x y = (k : BlockEffects) × (flow_rules.flow.step tables b x ≡ Stepped y tables k)
+
+  single : (b : ℕ) (x y z : State) → Gives b x y → Gives b x z → y ≡ z
+  single b x y z g h = let two : Stepped y tables g.0 ≡ Stepped z tables h.0 = sym g.1 ∙ h.1 in cc
+
+  solved : AreSolved StateProper state_below flow_rules entries Gives
+  solved = record {
+    reached = λ b r. some_state (entry_at entries b) (s.solves.reached b r);
+    only_reached = s.solves.only_reached;
+    initial = s.solves.initial;
+    steps = λ b x is. let z = s.solves.steps b x is in (z.0, (z.1, z.2), z.3);
+    joins = λ forward b x u is p first later.
+        (s.joins (forward_is flow_rules forward) b x is).least u p (record { initial = first; stepped = λ c x y k c_is step one. later c x y c_is (k, step) one });
+  }
+
+  module _ (differs : TableLists → ℕ → BlockEffects → Option ⊤) (told : AreTold env func is_function_expression tables entries differs) where
+    passes : (t : TableLists) (b : ℕ) (x y : State) → t ≡ tables → entry_at entries b ≡ Some x → Gives b x y → Passes flow_rules differs (λ u. u ≡ tables) (λ c. ⊥) t b x y
+    passes t b x y same is g = goes tables g.0 (ap (λ u. flow_rules.flow.step u b x) same ∙ g.1) refl (told b x y g.0 is g.1)
+
+    none_refused : (r : _) → Accepts {P = State} {T = TableLists} {K = BlockEffects} {C = BlockRefusal} {D = ⊤} (λ c. ⊥) (λ w. w.tables ≡ tables) r → (w : Arriving State TableLists BlockEffects) × (r ≡ Ok w) × (w.tables ≡ tables)
+    none_refused r (accepted w is h) = (w, is, h)
+    none_refused r (refused b c is never) = absurd never
+
+    accepts : (w : Arriving State TableLists BlockEffects) × (solution_checked state_join state_below flow_rules differs entries tables (replicate (length func.body.blocks) None) ≡ Ok w) × (w.tables ≡ tables)
+    accepts = none_refused _ (check_accepts state_laws laws differs entries Gives (λ u. u ≡ tables) (λ c. ⊥) solved s.proper s.count passes single tables refl)
+
+  pub accepted_under : IsAccepted env func is_function_expression tables entries
+  accepted_under differs told = accepts differs told

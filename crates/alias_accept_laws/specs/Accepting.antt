@@ -1,0 +1,36 @@
+-- Entry states that solve the flow of a function, and the check that accepts them.
+use Rattle.std.specs.Prelude.{◌≡◌, ℕ, Bool, List, length, replicate, Option, Some, None, Ok, ⊤}
+use Rattle.alias_hir.specs.declared.env.Environment.{Environment}
+use Rattle.alias_hir.specs.declared.hir.HirFunction.{HirFunction}
+use Rattle.alias_lattice.specs.Flows.{Stepped, IsSolution, AreJoins}
+use Rattle.alias_lattice.specs.ProperStates.{StateProper}
+use Rattle.alias_lattice.specs.States.{State, state_join, state_below}
+use Rattle.alias_flow.specs.Machine.{Rules}
+use Rattle.alias_flow.specs.Solutions.{entry_at, IsForward}
+use Rattle.alias_flow_check.specs.Checks.{Arriving, solution_checked}
+use Rattle.alias_tables.specs.Tables.{TableLists}
+use Rattle.alias_block.specs.Contexts.{context_of}
+use Rattle.alias_block.specs.declared.faults.BlockRefusal.{BlockRefusal}
+use Rattle.alias_block.specs.declared.recorded.BlockEffects.{BlockEffects}
+use Rattle.alias_effects.specs.Numbered.{numbered}
+
+module _ (env : Environment) (func : HirFunction) (is_function_expression : Bool) where
+  abbrev pub rules : Rules State TableLists BlockEffects BlockRefusal
+  rules = numbered (context_of env func is_function_expression)
+
+  -- the entry states, one or none for each block in stored order, solve the flow of the function under these tables
+  pub record SolvesUnder (tables : TableLists) (entries : List (Option State)) : Type 0 where
+    pub count : length entries ≡ length func.body.blocks
+    pub proper : (b : ℕ) (s : State) → entry_at entries b ≡ Some s → StateProper s
+    pub solves : IsSolution state_below rules.flow tables (entry_at entries)
+    pub joins : IsForward rules → AreJoins state_below rules.flow StateProper tables (entry_at entries)
+
+  -- what is claimed of the steps is so: under these tables each records what is said of it
+  abbrev pub AreTold : TableLists → List (Option State) → (TableLists → ℕ → BlockEffects → Option ⊤) → Type 0
+  AreTold tables entries differs = (b : ℕ) (s y : State) (k : BlockEffects) → entry_at entries b ≡ Some s → rules.flow.step tables b s ≡ Stepped y tables k → differs tables b k ≡ None
+
+  -- the check that begins with these tables finds no fault in the entry states, nor in claims that are so, and its steps leave the tables
+  abbrev pub IsAccepted : TableLists → List (Option State) → Type 0
+  IsAccepted tables entries =
+      (differs : TableLists → ℕ → BlockEffects → Option ⊤) → AreTold tables entries differs
+      → (w : Arriving State TableLists BlockEffects) × (solution_checked state_join state_below rules differs entries tables (replicate (length func.body.blocks) None) ≡ Ok w) × (w.tables ≡ tables)

@@ -1,0 +1,21 @@
+//! That the check of entry states accepts those that solve the flow of a function.
+
+ghost use Rattle.std.specs.Prelude.{◌≡◌, true, List, Option};
+ghost use Rattle.alias_lattice.specs.States.{State};
+ghost use Rattle.alias_rules.specs.Fitting.{function_fits};
+ghost use Rattle.alias_tables.specs.Tables.{TableLists};
+ghost use Rattle.alias_accept_laws.specs.Accepting.{SolvesUnder, IsAccepted};
+
+use alias_hir::env::Environment;
+use alias_hir::hir::HirFunction;
+
+/// Entry states that solve the flow of the function under tables are accepted by the check that begins with these tables, with each claim
+/// of its steps that is so: it refuses nothing that it should accept. Does nothing.
+pub fn solution_law(env: &Environment, func: &HirFunction, is_function_expression: bool)
+    requires { function_fits func.now env.now ≡ true }
+    ensures { (tables : TableLists) (entries : List (Option State)) → SolvesUnder env.now func.now is_function_expression tables entries → IsAccepted env.now func.now is_function_expression tables entries }
+{
+    let _env = env;
+    let _func = func;
+    let _is_function_expression = is_function_expression;
+}

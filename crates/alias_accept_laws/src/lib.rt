@@ -1,0 +1,4 @@
+//! That checks accept what inferences hand out.
+#![tactic(auto)]
+
+pub mod laws;
