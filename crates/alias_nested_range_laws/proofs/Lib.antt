@@ -1,2 +1,3 @@
 pub mod Mixing
+pub mod Leaving
 pub mod Ranging

@@ -1,5 +1,5 @@
 -- The ranges and the summaries of the nested functions of a unit that was inferred.
-use Rattle.std.specs.Prelude.{◌≡◌, ℕ, ◌<◌, ◌≤◌, ◌⊎◌, true, false, List, Option, Some, None, Result, Ok, IsOkAnd, IsSomeAnd, length, slice_get, refl}
+use Rattle.std.specs.Prelude.{◌≡◌, ℕ, ◌<◌, ◌≤◌, ◌⊎◌, true, false, List, Option, Some, None, Result, Ok, IsSomeAnd, length, slice_get, refl}
 use Rattle.std.proofs.Common.{inl, inr, ⊎_elim, ap, sym, ◌∙◌, subst, arith}
 use Rattle.alias_bare_laws.specs.Bare.{bare}
 use Rattle.alias_bare_laws.specs.BareLaws.{context_of_bare}
@@ -47,15 +47,12 @@ use Rattle.alias_cause_laws.proofs.Passes.{begun, after, leaves, bare_same, effe
 use Rattle.alias_cause_laws.proofs.Ranges.{order, parts, root, root_ran, walked, at_below, grown, IsOwn, own_unset, own_stays}
 use Rattle.alias_cause_laws.proofs.Recorded.{either_true}
 use Rattle.alias_cause_laws.proofs.Walking.{Stored, stored_still}
+use Rattle.alias_nested_range_laws.proofs.Leaving.{of_recorded}
 use Rattle.alias_nested_range_laws.proofs.Mixing.{mixed, mixed_apart, mixed_there}
 use Rattle.alias_nested_range_laws.specs.Nested.{IsNoContext, CoversOwn, CausesOwn, CoversOwnHeap, NestedRanged, NestedAreRanged}
 
 same_listing : (k l : Listing) → ◌≡◌ {A = Result Listing InferError} (Ok k) (Ok l) → k ≡ l
 same_listing k l h = cc
-
--- what holds of the listing holds of what is recorded
-of_recorded : (f : HirFunction) (l : Listing) (P : Listing → Type 0) → recorded f ≡ Ok l → P l → IsOkAnd (recorded f) P
-of_recorded f l P is h = subst (λ (q : Result Listing InferError). IsOkAnd q P) (sym is) h
 
 -- the summary in the slot ends with the flows
 stored_flows : (x : Analysed) (slot : Option HirFunction) → Stored x slot → IsSomeAnd slot (λ g. IsSomeAnd g.aliasing_effects (ListsFlows (with_effects x)))

@@ -3,12 +3,11 @@
 //! its own, so that `alias_nested` is proved once.
 #![tactic(auto)]
 
-pub mod dropping;
-
 #[cfg(test)]
 mod analyses;
 #[cfg(test)]
 mod changes;
+pub mod dropping;
 #[cfg(test)]
 mod endings;
 #[cfg(test)]
