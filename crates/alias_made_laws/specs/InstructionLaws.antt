@@ -47,7 +47,7 @@ choose P true x y p q = p
 choose P false x y p q = q
 
 -- what holds of each kind
-by_kind : (P : InstructionValue → Type 0) (kind : ℕ) (o : Place) → P (LoadLocal o) → P (ArrayExpression (element.Place o ∷ [])) → P (PropertyLoad o) → P Primitive → P (value_of kind o)
+pub by_kind : (P : InstructionValue → Type 0) (kind : ℕ) (o : Place) → P (LoadLocal o) → P (ArrayExpression (element.Place o ∷ [])) → P (PropertyLoad o) → P Primitive → P (value_of kind o)
 by_kind P kind o load array property primitive =
     choose P (eqb kind 0) _ _ load (choose P (eqb kind 1) _ _ array (choose P (eqb kind 2) _ _ property primitive))
 

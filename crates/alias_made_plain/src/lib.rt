@@ -1,0 +1,4 @@
+//! Made units are plain and forward.
+#![tactic(auto)]
+
+pub mod laws;
