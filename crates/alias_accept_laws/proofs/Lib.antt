@@ -3,3 +3,10 @@ pub mod Accepting
 pub mod Solutions
 pub mod Repeating
 pub mod Likeness
+pub mod Interning
+pub mod Tabling
+pub mod Applying
+pub mod Calling
+pub mod Legacies
+pub mod Stepping
+pub mod Blocking

@@ -1,18 +1,13 @@
 -- What is alike: to itself, the other way round, and through a third.
-use Rattle.std.specs.Prelude.{◌==◌}
-use Rattle.std.proofs.Common.{◌≡◌, ℕ, Bool, true, false, cond, List, [], ◌∷◌, ◌++◌, Option, Some, None, map, refl, ap, sym, ◌∙◌, subst}
-use Rattle.alias_base.specs.declared.ids.FunctionId.{FunctionId}
-use Rattle.alias_base.specs.declared.ids.IdentifierId.{IdentifierId}
+use Rattle.std.proofs.Common.{List, [], ◌∷◌, ◌++◌, Option, Some, None, map}
 use Rattle.alias_hir.specs.declared.effect.AliasingEffect.{AliasingEffect}
 use Rattle.alias_hir.specs.declared.effect.AliasingEffect.TheVariants as effect
 use Rattle.alias_hir.specs.declared.place.Place.{Place}
 use Rattle.alias_hir.specs.declared.place.PlaceOrSpreadOrHole.{PlaceOrSpreadOrHole}
 use Rattle.alias_hir.specs.declared.place.PlaceOrSpreadOrHole.TheVariants as arg
 use Rattle.alias_lattice.specs.declared.look.MissingLook.{MissingLook}
-use Rattle.alias_lattice.specs.States.{State, missing_look, sites_of}
 use Rattle.alias_apply.specs.declared.progress.StepProgress.{StepProgress}
-use Rattle.alias_apply.specs.Progress.{first_missing}
-use Rattle.alias_accept_laws.specs.Alike.{Paired, none, more, moved, AlikePlace, at, AlikePlaces, AlikeArgument, plain, spread, hole, AlikeArguments, Alike, apply, create_from, immutable_capture, assign, alias, capture, maybe_alias, create, freeze, impure, mutate_frozen, mutate_global, render, mutate, mutate_conditionally, mutate_transitive, mutate_transitive_conditionally, create_function, AlikeEffects, AlikeLook, there, missing, AlikeProgress, like}
+use Rattle.alias_accept_laws.specs.Alike.{Paired, none, more, moved, AlikePlace, at, AlikeArgument, plain, spread, hole, Alike, apply, create_from, immutable_capture, assign, alias, capture, maybe_alias, create, freeze, impure, mutate_frozen, mutate_global, render, mutate, mutate_conditionally, mutate_transitive, mutate_transitive_conditionally, create_function, AlikeLook, there, missing, AlikeProgress, like}
 
 -- ---- lists
 
@@ -128,7 +123,7 @@ alike_trans e f g (create_function x _ h ps _ a) (create_function _ y _ _ qs b) 
 
 -- ---- steps
 
-look_self : (o : Option MissingLook) → AlikeLook o o
+pub look_self : (o : Option MissingLook) → AlikeLook o o
 look_self None = there
 look_self (Some l) = missing l l
 

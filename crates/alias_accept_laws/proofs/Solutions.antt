@@ -1,12 +1,14 @@
 -- Entry states that solve the flow of a function are accepted under the same tables.
-use Rattle.std.proofs.Common.{◌≡◌, ℕ, ◌+◌, ◌<◌, ◌≤◌, ⊎_elim, Bool, true, false, nat_lt, ◌&&◌, IsTrue, List, [], ◌∷◌, length, replicate, Option, Some, None, Ok, zero, suc, refl, ap, sym, ◌∙◌, arith}
-use Rattle.std.specs.Prelude.{⊤}
+use Rattle.std.proofs.Common.{◌≡◌, ℕ, ◌+◌, ◌<◌, ◌≤◌, ⊎_elim, Bool, true, false, nat_lt, ◌&&◌, IsTrue, List, [], ◌∷◌, length, replicate, Option, Some, None, Ok, zero, suc, refl, ap, sym, ◌∙◌, subst, arith}
+use Rattle.std.specs.Prelude.{⊤, Result, Err, slice_get}
 use Rattle.std.proofs.lemmas.List.{length-replicate}
 use Rattle.std.proofs.lemmas.Bool.{cases_eq, ltb-true}
 use Rattle.std.specs.List.{AllByRecursion, list_all}
 use Rattle.std.specs.Option.{is_some}
 use Rattle.alias_base.specs.Find.{value_at}
 use Rattle.alias_hir.specs.declared.env.Environment.{Environment}
+use Rattle.alias_base.specs.declared.ids.BlockId.{BlockId}
+use Rattle.alias_hir.specs.declared.hir.BasicBlock.{BasicBlock}
 use Rattle.alias_hir.specs.declared.hir.HirFunction.{HirFunction}
 use Rattle.alias_lattice.specs.Flows.{Stepped}
 use Rattle.alias_lattice.specs.JoinLaws.{state_laws}
@@ -15,15 +17,24 @@ use Rattle.alias_lattice.specs.States.{State, state_join, state_below}
 use Rattle.alias_flow.specs.Machine.{Rules, up, FlowLaws}
 use Rattle.alias_flow.specs.Solutions.{entry_at, goes_forward, IsForward}
 use Rattle.alias_flow_check.specs.Checks.{Arriving, solution_checked}
-use Rattle.alias_tables.specs.GrowingLaws.{Extends}
+use Rattle.alias_tables.specs.GrowingLaws.{Extends, grows_self}
 use Rattle.alias_tables.specs.Tables.{TableLists}
-use Rattle.alias_block.specs.Contexts.{context_of}
+use Rattle.alias_block.specs.Blocks.{infer_block}
+use Rattle.alias_block.specs.Recorded.{no_effects}
+use Rattle.alias_block.specs.Contexts.{BlockContext, context_of}
 use Rattle.alias_block.specs.declared.faults.BlockRefusal.{BlockRefusal}
+use Rattle.alias_block.specs.declared.faults.BlockRefusal.TheVariants.{Instruction, Uninitialized}
+use Rattle.alias_flow_check.specs.declared.fault.Unsolved.{Unsolved}
+use Rattle.alias_flow_check.specs.declared.fault.Unsolved.TheVariants as fault
+use Rattle.alias_effects.specs.FunctionFlow.{outcome_of}
 use Rattle.alias_block.specs.declared.recorded.BlockEffects.{BlockEffects}
-use Rattle.alias_effects.specs.Numbered.{numbered}
+use Rattle.alias_effects.specs.Numbered.{numbered, step_at}
 use Rattle.alias_effects.specs.PassLaws.{pass_laws}
-use Rattle.alias_accept_laws.specs.Passing.{AreSolved, Passes, goes, Accepts, accepted, refused}
-use Rattle.alias_accept_laws.specs.Accepting.{rules, SolvesUnder, AreTold, IsAccepted}
+use Rattle.alias_accept_laws.specs.Alike.{none, AlikeTemporaries, Gives, given, excused}
+use Rattle.alias_accept_laws.specs.AlikeBlocks.{AlikeRecorded, AlikeOut, out, IsBlockFull}
+use Rattle.alias_accept_laws.proofs.Blocking.{same_infer_block}
+use Rattle.alias_accept_laws.specs.Passing.{AreSolved, Passes, goes, excused as excused_step, Accepts, accepted, refused}
+use Rattle.alias_accept_laws.specs.Accepting.{rules, SolvesUnder, AreTold, IsAccepted, AreToldAlike, IsAcceptedOrFull, accepted as accepted_with, full}
 use Rattle.alias_accept_laws.proofs.Accepting.{check_accepts}
 
 -- ---- edges that pass the test go forward
@@ -49,6 +60,17 @@ some_state : (o : Option State) → IsTrue (is_some o) → (s : State) × (o ≡
 some_state None h = cc
 some_state (Some s) h = (s, refl)
 
+parts_are : (r : (State × BlockEffects) × TableLists) (y : State) (k : BlockEffects) (u : TableLists) → r.0.0 ≡ y → r.0.1 ≡ k → r.1 ≡ u → r ≡ ((y, k), u)
+parts_are r y k u a b c = λ i. ((a i, b i), c i)
+
+stepped_is : (r : Result ((State × BlockEffects) × TableLists) BlockRefusal) (y : State) (k : BlockEffects) (u : TableLists) → outcome_of r ≡ Stepped y u k → r ≡ Ok ((y, k), u)
+stepped_is (Ok r) y k u h =
+    let state : r.0.0 ≡ y = cc in
+    let recorded : r.0.1 ≡ k = cc in
+    let tables : r.1 ≡ u = cc in
+    ap Ok (parts_are r y k u state recorded tables)
+stepped_is (Err c) y k u h = cc
+
 -- ---- the flow of a function
 
 module _ (env : Environment) (func : HirFunction) (is_function_expression : Bool) (entered : is_some (value_at func.body.blocks func.body.entry) ≡ true) (tables : TableLists) (entries : List (Option State)) (s : SolvesUnder env func is_function_expression tables entries) where
@@ -59,13 +81,13 @@ module _ (env : Environment) (func : HirFunction) (is_function_expression : Bool
   laws = pass_laws (context_of env func is_function_expression) entered (replicate (length func.body.blocks) None) (length-replicate (length func.body.blocks) None)
 
   -- the block steps so under the tables
-  abbrev Gives : ℕ → State → State → Type 0
-  Gives b x y = (k : BlockEffects) × (flow_rules.flow.step tables b x ≡ Stepped y tables k)
+  abbrev StepsTo : ℕ → State → State → Type 0
+  StepsTo b x y = (k : BlockEffects) × (flow_rules.flow.step tables b x ≡ Stepped y tables k)
 
-  single : (b : ℕ) (x y z : State) → Gives b x y → Gives b x z → y ≡ z
+  single : (b : ℕ) (x y z : State) → StepsTo b x y → StepsTo b x z → y ≡ z
   single b x y z g h = let two : Stepped y tables g.0 ≡ Stepped z tables h.0 = sym g.1 ∙ h.1 in cc
 
-  solved : AreSolved StateProper state_below flow_rules entries Gives
+  solved : AreSolved StateProper state_below flow_rules entries StepsTo
   solved = record {
     reached = λ b r. some_state (entry_at entries b) (s.solves.reached b r);
     only_reached = s.solves.only_reached;
@@ -76,7 +98,7 @@ module _ (env : Environment) (func : HirFunction) (is_function_expression : Bool
   }
 
   module _ (differs : TableLists → ℕ → BlockEffects → Option ⊤) (told : AreTold env func is_function_expression tables entries differs) where
-    passes : (t : TableLists) (b : ℕ) (x y : State) → t ≡ tables → entry_at entries b ≡ Some x → Gives b x y → Passes flow_rules differs (λ u. u ≡ tables) (λ c. ⊥) t b x y
+    passes : (t : TableLists) (b : ℕ) (x y : State) → t ≡ tables → entry_at entries b ≡ Some x → StepsTo b x y → Passes flow_rules differs (λ u. u ≡ tables) (λ c. ⊥) t b x y
     passes t b x y same is g = goes tables g.0 (ap (λ u. flow_rules.flow.step u b x) same ∙ g.1) refl (told b x y g.0 is g.1)
 
     none_refused : (r : _) → Accepts {P = State} {T = TableLists} {K = BlockEffects} {C = BlockRefusal} {D = ⊤} (λ c. ⊥) (λ w. w.tables ≡ tables) r → (w : Arriving State TableLists BlockEffects) × (r ≡ Ok w) × (w.tables ≡ tables)
@@ -84,7 +106,50 @@ module _ (env : Environment) (func : HirFunction) (is_function_expression : Bool
     none_refused r (refused b c is never) = absurd never
 
     accepts : (w : Arriving State TableLists BlockEffects) × (solution_checked state_join state_below flow_rules differs entries tables (replicate (length func.body.blocks) None) ≡ Ok w) × (w.tables ≡ tables)
-    accepts = none_refused _ (check_accepts state_laws laws differs entries Gives (λ u. u ≡ tables) (λ c. ⊥) solved s.proper s.count passes single tables refl)
+    accepts = none_refused _ (check_accepts state_laws laws differs entries StepsTo (λ u. u ≡ tables) (λ c. ⊥) solved s.proper s.count passes single tables refl)
 
   pub accepted_under : IsAccepted env func is_function_expression tables entries
   accepted_under differs told = accepts differs told
+
+  -- ---- under other tables
+
+  module _ {D : Type 0} (differs : TableLists → ℕ → BlockEffects → Option D) (told : AreToldAlike env func is_function_expression tables entries differs) where
+    abbrev Likes : TableLists → Type 0
+    Likes t = AlikeTemporaries tables.temporaries t.temporaries
+
+    abbrev context : BlockContext
+    context = context_of env func is_function_expression
+
+    given_passes : (t : TableLists) (b : ℕ) (x y : State) (k : BlockEffects) (block : BlockId × BasicBlock) → entry_at entries b ≡ Some x → slice_get func.body.blocks b ≡ Some block → flow_rules.flow.step tables b x ≡ Stepped y tables k
+        → Gives IsBlockFull tables.temporaries AlikeOut (y, k) (infer_block context block.0 block.1 x t) → Passes flow_rules differs Likes IsBlockFull t b x y
+    given_passes t b x y k block is there step (given p v now (out _ _ q r) likes) =
+        goes v q (ap (λ o. step_at context o t x) there ∙ ap outcome_of now) likes (told b x y k is step v q likes r)
+    given_passes t b x y k block is there step (excused c now why) = excused_step c (ap (λ o. step_at context o t x) there ∙ ap outcome_of now) why
+
+    passes_at : (t : TableLists) (b : ℕ) (x y : State) (k : BlockEffects) (o : Option (BlockId × BasicBlock)) → Likes t → entry_at entries b ≡ Some x → slice_get func.body.blocks b ≡ o → flow_rules.flow.step tables b x ≡ Stepped y tables k
+        → Passes flow_rules differs Likes IsBlockFull t b x y
+    passes_at t b x y k None likes is there step =
+        let here : Stepped x tables no_effects ≡ Stepped y tables k = sym (ap (λ o. step_at context o tables x) there) ∙ step in
+        let state : x ≡ y = cc in
+        let nothing : no_effects ≡ k = cc in
+        goes t no_effects (ap (λ o. step_at context o t x) there ∙ ap (λ z. Stepped z t no_effects) state) likes
+        (told b x y k is step t no_effects likes (subst (λ r. AlikeRecorded r no_effects) nothing (record { instructions = none; terminal = none })))
+    passes_at t b x y k (Some block) likes is there step =
+        let run : infer_block context block.0 block.1 x tables ≡ Ok ((y, k), tables) = stepped_is (infer_block context block.0 block.1 x tables) y k tables (sym (ap (λ o. step_at context o tables x) there) ∙ step) in
+        given_passes t b x y k block is there step ((same_infer_block context block.0 block.1 x).again tables tables t (y, k) run (grows_self tables.temporaries) likes)
+
+    passes_anyway : (t : TableLists) (b : ℕ) (x y : State) → Likes t → entry_at entries b ≡ Some x → StepsTo b x y → Passes flow_rules differs Likes IsBlockFull t b x y
+    passes_anyway t b x y likes is g = passes_at t b x y g.0 (slice_get func.body.blocks b) likes is refl g.1
+
+    full_is : (b : ℕ) (c : BlockRefusal) (r : Result (Arriving State TableLists BlockEffects) (Unsolved BlockRefusal D)) → r ≡ Err (fault.Step b c) → IsBlockFull c → IsAcceptedOrFull env func is_function_expression tables r
+    full_is b (Instruction i c) r is why = full b i (is ∙ ap (λ z. Err (fault.Step b (Instruction i z))) why)
+    full_is b (Uninitialized look) r is why = absurd why
+
+    accepted_is : (r : Result (Arriving State TableLists BlockEffects) (Unsolved BlockRefusal D)) → Accepts IsBlockFull (λ w. Likes w.tables) r → IsAcceptedOrFull env func is_function_expression tables r
+    accepted_is r (accepted w is likes) = accepted_with w is likes
+    accepted_is r (refused b c is why) = full_is b c r is why
+
+    pub accepts_anyway : (begun : TableLists) → Likes begun
+        → IsAcceptedOrFull env func is_function_expression tables (solution_checked state_join state_below flow_rules differs entries begun (replicate (length func.body.blocks) None))
+    accepts_anyway begun likes =
+        accepted_is _ (check_accepts state_laws laws differs entries StepsTo Likes IsBlockFull solved s.proper s.count passes_anyway single begun likes)

@@ -1,5 +1,7 @@
 -- Entry states that solve the flow of a function, and the check that accepts them.
-use Rattle.std.specs.Prelude.{◌≡◌, ℕ, Bool, List, length, replicate, Option, Some, None, Ok, ⊤}
+use Rattle.std.specs.Prelude.{◌≡◌, ℕ, Bool, List, length, replicate, Option, Some, None, Result, Ok, Err, ⊤}
+use Rattle.alias_base.specs.declared.ids.InstructionId.{InstructionId}
+use Rattle.alias_hir.specs.declared.error.Counter.TheVariants.{Diagnostics}
 use Rattle.alias_hir.specs.declared.env.Environment.{Environment}
 use Rattle.alias_hir.specs.declared.hir.HirFunction.{HirFunction}
 use Rattle.alias_lattice.specs.Flows.{Stepped, IsSolution, AreJoins}
@@ -8,11 +10,17 @@ use Rattle.alias_lattice.specs.States.{State, state_join, state_below}
 use Rattle.alias_flow.specs.Machine.{Rules}
 use Rattle.alias_flow.specs.Solutions.{entry_at, IsForward}
 use Rattle.alias_flow_check.specs.Checks.{Arriving, solution_checked}
+use Rattle.alias_flow_check.specs.declared.fault.Unsolved.{Unsolved}
+use Rattle.alias_flow_check.specs.declared.fault.Unsolved.TheVariants as fault
 use Rattle.alias_tables.specs.Tables.{TableLists}
+use Rattle.alias_tables.specs.declared.faults.Refusal.TheVariants.{TooMany}
 use Rattle.alias_block.specs.Contexts.{context_of}
 use Rattle.alias_block.specs.declared.faults.BlockRefusal.{BlockRefusal}
+use Rattle.alias_block.specs.declared.faults.BlockRefusal.TheVariants.{Instruction}
 use Rattle.alias_block.specs.declared.recorded.BlockEffects.{BlockEffects}
 use Rattle.alias_effects.specs.Numbered.{numbered}
+use Rattle.alias_accept_laws.specs.Alike.{AlikeTemporaries}
+use Rattle.alias_accept_laws.specs.AlikeBlocks.{AlikeRecorded}
 
 module _ (env : Environment) (func : HirFunction) (is_function_expression : Bool) where
   abbrev pub rules : Rules State TableLists BlockEffects BlockRefusal
@@ -34,3 +42,20 @@ module _ (env : Environment) (func : HirFunction) (is_function_expression : Bool
   IsAccepted tables entries =
       (differs : TableLists → ℕ → BlockEffects → Option ⊤) → AreTold tables entries differs
       → (w : Arriving State TableLists BlockEffects) × (solution_checked state_join state_below rules differs entries tables (replicate (length func.body.blocks) None) ≡ Ok w) × (w.tables ≡ tables)
+
+  -- what is claimed of the steps is so of all that is alike: of what each records but for spans and the numbers of reports, under tables with such temporaries
+  abbrev pub AreToldAlike : {D : Type 0} → TableLists → List (Option State) → (TableLists → ℕ → BlockEffects → Option D) → Type 0
+  AreToldAlike tables entries differs =
+      (b : ℕ) (s y : State) (k : BlockEffects) → entry_at entries b ≡ Some s → rules.flow.step tables b s ≡ Stepped y tables k
+      → (t : TableLists) (q : BlockEffects) → AlikeTemporaries tables.temporaries t.temporaries → AlikeRecorded k q → differs t b q ≡ None
+
+  -- the check finds no fault, and ends with such temporaries; or no number is left for a report of a step
+  pub data IsAcceptedOrFull {D : Type 0} (tables : TableLists) (r : Result (Arriving State TableLists BlockEffects) (Unsolved BlockRefusal D)) : Type 0 where
+    accepted : (w : Arriving State TableLists BlockEffects) → r ≡ Ok w → AlikeTemporaries tables.temporaries w.tables.temporaries → IsAcceptedOrFull tables r
+    full : (b : ℕ) (i : InstructionId) → r ≡ Err (fault.Step b (Instruction i (TooMany Diagnostics))) → IsAcceptedOrFull tables r
+
+  -- the check accepts the entry states whatever tables it begins with, where these have temporaries of the same keys and identifiers
+  abbrev pub IsAcceptedAnyway : TableLists → List (Option State) → Type 0
+  IsAcceptedAnyway tables entries =
+      (begun : TableLists) → AlikeTemporaries tables.temporaries begun.temporaries → (differs : TableLists → ℕ → BlockEffects → Option ⊤) → AreToldAlike tables entries differs
+      → IsAcceptedOrFull tables (solution_checked state_join state_below rules differs entries begun (replicate (length func.body.blocks) None))

@@ -13,11 +13,16 @@ use Rattle.alias_hir.specs.declared.place.PlaceOrSpreadOrHole.TheVariants as arg
 use Rattle.alias_hir.specs.declared.place.Span.{Span}
 use Rattle.alias_hir.specs.declared.report.DiagnosticId.{DiagnosticId}
 use Rattle.alias_lattice.specs.declared.look.MissingLook.{MissingLook}
+use Rattle.alias_hir.specs.declared.error.Counter.TheVariants.{Diagnostics}
 use Rattle.alias_tables.specs.GrowingLaws.{Grows}
 use Rattle.alias_tables.specs.Tables.{TableLists}
+use Rattle.alias_tables.specs.declared.faults.Refusal.{Refusal}
+use Rattle.alias_tables.specs.declared.faults.Refusal.TheVariants.{TooMany}
 use Rattle.alias_tables.specs.declared.temp_key.TempKey.{TempKey}
 use Rattle.alias_tables.specs.declared.temporaries.Temporary.{Temporary}
 use Rattle.alias_apply.specs.declared.progress.StepProgress.{StepProgress}
+use Rattle.alias_calls.specs.declared.call.CallSite.{CallSite}
+use Rattle.alias_calls.specs.declared.legacy.Legacy.{Legacy}
 
 -- two lists, pair by pair
 pub data Paired {A B : Type 0} (Q : A → B → Type 0) : List A → List B → Type 0 where
@@ -82,6 +87,10 @@ pub data AlikeProgress : StepProgress → StepProgress → Type 0 where
 
 -- ---- tables
 
+-- no number is left for a report
+abbrev pub IsFull : Refusal → Type 0
+IsFull c = c ≡ TooMany Diagnostics
+
 pub data AlikeTemporary : Temporary → Temporary → Type 0 where
   of_key : (key : TempKey) (p q : Place) → AlikeTemporary (record { key = key; place = p }) (record { key = key; place = moved p q })
 
@@ -99,3 +108,21 @@ module _ {C : Type 0} (is_excused : C → Type 0) (whole : List Temporary) where
   pub record Repeats {A : Type 0} (R : A → A → Type 0) (f g : TableLists → Result (A × TableLists) C) : Type 0 where
     pub grows : (t u : TableLists) (x : A) → f t ≡ Ok (x, u) → Grows t.temporaries u.temporaries
     pub again : (t u v : TableLists) (x : A) → f t ≡ Ok (x, u) → Grows u.temporaries whole → AlikeTemporaries whole v.temporaries → Gives R x (g v)
+
+-- ---- calls
+
+-- two options, of which neither is there, or both with what is alike
+pub data Maybe {A B : Type 0} (Q : A → B → Type 0) : Option A → Option B → Type 0 where
+  nothing : Maybe Q None None
+  just : {a : A} {b : B} → Q a b → Maybe Q (Some a) (Some b)
+
+abbrev pub AlikeList : Option (List AliasingEffect) → Option (List AliasingEffect) → Type 0
+AlikeList = Maybe AlikeEffects
+
+-- where a call is made, at places of the same identifiers
+pub data AlikeSite : CallSite → CallSite → Type 0 where
+  called : (s t : CallSite) → AlikeSite s (record { receiver = moved s.receiver t.receiver; into = moved s.into t.into; span = t.span })
+
+-- the effects are alike, and the look is the same
+pub data AlikeLegacy : Legacy → Legacy → Type 0 where
+  listed : (es fs : List AliasingEffect) (look : Option MissingLook) → AlikeEffects es fs → AlikeLegacy (record { effects = es; missing = look }) (record { effects = fs; missing = look })

@@ -1,3 +1,4 @@
 pub mod Passing
-pub mod Accepting
 pub mod Alike
+pub mod AlikeBlocks
+pub mod Accepting

@@ -4,7 +4,7 @@ ghost use Rattle.std.specs.Prelude.{◌≡◌, true, List, Option};
 ghost use Rattle.alias_lattice.specs.States.{State};
 ghost use Rattle.alias_rules.specs.Fitting.{function_fits};
 ghost use Rattle.alias_tables.specs.Tables.{TableLists};
-ghost use Rattle.alias_accept_laws.specs.Accepting.{SolvesUnder, IsAccepted};
+ghost use Rattle.alias_accept_laws.specs.Accepting.{SolvesUnder, IsAccepted, IsAcceptedAnyway};
 
 use alias_hir::env::Environment;
 use alias_hir::hir::HirFunction;
@@ -14,6 +14,18 @@ use alias_hir::hir::HirFunction;
 pub fn solution_law(env: &Environment, func: &HirFunction, is_function_expression: bool)
     requires { function_fits func.now env.now ≡ true }
     ensures { (tables : TableLists) (entries : List (Option State)) → SolvesUnder env.now func.now is_function_expression tables entries → IsAccepted env.now func.now is_function_expression tables entries }
+{
+    let _env = env;
+    let _func = func;
+    let _is_function_expression = is_function_expression;
+}
+
+/// They are accepted as well by a check that begins with other tables, whatever first effects and reports these have, where their
+/// temporaries have the same keys and identifiers: each step gives the same state and, but for spans and the numbers of reports, the same effects.
+/// It may be that no number is left for a report. Does nothing.
+pub fn tables_law(env: &Environment, func: &HirFunction, is_function_expression: bool)
+    requires { function_fits func.now env.now ≡ true }
+    ensures { (tables : TableLists) (entries : List (Option State)) → SolvesUnder env.now func.now is_function_expression tables entries → IsAcceptedAnyway env.now func.now is_function_expression tables entries }
 {
     let _env = env;
     let _func = func;
