@@ -27,7 +27,6 @@ use Rattle.alias_nested.specs.Units.{UnitAnalysis, unit_analysed}
 use Rattle.alias_nesting_laws.specs.PartLaws.{absent, not_both}
 use Rattle.alias_order_laws.proofs.Solving.{end_names_none}
 use Rattle.alias_range_inference.specs.Ranges.{ListsFlows}
-use Rattle.alias_range_pass.specs.Refusals.{recorded}
 use Rattle.alias_range_places.specs.Causes.{InstructionCause, numbers_of}
 use Rattle.alias_range_summary.specs.Laws.{Covers, MutationCause}
 use Rattle.alias_range_summary.specs.Walking.{mutation_entry}
