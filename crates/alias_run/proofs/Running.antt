@@ -30,7 +30,7 @@ use Rattle.alias_run.specs.declared.query.Query.TheVariants.{Inference, Acceptan
 use Rattle.alias_run.specs.declared.outcome.Outcome.{Outcome}
 use Rattle.alias_rules.specs.Functions.{rules_hold, checks}
 use Rattle.alias_function_rules.specs.declared.fault.UnitFault.{UnitFault}
-use Rattle.alias_run.specs.Findings.{parts_of, IsAccepted, IsAcceptedOf, Infers, IsExplained, IsExplainedOf, IsInferred, IsChecked, IsAnswered, IsFit, IsJudged, IsRead, IsFound, Leaves, greatest_input}
+use Rattle.alias_run.specs.Findings.{parts_of, EndsUnblamed, IsAccepted, IsAcceptedOf, Infers, IsExplained, IsExplainedOf, IsInferred, IsChecked, IsAnswered, IsFit, IsJudged, IsRead, IsFound, Leaves, greatest_input}
 use Rattle.alias_run.specs.Inferences.{solved_tell}
 use Rattle.alias_inferred_laws.proofs.Carrying.{solutions_carried}
 use Rattle.alias_run.specs.Runs.{IsRun, IsInferredOf, IsAnsweredOf, IsUnitOf, ArePartsOf, IsDone, IsHeadline}
@@ -43,15 +43,15 @@ ended_as status = record { status = status; answer = Nothing }
 
 -- ---- units
 
--- a unit that keeps the rules is refused by none
-pub checked_fit : (certificate : List ℕ) (u : HirUnit) (status : Status) (i : Answer) → rules_hold u ≡ Ok tt → IsChecked Inference certificate u status i → IsFit u status i
-checked_fit certificate u (Unfit fault) i k h = let no : Ok tt ≡ Err fault = sym k ∙ h.0 in absurd (cc)
-checked_fit certificate u Memory i k h = (k, h)
-checked_fit certificate u status i k h = h
+-- a unit that keeps the rules is refused by none, and where it is plain and forward not by the inference
+pub checked_fit : (certificate : List ℕ) (u : HirUnit) (status : Status) (i : Answer) → rules_hold u ≡ Ok tt → ((s : Status) (a : Answer) → IsInferred u s a → EndsUnblamed s) → IsChecked Inference certificate u status i → IsFit u status i
+checked_fit certificate u (Unfit fault) i k ends h = let no : Ok tt ≡ Err fault = sym k ∙ h.0 in absurd (cc)
+checked_fit certificate u Memory i k ends h = (k, h, tt)
+checked_fit certificate u status i k ends h = (h.0, h.1, ends status i h.1)
 
 -- memory ran out before there was a unit
 pub ran_out_fit : (u : HirUnit) (o : Outcome) → o ≡ ended_as Memory → rules_hold u ≡ Ok tt → IsFit u o.status o.answer
-ran_out_fit u o is k = subst (λ (z : Outcome). IsFit u z.status z.answer) (sym is) (k, refl)
+ran_out_fit u o is k = subst (λ (z : Outcome). IsFit u z.status z.answer) (sym is) (k, refl, tt)
 
 -- what is explained of what is inferred of a unit is explained of the unit
 pub explained_of : (f : Option FunctionId) (id : IdentifierId) (u : HirUnit) (i : UnitInference) (status : Status) (a : Answer) → Infers u i → IsExplainedOf f id i status a → IsExplained f id u status a

@@ -1,8 +1,10 @@
 -- Why a run comes to a status.
-use Rattle.std.specs.Prelude.{◌≡◌, ℕ, ◌<◌, ◌≤◌, ◌⊎◌, List, [], length, Option, Some, None, Ok, Err}
+use Rattle.std.specs.Prelude.{◌≡◌, ◌≢◌, ℕ, ◌<◌, ◌≤◌, ◌⊎◌, List, [], length, Option, Some, None, Ok, Err}
 use Rattle.std.specs.List.{AllByRecursion}
 use Rattle.alias_rules.specs.Functions.{rules_hold}
 use Rattle.alias_hir.specs.declared.env.Unit.{Unit as HirUnit}
+use Rattle.alias_hir.specs.declared.error.InferError.TheVariants as error
+use Rattle.alias_hir.specs.declared.report.Report.{Report}
 use Rattle.alias_made.specs.Units.{made_unit}
 use Rattle.alias_read.specs.Units.{UnitReading, ReadsUnit}
 use Rattle.alias_read.specs.declared.fault.TextFault.TheVariants as text
@@ -29,25 +31,29 @@ use Rattle.alias_explain.specs.declared.cause.Cause.TheVariants.{NoCause}
 use Rattle.alias_explain.specs.declared.explain.ExplainFault.TheVariants as explain
 use Rattle.alias_explain.specs.declared.explain.Explanation.{Explanation as RangeExplanation}
 use Rattle.alias_plain_laws.specs.Answers.{answer_of, unit_end}
+use Rattle.alias_plain_laws.specs.UnitLaws.{TellsOf}
+use Rattle.alias_plain_laws.specs.declared.answer.Plainness.{Plainness as PlainAnswer}
+use Rattle.alias_plain_laws.specs.declared.answer.Plainness.TheVariants as plain
 use Rattle.alias_nested.specs.declared.infer.Inferred.{Inferred as UnitInference}
 use Rattle.alias_nested.specs.Analysis.{Analysed, SolvesItsFlow}
 use Rattle.alias_nested.specs.Units.{unit_analysed}
+use Rattle.alias_unit_completeness.specs.Refusals.{IsCaused, IsForwardUnit, IsTooMany}
 
 -- the greatest input, in bytes
 abbrev pub greatest_input : ℕ
 greatest_input = 16777216
 
 -- what a unit that keeps the rules leads to: what is handed out is what is inferred of it, and of each function, as its effects pass begins, the entry
--- states solve the flow; or it is refused
+-- states solve the flow; or it is refused, with a cause in the unit
 abbrev pub IsInferred : HirUnit → Status → Answer → Type 0
 IsInferred u Done (Inferred i) = (fs : List Analysed) × (unit_analysed u ≡ Ok (record { functions = fs; inferred = i })) × AllByRecursion SolvesItsFlow fs
-IsInferred u (Refused e) a = (unit_analysed u ≡ Err e) × (a ≡ Nothing)
+IsInferred u (Refused e) a = (unit_analysed u ≡ Err e) × IsCaused u e × (a ≡ Nothing)
 IsInferred u Memory a = a ≡ Nothing
 IsInferred u status a = ⊥
 
--- the inference refuses a unit that keeps the rules
+-- the inference refuses a unit that keeps the rules, with a cause in it
 abbrev pub IsRefusedAs : HirUnit → Status → Answer → Type 0
-IsRefusedAs u (Refused e) a = (unit_analysed u ≡ Err e) × (a ≡ Nothing)
+IsRefusedAs u (Refused e) a = (unit_analysed u ≡ Err e) × IsCaused u e × (a ≡ Nothing)
 IsRefusedAs u status a = ⊥
 
 -- this is inferred of it
@@ -94,10 +100,26 @@ abbrev pub IsExplained : Option FunctionId → IdentifierId → HirUnit → Stat
 IsExplained f id u Memory a = a ≡ Nothing
 IsExplained f id u status a = IsRefusedAs u status a ⊎ ((i : UnitInference) × Infers u i × IsExplainedOf f id i status a)
 
--- whether a unit is plain
+-- the inference isn't refused, unless a counter is at its last value
+abbrev pub EndsUnblamed : Status → Type 0
+EndsUnblamed Done = Unit {0}
+EndsUnblamed (Refused e) = IsTooMany e
+EndsUnblamed Memory = Unit {0}
+EndsUnblamed status = ⊥
+
+-- its functions are settled within 100 rounds, as each is whose edges all go to later blocks
+abbrev pub Settles : HirUnit → Type 0
+Settles u = IsForwardUnit u ⊎ ((f : Option FunctionId) (visits : ℕ) (report : Report) → unit_analysed u ≢ Err (error.NotSettled f visits report))
+
+-- where the unit is plain, and settles as well, so does its inference end
+abbrev pub EndsWherePlain : HirUnit → PlainAnswer → Type 0
+EndsWherePlain u plain.Plain = Settles u → (status : Status) (a : Answer) → IsInferred u status a → EndsUnblamed status
+EndsWherePlain u (plain.NotPlain f i rule) = Unit {0}
+
+-- whether a unit is plain, or what comes first where it isn't; or which function isn't settled
 abbrev pub IsDecided : HirUnit → Status → Answer → Type 0
-IsDecided u Done (Decided p) = answer_of (unit_end u) ≡ Ok p
-IsDecided u (PlainRefused fault) a = (answer_of (unit_end u) ≡ Err fault) × (a ≡ Nothing)
+IsDecided u Done (Decided p) = (answer_of (unit_end u) ≡ Ok p) × TellsOf u (Ok p) × EndsWherePlain u p
+IsDecided u (PlainRefused fault) a = (answer_of (unit_end u) ≡ Err fault) × TellsOf u (Err fault) × (a ≡ Nothing)
 IsDecided u Memory a = a ≡ Nothing
 IsDecided u status a = ⊥
 
@@ -115,9 +137,9 @@ IsChecked q certificate u (Unfit fault) a = (rules_hold u ≡ Err fault) × (a �
 IsChecked q certificate u Memory a = a ≡ Nothing
 IsChecked q certificate u status a = (rules_hold u ≡ Ok tt) × IsAnswered q certificate u status a
 
--- what a unit leads to that is known to be fit, which is to say that it keeps the rules
+-- what a unit leads to that is known to be fit, which is to say that it keeps the rules, and is plain and forward
 abbrev pub IsFit : HirUnit → Status → Answer → Type 0
-IsFit u status a = (rules_hold u ≡ Ok tt) × IsInferred u status a
+IsFit u status a = (rules_hold u ≡ Ok tt) × IsInferred u status a × EndsUnblamed status
 
 -- the parts of the whole input: where a certificate is asked about, the unit before the first newline and the certificate behind it; else the unit alone
 abbrev pub parts_of : Query → List ℕ → List ℕ × List ℕ
@@ -140,7 +162,7 @@ IsRead q known failed Memory a = a ≡ Nothing
 IsRead q known failed status a = (bytes : List ℕ) × IsAllOf known bytes × (length bytes ≤ greatest_input) × IsJudged q (parts_of q bytes) status a
 
 -- What the words and a source lead to, before anything is written: `asked` is the command of the words, where they are one. A made unit keeps the rules, so
--- none of them refuses it.
+-- none of them refuses it, and the inference refuses it for want of numbers alone.
 unfoldable pub IsFound : Option Command → Option (List ℕ) → Type 0 → Status → Answer → Type 0
 IsFound None known failed status a = (status ≡ Words) × (a ≡ Nothing)
 IsFound (Some Infer) known failed status a = IsRead Inference known failed status a

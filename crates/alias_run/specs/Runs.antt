@@ -1,5 +1,5 @@
 -- What a run comes to.
-use Rattle.std.specs.Prelude.{◌≡◌, ℕ, List, take, Option, Some, None, Ok}
+use Rattle.std.specs.Prelude.{◌≡◌, ℕ, ◌≤◌, List, length, take, Option, Some, None, Ok}
 use Rattle.std.specs.List.{AllByRecursion}
 use Rattle.alias_rules.specs.Functions.{rules_hold}
 use Rattle.alias_hir.specs.declared.env.Unit.{Unit as HirUnit}
@@ -19,7 +19,8 @@ use Rattle.alias_nested.specs.Units.{unit_analysed}
 use Rattle.alias_inferred_laws.specs.Solutions.{SolutionsAreCarried}
 use Rattle.alias_run.specs.declared.query.Query.{Query}
 use Rattle.alias_run.specs.declared.query.Query.TheVariants.{Acceptance, Lints, Explanation, Plainness}
-use Rattle.alias_run.specs.Findings.{parts_of, IsFound, IsAnswered}
+use Rattle.alias_plainness.specs.Plainness.{IsPlainUnit}
+use Rattle.alias_run.specs.Findings.{greatest_input, parts_of, EndsUnblamed, Settles, IsFound, IsAnswered}
 use Rattle.alias_run.specs.Inferences.{TellsItsWrites}
 use Rattle.alias_run.specs.Texts.{text_of, answer_text, inferred_text, help_text, version_text}
 
@@ -73,3 +74,16 @@ IsDone (Some Version) known held held' a = (a ≡ Nothing) × Adds held version_
 unfoldable pub IsHeadline : Option Command → Option (List ℕ) → Option (List ℕ) → Option (List ℕ) → Status → Answer → Type 0
 IsHeadline asked known held held' Done a = IsDone asked known held held' a
 IsHeadline asked known held held' status a = Unit {0}
+
+-- Completeness. Where the source has bytes that aren't too many, and are the JSON of a unit that keeps the rules, is plain and settles: it is inferred, and refused
+-- only since a counter was at its last value, while the source and the sink don't fail.
+abbrev pub EndsOfPlain : Option (List ℕ) → Type 0 → Type 0 → Status → Type 0
+EndsOfPlain known read_failed write_failed status =
+    (bytes : List ℕ) (u : HirUnit) → known ≡ Some bytes → length bytes ≤ greatest_input → UnitReading bytes u → rules_hold u ≡ Ok tt → IsPlainUnit u → Settles u → (read_failed → ⊥) → (write_failed → ⊥) → EndsUnblamed status
+
+-- So it is of `infer` and `certify`; and of a made unit while the sink doesn't fail.
+unfoldable pub IsComplete : Option Command → Option (List ℕ) → Type 0 → Type 0 → Status → Type 0
+IsComplete (Some Infer) known read_failed write_failed status = EndsOfPlain known read_failed write_failed status
+IsComplete (Some Certify) known read_failed write_failed status = EndsOfPlain known read_failed write_failed status
+IsComplete (Some (Made seed size)) known read_failed write_failed status = (write_failed → ⊥) → EndsUnblamed status
+IsComplete asked known read_failed write_failed status = Unit {0}

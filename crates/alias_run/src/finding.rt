@@ -35,6 +35,7 @@ fn infer_checked(alloc: Global, unit: Checked) -> Outcome
     ensures { IsInferred unit result.status result.answer }
 {
     let mut passes = KeepAll;
+    let _unit = unit.unit();
     match infer_unit(alloc, unit, &mut passes) {
         Ok(inferred) => done(Answer::Inferred(inferred)),
         Err(error) => ended(Status::from(error)),
@@ -196,7 +197,8 @@ fn ask_source<S: Source>(alloc: Global, query: Query, source: &mut S) -> Outcome
     }
 }
 
-/// What the unit of a seed and a size leads to. It keeps the rules, so that none of them refuses it.
+/// What the unit of a seed and a size leads to. It keeps the rules, so that none of them refuses it, and is plain and
+/// forward, so that its inference is refused for want of numbers alone.
 fn infer_made(alloc: Global, seed: u64, size: u32) -> Outcome
     requires some { 1 ≤ size }
     requires limit { size ≤ 1000 }

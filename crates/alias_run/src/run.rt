@@ -3,7 +3,7 @@ ghost use Rattle.std.specs.Prelude.{◌≡◌, true, false};
 ghost use Rattle.alias_stream.specs.Streams.{HasFailed};
 ghost use Rattle.alias_run.specs.Commands.{command_of, reads};
 ghost use Rattle.alias_run.specs.Findings.{Leaves};
-ghost use Rattle.alias_run.specs.Runs.{IsRun, IsHeadline};
+ghost use Rattle.alias_run.specs.Runs.{IsRun, IsHeadline, IsComplete};
 
 use crate::command::Command;
 use crate::finding::find;
@@ -19,7 +19,7 @@ use std::alloc::Global;
 ///
 /// The words are those of the command line without the program's name; where they are no command, or one that doesn't
 /// read, nothing is read. The clause `run` has the exact cause of each status, and what was written at each; the clause
-/// `headline` says what status `Done` means, and `leaves` that a source that was to be read has nothing left where the
+/// `headline` says what status `Done` means, `complete` that no plain unit is refused that settles, and `leaves` that a source that was to be read has nothing left where the
 /// status is of its whole input. A fault is told by the outcome's status: docs/FORMAT.md has the table.
 pub fn run_alias<S: Source, K: Sink>(
     alloc: Global,
@@ -31,6 +31,9 @@ pub fn run_alias<S: Source, K: Sink>(
         let write_failed = HasFailed (K.faults sink.old) (K.faults sink.new) (K.at_last sink.new) in
         IsRun (command_of words.now) (S.left source.old) read_failed write_failed (K.held sink.old) (K.held sink.new) result.status result.answer }
     ensures headline { IsHeadline (command_of words.now) (S.left source.old) (K.held sink.old) (K.held sink.new) result.status result.answer }
+    ensures complete { let read_failed = HasFailed (S.faults source.old) (S.faults source.new) (S.at_last source.new) in
+        let write_failed = HasFailed (K.faults sink.old) (K.faults sink.new) (K.at_last sink.new) in
+        IsComplete (command_of words.now) (S.left source.old) read_failed write_failed result.status }
     ensures unread { reads (command_of words.now) ≡ false → (S.left source.new ≡ S.left source.old) × (S.faults source.new ≡ S.faults source.old) }
     ensures leaves { reads (command_of words.now) ≡ true → Leaves result.status (S.left source.new) }
 {

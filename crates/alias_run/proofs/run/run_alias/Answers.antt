@@ -4,6 +4,7 @@ use Rattle.alias_run.specs.Commands.{command_of}
 use Rattle.alias_run.specs.Runs.{IsRun, IsHeadline}
 use Rattle.alias_run.specs.Texts.{text_of}
 use Rattle.alias_run.proofs.Running.{ran_out, broke_off, ran, headline, leaves_unwritten, no_headline, no_headline_of_memory}
+use Rattle.alias_run.proofs.Refusing.{run_is_complete}
 use Rattle.alias_run.proofs.run.run_alias.Goals as goal
 
 pub returns-in_default-clause-run : goal.returns-in_default-clause-run
@@ -18,6 +19,17 @@ returns-in_default-clause-run g c =
     let o = c.unwritten.result in
     subst (λ asked. IsRun asked left read_failed write_failed held held o.status o.answer) c.from_words-asked.ensures.command
     (ran_out c.from_words-asked.result left read_failed write_failed held held c.find-outcome.result o c.unwritten.ensures c.find-outcome.ensures.found)
+
+pub returns-in_default-clause-complete : goal.returns-in_default-clause-complete
+returns-in_default-clause-complete g c =
+    let source = c.args.source.now in
+    let after = c.find-outcome.new.source in
+    let sink = c.args.sink.now in
+    let read_failed = HasFailed (g.S.Source.faults source) (g.S.Source.faults after) (g.S.Source.at_last after) in
+    let write_failed = HasFailed (g.K.Sink.faults sink) (g.K.Sink.faults sink) (g.K.Sink.at_last sink) in
+    let held = g.K.Sink.held sink in
+    let o = c.unwritten.result in
+    run_is_complete (command_of c.args.words.now) (g.S.Source.left source) read_failed write_failed held held o.status o.answer (returns-in_default-clause-run g c)
 
 pub returns-in_default-clause-headline : goal.returns-in_default-clause-headline
 returns-in_default-clause-headline g c =
@@ -40,6 +52,17 @@ returns-in-Ok-write_whole-clause-run g c =
     subst (λ command. IsRun command left read_failed write_failed held held' found.status found.answer) c.from_words-asked.ensures.command
     (ran left read_failed write_failed held held' asked found.status found.answer c.find-outcome.ensures.found
     (subst (λ t. Adds held t held') text c.in-Ok-write_whole.ensures.whole))
+
+pub returns-in-Ok-write_whole-clause-complete : goal.returns-in-Ok-write_whole-clause-complete
+returns-in-Ok-write_whole-clause-complete g c =
+    let found = c.find-outcome.result in
+    let source = c.args.source.now in
+    let after = c.find-outcome.new.source in
+    let sink = c.args.sink.now in
+    let sink' = c.write_whole.new.sink in
+    let read_failed = HasFailed (g.S.Source.faults source) (g.S.Source.faults after) (g.S.Source.at_last after) in
+    let write_failed = HasFailed (g.K.Sink.faults sink) (g.K.Sink.faults sink') (g.K.Sink.at_last sink') in
+    run_is_complete (command_of c.args.words.now) (g.S.Source.left source) read_failed write_failed (g.K.Sink.held sink) (g.K.Sink.held sink') found.status found.answer (returns-in-Ok-write_whole-clause-run g c)
 
 pub returns-in-Ok-write_whole-clause-headline : goal.returns-in-Ok-write_whole-clause-headline
 returns-in-Ok-write_whole-clause-headline g c =
@@ -75,6 +98,17 @@ returns-clause-run g c =
     subst (λ command. IsRun command left read_failed write_failed held held' o.status o.answer) c.from_words-asked.ensures.command
     (broke_off asked left read_failed write_failed held held' found part.0 c.in-Err.stop _ o c.unwritten-in-Err.ensures c.from.ensures
     c.find-outcome.ensures.found (subst (λ t. Adds held (take part.0 t) held') text part.2) (λ failed. c.in-Err.ensures.failed (ap Err failed)))
+
+pub returns-clause-complete : goal.returns-clause-complete
+returns-clause-complete g c =
+    let source = c.args.source.now in
+    let after = c.find-outcome.new.source in
+    let sink = c.args.sink.now in
+    let sink' = c.write_whole.new.sink in
+    let read_failed = HasFailed (g.S.Source.faults source) (g.S.Source.faults after) (g.S.Source.at_last after) in
+    let write_failed = HasFailed (g.K.Sink.faults sink) (g.K.Sink.faults sink') (g.K.Sink.at_last sink') in
+    let o = c.unwritten-in-Err.result in
+    run_is_complete (command_of c.args.words.now) (g.S.Source.left source) read_failed write_failed (g.K.Sink.held sink) (g.K.Sink.held sink') o.status o.answer (returns-clause-run g c)
 
 pub returns-clause-headline : goal.returns-clause-headline
 returns-clause-headline g c =
