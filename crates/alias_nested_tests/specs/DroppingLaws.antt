@@ -77,8 +77,12 @@ listed_again l (e ∷ es) = refl
 -- ---- functions
 
 -- what the first block listed before is listed again
-pub with_first_again : (l : List InstructionId) (f : HirFunction) → with_first (first_or l f.body.blocks) (with_first l f) ≡ f
+with_first_again : (l : List InstructionId) (f : HirFunction) → with_first (first_or l f.body.blocks) (with_first l f) ≡ f
 with_first_again l f = ap (λ bs. let g : HirFunction = record f { body = record f.body { blocks = bs } } in g) (listed_again l f.body.blocks)
+
+-- the function that lists again what it listed, where it listed something else meanwhile
+pub listed_back : (l was : List InstructionId) (f fewer again : HirFunction) → fewer ≡ with_first l f → was ≡ first_or l f.body.blocks → again ≡ with_first was fewer → again ≡ f
+listed_back l was f fewer again e w a = a ∙ ap (λ m. with_first m fewer) w ∙ ap (λ (g : HirFunction). with_first (first_or l f.body.blocks) g) e ∙ with_first_again l f
 
 -- a function whose first block lists a front of what it listed
 pub front_keeps : (l : List InstructionId) (f : HirFunction) (env : Environment) → IsFront l (first_or [] f.body.blocks) → function_fits (with_first l f) env ≡ true → Keeps f env (with_first l f) env

@@ -43,7 +43,6 @@ fn listing(func: &mut HirFunction, listed: List<InstructionId>) -> List<Instruct
 }
 
 /// Drops the last instruction of the first block, where the inference takes the function without it.
-#[tactic(auto, using(crate::specs::DroppingLaws::front_keeps, crate::specs::DroppingLaws::with_first_again))]
 fn drop_last(alloc: Global, func: &mut HirFunction, env: &Environment) -> Result<(), AllocError>
     requires { function_fits func.old env.now ≡ true }
     ensures { Keeps func.old env.now func.new env.now }
