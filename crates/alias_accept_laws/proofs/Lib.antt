@@ -1,6 +1,12 @@
 pub mod Sending
 pub mod Accepting
 pub mod Solutions
+pub mod Texts
+pub mod Telling
+pub mod Lining
+pub mod Rebuilding
+pub mod Counting
+pub mod Certifying
 pub mod Repeating
 pub mod Likeness
 pub mod Interning

@@ -4,7 +4,9 @@ ghost use Rattle.std.specs.Prelude.{◌≡◌, true, List, Option};
 ghost use Rattle.alias_lattice.specs.States.{State};
 ghost use Rattle.alias_rules.specs.Fitting.{function_fits};
 ghost use Rattle.alias_tables.specs.Tables.{TableLists};
+ghost use Rattle.alias_block.specs.declared.recorded.BlockEffects.{BlockEffects};
 ghost use Rattle.alias_accept_laws.specs.Accepting.{SolvesUnder, IsAccepted, IsAcceptedAnyway};
+ghost use Rattle.alias_accept_laws.specs.Certifying.{IsSolution, IsAcceptedAsSaid};
 
 use alias_hir::env::Environment;
 use alias_hir::hir::HirFunction;
@@ -26,6 +28,18 @@ pub fn solution_law(env: &Environment, func: &HirFunction, is_function_expressio
 pub fn tables_law(env: &Environment, func: &HirFunction, is_function_expression: bool)
     requires { function_fits func.now env.now ≡ true }
     ensures { (tables : TableLists) (entries : List (Option State)) → SolvesUnder env.now func.now is_function_expression tables entries → IsAcceptedAnyway env.now func.now is_function_expression tables entries }
+{
+    let _env = env;
+    let _func = func;
+    let _is_function_expression = is_function_expression;
+}
+
+/// A certificate that says a solution of the function's flow, with what its blocks record, is accepted by the check of the function, which begins
+/// with no first effects and makes the temporaries anew; or no number is left for a report. The solution names what is there, and
+/// its temporaries are counted on from the identifiers. Does nothing.
+pub fn certificate_law(env: &Environment, func: &HirFunction, is_function_expression: bool)
+    requires { function_fits func.now env.now ≡ true }
+    ensures { (tables : TableLists) (entries : List (Option State)) (recorded : List (Option BlockEffects)) → IsSolution env.now func.now is_function_expression tables entries recorded → IsAcceptedAsSaid env.now func.now is_function_expression tables entries recorded }
 {
     let _env = env;
     let _func = func;

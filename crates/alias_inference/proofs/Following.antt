@@ -1,0 +1,119 @@
+-- What follows of the answers of calls that infer a unit, or analyse its nested functions.
+use Rattle.std.proofs.Common.{◌≡◌, ◌≢◌, ◌∙◌, ℕ, Bool, List, [], refl, sym, ap, subst}
+use Rattle.std.specs.Prelude.{true, false, Result, Ok, Err, IfOk, IfErr, IsOkAnd, ⊤}
+use Rattle.alias_base.specs.Answer.{◌>>=◌}
+use Rattle.alias_base.specs.declared.ids.IdentifierId.{IdentifierId}
+use Rattle.alias_base.specs.declared.ids.InstructionId.{InstructionId}
+use Rattle.alias_hir.specs.declared.env.Environment.{Environment}
+use Rattle.alias_hir.specs.declared.env.Unit.{Unit as HirUnit}
+use Rattle.alias_hir.specs.declared.error.InferError.{InferError}
+use Rattle.alias_hir.specs.declared.error.InferError.TheVariants.{UnreplacedApply, EffectsNotInferred}
+use Rattle.alias_hir.specs.declared.hir.HirFunction.{HirFunction}
+use Rattle.alias_hir.specs.declared.report.Report.{Report}
+use Rattle.alias_rules.specs.Functions.{rules_hold}
+use Rattle.alias_effects.specs.declared.solved.Solved.{Solved}
+use Rattle.alias_answer_laws.specs.Avoiding.{is_not_inferred}
+use Rattle.alias_answer_laws.specs.KnownUnitLaws.{no_call_says}
+use Rattle.alias_answer_laws.specs.UnitLaws.{no_call_answers}
+use Rattle.alias_cause_laws.proofs.Caused.{each_has_cause}
+use Rattle.alias_cause_laws.specs.Causes.{EachHasCause}
+use Rattle.alias_handed_laws.proofs.Handing.{solved_over}
+use Rattle.alias_handed_laws.specs.Handed.{IsSolvedInOrder}
+use Rattle.alias_nested.specs.Analysis.{Analysis, analysis, analysed, most_levels, is_free}
+use Rattle.alias_nested.specs.Answers.{Only, AnalysedWith, Analyses, AnalysesInto}
+use Rattle.alias_nested.specs.Units.{RootAnalysis, UnitAnalysis, root_analysed, handed_out, unit_analysed, InfersUnit}
+use Rattle.alias_nested.specs.declared.infer.Inferred.{Inferred}
+use Rattle.alias_nested_range_laws.proofs.Ranging.{nested_are_ranged}
+use Rattle.alias_refusal_laws.proofs.Refusing.{never_unknown}
+use Rattle.alias_unit_completeness.specs.Complete.{unit_caused, analyses_blame, into_blame}
+use Rattle.alias_unit_completeness.specs.Refusals.{IsCaused, BlamesRightly, BlamesNoPlain, blames_no_plain}
+use Rattle.alias_inference.specs.Inferences.{unit_with, NestedAreRangedIn}
+
+-- ---- a call that infers a unit
+
+module _ (u : HirUnit) (rules : rules_hold u ≡ Ok tt) where
+  caused_at : (r : Result Inferred InferError) → InfersUnit (unit_analysed u) r → IfErr r (λ e. is_free e ≡ false → IsCaused u e)
+  caused_at (Ok i) h = tt
+  caused_at (Err e) h = λ free. unit_caused u rules e (h free)
+
+  blameless_at : (r : Result Inferred InferError) → InfersUnit (unit_analysed u) r → IfErr r (λ e. is_free e ≡ false → BlamesNoPlain u e)
+  blameless_at (Ok i) h = tt
+  blameless_at (Err e) h = λ free. blames_no_plain u e (unit_caused u rules e (h free))
+
+  solved_at : (r : Result Inferred InferError) → InfersUnit (unit_analysed u) r → IfOk r (λ i. IsSolvedInOrder u i)
+  solved_at (Ok i) h = solved_over u i rules h
+  solved_at (Err e) h = tt
+
+  explained_at : (r : Result Inferred InferError) → InfersUnit (unit_analysed u) r → IfOk r EachHasCause
+  explained_at (Ok i) h = each_has_cause u (record { functions = h.0; inferred = i }) rules h.1
+  explained_at (Err e) h = tt
+
+  nested_of : (a : UnitAnalysis) → unit_analysed u ≡ Ok a → IsOkAnd (unit_analysed u) (λ (b : UnitAnalysis). NestedAreRangedIn b.functions a.inferred)
+  nested_of a q = subst (λ r. IsOkAnd r (λ (b : UnitAnalysis). NestedAreRangedIn b.functions a.inferred)) (sym q) (nested_are_ranged u a rules q)
+
+  nested_at : (r : Result Inferred InferError) → InfersUnit (unit_analysed u) r → IfOk r (λ i. IsOkAnd (unit_analysed u) (λ a. NestedAreRangedIn a.functions i))
+  nested_at (Ok i) h = nested_of (record { functions = h.0; inferred = i }) h.1
+  nested_at (Err e) h = tt
+
+-- the unit as a call hands it out that tells that it keeps the rules
+module _ (u v : HirUnit) (same : v ≡ u) (rules : rules_hold v ≡ Ok tt) (r : Result Inferred InferError) (h : InfersUnit (unit_analysed u) r) where
+  keeps : rules_hold u ≡ Ok tt
+  keeps = subst (λ z. rules_hold z ≡ Ok tt) same rules
+
+  pub complete : IfErr r (λ e. is_free e ≡ false → IsCaused u e)
+  complete = caused_at u keeps r h
+
+  pub plain : IfErr r (λ e. is_free e ≡ false → BlamesNoPlain u e)
+  plain = blameless_at u keeps r h
+
+  pub applies : (i : InstructionId) (report : Report) → r ≢ Err (UnreplacedApply i report)
+  applies = no_call_answers u keeps r h
+
+  pub operands : (x : IdentifierId) → r ≢ Err (EffectsNotInferred x)
+  operands = no_call_says u r h
+
+  pub solved : IfOk r (λ i. IsSolvedInOrder u i)
+  solved = solved_at u keeps r h
+
+  pub nested : IfOk r (λ i. IsOkAnd (unit_analysed u) (λ a. NestedAreRangedIn a.functions i))
+  nested = nested_at u keeps r h
+
+  pub explained : IfOk r EachHasCause
+  explained = explained_at u keeps r h
+
+-- ---- a call that analyses the functions below the root
+
+never_false : true ≡ false → ⊥
+never_false h = cc
+
+module _ (keeps_all : Bool) (f : HirFunction) (env : Environment) where
+  comes_of_none : (x : IdentifierId) → AnalysedWith keeps_all most_levels f (analysis env []) (Err (EffectsNotInferred x)) → ⊥
+  comes_of_none x h = never_false (never_unknown keeps_all most_levels f env [] (EffectsNotInferred x) h)
+
+  pub certified_operands : (r : Result (List Solved) InferError) (after : Environment) → Analyses (AnalysedWith keeps_all most_levels f (analysis env [])) r after → (x : IdentifierId) → r ≢ Err (EffectsNotInferred x)
+  certified_operands r after h x = λ q. comes_of_none x (subst (λ (z : Result (List Solved) InferError). Analyses (AnalysedWith keeps_all most_levels f (analysis env [])) z after) q h refl)
+
+  pub into_operands : (r : Result ⊤ InferError) (after : Environment) → AnalysesInto (AnalysedWith keeps_all most_levels f (analysis env [])) r after → (x : IdentifierId) → r ≢ Err (EffectsNotInferred x)
+  into_operands r after h x = λ q. comes_of_none x (subst (λ (z : Result ⊤ InferError). AnalysesInto (AnalysedWith keeps_all most_levels f (analysis env [])) z after) q h refl)
+
+  pub certified_blames : (r : Result (List Solved) InferError) (after : Environment) → Analyses (AnalysedWith keeps_all most_levels f (analysis env [])) r after → rules_hold (unit_with f env) ≡ Ok tt → IfErr r (λ e. BlamesRightly (unit_with f env) e)
+  certified_blames (Ok x) after h rules = tt
+  certified_blames (Err e) after h rules = analyses_blame (unit_with f env) rules keeps_all (Err e) after h e refl
+
+  pub into_blames : (r : Result ⊤ InferError) (after : Environment) → AnalysesInto (AnalysedWith keeps_all most_levels f (analysis env [])) r after → rules_hold (unit_with f env) ≡ Ok tt → IfErr r (λ e. BlamesRightly (unit_with f env) e)
+  into_blames (Ok x) after h rules = tt
+  into_blames (Err e) after h rules = into_blame (unit_with f env) rules keeps_all (Err e) after h e refl
+
+-- over passes that keep everything
+module _ (f : HirFunction) (env : Environment) where
+  -- the inference of the unit is refused where the analysis of its nested functions is
+  refused_unit : (e : InferError) → analysed most_levels f (analysis env []) ≡ Err e → unit_analysed (unit_with f env) ≡ Err e
+  refused_unit e h = ap (λ (r : Result Analysis InferError). (r >>= root_analysed f) >>= (λ (x : RootAnalysis). Ok (handed_out x))) h
+
+  pub certified_complete : (r : Result (List Solved) InferError) (after : Environment) → Analyses (Only (analysed most_levels f (analysis env []))) r after → rules_hold (unit_with f env) ≡ Ok tt → IfErr r (λ e. is_free e ≡ false → IsCaused (unit_with f env) e)
+  certified_complete (Ok x) after h rules = tt
+  certified_complete (Err e) after h rules = λ free. unit_caused (unit_with f env) rules e (refused_unit e (h free))
+
+  pub into_complete : (r : Result ⊤ InferError) (after : Environment) → AnalysesInto (Only (analysed most_levels f (analysis env []))) r after → rules_hold (unit_with f env) ≡ Ok tt → IfErr r (λ e. is_free e ≡ false → IsCaused (unit_with f env) e)
+  into_complete (Ok x) after h rules = tt
+  into_complete (Err e) after h rules = λ free. unit_caused (unit_with f env) rules e (refused_unit e (h free))

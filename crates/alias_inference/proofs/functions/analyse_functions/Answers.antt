@@ -1,0 +1,11 @@
+use Rattle.alias_inference.proofs.Following.{into_operands, into_blames, into_complete}
+use Rattle.alias_inference.proofs.functions.analyse_functions.Goals as goal
+
+pub returns-clause-operands : goal.returns-clause-operands
+returns-clause-operands g c = let a = c.analyse_functions in into_operands g.P.InnerPasses.keeps_all c.args.func.now c.args.env.now a.result a.new.env a.ensures.answer
+
+pub returns-clause-blames : goal.returns-clause-blames
+returns-clause-blames g c = let a = c.analyse_functions in into_blames g.P.InnerPasses.keeps_all c.args.func.now c.args.env.now a.result a.new.env a.ensures.answer
+
+pub returns-clause-complete : goal.returns-clause-complete
+returns-clause-complete g c = let a = c.analyse_functions in λ keeps_all. into_complete c.args.func.now c.args.env.now a.result a.new.env (a.ensures.exact keeps_all)

@@ -1,0 +1,84 @@
+//! The functions below a function, innermost first.
+
+ghost use Rattle.std.specs.Prelude.{◌≡◌, ◌≢◌, ℕ, ◌≤◌, true, false, [], Some, Ok, Err, IfOk, IfErr, length, map};
+ghost use Rattle.alias_failures.specs.Failures.{HasFailed};
+ghost use Rattle.alias_hir.specs.declared.error.InferError.TheVariants.{EffectsNotInferred};
+ghost use Rattle.alias_rules.specs.Fitting.{function_fits};
+ghost use Rattle.alias_rules.specs.Functions.{rules_hold};
+ghost use Rattle.alias_rules.specs.Nesting.{times};
+ghost use Rattle.alias_nested.specs.Analysis.{analysis, most_levels, analysed, is_free, IsPassFault};
+ghost use Rattle.alias_nested.specs.Answers.{Only, AnalysedWith, Analyses, AnalysesInto};
+ghost use Rattle.alias_nested.specs.Order.{below_innermost_first, numbers, functions_of, KeepsToOrder};
+ghost use Rattle.alias_pruning_laws.specs.Pruning.{SlotsKept};
+ghost use Rattle.alias_unit_completeness.specs.Refusals.{BlamesRightly, IsCaused};
+ghost use Rattle.alias_inference.specs.Inferences.{unit_with};
+
+use alias_base::List;
+use alias_effects::Solved;
+use alias_hir::env::Environment;
+use alias_hir::error::InferError;
+use alias_hir::hir::HirFunction;
+use alias_inner_passes::InnerPasses;
+use std::alloc::Global;
+
+/// Analyses the functions below a function, innermost first, as `alias_nested::analyse_functions_certified` does it, with
+/// all that is ensured there.
+///
+/// Besides: that an operand has no effect is never answered. Where the function and its environment are a unit that
+/// keeps the rules, a function that a refusal blames for what it does isn't plain in that unit, and one that isn't
+/// settled isn't forward, whatever the passes of the caller change; and where these keep everything, each refusal has
+/// its cause in the unit.
+pub fn analyse_functions_certified<P: InnerPasses, F: FnMut(&HirFunction, &Environment)>(
+    alloc: Global,
+    func: &mut HirFunction,
+    env: &mut Environment,
+    passes: &mut P,
+    debug_logger: &mut F,
+) -> Result<List<Solved>, InferError>
+    requires fits { function_fits func.old env.old ≡ true }
+    requires logger { (log : F) (f : _) (e : _) → F.pre log f e }
+    ensures answer { Analyses (AnalysedWith P.keeps_all most_levels func.old (analysis env.old [])) result env.new }
+    ensures exact { P.keeps_all ≡ true → Analyses (Only (analysed most_levels func.old (analysis env.old []))) result env.new }
+    ensures functions { IfOk result (λ solved. functions_of solved ≡ map Some (below_innermost_first most_levels func.old env.old)) }
+    ensures func { func.new ≡ func.old }
+    ensures fits { function_fits func.new env.new ≡ true }
+    ensures slots { SlotsKept env.old env.new }
+    ensures count { length env.new.functions ≡ length env.old.functions }
+    ensures order { KeepsToOrder (below_innermost_first most_levels func.old env.old) result env.old env.new }
+    ensures once { (k : ℕ) → times (numbers (below_innermost_first most_levels func.old env.old)) k ≤ 1 }
+    ensures faults { P.faults passes.old ≤ P.faults passes.new }
+    ensures failed { IsPassFault result → HasFailed (P.faults passes.old) (P.faults passes.new) (P.at_last passes.new) }
+    ensures operands { (x : _) → result ≢ Err (EffectsNotInferred x) }
+    ensures blames { rules_hold (unit_with func.old env.old) ≡ Ok tt → IfErr result (λ e. BlamesRightly (unit_with func.old env.old) e) }
+    ensures complete { P.keeps_all ≡ true → rules_hold (unit_with func.old env.old) ≡ Ok tt → IfErr result (λ e. is_free e ≡ false → IsCaused (unit_with func.old env.old) e) }
+{
+    alias_nested::analyse_functions_certified(alloc, func, env, passes, debug_logger)
+}
+
+/// Analyses the functions below a function as `alias_nested::analyse_functions` does it, with all that is ensured there,
+/// and with what is ensured of refusals by `analyse_functions_certified` above.
+pub fn analyse_functions<P: InnerPasses, F: FnMut(&HirFunction, &Environment)>(
+    alloc: Global,
+    func: &mut HirFunction,
+    env: &mut Environment,
+    passes: &mut P,
+    debug_logger: &mut F,
+) -> Result<(), InferError>
+    requires fits { function_fits func.old env.old ≡ true }
+    requires logger { (log : F) (f : _) (e : _) → F.pre log f e }
+    ensures answer { AnalysesInto (AnalysedWith P.keeps_all most_levels func.old (analysis env.old [])) result env.new }
+    ensures exact { P.keeps_all ≡ true → AnalysesInto (Only (analysed most_levels func.old (analysis env.old []))) result env.new }
+    ensures func { func.new ≡ func.old }
+    ensures fits { function_fits func.new env.new ≡ true }
+    ensures slots { SlotsKept env.old env.new }
+    ensures count { length env.new.functions ≡ length env.old.functions }
+    ensures order { KeepsToOrder (below_innermost_first most_levels func.old env.old) result env.old env.new }
+    ensures once { (k : ℕ) → times (numbers (below_innermost_first most_levels func.old env.old)) k ≤ 1 }
+    ensures faults { P.faults passes.old ≤ P.faults passes.new }
+    ensures failed { IsPassFault result → HasFailed (P.faults passes.old) (P.faults passes.new) (P.at_last passes.new) }
+    ensures operands { (x : _) → result ≢ Err (EffectsNotInferred x) }
+    ensures blames { rules_hold (unit_with func.old env.old) ≡ Ok tt → IfErr result (λ e. BlamesRightly (unit_with func.old env.old) e) }
+    ensures complete { P.keeps_all ≡ true → rules_hold (unit_with func.old env.old) ≡ Ok tt → IfErr result (λ e. is_free e ≡ false → IsCaused (unit_with func.old env.old) e) }
+{
+    alias_nested::analyse_functions(alloc, func, env, passes, debug_logger)
+}
