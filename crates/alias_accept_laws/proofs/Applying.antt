@@ -1,6 +1,6 @@
 -- The step of each effect but calls repeats, whatever first effects and reports there are.
 use Rattle.std.specs.Prelude.{◌≡◌, ◌||◌, refl, Bool, true, false, List, [], ◌∷◌, ◌++◌, Option, None, Some, if◌then◌else◌}
-use Rattle.std.proofs.Common.{ap, subst}
+use Rattle.std.proofs.Common.{ap, sym, ◌∙◌, subst}
 use Rattle.std.specs.List.{list_any}
 use Rattle.alias_base.specs.declared.ids.FunctionId.{FunctionId}
 use Rattle.alias_base.specs.declared.ids.IdentifierId.{IdentifierId}
@@ -32,7 +32,8 @@ use Rattle.alias_apply.specs.Leaves.{apply_leaf, raise_leaf, apply_maybe_alias, 
 use Rattle.alias_apply.specs.Values.{apply_create, record_create_from, apply_create_from, assign_value, apply_assign, apply_link, apply_alias}
 use Rattle.alias_apply.specs.Mutation.{raise_mutate_frozen, raise_mutate_global, report_write, report_hoisted_write, record_mutation, apply_mutate, apply_mutate_conditionally, apply_freeze, freezes_on}
 use Rattle.alias_apply.specs.Apply.{apply_simple, raise_simple, is_read_capture, note_read_capture, is_mutable_capture, has_error, is_mutable_function, function_value, capture_each, apply_create_function, apply_plain, raise_plain, raise_all_plain}
-use Rattle.alias_accept_laws.specs.Alike.{none, more, moved, AlikePlace, at, AlikePlaces, Alike, apply, create_from, immutable_capture, assign, alias, capture, maybe_alias, create, freeze, impure, mutate_frozen, mutate_global, render, mutate, mutate_conditionally, mutate_transitive, mutate_transitive_conditionally, create_function, AlikeEffects, AlikeLook, there, missing, AlikeProgress, like, IsFull, Repeats}
+use Rattle.alias_accept_laws.specs.Alike.{Paired, none, more, moved, AlikePlace, at, AlikePlaces, Alike, apply, create_from, immutable_capture, assign, alias, capture, maybe_alias, create, freeze, impure, mutate_frozen, mutate_global, render, mutate, mutate_conditionally, mutate_transitive, mutate_transitive_conditionally, create_function, AlikeEffects, AlikeLook, there, missing, AlikeProgress, like, IsFull, Repeats, Elsewhere, elsewhere}
+use Rattle.alias_accept_laws.proofs.Elsewhere.{other, same_has_error, summary_elsewhere, context_elsewhere, contexts_elsewhere}
 use Rattle.alias_accept_laws.proofs.Interning.{repeats_intern}
 use Rattle.alias_accept_laws.proofs.Likeness.{paired_append, paired_self, alike_self, progress_self}
 use Rattle.alias_accept_laws.proofs.Repeating.{repeats_gives, repeats_refuses, repeats_then, repeats_if, repeats_each}
@@ -80,27 +81,34 @@ Same whole f g = Repeats IsFull whole AlikeProgress f g
 pub stated : (h : State → State) (s t : StepProgress) → AlikeProgress s t → AlikeProgress (with_state (h s.state) s) (with_state (h t.state) t)
 stated h s t (like u r m a l) = like (with_state (h u.state) u) r m a l
 
-module _ (c : StepContext) where
-  conditionally_alike : (e f : AliasingEffect) (v w : Place) (s t : StepProgress) → Alike e f → AlikeProgress s t → AlikeProgress (apply_mutate_conditionally c e v s) (apply_mutate_conditionally c f (moved v w) t)
+module _ (c : StepContext) (o : Elsewhere c.env) where
+  conditionally_alike : (e f : AliasingEffect) (v w : Place) (s t : StepProgress) → Alike e f → AlikeProgress s t → AlikeProgress (apply_mutate_conditionally c e v s) (apply_mutate_conditionally (other c o) f (moved v w) t)
   conditionally_alike e f v w s t b (like u r m a l) =
       let now = looked_alike v.identifier v.span w.span u _ (like u r m a l) in
       if_alike (is_ref_at c.env v.identifier) _ _ _ _ (like u r m a l) (if_alike (is_writable (kind_at v u)) _ _ _ _ (recorded_alike e f _ _ b now) now)
 
-  freeze_alike : (v w : Place) (r : ValueReason) (s t : StepProgress) → AlikeProgress s t → AlikeProgress (apply_freeze c v r s) (apply_freeze c (moved v w) r t)
+  freeze_alike : (v w : Place) (r : ValueReason) (s t : StepProgress) → AlikeProgress s t → AlikeProgress (apply_freeze c v r s) (apply_freeze (other c o) (moved v w) r t)
   freeze_alike v w r s t (like u q m a l) =
       let now = stated (frozen v.identifier r) u _ (like u q m a l) in
-      let told = recorded_alike _ _ _ _ (freeze v w r) now in
-      if_alike (does_freeze u.state v.identifier) _ _ _ _ (if_alike (freezes_on c.env.config) _ _ _ _ (stated (gone_into_place r (context_of c.env) v.identifier) _ _ told) told) now
+      let first : StepProgress = record_of (effect.Freeze v r) (with_state (frozen v.identifier r u.state) u) in
+      let second : StepProgress = record_of (effect.Freeze (moved v w) r) (with_state (frozen v.identifier r u.state) (record u { recorded = q; missing = m })) in
+      let told : AlikeProgress first second = recorded_alike _ _ _ _ (freeze v w r) now in
+      let gone = subst (λ (z : FunctionId → List Place). AlikeProgress (with_state (gone_into_place r (context_of c.env) v.identifier first.state) first) (with_state (gone_into_place r z v.identifier second.state) second)) (sym (contexts_elsewhere c.env o))
+      (stated (gone_into_place r (context_of c.env) v.identifier) first second told) in
+      if_alike (does_freeze u.state v.identifier) _ _ _ _ (if_alike (freezes_on c.env.config) _ _ _ _ gone told) now
 
   any_mutable : (u : State) (ps qs : List Place) → AlikePlaces ps qs → list_any (is_mutable_capture u) ps ≡ list_any (is_mutable_capture u) qs
   any_mutable u ps qs none = refl
   any_mutable u ps qs (more {xs = xs} {ys = ys} (at p q) rest) = ap (λ b. is_mutable_capture u p || b) (any_mutable u xs ys rest)
 
-  same_function : (f : FunctionId) (ps qs : List Place) (u : State) → AlikePlaces ps qs → is_mutable_function c f ps u ≡ is_mutable_function c f qs u
-  same_function f ps qs u a = ap (λ b. b || has_error (summary_of c.env f) || list_any (λ (p : Place). is_ref_at c.env p.identifier) (context_of c.env f)) (any_mutable u ps qs a)
+  same_function : (f : FunctionId) (ps qs : List Place) (u : State) → AlikePlaces ps qs → is_mutable_function c f ps u ≡ is_mutable_function (other c o) f qs u
+  same_function f ps qs u a =
+      ap (λ b. b || has_error (summary_of c.env f) || list_any (λ (p : Place). is_ref_at c.env p.identifier) (context_of c.env f)) (any_mutable u ps qs a)
+      ∙ ap (λ b. list_any (is_mutable_capture u) qs || b || list_any (λ (p : Place). is_ref_at c.env p.identifier) (context_of c.env f)) (same_has_error _ _ (summary_elsewhere c.env o f))
+      ∙ ap (λ zs. list_any (is_mutable_capture u) qs || has_error (summary_of (elsewhere c.env o) f) || list_any (λ (p : Place). is_ref_at c.env p.identifier) zs) (sym (context_elsewhere c.env o f))
 
   function_alike : (x : IdentifierId) (f : FunctionId) (ps qs : List Place) (s t : StepProgress) → AlikePlaces ps qs → AlikeProgress s t
-      → AlikeProgress (with_state (given x (Function f) (function_value (is_mutable_function c f ps s.state)) s.state) s) (with_state (given x (Function f) (function_value (is_mutable_function c f qs t.state)) t.state) t)
+      → AlikeProgress (with_state (given x (Function f) (function_value (is_mutable_function c f ps s.state)) s.state) s) (with_state (given x (Function f) (function_value (is_mutable_function (other c o) f qs t.state)) t.state) t)
   function_alike x f ps qs s t b (like u r m a l) =
       subst (λ v. AlikeProgress (with_state (given x (Function f) (function_value (is_mutable_function c f ps u.state)) u.state) u) (with_state (given x (Function f) (function_value v) u.state) (record u { recorded = r; missing = m })))
       (same_function f ps qs u.state b)
@@ -207,15 +215,15 @@ module _ {whole : List Temporary} where
   same_note_read f p s t (like u r m c l) =
       same_if (is_read_capture u.state p) _ _ _ _ (repeats_noted AlikeProgress (record { function = f; place = p.identifier }) u _ (like u r m c l)) (same_gives u _ (like u r m c l))
 
-  module _ (c : StepContext) where
-    same_report_write : (is : AbstractValue) (v w : Place) (s t : StepProgress) → AlikeProgress s t → Same whole (report_write c is v s) (report_write c is (moved v w) t)
+  module _ (c : StepContext) (o : Elsewhere c.env) where
+    same_report_write : (is : AbstractValue) (v w : Place) (s t : StepProgress) → AlikeProgress s t → Same whole (report_write c is v s) (report_write (other c o) is (moved v w) t)
     same_report_write is v w s t a = same_if (is_frozen is.kind) _ _ _ _ (same_frozen_write _ _ v w s t a) (same_global_write _ _ v w s t a)
 
-    same_report_hoisted_write : (h : Option (Option Place)) (is : AbstractValue) (v w : Place) (s t : StepProgress) → AlikeProgress s t → Same whole (report_hoisted_write c h is v s) (report_hoisted_write c h is (moved v w) t)
+    same_report_hoisted_write : (h : Option (Option Place)) (is : AbstractValue) (v w : Place) (s t : StepProgress) → AlikeProgress s t → Same whole (report_hoisted_write c h is v s) (report_hoisted_write (other c o) h is (moved v w) t)
     same_report_hoisted_write (Some access) is v w s t a = same_frozen_write _ _ v w s t a
     same_report_hoisted_write None is v w s t a = same_report_write is v w s t a
 
-    same_mutation : (k : ValueKind) (is : AbstractValue) (e f : AliasingEffect) (v w : Place) (s t : StepProgress) → Alike e f → AlikeProgress s t → Same whole (record_mutation c k is e v s) (record_mutation c k is f (moved v w) t)
+    same_mutation : (k : ValueKind) (is : AbstractValue) (e f : AliasingEffect) (v w : Place) (s t : StepProgress) → Alike e f → AlikeProgress s t → Same whole (record_mutation c k is e v s) (record_mutation (other c o) k is f (moved v w) t)
     same_mutation Mutable is e f v w s t b a = same_gives _ _ (recorded_alike e f s t b a)
     same_mutation Context is e f v w s t b a = same_gives _ _ (recorded_alike e f s t b a)
     same_mutation Primitive is e f v w s t b a = same_gives s t a
@@ -223,47 +231,47 @@ module _ {whole : List Temporary} where
     same_mutation MaybeFrozen is e f v w s t b a = same_report_hoisted_write (hoisted_access c v.identifier) is v w s t a
     same_mutation Global is e f v w s t b a = same_report_write is v w s t a
 
-    same_mutate : (e f : AliasingEffect) (v w : Place) (s t : StepProgress) → Alike e f → AlikeProgress s t → Same whole (apply_mutate c e v s) (apply_mutate c f (moved v w) t)
+    same_mutate : (e f : AliasingEffect) (v w : Place) (s t : StepProgress) → Alike e f → AlikeProgress s t → Same whole (apply_mutate c e v s) (apply_mutate (other c o) f (moved v w) t)
     same_mutate e f v w s t b (like u r m a l) =
         same_if (is_ref_at c.env v.identifier) _ _ _ _ (same_gives u _ (like u r m a l))
         (same_mutation (kind_at v u) (look u.state v.identifier) e f v w _ _ b (looked_alike v.identifier v.span w.span u _ (like u r m a l)))
 
-    same_simple : (e f : AliasingEffect) (s t : StepProgress) → Alike e f → AlikeProgress s t → Same whole (apply_simple c e s) (apply_simple c f t)
+    same_simple : (e f : AliasingEffect) (s t : StepProgress) → Alike e f → AlikeProgress s t → Same whole (apply_simple c e s) (apply_simple (other c o) f t)
     same_simple e f s t (create x y k r) a = same_create x y k r s t a
     same_simple e f s t (create_from a b x y) d = same_create_from a b x y s t d
     same_simple e f s t (assign a b x y) d = same_assign a b x y s t d
     same_simple e f s t (capture a b x y) d = same_link _ _ a b x y s t (capture a b x y) d
     same_simple e f s t (alias a b x y) d = same_alias a b x y s t d
-    same_simple e f s t (freeze v w r) d = same_gives _ _ (freeze_alike c v w r s t d)
+    same_simple e f s t (freeze v w r) d = same_gives _ _ (freeze_alike c o v w r s t d)
     same_simple e f s t (mutate v w r q) d = same_mutate _ _ v w s t (mutate v w r q) d
     same_simple e f s t (mutate_transitive v w) d = same_mutate _ _ v w s t (mutate_transitive v w) d
-    same_simple e f s t (mutate_conditionally v w) d = same_gives _ _ (conditionally_alike c _ _ v w s t (mutate_conditionally v w) d)
-    same_simple e f s t (mutate_transitive_conditionally v w) d = same_gives _ _ (conditionally_alike c _ _ v w s t (mutate_transitive_conditionally v w) d)
+    same_simple e f s t (mutate_conditionally v w) d = same_gives _ _ (conditionally_alike c o _ _ v w s t (mutate_conditionally v w) d)
+    same_simple e f s t (mutate_transitive_conditionally v w) d = same_gives _ _ (conditionally_alike c o _ _ v w s t (mutate_transitive_conditionally v w) d)
     same_simple e f s t b d = same_aliasing e f s t b d
 
-    pub same_raise_simple : (e f : AliasingEffect) (s t : StepProgress) → Alike e f → AlikeProgress s t → Same whole (raise_simple c e s) (raise_simple c f t)
+    pub same_raise_simple : (e f : AliasingEffect) (s t : StepProgress) → Alike e f → AlikeProgress s t → Same whole (raise_simple c e s) (raise_simple (other c o) f t)
     same_raise_simple e f s t a b = raised _ _ e f a (λ x y d. same_simple x y s t d b)
 
-    same_capture : (x y p q : Place) (s t : StepProgress) → AlikePlace p q → AlikeProgress s t → Same whole (raise_simple c (effect.Capture p x) s) (raise_simple c (effect.Capture q (moved x y)) t)
+    same_capture : (x y p q : Place) (s t : StepProgress) → AlikePlace p q → AlikeProgress s t → Same whole (raise_simple c (effect.Capture p x) s) (raise_simple (other c o) (effect.Capture q (moved x y)) t)
     same_capture x y p q s t (at a b) d = same_raise_simple _ _ s t (capture a b x y) d
 
-    same_capture_each : (x y : Place) (ps qs : List Place) (s t : StepProgress) → AlikePlaces ps qs → AlikeProgress s t → Same whole (capture_each c x ps s) (capture_each c (moved x y) qs t)
+    same_capture_each : (x y : Place) (ps qs : List Place) (s t : StepProgress) → AlikePlaces ps qs → AlikeProgress s t → Same whole (capture_each c x ps s) (capture_each (other c o) (moved x y) qs t)
     same_capture_each x y ps qs s t a d = repeats_each AlikePlace AlikeProgress progress_self _ _ (λ p q b u v e. same_capture x y p q u v b e) ps qs a s t d
 
-    same_create_function : (x y : Place) (f : FunctionId) (ps qs : List Place) (s t : StepProgress) → AlikePlaces ps qs → AlikeProgress s t → Same whole (apply_create_function c x f ps s) (apply_create_function c (moved x y) f qs t)
+    same_create_function : (x y : Place) (f : FunctionId) (ps qs : List Place) (s t : StepProgress) → AlikePlaces ps qs → AlikeProgress s t → Same whole (apply_create_function c x f ps s) (apply_create_function (other c o) (moved x y) f qs t)
     same_create_function x y f ps qs s t b a =
         same_then _ _ _ _ (same_made x.identifier s t a) (λ u v d.
         same_then _ _ _ _
-        (repeats_each (λ p q. p ≡ q) AlikeProgress progress_self (note_read_capture f) (note_read_capture f) (λ p q e g h i. subst (λ z. Same whole (note_read_capture f p g) (note_read_capture f z h)) e (same_note_read f p g h i)) (context_of c.env f) (context_of c.env f) (paired_self (λ p q. p ≡ q) (λ p. refl) (context_of c.env f)) _ _ (recorded_alike _ _ u v (create_function x y f ps qs b) d))
-        (λ p q e. same_capture_each x y ps qs _ _ b (function_alike c x.identifier f ps qs p q b e)))
+        (repeats_each (λ p q. p ≡ q) AlikeProgress progress_self (note_read_capture f) (note_read_capture f) (λ p q e g h i. subst (λ z. Same whole (note_read_capture f p g) (note_read_capture f z h)) e (same_note_read f p g h i)) (context_of c.env f) (context_of (elsewhere c.env o) f) (subst (λ zs. Paired (λ p q. p ≡ q) (context_of c.env f) zs) (sym (context_elsewhere c.env o f)) (paired_self (λ p q. p ≡ q) (λ p. refl) (context_of c.env f))) _ _ (recorded_alike _ _ u v (create_function x y f ps qs b) d))
+        (λ p q e. same_capture_each x y ps qs _ _ b (function_alike c o x.identifier f ps qs p q b e)))
 
-    same_plain : (e f : AliasingEffect) (s t : StepProgress) → Alike e f → AlikeProgress s t → Same whole (apply_plain c e s) (apply_plain c f t)
+    same_plain : (e f : AliasingEffect) (s t : StepProgress) → Alike e f → AlikeProgress s t → Same whole (apply_plain c e s) (apply_plain (other c o) f t)
     same_plain e f s t (create_function x y g ps qs b) a = same_create_function x y g ps qs s t b a
     same_plain e f s t (apply r q g h x y mutates args others signature span other b) a = same_gives s t a
     same_plain e f s t b a = same_simple e f s t b a
 
-    pub same_raise_plain : (e f : AliasingEffect) (s t : StepProgress) → Alike e f → AlikeProgress s t → Same whole (raise_plain c e s) (raise_plain c f t)
+    pub same_raise_plain : (e f : AliasingEffect) (s t : StepProgress) → Alike e f → AlikeProgress s t → Same whole (raise_plain c e s) (raise_plain (other c o) f t)
     same_raise_plain e f s t a b = raised _ _ e f a (λ x y d. same_plain x y s t d b)
 
-    pub same_raise_all_plain : (es fs : List AliasingEffect) (s t : StepProgress) → AlikeEffects es fs → AlikeProgress s t → Same whole (raise_all_plain c es s) (raise_all_plain c fs t)
-    same_raise_all_plain es fs s t a b = repeats_each Alike AlikeProgress progress_self (raise_plain c) (raise_plain c) (λ e f d u v g. same_raise_plain e f u v d g) es fs a s t b
+    pub same_raise_all_plain : (es fs : List AliasingEffect) (s t : StepProgress) → AlikeEffects es fs → AlikeProgress s t → Same whole (raise_all_plain c es s) (raise_all_plain (other c o) fs t)
+    same_raise_all_plain es fs s t a b = repeats_each Alike AlikeProgress progress_self (raise_plain c) (raise_plain (other c o)) (λ e f d u v g. same_raise_plain e f u v d g) es fs a s t b

@@ -32,7 +32,7 @@ use Rattle.alias_block.specs.Contexts.{BlockContext}
 use Rattle.alias_block.specs.Faults.{BlockStep, in_block_at, in_block}
 use Rattle.alias_block.specs.Recorded.{recorded_as, terminal_recorded_as}
 use Rattle.alias_block.specs.ReplayLaws.{in_block_gives}
-use Rattle.alias_accept_laws.specs.Alike.{Paired, none, more, Alike, AlikeEffects, AlikeLook, there, missing, AlikeProgress, like, AlikeTemporaries, IsFull, Gives, given, excused, Repeats}
+use Rattle.alias_accept_laws.specs.Alike.{Paired, none, more, Alike, AlikeEffects, AlikeLook, there, missing, AlikeProgress, like, AlikeTemporaries, IsFull, Gives, given, excused, Repeats, Elsewhere, elsewhere}
 use Rattle.alias_accept_laws.specs.AlikeBlocks.{AlikeInstruction, of_instruction, AlikeTerminal, of_terminal, AlikeRecorded, AlikeSoFar, so_far, AlikeOut, out, IsBlockFull}
 use Rattle.alias_accept_laws.proofs.Interning.{interned}
 use Rattle.alias_accept_laws.proofs.Likeness.{paired_self, paired_append, alike_self, alike_sym, alike_trans, look_self, progress_self}
@@ -98,6 +98,10 @@ so_far_self s = so_far s s.effects s.missing (instruction_self s.effects) (look_
 abbrev Same : List Temporary → BlockStep StepProgress → BlockStep StepProgress → Type 0
 Same whole f g = Repeats IsBlockFull whole AlikeProgress f g
 
+-- the same over the environment elsewhere
+abbrev pub away : (c : BlockContext) → Elsewhere c.env → BlockContext
+away c o = record c { env = elsewhere c.env o }
+
 module _ {whole : List Temporary} where
   same_record_interned : (e f : AliasingEffect) (s t : StepProgress) → Alike e f → AlikeProgress s t → Same whole (record_interned e s) (record_interned f t)
   same_record_interned e f s t a b = record {
@@ -137,10 +141,10 @@ module _ {whole : List Temporary} where
   same_return_value : (b : Bool) (value : Place) (s t : StepProgress) → AlikeProgress s t → Same whole (return_value b value s) (return_value b value t)
   same_return_value b value s t a = repeats_if AlikeProgress b _ _ _ _ (repeats_gives AlikeProgress s t a) (same_record_interned _ _ s t (alike_self (effect.Freeze value JsxCaptured)) a)
 
-  same_terminal_action : (c : BlockContext) (is : List InstructionId) (z : Terminal) (s t : StepProgress) → AlikeProgress s t → Same whole (terminal_action c is z s) (terminal_action c is z t)
-  same_terminal_action c is (MaybeThrow id continuation handler effects) s t a = same_catch_into c.func.instructions (handler_binding c.facts.handlers handler) is s t a
-  same_terminal_action c is (Return id value effects) s t a = same_return_value c.is_function_expression value s t a
-  same_terminal_action c is z s t a = repeats_gives AlikeProgress s t a
+  same_terminal_action : (c : BlockContext) (o : Elsewhere c.env) (is : List InstructionId) (z : Terminal) (s t : StepProgress) → AlikeProgress s t → Same whole (terminal_action c is z s) (terminal_action (away c o) is z t)
+  same_terminal_action c o is (MaybeThrow id continuation handler effects) s t a = same_catch_into c.func.instructions (handler_binding c.facts.handlers handler) is s t a
+  same_terminal_action c o is (Return id value effects) s t a = same_return_value c.is_function_expression value s t a
+  same_terminal_action c o is z s t a = repeats_gives AlikeProgress s t a
 
   -- ---- a block
 
@@ -151,28 +155,28 @@ module _ {whole : List Temporary} where
   same_finished : (s t : BlockProgress) → AlikeSoFar s t → Repeats IsBlockFull whole AlikeOut (finished s) (finished t)
   same_finished s t (so_far u e m a l) = same_finished_at u.missing m u _ l (so_far u e m a l)
 
-  module _ (c : BlockContext) where
-    same_infer_instruction : (i : InstructionId) (x : Instruction) (s t : BlockProgress) → AlikeSoFar s t → Repeats IsBlockFull whole AlikeSoFar (infer_instruction c i x s) (infer_instruction c i x t)
+  module _ (c : BlockContext) (o : Elsewhere c.env) where
+    same_infer_instruction : (i : InstructionId) (x : Instruction) (s t : BlockProgress) → AlikeSoFar s t → Repeats IsBlockFull whole AlikeSoFar (infer_instruction c i x s) (infer_instruction (away c o) i x t)
     same_infer_instruction i x s t a =
-        repeats_then AlikeProgress AlikeSoFar progress_self _ _ _ _ (repeats_in_block AlikeProgress i _ _ (same_signature c.env c.facts x (step_start s) (step_start t) (start_alike s t a)))
+        repeats_then AlikeProgress AlikeSoFar progress_self _ _ _ _ (repeats_in_block AlikeProgress i _ _ (same_signature c.env o c.facts x (step_start s) (step_start t) (start_alike s t a)))
         (λ u v b. repeats_gives AlikeSoFar _ _ (after_instruction_alike i s.effects t.effects u v (before_alike s t a) b))
 
-    same_infer_instruction_at : (i : InstructionId) (o : Option Instruction) (s t : BlockProgress) → AlikeSoFar s t → Repeats IsBlockFull whole AlikeSoFar (infer_instruction_at c i o s) (infer_instruction_at c i o t)
+    same_infer_instruction_at : (i : InstructionId) (z : Option Instruction) (s t : BlockProgress) → AlikeSoFar s t → Repeats IsBlockFull whole AlikeSoFar (infer_instruction_at c i z s) (infer_instruction_at (away c o) i z t)
     same_infer_instruction_at i None s t a = repeats_gives AlikeSoFar s t a
     same_infer_instruction_at i (Some x) s t a = same_infer_instruction i x s t a
 
-    same_apply_signatures : (is : List InstructionId) (s t : BlockProgress) → AlikeSoFar s t → Repeats IsBlockFull whole AlikeSoFar (apply_signatures c is s) (apply_signatures c is t)
+    same_apply_signatures : (is : List InstructionId) (s t : BlockProgress) → AlikeSoFar s t → Repeats IsBlockFull whole AlikeSoFar (apply_signatures c is s) (apply_signatures (away c o) is t)
     same_apply_signatures is s t a =
-        repeats_each (λ i j. i ≡ j) AlikeSoFar so_far_self (λ i. infer_instruction_at c i (slice_get c.func.instructions i.0)) (λ i. infer_instruction_at c i (slice_get c.func.instructions i.0))
-        (λ i j e u v b. subst (λ z. Repeats IsBlockFull whole AlikeSoFar (infer_instruction_at c i (slice_get c.func.instructions i.0) u) (infer_instruction_at c z (slice_get c.func.instructions z.0) v)) e (same_infer_instruction_at i (slice_get c.func.instructions i.0) u v b))
+        repeats_each (λ i j. i ≡ j) AlikeSoFar so_far_self (λ i. infer_instruction_at c i (slice_get c.func.instructions i.0)) (λ i. infer_instruction_at (away c o) i (slice_get c.func.instructions i.0))
+        (λ i j e u v b. subst (λ z. Repeats IsBlockFull whole AlikeSoFar (infer_instruction_at c i (slice_get c.func.instructions i.0) u) (infer_instruction_at (away c o) z (slice_get c.func.instructions z.0) v)) e (same_infer_instruction_at i (slice_get c.func.instructions i.0) u v b))
         is is (paired_self (λ i j. i ≡ j) (λ i. refl) is) s t a
 
-    same_apply_terminal : (b : BlockId) (block : BasicBlock) (s t : BlockProgress) → AlikeSoFar s t → Repeats IsBlockFull whole AlikeSoFar (apply_terminal c b block s) (apply_terminal c b block t)
+    same_apply_terminal : (b : BlockId) (block : BasicBlock) (s t : BlockProgress) → AlikeSoFar s t → Repeats IsBlockFull whole AlikeSoFar (apply_terminal c b block s) (apply_terminal (away c o) b block t)
     same_apply_terminal b block s t a =
-        repeats_then AlikeProgress AlikeSoFar progress_self _ _ _ _ (same_terminal_action c block.instructions block.terminal (step_start s) (step_start t) (start_alike s t a))
+        repeats_then AlikeProgress AlikeSoFar progress_self _ _ _ _ (same_terminal_action c o block.instructions block.terminal (step_start s) (step_start t) (start_alike s t a))
         (λ u v d. repeats_gives AlikeSoFar _ _ (after_terminal_alike b s.effects t.effects u v (before_alike s t a) d))
 
-    pub same_infer_block : (b : BlockId) (block : BasicBlock) (x : State) → Repeats IsBlockFull whole AlikeOut (infer_block c b block x) (infer_block c b block x)
+    pub same_infer_block : (b : BlockId) (block : BasicBlock) (x : State) → Repeats IsBlockFull whole AlikeOut (infer_block c b block x) (infer_block (away c o) b block x)
     same_infer_block b block x =
         repeats_then AlikeSoFar AlikeOut so_far_self _ _ _ _ (same_apply_signatures block.instructions _ _ (so_far_self (block_start (infer_phis block.phis x)))) (λ s t a.
         repeats_then AlikeSoFar AlikeOut so_far_self _ _ _ _ (same_apply_terminal b block s t a) (λ u v d. same_finished u v d))

@@ -6,7 +6,10 @@ use Rattle.alias_base.specs.declared.ids.FunctionId.{FunctionId}
 use Rattle.alias_base.specs.declared.ids.IdentifierId.{IdentifierId}
 use Rattle.alias_hir.specs.Diagnostics.{same_text}
 use Rattle.alias_hir.specs.declared.effect.AliasingEffect.{AliasingEffect}
+use Rattle.alias_hir.specs.declared.effect.AliasingEffect.TheVariants as effect
 use Rattle.alias_hir.specs.declared.effect.ValueReason.{ValueReason}
+use Rattle.alias_hir.specs.declared.effect.MutationReason.{MutationReason}
+use Rattle.alias_hir.specs.declared.report.DiagnosticId.{DiagnosticId}
 use Rattle.alias_hir.specs.declared.env.Environment.{Environment}
 use Rattle.alias_hir.specs.declared.hir.HirFunction.{HirFunction}
 use Rattle.alias_hir.specs.declared.place.Place.{Place}
@@ -33,8 +36,8 @@ use Rattle.alias_calls.specs.Arguments.{is_rest, with_further, with_plain, with_
 use Rattle.alias_calls.specs.Configs.{name_index, or_places, stands_first, stands, argument_at, inner_argument, inner_arguments, with_apply, impure_step, with_impures, with_config_effect, with_config_effects, with_temporary, config_call, config_list}
 use Rattle.alias_calls.specs.Copies.{pair_of, effect_at, pairs, with_pairs, with_each, with_freezes_unless, with_freezes}
 use Rattle.alias_calls.specs.Summaries.{last_spread, rest_or_temporary, names_with, summary_names, same_id, context_standing, returned, stands_for, copied, with_copied, with_copies, names_list, summary_call, summary_list}
-use Rattle.alias_accept_laws.specs.Alike.{Paired, none, more, Maybe, nothing, just, moved, AlikePlace, at, AlikePlaces, AlikeArgument, plain, spread, hole, AlikeArguments, Alike, apply, create_from, immutable_capture, assign, alias, capture, maybe_alias, create, freeze, impure, mutate_frozen, mutate_global, render, mutate, mutate_conditionally, mutate_transitive, mutate_transitive_conditionally, AlikeEffects, AlikeList, AlikeSite, called, IsFull, Repeats}
-use Rattle.alias_accept_laws.proofs.Likeness.{paired_self, paired_append, paired_map, place_self, alike_self}
+use Rattle.alias_accept_laws.specs.Alike.{Paired, none, more, Maybe, nothing, just, moved, AlikePlace, at, AlikePlaces, AlikeArgument, plain, spread, hole, AlikeArguments, Alike, apply, create_from, immutable_capture, assign, alias, capture, maybe_alias, create, freeze, impure, mutate_frozen, mutate_global, render, mutate, mutate_conditionally, mutate_transitive, mutate_transitive_conditionally, AlikeEffects, AlikeList, AlikeSite, called, IsFull, Repeats, Elsewhere, elsewhere, create_function}
+use Rattle.alias_accept_laws.proofs.Likeness.{paired_get, paired_self, paired_append, paired_map, place_self, alike_self}
 use Rattle.alias_accept_laws.proofs.Repeating.{repeats_gives, repeats_refuses, repeats_then, repeats_if_same, repeats_each, repeats_collect}
 use Rattle.alias_accept_laws.proofs.Tabling.{AnyNumber, repeats_report, repeats_temporary}
 
@@ -47,11 +50,6 @@ paired_if false xs ys us vs p q = q
 pub same_length : {A B : Type 0} {Q : A → B → Type 0} (xs : List A) (ys : List B) → Paired Q xs ys → length xs ≡ length ys
 same_length xs ys none = refl
 same_length xs ys (more {xs = us} {ys = vs} q qs) = ap suc (same_length us vs qs)
-
-paired_get : {A : Type 0} {Q : A → A → Type 0} (n : ℕ) (xs ys : List A) → Paired Q xs ys → Maybe Q (slice_get xs n) (slice_get ys n)
-paired_get n xs ys none = nothing
-paired_get zero xs ys (more q qs) = just q
-paired_get (suc n) xs ys (more {xs = us} {ys = vs} q qs) = paired_get n us vs qs
 
 -- ---- what names stand for
 
@@ -155,9 +153,9 @@ module _ {whole : List Temporary} where
   same_freezes_unless o p r ps qs out others_ (just {a = x} b) a c = repeats_refuses AlikeList (SpreadArgument x.span (spread_report x.span)) _
   same_freezes_unless o p r ps qs out others_ nothing a c = same_each_place (kind.Freeze r) ps qs out others_ a c
 
-  same_freezes : (env : Environment) (args others : List PlaceOrSpreadOrHole) (r : ValueReason) (ps qs : List Place) (out others_ : List AliasingEffect) → AlikeArguments args others → AlikePlaces ps qs → AlikeEffects out others_
-      → Repeats IsFull whole AlikeList (with_freezes env args r ps out) (with_freezes env others r qs others_)
-  same_freezes env args others r ps qs out others_ b a c = same_freezes_unless (first_bad env args ps) (first_bad env others qs) r ps qs out others_ (bad_alike env args others ps qs b a) a c
+  same_freezes : (env : Environment) (away : Elsewhere env) (args others : List PlaceOrSpreadOrHole) (r : ValueReason) (ps qs : List Place) (out others_ : List AliasingEffect) → AlikeArguments args others → AlikePlaces ps qs → AlikeEffects out others_
+      → Repeats IsFull whole AlikeList (with_freezes env args r ps out) (with_freezes (elsewhere env away) others r qs others_)
+  same_freezes env away args others r ps qs out others_ b a c = same_freezes_unless (first_bad env args ps) (first_bad env others qs) r ps qs out others_ (bad_alike env args others ps qs b a) a c
 
   same_impure_step : (p q : Place) (es fs : List AliasingEffect) → AlikePlace p q → AlikeEffects es fs → Repeats IsFull whole AlikeEffects (impure_step p es) (impure_step q fs)
   unfolding impure_step
@@ -210,42 +208,54 @@ module _ (c : AliasingSignatureConfig) (s t : CallSite) (args others : List Plac
     same_apply o p m n i j mutates inner es fs (just q) nothing k a = repeats_gives AlikeList None None nothing
     same_apply o p m n i j mutates inner es fs nothing g k a = repeats_gives AlikeList None None nothing
 
-    same_config_effect : (env : Environment) (e : AliasingEffectConfig) (es fs : List AliasingEffect) → AlikeEffects es fs → Repeats IsFull whole AlikeList (with_config_effect env (config_call c s args ts) e es) (with_config_effect env (config_call c t others us) e fs)
-    same_config_effect env (config.Freeze v r) es fs b = same_freezes env args others r _ _ es fs arguments (stands_alike v) b
-    same_config_effect env (config.Create x k r) es fs b = same_each_place (kind.Create k r) _ _ es fs (stands_alike x) b
-    same_config_effect env (config.CreateFrom a x) es fs b = same_pairs pair.CreateFrom _ _ _ _ es fs (stands_alike a) (stands_alike x) b
-    same_config_effect env (config.Assign a x) es fs b = same_pairs pair.Assign _ _ _ _ es fs (stands_alike a) (stands_alike x) b
-    same_config_effect env (config.Alias a x) es fs b = same_pairs pair.Alias _ _ _ _ es fs (stands_alike a) (stands_alike x) b
-    same_config_effect env (config.Capture a x) es fs b = same_pairs pair.Capture _ _ _ _ es fs (stands_alike a) (stands_alike x) b
-    same_config_effect env (config.ImmutableCapture a x) es fs b = same_pairs pair.ImmutableCapture _ _ _ _ es fs (stands_alike a) (stands_alike x) b
-    same_config_effect env (config.Impure p) es fs b = same_impures _ _ es fs (stands_alike p) b
-    same_config_effect env (config.Mutate v) es fs b = same_each_place (kind.Mutate None) _ _ es fs (stands_alike v) b
-    same_config_effect env (config.MutateTransitiveConditionally v) es fs b = same_each_place kind.MutateTransitiveConditionally _ _ es fs (stands_alike v) b
-    same_config_effect env (config.Apply r f mutates inner x) es fs b = same_apply _ _ _ _ _ _ mutates inner es fs (first_at r) (first_at f) (first_at x) b
+    same_config_effect : (env : Environment) (away : Elsewhere env) (e : AliasingEffectConfig) (es fs : List AliasingEffect) → AlikeEffects es fs → Repeats IsFull whole AlikeList (with_config_effect env (config_call c s args ts) e es) (with_config_effect (elsewhere env away) (config_call c t others us) e fs)
+    same_config_effect env away (config.Freeze v r) es fs b = same_freezes env away args others r _ _ es fs arguments (stands_alike v) b
+    same_config_effect env away (config.Create x k r) es fs b = same_each_place (kind.Create k r) _ _ es fs (stands_alike x) b
+    same_config_effect env away (config.CreateFrom a x) es fs b = same_pairs pair.CreateFrom _ _ _ _ es fs (stands_alike a) (stands_alike x) b
+    same_config_effect env away (config.Assign a x) es fs b = same_pairs pair.Assign _ _ _ _ es fs (stands_alike a) (stands_alike x) b
+    same_config_effect env away (config.Alias a x) es fs b = same_pairs pair.Alias _ _ _ _ es fs (stands_alike a) (stands_alike x) b
+    same_config_effect env away (config.Capture a x) es fs b = same_pairs pair.Capture _ _ _ _ es fs (stands_alike a) (stands_alike x) b
+    same_config_effect env away (config.ImmutableCapture a x) es fs b = same_pairs pair.ImmutableCapture _ _ _ _ es fs (stands_alike a) (stands_alike x) b
+    same_config_effect env away (config.Impure p) es fs b = same_impures _ _ es fs (stands_alike p) b
+    same_config_effect env away (config.Mutate v) es fs b = same_each_place (kind.Mutate None) _ _ es fs (stands_alike v) b
+    same_config_effect env away (config.MutateTransitiveConditionally v) es fs b = same_each_place kind.MutateTransitiveConditionally _ _ es fs (stands_alike v) b
+    same_config_effect env away (config.Apply r f mutates inner x) es fs b = same_apply _ _ _ _ _ _ mutates inner es fs (first_at r) (first_at f) (first_at x) b
 
-    same_config_effects : (env : Environment) (xs : List AliasingEffectConfig) (es fs : List AliasingEffect) → AlikeEffects es fs → Repeats IsFull whole AlikeList (with_config_effects env (config_call c s args ts) xs es) (with_config_effects env (config_call c t others us) xs fs)
-    same_config_effects env xs es fs b =
-        repeats_collect (λ x y. x ≡ y) AlikeEffects (paired_self Alike alike_self) (with_config_effect env (config_call c s args ts)) (with_config_effect env (config_call c t others us))
-        (λ x y e u v d. subst (λ z. Repeats IsFull whole AlikeList (with_config_effect env (config_call c s args ts) x u) (with_config_effect env (config_call c t others us) z v)) e (same_config_effect env x u v d))
+    same_config_effects : (env : Environment) (away : Elsewhere env) (xs : List AliasingEffectConfig) (es fs : List AliasingEffect) → AlikeEffects es fs → Repeats IsFull whole AlikeList (with_config_effects env (config_call c s args ts) xs es) (with_config_effects (elsewhere env away) (config_call c t others us) xs fs)
+    same_config_effects env away xs es fs b =
+        repeats_collect (λ x y. x ≡ y) AlikeEffects (paired_self Alike alike_self) (with_config_effect env (config_call c s args ts)) (with_config_effect (elsewhere env away) (config_call c t others us))
+        (λ x y e u v d. subst (λ z. Repeats IsFull whole AlikeList (with_config_effect env (config_call c s args ts) x u) (with_config_effect (elsewhere env away) (config_call c t others us) z v)) e (same_config_effect env away x u v d))
         xs xs (paired_self (λ x y. x ≡ y) (λ x. refl) xs) es fs b
 
 module _ {whole : List Temporary} where
-  same_with_temporary : (env : Environment) (s t : CallSite) (name : List ℕ) (ps qs : List Place) → AlikeSite s t → AlikePlaces ps qs → Repeats IsFull whole AlikePlaces (with_temporary env s name ps) (with_temporary env t name qs)
-  same_with_temporary env s t name ps qs (called u v) a =
-      repeats_then AlikePlace AlikePlaces place_self _ _ _ _ (repeats_temporary env (Named u.into.identifier (record { text = name })) u.receiver.span v.receiver.span)
+  same_with_temporary : (env : Environment) (away : Elsewhere env) (s t : CallSite) (name : List ℕ) (ps qs : List Place) → AlikeSite s t → AlikePlaces ps qs → Repeats IsFull whole AlikePlaces (with_temporary env s name ps) (with_temporary (elsewhere env away) t name qs)
+  same_with_temporary env away s t name ps qs (called u v) a =
+      repeats_then AlikePlace AlikePlaces place_self _ _ _ _ (repeats_temporary env away (Named u.into.identifier (record { text = name })) u.receiver.span v.receiver.span)
       (λ p q b. repeats_gives AlikePlaces _ _ (paired_append a (more b none)))
 
-  pub same_config_list : (env : Environment) (c : AliasingSignatureConfig) (s t : CallSite) (args others : List PlaceOrSpreadOrHole) → AlikeSite s t → AlikeArguments args others
-      → Repeats IsFull whole AlikeList (config_list env c s args) (config_list env c t others)
-  same_config_list env c s t args others a b =
+  pub same_config_list : (env : Environment) (away : Elsewhere env) (c : AliasingSignatureConfig) (s t : CallSite) (args others : List PlaceOrSpreadOrHole) → AlikeSite s t → AlikeArguments args others
+      → Repeats IsFull whole AlikeList (config_list env c s args) (config_list (elsewhere env away) c t others)
+  same_config_list env away c s t args others a b =
       repeats_if_same AlikeList _ _ _ _ _ _ (ap (λ f. f && not (is_some c.rest)) (same_has_further c.params args others 0 b)) (repeats_gives AlikeList None None nothing)
       (repeats_then AlikePlaces AlikeList (paired_self AlikePlace place_self) _ _ _ _
-      (repeats_each (λ x y. x ≡ y) AlikePlaces (paired_self AlikePlace place_self) (with_temporary env s) (with_temporary env t)
-      (λ x y e u v d. subst (λ z. Repeats IsFull whole AlikePlaces (with_temporary env s x u) (with_temporary env t z v)) e (same_with_temporary env s t x u v a d))
+      (repeats_each (λ x y. x ≡ y) AlikePlaces (paired_self AlikePlace place_self) (with_temporary env s) (with_temporary (elsewhere env away) t)
+      (λ x y e u v d. subst (λ z. Repeats IsFull whole AlikePlaces (with_temporary env s x u) (with_temporary (elsewhere env away) t z v)) e (same_with_temporary env away s t x u v a d))
       c.temporaries c.temporaries (paired_self (λ x y. x ≡ y) (λ x. refl) c.temporaries) [] [] none)
-      (λ ts us d. same_config_effects c s t args others ts us a b d env c.effects [] [] none))
+      (λ ts us d. same_config_effects c s t args others ts us a b d env away c.effects [] [] none))
 
 -- ---- summaries
+
+impure_placed : (d e : DiagnosticId) (p q : Place) → AlikePlace p q → Alike (effect.Impure p d) (effect.Impure q e)
+impure_placed d e p q (at _ z) = impure p z d e
+
+frozen_placed : (d e : DiagnosticId) (p q : Place) → AlikePlace p q → Alike (effect.MutateFrozen p d) (effect.MutateFrozen q e)
+frozen_placed d e p q (at _ z) = mutate_frozen p z d e
+
+global_placed : (d e : DiagnosticId) (p q : Place) → AlikePlace p q → Alike (effect.MutateGlobal p d) (effect.MutateGlobal q e)
+global_placed d e p q (at _ z) = mutate_global p z d e
+
+mutate_placed : (r s : Option MutationReason) (p q : Place) → AlikePlace p q → Alike (effect.Mutate p r) (effect.Mutate q s)
+mutate_placed r s p q (at _ z) = mutate p z r s
 
 returned_alike : (names : SummaryNames) (p q : Place) (x : IdentifierId) → AlikePlace p q → AlikePlaces (returned names p x) (returned names q x)
 returned_alike names p q x a = paired_if (same_id names.returns x) _ _ _ _ (more a none) none
@@ -259,21 +269,43 @@ module _ (names : SummaryNames) (into to : Place) (args others : List PlaceOrSpr
   stands_for_alike q = context_alike q context _ _ (standing_alike same_id q names.params names.rest args others 0 _ _ arguments (returned_alike names into to q result))
 
   module _ {whole : List Temporary} where
-    same_copied : (env : Environment) (e : SummaryEffect) (es fs : List AliasingEffect) → AlikeEffects es fs
-        → Repeats IsFull whole AlikeList (with_copied env (summary_call names into args context) e es) (with_copied env (summary_call names to others context) e fs)
-    same_copied env (OfPair k a x) es fs b = same_pairs k _ _ _ _ es fs (stands_for_alike a) (stands_for_alike x) b
-    same_copied env (OfPlace k x) es fs b = same_each_place k _ _ es fs (stands_for_alike x) b
-    same_copied env (OfFreeze r x) es fs b = same_freezes env args others r _ _ es fs arguments (stands_for_alike x) b
-    same_copied env Passed es fs b = repeats_gives AlikeList _ _ (just b)
-    same_copied env GivenUp es fs b = repeats_gives AlikeList None None nothing
+    same_kinds : (k l : PlaceKind) → ((p q : Place) → AlikePlace p q → Alike (effect_at k p) (effect_at l q)) → (x : IdentifierId) (es fs : List AliasingEffect) → AlikeEffects es fs
+        → Repeats IsFull whole AlikeList (with_each k (stands_for (summary_call names into args context) x) es) (with_each l (stands_for (summary_call names to others context) x) fs)
+    same_kinds k l h x es fs b = repeats_gives AlikeList _ _ (just (paired_append b (paired_map Alike (effect_at k) (effect_at l) h (stands_for_alike x))))
 
-    same_names_list : (env : Environment) (summary : List AliasingEffect) → Repeats IsFull whole AlikeList (names_list env (summary_call names into args context) summary) (names_list env (summary_call names to others context) summary)
-    same_names_list env summary =
+    same_linked : (k : PairKind) (a x : IdentifierId) (es fs : List AliasingEffect) → AlikeEffects es fs
+        → Repeats IsFull whole AlikeList (with_pairs k (stands_for (summary_call names into args context) a) (stands_for (summary_call names into args context) x) es) (with_pairs k (stands_for (summary_call names to others context) a) (stands_for (summary_call names to others context) x) fs)
+    same_linked k a x es fs b = same_pairs k _ _ _ _ es fs (stands_for_alike a) (stands_for_alike x) b
+
+    -- what is copied of effects that are alike
+    same_copies : (env : Environment) (away : Elsewhere env) (e f : AliasingEffect) (es fs : List AliasingEffect) → Alike e f → AlikeEffects es fs
+        → Repeats IsFull whole AlikeList (with_copies env (summary_call names into args context) e es) (with_copies (elsewhere env away) (summary_call names to others context) f fs)
+    same_copies env away e f es fs (apply r q g h x y mutates args others signature span other a) b = repeats_gives AlikeList _ _ (just b)
+    same_copies env away e f es fs (create_from a d x y) b = same_linked pair.CreateFrom a.identifier x.identifier es fs b
+    same_copies env away e f es fs (immutable_capture a d x y) b = same_linked pair.ImmutableCapture a.identifier x.identifier es fs b
+    same_copies env away e f es fs (assign a d x y) b = same_linked pair.Assign a.identifier x.identifier es fs b
+    same_copies env away e f es fs (alias a d x y) b = same_linked pair.Alias a.identifier x.identifier es fs b
+    same_copies env away e f es fs (capture a d x y) b = same_linked pair.Capture a.identifier x.identifier es fs b
+    same_copies env away e f es fs (maybe_alias a d x y) b = same_linked pair.MaybeAlias a.identifier x.identifier es fs b
+    same_copies env away e f es fs (create x y k r) b = same_kinds (kind.Create k r) (kind.Create k r) (at_placed (kind.Create k r)) x.identifier es fs b
+    same_copies env away e f es fs (freeze v w r) b = same_freezes env away args others r _ _ es fs arguments (stands_for_alike v.identifier) b
+    same_copies env away e f es fs (impure p q d g) b = same_kinds (kind.Impure d) (kind.Impure g) (λ x y a. impure_placed d g x y a) p.identifier es fs b
+    same_copies env away e f es fs (mutate_frozen p q d g) b = same_kinds (kind.MutateFrozen d) (kind.MutateFrozen g) (λ x y a. frozen_placed d g x y a) p.identifier es fs b
+    same_copies env away e f es fs (mutate_global p q d g) b = same_kinds (kind.MutateGlobal d) (kind.MutateGlobal g) (λ x y a. global_placed d g x y a) p.identifier es fs b
+    same_copies env away e f es fs (render p q) b = same_kinds kind.Render kind.Render (at_placed kind.Render) p.identifier es fs b
+    same_copies env away e f es fs (mutate v w r t) b = same_kinds (kind.Mutate r) (kind.Mutate t) (λ x y a. mutate_placed r t x y a) v.identifier es fs b
+    same_copies env away e f es fs (mutate_conditionally v w) b = same_kinds kind.MutateConditionally kind.MutateConditionally (at_placed kind.MutateConditionally) v.identifier es fs b
+    same_copies env away e f es fs (mutate_transitive v w) b = same_kinds kind.MutateTransitive kind.MutateTransitive (at_placed kind.MutateTransitive) v.identifier es fs b
+    same_copies env away e f es fs (mutate_transitive_conditionally v w) b = same_kinds kind.MutateTransitiveConditionally kind.MutateTransitiveConditionally (at_placed kind.MutateTransitiveConditionally) v.identifier es fs b
+    same_copies env away e f es fs (create_function x y g ps qs a) b = repeats_gives AlikeList None None nothing
+
+    same_names_list : (env : Environment) (away : Elsewhere env) (summary told : List AliasingEffect) → AlikeEffects summary told
+        → Repeats IsFull whole AlikeList (names_list env (summary_call names into args context) summary) (names_list (elsewhere env away) (summary_call names to others context) told)
+    same_names_list env away summary told a =
         repeats_if_same AlikeList _ _ _ _ _ _ (ap (λ n. nat_lt n (length names.params)) (same_length args others arguments)) (repeats_gives AlikeList None None nothing)
         (repeats_if_same AlikeList _ _ _ _ _ _ (ap (λ f. f && not (is_some names.rest)) (same_has_further names.params args others 0 arguments)) (repeats_gives AlikeList None None nothing)
-        (repeats_collect (λ x y. x ≡ y) AlikeEffects (paired_self Alike alike_self) (with_copies env (summary_call names into args context)) (with_copies env (summary_call names to others context))
-        (λ x y e u v d. subst (λ z. Repeats IsFull whole AlikeList (with_copies env (summary_call names into args context) x u) (with_copies env (summary_call names to others context) z v)) e (same_copied env (copied x) u v d))
-        summary summary (paired_self (λ x y. x ≡ y) (λ x. refl) summary) [] [] none))
+        (repeats_collect Alike AlikeEffects (paired_self Alike alike_self) (with_copies env (summary_call names into args context)) (with_copies (elsewhere env away) (summary_call names to others context))
+        (λ x y e u v d. same_copies env away x y u v e d) summary told a [] [] none))
 
 abbrev SameId : IdentifierId → IdentifierId → Type 0
 SameId x y = x ≡ y
@@ -284,19 +316,23 @@ SameNames m n = m ≡ n
 placed_same : (p q : Place) → AlikePlace p q → SameId p.identifier q.identifier
 placed_same p q (at _ z) = refl
 
+-- the other function, as it is seen
+abbrev pub seen_as : HirFunction → HirFunction → HirFunction
+seen_as f g = record g { params = f.params; context = f.context; returns = f.returns }
+
 module _ {whole : List Temporary} where
-  same_rest : (o : Option IdentifierId) (env : Environment) (f : FunctionId) (function : HirFunction) → Repeats IsFull whole SameId (rest_or_temporary o env f function) (rest_or_temporary o env f function)
-  same_rest (Some rest) env f function = repeats_gives SameId rest rest refl
-  same_rest None env f function =
-      repeats_then AlikePlace SameId place_self _ _ _ _ (repeats_temporary env (Rest f) function.span function.span) (λ p q a. repeats_gives SameId _ _ (placed_same p q a))
+  same_rest : (o : Option IdentifierId) (env : Environment) (away : Elsewhere env) (f : FunctionId) (function there : HirFunction) → Repeats IsFull whole SameId (rest_or_temporary o env f function) (rest_or_temporary o (elsewhere env away) f (seen_as function there))
+  same_rest (Some rest) env away f function there = repeats_gives SameId rest rest refl
+  same_rest None env away f function there =
+      repeats_then AlikePlace SameId place_self _ _ _ _ (repeats_temporary env away (Rest f) function.span there.span) (λ p q a. repeats_gives SameId _ _ (placed_same p q a))
 
-  same_names : (env : Environment) (f : FunctionId) (function : HirFunction) → Repeats IsFull whole SameNames (summary_names env f function) (summary_names env f function)
-  same_names env f function =
-      repeats_then SameId SameNames (λ x. refl) _ _ _ _ (same_rest (last_spread function.params None) env f function) (λ x y e. repeats_gives SameNames _ _ (ap (names_with function) e))
+  same_names : (env : Environment) (away : Elsewhere env) (f : FunctionId) (function there : HirFunction) → Repeats IsFull whole SameNames (summary_names env f function) (summary_names (elsewhere env away) f (seen_as function there))
+  same_names env away f function there =
+      repeats_then SameId SameNames (λ x. refl) _ _ _ _ (same_rest (last_spread function.params None) env away f function there) (λ x y e. repeats_gives SameNames _ _ (ap (names_with function) e))
 
-  pub same_summary_list : (env : Environment) (f : FunctionId) (function : HirFunction) (summary : List AliasingEffect) (into to : Place) (args others : List PlaceOrSpreadOrHole) → AlikePlace into to → AlikeArguments args others
-      → Repeats IsFull whole AlikeList (summary_list env f function summary into args) (summary_list env f function summary to others)
-  same_summary_list env f function summary into to args others a b =
-      repeats_then SameNames AlikeList (λ n. refl) _ _ _ _ (same_names env f function)
-      (λ m n e. subst (λ z. Repeats IsFull whole AlikeList (names_list env (summary_call m into args function.context) summary) (names_list env (summary_call z to others function.context) summary)) e
-      (same_names_list m into to args others function.context a b env summary))
+  pub same_summary_list : (env : Environment) (away : Elsewhere env) (f : FunctionId) (function there : HirFunction) (summary told : List AliasingEffect) (into to : Place) (args others : List PlaceOrSpreadOrHole) → AlikeEffects summary told → AlikePlace into to → AlikeArguments args others
+      → Repeats IsFull whole AlikeList (summary_list env f function summary into args) (summary_list (elsewhere env away) f (seen_as function there) told to others)
+  same_summary_list env away f function there summary told into to args others k a b =
+      repeats_then SameNames AlikeList (λ n. refl) _ _ _ _ (same_names env away f function there)
+      (λ m n e. subst (λ z. Repeats IsFull whole AlikeList (names_list env (summary_call m into args function.context) summary) (names_list (elsewhere env away) (summary_call z to others function.context) told)) e
+      (same_names_list m into to args others function.context a b env away summary told k))

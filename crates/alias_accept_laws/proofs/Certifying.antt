@@ -19,6 +19,7 @@ use Rattle.alias_flow_check.specs.Reached.{reached_marks}
 use Rattle.alias_flow_check.proofs.Marks.{rounds_length, reached_is_marked, marked_is_reached}
 use Rattle.alias_tables.specs.GrowingLaws.{Extends}
 use Rattle.alias_tables.specs.Tables.{TableLists}
+use Rattle.alias_tables.specs.declared.temporaries.Temporary.{Temporary}
 use Rattle.alias_block.specs.Contexts.{context_of}
 use Rattle.alias_block.specs.declared.recorded.BlockEffects.{BlockEffects}
 use Rattle.alias_write_back.specs.WriteBack.{tables_of}
@@ -37,17 +38,17 @@ use Rattle.alias_cert_function.specs.Claims.{differs, is_told_at}
 use Rattle.alias_cert_function.specs.Entries.{state_or_fault, line_state, entry_stated, entries_stated}
 use Rattle.alias_cert_function.specs.Faults.{faulted}
 use Rattle.alias_cert_function.specs.Functions.{numbers, lines_checked, entries_checked, steps_checked, checked_end, function_solved}
-use Rattle.alias_cert_function.specs.Temporaries.{temporaries_stated}
-use Rattle.alias_accept_laws.specs.Accepting.{rules, AreToldAlike, IsAcceptedOrFull, accepted, full}
-use Rattle.alias_accept_laws.specs.Alike.{none}
+use Rattle.alias_cert_function.specs.Temporaries.{is_key_there, temporaries_stated}
+use Rattle.alias_accept_laws.specs.Accepting.{rules, rules_of, AreToldAlike, IsAcceptedOrFull, accepted, full}
+use Rattle.alias_accept_laws.specs.Alike.{none, Elsewhere, elsewhere}
 use Rattle.alias_accept_laws.specs.AlikeBlocks.{AlikeRecorded}
 use Rattle.alias_accept_laws.specs.Certifying.{IsSolution, IsCertified, certified, full as full_certificate, IsAcceptedAsSaid}
-use Rattle.alias_accept_laws.specs.Saying.{NamesThere, said_block, said_each, those_there, said_temporary, said_function}
+use Rattle.alias_accept_laws.specs.Saying.{NamesThere, AreCounted, said_block, said_each, those_there, said_temporary, said_function}
 use Rattle.alias_accept_laws.proofs.Calling.{same_length}
 use Rattle.alias_accept_laws.proofs.Counting.{counted_stated}
 use Rattle.alias_accept_laws.proofs.Lining.{marks_of, count_is, mark_at, marks_long, same_marks, stands, no_number, said_at, said_nothing, said_long, are_lines_of}
 use Rattle.alias_accept_laws.proofs.Rebuilding.{state_rebuilt}
-use Rattle.alias_accept_laws.proofs.Solutions.{accepts_anyway}
+use Rattle.alias_accept_laws.proofs.Solutions.{reached_there, reached_here, accepts_anyway}
 use Rattle.alias_accept_laws.proofs.Telling.{block_told}
 
 true_or_false : (b : Bool) → (b ≡ true) ⊎ (b ≡ false)
@@ -80,9 +81,12 @@ numbers_long n (true ∷ ms) = ap suc (numbers_long (n + 1) ms)
 numbers_long n (false ∷ ms) = ap suc (numbers_long n ms)
 
 module _ (env : Environment) (func : HirFunction) (e : Bool) (entered : is_some (value_at func.body.blocks func.body.entry) ≡ true) (tables : TableLists) (entries : List (Option State)) (recorded : List (Option BlockEffects))
-    (s : IsSolution env func e tables entries recorded) where
-  laws : FlowLaws StateProper Extends (numbered (context_of env func e)) (replicate (length func.body.blocks) None)
-  laws = pass_laws (context_of env func e) entered (replicate (length func.body.blocks) None) (length-replicate (length func.body.blocks) None)
+    (s : IsSolution env func e tables entries recorded) (o : Elsewhere env) where
+  abbrev abroad : Environment
+  abroad = elsewhere env o
+
+  laws : FlowLaws StateProper Extends (numbered (context_of (elsewhere env o) func e)) (replicate (length func.body.blocks) None)
+  laws = pass_laws (context_of (elsewhere env o) func e) entered (replicate (length func.body.blocks) None) (length-replicate (length func.body.blocks) None)
 
   abbrev each_line : List (Option CertBlock)
   each_line = said_each func.body.blocks entries recorded
@@ -116,39 +120,44 @@ module _ (env : Environment) (func : HirFunction) (e : Bool) (entered : is_some 
 
   -- ---- which blocks are reached
 
-  mark_of : (i : ℕ) → get_or (reached_marks (rules env func e)) i false ≡ get_or line_marks i false
+  mark_of : (i : ℕ) → get_or (reached_marks (rules_of (elsewhere env o) func e)) i false ≡ get_or line_marks i false
   mark_of i = ⊎_elim
       (λ h.
       let reached = marked_is_reached laws i h in
-      let x = some_state (entry_at entries i) (s.solved.solves.reached i reached) in
+      let x = some_state (entry_at entries i) (s.solved.solves.reached i (reached_here env o func e i reached)) in
       h ∙ sym (mark_at each_line i ∙ ap is_some (line_of i x.0 x.1).said))
       (λ h.
       let nothing : entry_at entries i ≡ None = none_here i h (entry_at entries i) refl in
       h ∙ sym (mark_at each_line i ∙ ap is_some (no_line i nothing)))
-      (true_or_false (get_or (reached_marks (rules env func e)) i false))
+      (true_or_false (get_or (reached_marks (rules_of (elsewhere env o) func e)) i false))
     where
       some_state : (o : Option State) → is_some o ≡ true → (x : State) × (o ≡ Some x)
       some_state None h = cc
       some_state (Some x) h = (x, refl)
 
-      none_here : (i : ℕ) → get_or (reached_marks (rules env func e)) i false ≡ false → (o : Option State) → entry_at entries i ≡ o → entry_at entries i ≡ None
+      none_here : (i : ℕ) → get_or (reached_marks (rules_of (elsewhere env o) func e)) i false ≡ false → (o : Option State) → entry_at entries i ≡ o → entry_at entries i ≡ None
       none_here i h None is = is
-      none_here i h (Some x) is = let marked : get_or (reached_marks (rules env func e)) i false ≡ true = reached_is_marked laws i (s.solved.solves.only_reached i x is) in cc
+      none_here i h (Some x) is = let marked : get_or (reached_marks (rules_of (elsewhere env o) func e)) i false ≡ true = reached_is_marked laws i (reached_there env o func e i (s.solved.solves.only_reached i x is)) in cc
 
-  marks_are : reached_marks (rules env func e) ≡ line_marks
+  marks_are : reached_marks (rules_of (elsewhere env o) func e) ≡ line_marks
   marks_are =
-      same_marks (reached_marks (rules env func e)) line_marks
-      (rounds_length (rules env func e).flow.edges (length func.body.blocks) (length func.body.blocks) _ ∙ length-set (replicate (length func.body.blocks) false) (rules env func e).flow.entry true ∙ length-replicate (length func.body.blocks) false
+      same_marks (reached_marks (rules_of (elsewhere env o) func e)) line_marks
+      (rounds_length (rules_of (elsewhere env o) func e).flow.edges (length func.body.blocks) (length func.body.blocks) _ ∙ length-set (replicate (length func.body.blocks) false) (rules_of (elsewhere env o) func e).flow.entry true ∙ length-replicate (length func.body.blocks) false
       ∙ sym (marks_long each_line ∙ said_long func.body.blocks entries recorded s.solved.count s.count))
       mark_of
 
   -- ---- the parts of the check
 
+  counted_elsewhere : (done rest : List Temporary) → AreCounted env done rest → AreCounted (elsewhere env o) done rest
+  counted_elsewhere done [] c = tt
+  counted_elsewhere done (x ∷ rest) c =
+      (c.0, c.1, subst (λ n. is_key_there (length env.identifiers + length done) n x.key ≡ true) (same_length env.functions o.functions o.alike) c.2, c.3, counted_elsewhere (done ++ x ∷ []) rest c.4)
+
   module _ (id : Option FunctionId) (summary : List (List ℕ)) where
     abbrev c : CertFunction
     c = said_function id func entries recorded tables.temporaries summary
 
-    numbers_are : numbers c env func e ≡ line_numbers 0 line_marks
+    numbers_are : numbers c abroad func e ≡ line_numbers 0 line_marks
     numbers_are = ap (line_numbers 0) marks_are
 
     line_at_number : (i k : ℕ) → entry_at (line_numbers 0 line_marks) i ≡ Some k → (b : CertBlock) × (slice_get lines k ≡ Some b) × (b.block ≡ block_at func.body.blocks i)
@@ -157,7 +166,7 @@ module _ (env : Environment) (func : HirFunction) (e : Bool) (entered : is_some 
         (λ none. let two : None ≡ Some k = sym (no_number 0 each_line i (no_line i none)) ∙ h in cc)
         (some_or_none (entry_at entries i))
 
-    lines_ok : lines_checked c env func e ≡ Ok tt
+    lines_ok : lines_checked c abroad func e ≡ Ok tt
     lines_ok =
         ap (λ b. if b then Ok tt else Err (fault.Blocks id))
         (ap (are_lines lines func.body.blocks) marks_are ∙ are_lines_of lines func.body.blocks line_marks (count_is each_line) line_at_number)
@@ -177,13 +186,13 @@ module _ (env : Environment) (func : HirFunction) (e : Bool) (entered : is_some 
         (λ none. ap (entry_stated id count (created_functions func) lines) (no_number 0 each_line i (no_line i none)) ∙ ap Ok (sym none))
         (some_or_none (entry_at entries i))
 
-    entries_ok : entries_checked c env func e ≡ Ok entries
+    entries_ok : entries_checked c abroad func e ≡ Ok entries
     entries_ok =
         ap (entries_stated id count (created_functions func) lines []) numbers_are
         ∙ each_stated id count (created_functions func) lines [] entries (line_numbers 0 line_marks)
         (numbers_long 0 line_marks ∙ marks_long each_line ∙ said_long func.body.blocks entries recorded s.solved.count s.count ∙ sym s.solved.count) entry_ok
 
-    told_at : (i : ℕ) (x y : State) (k q : BlockEffects) → entry_at entries i ≡ Some x → (rules env func e).flow.step tables i x ≡ Stepped y tables k → AlikeRecorded k q → is_told_at lines q (entry_at (numbers c env func e) i) ≡ true
+    told_at : (i : ℕ) (x y : State) (k q : BlockEffects) → entry_at entries i ≡ Some x → (rules env func e).flow.step tables i x ≡ Stepped y tables k → AlikeRecorded k q → is_told_at lines q (entry_at (numbers c abroad func e) i) ≡ true
     told_at i x y k q h step a =
         let l = line_of i x h in
         let r = s.records i x h in
@@ -196,30 +205,31 @@ module _ (env : Environment) (func : HirFunction) (e : Bool) (entered : is_some 
         ∙ ap (λ o. option_map_or (is_told q) o false) l.there
         ∙ block_told (block_at func.body.blocks i) x l.effects q (subst (λ z. AlikeRecorded z q) (sym effects) a)
 
-    told : AreToldAlike env func e tables entries (differs lines (numbers c env func e) (length (map said_temporary tables.temporaries)))
+    told : AreToldAlike env func e tables entries (differs lines (numbers c abroad func e) (length (map said_temporary tables.temporaries)))
     told i x y k h step t q like a =
         let long : length (map said_temporary tables.temporaries) ≡ length t.temporaries = length-map tables.temporaries said_temporary ∙ same_length tables.temporaries t.temporaries like in
-        ap (λ b. if b then Some MissingTemporary else (if is_told_at lines q (entry_at (numbers c env func e) i) then None else Some Effects)) (le-ltb (length (map said_temporary tables.temporaries)) (length t.temporaries) (omega arith))
+        ap (λ b. if b then Some MissingTemporary else (if is_told_at lines q (entry_at (numbers c abroad func e) i) then None else Some Effects)) (le-ltb (length (map said_temporary tables.temporaries)) (length t.temporaries) (omega arith))
         ∙ ap (λ b. let o : Option Difference = if b then None else Some Effects in o) (told_at i x y k q h step a)
 
     abbrev begun : TableLists
-    begun = (counted_stated id env [] tables.temporaries (tables_of env) none s.temporaries).tables
+    begun = (counted_stated id abroad [] tables.temporaries (tables_of abroad) none (counted_elsewhere [] tables.temporaries s.temporaries)).tables
 
-    before : function_solved c env func e ≡ (steps_checked c env func e entries begun >>= (λ w. Ok (checked_end c env func e entries w)))
+    before : function_solved c abroad func e ≡ (steps_checked c abroad func e entries begun >>= (λ w. Ok (checked_end c abroad func e entries w)))
     before =
-        ap (λ r. r >>= (λ u. entries_checked c env func e >>= (λ xs. temporaries_stated id env (map said_temporary tables.temporaries) (tables_of env) >>= (λ t. steps_checked c env func e xs t >>= (λ w. Ok (checked_end c env func e xs w)))))) lines_ok
-        ∙ ap (λ r. r >>= (λ xs. temporaries_stated id env (map said_temporary tables.temporaries) (tables_of env) >>= (λ t. steps_checked c env func e xs t >>= (λ w. Ok (checked_end c env func e xs w))))) entries_ok
-        ∙ ap (λ r. r >>= (λ t. steps_checked c env func e entries t >>= (λ w. Ok (checked_end c env func e entries w)))) (counted_stated id env [] tables.temporaries (tables_of env) none s.temporaries).is
+        ap (λ r. r >>= (λ u. entries_checked c abroad func e >>= (λ xs. temporaries_stated id abroad (map said_temporary tables.temporaries) (tables_of abroad) >>= (λ t. steps_checked c abroad func e xs t >>= (λ w. Ok (checked_end c abroad func e xs w)))))) lines_ok
+        ∙ ap (λ r. r >>= (λ xs. temporaries_stated id abroad (map said_temporary tables.temporaries) (tables_of abroad) >>= (λ t. steps_checked c abroad func e xs t >>= (λ w. Ok (checked_end c abroad func e xs w))))) entries_ok
+        ∙ ap (λ r. r >>= (λ t. steps_checked c abroad func e entries t >>= (λ w. Ok (checked_end c abroad func e entries w)))) (counted_stated id abroad [] tables.temporaries (tables_of abroad) none (counted_elsewhere [] tables.temporaries s.temporaries)).is
 
-    finished : IsAcceptedOrFull env func e tables (solution_checked state_join state_below (rules env func e) (differs lines (numbers c env func e) (length (map said_temporary tables.temporaries))) entries begun (replicate (length func.body.blocks) None)) → IsCertified env func e (function_solved c env func e)
+    finished : IsAcceptedOrFull env func e tables (solution_checked state_join state_below (rules_of (elsewhere env o) func e) (differs lines (numbers c abroad func e) (length (map said_temporary tables.temporaries))) entries begun (replicate (length func.body.blocks) None)) → IsCertified env func e (function_solved c abroad func e)
     finished (accepted w is like) =
-        certified (checked_end c env func e entries w) (before ∙ ap (λ r. faulted id env func.body.blocks r >>= (λ w. Ok (checked_end c env func e entries w))) is)
-    finished (full b i is) = full_certificate (before ∙ ap (λ r. faulted id env func.body.blocks r >>= (λ w. Ok (checked_end c env func e entries w))) is)
+        certified (checked_end c abroad func e entries w) (before ∙ ap (λ r. faulted id abroad func.body.blocks r >>= (λ w. Ok (checked_end c abroad func e entries w))) is)
+    finished (full b i is) = full_certificate (before ∙ ap (λ r. faulted id abroad func.body.blocks r >>= (λ w. Ok (checked_end c abroad func e entries w))) is)
 
-    certifies : IsCertified env func e (function_solved c env func e)
+    certifies : IsCertified env func e (function_solved c abroad func e)
     certifies =
-        finished (accepts_anyway env func e entered tables entries s.solved (differs lines (numbers c env func e) (length (map said_temporary tables.temporaries))) told begun
-        (counted_stated id env [] tables.temporaries (tables_of env) none s.temporaries).alike)
+        finished (accepts_anyway env func e entered tables entries s.solved o (differs lines (numbers c abroad func e) (length (map said_temporary tables.temporaries))) told begun
+        (counted_stated id abroad [] tables.temporaries (tables_of abroad) none (counted_elsewhere [] tables.temporaries s.temporaries)).alike)
 
-  pub accepted_as_said : IsAcceptedAsSaid env func e tables entries recorded
-  accepted_as_said id summary = certifies id summary
+pub accepted_as_said : (env : Environment) (func : HirFunction) (e : Bool) → is_some (value_at func.body.blocks func.body.entry) ≡ true → (tables : TableLists) (entries : List (Option State)) (recorded : List (Option BlockEffects))
+    → IsSolution env func e tables entries recorded → IsAcceptedAsSaid env func e tables entries recorded
+accepted_as_said env func e entered tables entries recorded s o id summary = certifies env func e entered tables entries recorded s o id summary

@@ -1,28 +1,34 @@
 -- The lists of calls by a signature without an aliasing part are alike.
-use Rattle.std.specs.Prelude.{◌≡◌, ℕ, ◌+◌, Bool, true, false, ◌&&◌, List, [], ◌∷◌, ◌++◌, Option, Some, None, slice_get, refl, if◌then◌else◌}
+use Rattle.std.specs.Prelude.{◌≡◌, ℕ, ◌+◌, Bool, true, false, ◌&&◌, ◌||◌, not, List, [], ◌∷◌, ◌++◌, Option, Some, None, slice_get, refl, if◌then◌else◌}
 use Rattle.std.proofs.Common.{ap, ◌∙◌, subst}
 use Rattle.alias_hir.specs.Types.{is_builtin_collection_at}
 use Rattle.alias_hir.specs.declared.effect.AliasingEffect.{AliasingEffect}
 use Rattle.alias_hir.specs.declared.effect.AliasingEffect.TheVariants as effect
 use Rattle.alias_hir.specs.declared.effect.ValueReason.{ValueReason}
 use Rattle.alias_hir.specs.declared.env.Environment.{Environment}
+use Rattle.alias_hir.specs.declared.hir.HirFunction.{HirFunction}
+use Rattle.alias_freezing.specs.Sites.{sites_at}
+use Rattle.alias_lattice.specs.declared.site.Site.{Site}
+use Rattle.alias_lattice.specs.declared.site.Site.TheVariants.{Function}
+use Rattle.alias_apply.specs.Progress.{first_missing}
+use Rattle.alias_accept_laws.proofs.Elsewhere.{function_elsewhere}
 use Rattle.alias_hir.specs.declared.place.Effect.{Effect}
 use Rattle.alias_hir.specs.declared.place.Effect.TheVariants as use_of
 use Rattle.alias_hir.specs.declared.place.Place.{Place}
 use Rattle.alias_hir.specs.declared.place.PlaceOrSpreadOrHole.{PlaceOrSpreadOrHole}
 use Rattle.alias_hir.specs.declared.signature.FunctionSignature.{FunctionSignature}
 use Rattle.alias_lattice.specs.declared.look.MissingLook.{MissingLook}
-use Rattle.alias_lattice.specs.States.{State}
+use Rattle.alias_lattice.specs.States.{State, look, missing_look}
 use Rattle.alias_tables.specs.declared.faults.Refusal.TheVariants.{SpreadArgument}
 use Rattle.alias_tables.specs.declared.temporaries.Temporary.{Temporary}
 use Rattle.alias_apply.specs.Reports.{impure_report, spread_report}
 use Rattle.alias_calls.specs.declared.call.CallSite.{CallSite}
 use Rattle.alias_calls.specs.declared.immutable.Checked.{Checked}
 use Rattle.alias_calls.specs.declared.visits.Visits.{Visits}
-use Rattle.alias_calls.specs.Immutable.{checked, signature_at, verdict_by, verdict_of, unless_answered, immutables}
+use Rattle.alias_calls.specs.Immutable.{checked, signature_at, verdict, answered_by, is_still, writes_param, is_writing_site, has_writing_site, verdict_of_place, verdict_by, verdict_of, unless_answered, immutables}
 use Rattle.alias_calls.specs.Legacy.{links_of, all_links, ended, still_captures, return_reason, is_capture, with_impure, with_receiver, visits_of, asked, with_still, visited, legacy_after, legacy_list}
 use Rattle.alias_calls.specs.Visits.{iterated, visit, spread_effect, is_refused, or_effect, rest_use, refused_first, with_refused, visit_argument, visit_arguments}
-use Rattle.alias_accept_laws.specs.Alike.{none, more, Maybe, nothing, just, moved, AlikePlace, at, AlikePlaces, AlikeArgument, plain, spread, hole, AlikeArguments, Alike, immutable_capture, alias, capture, create, freeze, impure, mutate, mutate_transitive, mutate_transitive_conditionally, AlikeEffects, AlikeSite, called, AlikeLegacy, listed, IsFull, Repeats}
+use Rattle.alias_accept_laws.specs.Alike.{none, more, Maybe, nothing, just, moved, AlikePlace, at, AlikePlaces, AlikeArgument, plain, spread, hole, AlikeArguments, Alike, immutable_capture, alias, capture, create, freeze, impure, mutate, mutate_transitive, mutate_transitive_conditionally, AlikeEffects, AlikeSite, called, AlikeLegacy, listed, IsFull, Repeats, AlikeFunction, seen, Elsewhere, elsewhere}
 use Rattle.alias_accept_laws.proofs.Likeness.{paired_self, paired_append, paired_map, alike_self}
 use Rattle.alias_accept_laws.proofs.Repeating.{repeats_gives, repeats_refuses, repeats_then, repeats_if}
 use Rattle.alias_accept_laws.proofs.Tabling.{AnyNumber, repeats_report}
@@ -30,23 +36,39 @@ use Rattle.alias_accept_laws.proofs.Calling.{paired_if}
 
 -- ---- whether arguments are immutable
 
-same_verdict_by : (o : Option FunctionSignature) (env : Environment) (u : State) (p q : Place) (m : Option MissingLook) → verdict_by o env u p m ≡ verdict_by o env u (moved p q) m
-same_verdict_by None env u p q m = refl
-same_verdict_by (Some s) env u p q m = refl
+same_params : (env : Environment) (away : Elsewhere env) (f g : Option HirFunction) → Maybe AlikeFunction f g → writes_param env f ≡ writes_param (elsewhere env away) g
+same_params env away f g nothing = refl
+same_params env away f g (just (seen h k a)) = refl
 
-same_verdict : (env : Environment) (u : State) (a b : PlaceOrSpreadOrHole) (m : Option MissingLook) → AlikeArgument a b → verdict_of env u a m ≡ verdict_of env u b m
-same_verdict env u a b m (plain p q) = same_verdict_by (signature_at env p.identifier) env u p q m
-same_verdict env u a b m (spread p q) = refl
-same_verdict env u a b m hole = refl
+same_site : (env : Environment) (away : Elsewhere env) (k : Site) → is_writing_site env k ≡ is_writing_site (elsewhere env away) k
+same_site env away (Function f) = same_params env away (slice_get env.functions f.0) (slice_get away.functions f.0) (function_elsewhere env away f)
+same_site env away k = refl
 
-same_immutables : (env : Environment) (u : State) (args others : List PlaceOrSpreadOrHole) (m : Option MissingLook) → AlikeArguments args others → immutables env u args m ≡ immutables env u others m
-same_immutables env u args others m none = refl
-same_immutables env u args others m (more {a = a} {b = b} {xs = xs} {ys = ys} q qs) =
-    ap (λ v. unless_answered v.answer v.missing (immutables env u xs v.missing)) (same_verdict env u a b m q)
-    ∙ ap (unless_answered (verdict_of env u b m).answer (verdict_of env u b m).missing) (same_immutables env u xs ys (verdict_of env u b m).missing qs)
+same_sites : (env : Environment) (away : Elsewhere env) (ks : List Site) → has_writing_site env ks ≡ has_writing_site (elsewhere env away) ks
+same_sites env away [] = refl
+same_sites env away (k ∷ ks) = ap (λ b. b || has_writing_site env ks) (same_site env away k) ∙ ap (λ b. is_writing_site (elsewhere env away) k || b) (same_sites env away ks)
 
-same_asked : (env : Environment) (s : FunctionSignature) (args others : List PlaceOrSpreadOrHole) (u : State) → AlikeArguments args others → asked env s args u ≡ asked env s others u
-same_asked env s args others u a = ap (λ c. if s.mutable_only_if_operands_are_mutable then c else checked false None) (same_immutables env u args others None a)
+same_verdict_of_place : (env : Environment) (away : Elsewhere env) (u : State) (p q : Place) (m : Option MissingLook) → verdict_of_place env u p m ≡ verdict_of_place (elsewhere env away) u (moved p q) m
+same_verdict_of_place env away u p q m =
+    ap (λ b. verdict (answered_by (is_still (look u p.identifier).kind && not b)) (first_missing m (missing_look u p.identifier None))) (same_sites env away (sites_at u p.identifier))
+
+same_verdict_by : (o : Option FunctionSignature) (env : Environment) (away : Elsewhere env) (u : State) (p q : Place) (m : Option MissingLook) → verdict_by o env u p m ≡ verdict_by o (elsewhere env away) u (moved p q) m
+same_verdict_by None env away u p q m = same_verdict_of_place env away u p q m
+same_verdict_by (Some s) env away u p q m = refl
+
+same_verdict : (env : Environment) (away : Elsewhere env) (u : State) (a b : PlaceOrSpreadOrHole) (m : Option MissingLook) → AlikeArgument a b → verdict_of env u a m ≡ verdict_of (elsewhere env away) u b m
+same_verdict env away u a b m (plain p q) = same_verdict_by (signature_at env p.identifier) env away u p q m
+same_verdict env away u a b m (spread p q) = same_verdict_of_place env away u p q m
+same_verdict env away u a b m hole = refl
+
+same_immutables : (env : Environment) (away : Elsewhere env) (u : State) (args others : List PlaceOrSpreadOrHole) (m : Option MissingLook) → AlikeArguments args others → immutables env u args m ≡ immutables (elsewhere env away) u others m
+same_immutables env away u args others m none = refl
+same_immutables env away u args others m (more {a = a} {b = b} {xs = xs} {ys = ys} q qs) =
+    ap (λ v. unless_answered v.answer v.missing (immutables env u xs v.missing)) (same_verdict env away u a b m q)
+    ∙ ap (unless_answered (verdict_of (elsewhere env away) u b m).answer (verdict_of (elsewhere env away) u b m).missing) (same_immutables env away u xs ys (verdict_of (elsewhere env away) u b m).missing qs)
+
+same_asked : (env : Environment) (away : Elsewhere env) (s : FunctionSignature) (args others : List PlaceOrSpreadOrHole) (u : State) → AlikeArguments args others → asked env s args u ≡ asked (elsewhere env away) s others u
+same_asked env away s args others u a = ap (λ c. if s.mutable_only_if_operands_are_mutable then c else checked false None) (same_immutables env away u args others None a)
 
 -- ---- visits
 
@@ -119,7 +141,7 @@ begun_alike es fs a = record { out = a; stored = none; captured = none; refused 
 result_alike : (s t : CallSite) → AlikeSite s t → AlikePlace s.into t.into
 result_alike s t (called u v) = at u.into v.into
 
-module _ (env : Environment) (g : FunctionSignature) (args others : List PlaceOrSpreadOrHole) (arguments : AlikeArguments args others) where
+module _ (env : Environment) (away : Elsewhere env) (g : FunctionSignature) (args others : List PlaceOrSpreadOrHole) (arguments : AlikeArguments args others) where
   with_still_alike : (s t : CallSite) (es fs : List AliasingEffect) → AlikeSite s t → AlikeEffects es fs → AlikeEffects (with_still s args es) (with_still t others fs)
   with_still_alike s t es fs (called u v) a =
       paired_append (paired_append a (more (alias u.receiver v.receiver u.into v.into) none)) (still_alike u.into _ args others (at u.into v.into) arguments)
@@ -136,7 +158,7 @@ module _ (env : Environment) (g : FunctionSignature) (args others : List PlaceOr
   created_alike s t (called u v) = more (create u.into v.into g.return_value_kind (return_reason g)) none
 
   module _ {whole : List Temporary} where
-    same_impure : (s t : CallSite) (es fs : List AliasingEffect) → AlikeSite s t → AlikeEffects es fs → Repeats IsFull whole AlikeEffects (with_impure env g s es) (with_impure env g t fs)
+    same_impure : (s t : CallSite) (es fs : List AliasingEffect) → AlikeSite s t → AlikeEffects es fs → Repeats IsFull whole AlikeEffects (with_impure env g s es) (with_impure (elsewhere env away) g t fs)
     same_impure s t es fs (called u v) a =
         repeats_if AlikeEffects (g.impure && env.config.validate_no_impure_functions_in_render) _ _ _ _
         (repeats_then AnyNumber AlikeEffects (λ d. tt) _ _ _ _ (repeats_report u.receiver.identifier (impure_report g.canonical_name u.span) (impure_report g.canonical_name v.span))
@@ -147,13 +169,13 @@ module _ (env : Environment) (g : FunctionSignature) (args others : List PlaceOr
     same_ended o p into to v w m (just {a = x} q) i a = repeats_refuses AlikeLegacy (SpreadArgument x.span (spread_report x.span)) _
     same_ended o p into to v w m nothing i a = repeats_gives AlikeLegacy _ _ (listed _ _ m (paired_append a.out (all_links_alike into to v.stored w.stored v.captured w.captured i a.stored a.captured)))
 
-    same_legacy_after : (s t : CallSite) (c : Checked) (es fs : List AliasingEffect) → AlikeSite s t → AlikeEffects es fs → Repeats IsFull whole AlikeLegacy (legacy_after env g s args c es) (legacy_after env g t others c fs)
+    same_legacy_after : (s t : CallSite) (c : Checked) (es fs : List AliasingEffect) → AlikeSite s t → AlikeEffects es fs → Repeats IsFull whole AlikeLegacy (legacy_after env g s args c es) (legacy_after (elsewhere env away) g t others c fs)
     same_legacy_after s t c es fs a b =
         repeats_if AlikeLegacy c.holds _ _ _ _ (repeats_gives AlikeLegacy _ _ (listed _ _ c.missing (with_still_alike s t es fs a b)))
         (same_ended _ _ s.into t.into _ _ c.missing ((visited_alike s t es fs a b).refused) (result_alike s t a) (visited_alike s t es fs a b))
 
-    pub same_legacy_list : (s t : CallSite) (u : State) → AlikeSite s t → Repeats IsFull whole AlikeLegacy (legacy_list env g s args u) (legacy_list env g t others u)
+    pub same_legacy_list : (s t : CallSite) (u : State) → AlikeSite s t → Repeats IsFull whole AlikeLegacy (legacy_list env g s args u) (legacy_list (elsewhere env away) g t others u)
     same_legacy_list s t u a =
         repeats_then AlikeEffects AlikeLegacy (paired_self Alike alike_self) _ _ _ _ (same_impure s t _ _ a (created_alike s t a))
-        (λ es fs b. subst (λ c. Repeats IsFull whole AlikeLegacy (legacy_after env g s args (asked env g args u) es) (legacy_after env g t others c fs)) (same_asked env g args others u arguments)
+        (λ es fs b. subst (λ c. Repeats IsFull whole AlikeLegacy (legacy_after env g s args (asked env g args u) es) (legacy_after (elsewhere env away) g t others c fs)) (same_asked env away g args others u arguments)
         (same_legacy_after s t (asked env g args u) es fs a b))

@@ -11,6 +11,8 @@ pub mod Repeating
 pub mod Likeness
 pub mod Interning
 pub mod Tabling
+pub mod Elsewhere
+pub mod Knowing
 pub mod Applying
 pub mod Calling
 pub mod Legacies

@@ -7,7 +7,8 @@ use Rattle.alias_hir.specs.declared.place.PlaceOrSpreadOrHole.{PlaceOrSpreadOrHo
 use Rattle.alias_hir.specs.declared.place.PlaceOrSpreadOrHole.TheVariants as arg
 use Rattle.alias_lattice.specs.declared.look.MissingLook.{MissingLook}
 use Rattle.alias_apply.specs.declared.progress.StepProgress.{StepProgress}
-use Rattle.alias_accept_laws.specs.Alike.{Paired, none, more, moved, AlikePlace, at, AlikeArgument, plain, spread, hole, Alike, apply, create_from, immutable_capture, assign, alias, capture, maybe_alias, create, freeze, impure, mutate_frozen, mutate_global, render, mutate, mutate_conditionally, mutate_transitive, mutate_transitive_conditionally, create_function, AlikeLook, there, missing, AlikeProgress, like}
+use Rattle.std.specs.Prelude.{ℕ, slice_get, zero, suc}
+use Rattle.alias_accept_laws.specs.Alike.{Paired, none, more, Maybe, nothing, just, moved, AlikePlace, at, AlikeArgument, plain, spread, hole, Alike, apply, create_from, immutable_capture, assign, alias, capture, maybe_alias, create, freeze, impure, mutate_frozen, mutate_global, render, mutate, mutate_conditionally, mutate_transitive, mutate_transitive_conditionally, create_function, AlikeLook, there, missing, AlikeProgress, like}
 
 -- ---- lists
 
@@ -30,6 +31,11 @@ paired_append (more q qs) r = more q (paired_append qs r)
 pub paired_map : {A B C D : Type 0} {Q : A → B → Type 0} (R : C → D → Type 0) (f : A → C) (g : B → D) → ((x : A) (y : B) → Q x y → R (f x) (g y)) → {xs : List A} {ys : List B} → Paired Q xs ys → Paired R (map f xs) (map g ys)
 paired_map R f g h none = none
 paired_map R f g h (more q qs) = more (h _ _ q) (paired_map R f g h qs)
+
+pub paired_get : {A : Type 0} {Q : A → A → Type 0} (n : ℕ) (xs ys : List A) → Paired Q xs ys → Maybe Q (slice_get xs n) (slice_get ys n)
+paired_get n xs ys none = nothing
+paired_get zero xs ys (more q qs) = just q
+paired_get (suc n) xs ys (more {xs = us} {ys = vs} q qs) = paired_get n us vs qs
 
 -- ---- places and arguments
 

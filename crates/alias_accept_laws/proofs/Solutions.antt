@@ -10,7 +10,7 @@ use Rattle.alias_hir.specs.declared.env.Environment.{Environment}
 use Rattle.alias_base.specs.declared.ids.BlockId.{BlockId}
 use Rattle.alias_hir.specs.declared.hir.BasicBlock.{BasicBlock}
 use Rattle.alias_hir.specs.declared.hir.HirFunction.{HirFunction}
-use Rattle.alias_lattice.specs.Flows.{Stepped}
+use Rattle.alias_lattice.specs.Flows.{Stepped, IsReached, at_entry, by_edge}
 use Rattle.alias_lattice.specs.JoinLaws.{state_laws}
 use Rattle.alias_lattice.specs.ProperStates.{StateProper}
 use Rattle.alias_lattice.specs.States.{State, state_join, state_below}
@@ -30,11 +30,12 @@ use Rattle.alias_effects.specs.FunctionFlow.{outcome_of}
 use Rattle.alias_block.specs.declared.recorded.BlockEffects.{BlockEffects}
 use Rattle.alias_effects.specs.Numbered.{numbered, step_at}
 use Rattle.alias_effects.specs.PassLaws.{pass_laws}
-use Rattle.alias_accept_laws.specs.Alike.{none, AlikeTemporaries, Gives, given, excused}
+use Rattle.alias_accept_laws.specs.Alike.{none, AlikeTemporaries, Gives, given, excused, Elsewhere, elsewhere}
 use Rattle.alias_accept_laws.specs.AlikeBlocks.{AlikeRecorded, AlikeOut, out, IsBlockFull}
-use Rattle.alias_accept_laws.proofs.Blocking.{same_infer_block}
+use Rattle.alias_accept_laws.proofs.Blocking.{away, same_infer_block}
+use Rattle.alias_accept_laws.proofs.Knowing.{facts_elsewhere}
 use Rattle.alias_accept_laws.specs.Passing.{AreSolved, Passes, goes, excused as excused_step, Accepts, accepted, refused}
-use Rattle.alias_accept_laws.specs.Accepting.{rules, SolvesUnder, AreTold, IsAccepted, AreToldAlike, IsAcceptedOrFull, accepted as accepted_with, full}
+use Rattle.alias_accept_laws.specs.Accepting.{rules, rules_of, SolvesUnder, AreTold, IsAccepted, AreToldAlike, IsAcceptedOrFull, accepted as accepted_with, full}
 use Rattle.alias_accept_laws.proofs.Accepting.{check_accepts}
 
 -- ---- edges that pass the test go forward
@@ -70,6 +71,17 @@ stepped_is (Ok r) y k u h =
     let tables : r.1 ≡ u = cc in
     ap Ok (parts_are r y k u state recorded tables)
 stepped_is (Err c) y k u h = cc
+
+-- ---- the same blocks are reached elsewhere
+
+module _ (env : Environment) (o : Elsewhere env) (func : HirFunction) (e : Bool) where
+  pub reached_there : (b : ℕ) → IsReached (rules env func e).flow b → IsReached (rules_of (elsewhere env o) func e).flow b
+  reached_there b at_entry = at_entry
+  reached_there b (by_edge a c r one) = by_edge a c (reached_there a r) one
+
+  pub reached_here : (b : ℕ) → IsReached (rules_of (elsewhere env o) func e).flow b → IsReached (rules env func e).flow b
+  reached_here b at_entry = at_entry
+  reached_here b (by_edge a c r one) = by_edge a c (reached_here a r) one
 
 -- ---- the flow of a function
 
@@ -111,34 +123,56 @@ module _ (env : Environment) (func : HirFunction) (is_function_expression : Bool
   pub accepted_under : IsAccepted env func is_function_expression tables entries
   accepted_under differs told = accepts differs told
 
-  -- ---- under other tables
+  -- ---- elsewhere, and under other tables
 
-  module _ {D : Type 0} (differs : TableLists → ℕ → BlockEffects → Option D) (told : AreToldAlike env func is_function_expression tables entries differs) where
+  module _ {D : Type 0} (o : Elsewhere env) (differs : TableLists → ℕ → BlockEffects → Option D) (told : AreToldAlike env func is_function_expression tables entries differs) where
     abbrev Likes : TableLists → Type 0
     Likes t = AlikeTemporaries tables.temporaries t.temporaries
 
     abbrev context : BlockContext
     context = context_of env func is_function_expression
 
-    given_passes : (t : TableLists) (b : ℕ) (x y : State) (k : BlockEffects) (block : BlockId × BasicBlock) → entry_at entries b ≡ Some x → slice_get func.body.blocks b ≡ Some block → flow_rules.flow.step tables b x ≡ Stepped y tables k
-        → Gives IsBlockFull tables.temporaries AlikeOut (y, k) (infer_block context block.0 block.1 x t) → Passes flow_rules differs Likes IsBlockFull t b x y
-    given_passes t b x y k block is there step (given p v now (out _ _ q r) likes) =
-        goes v q (ap (λ o. step_at context o t x) there ∙ ap outcome_of now) likes (told b x y k is step v q likes r)
-    given_passes t b x y k block is there step (excused c now why) = excused_step c (ap (λ o. step_at context o t x) there ∙ ap outcome_of now) why
+    abbrev there_rules : Rules State TableLists BlockEffects BlockRefusal
+    there_rules = rules_of (elsewhere env o) func is_function_expression
 
-    passes_at : (t : TableLists) (b : ℕ) (x y : State) (k : BlockEffects) (o : Option (BlockId × BasicBlock)) → Likes t → entry_at entries b ≡ Some x → slice_get func.body.blocks b ≡ o → flow_rules.flow.step tables b x ≡ Stepped y tables k
-        → Passes flow_rules differs Likes IsBlockFull t b x y
-    passes_at t b x y k None likes is there step =
-        let here : Stepped x tables no_effects ≡ Stepped y tables k = sym (ap (λ o. step_at context o tables x) there) ∙ step in
+    there_laws : FlowLaws StateProper Extends (numbered (context_of (elsewhere env o) func is_function_expression)) (replicate (length func.body.blocks) None)
+    there_laws = pass_laws (context_of (elsewhere env o) func is_function_expression) entered (replicate (length func.body.blocks) None) (length-replicate (length func.body.blocks) None)
+
+    solved_there : AreSolved StateProper state_below there_rules entries StepsTo
+    solved_there = record {
+      reached = λ b r. solved.reached b (reached_here env o func is_function_expression b r);
+      only_reached = λ b x is. reached_there env o func is_function_expression b (solved.only_reached b x is);
+      initial = solved.initial;
+      steps = solved.steps;
+      joins = solved.joins;
+    }
+
+    context_there : context_of (elsewhere env o) func is_function_expression ≡ away context o
+    context_there = ap (λ k. let c : BlockContext = record { env = elsewhere env o; func = func; facts = k; is_function_expression = is_function_expression } in c) (facts_elsewhere env o func)
+
+    step_there : (t : TableLists) (x : State) (block : BlockId × BasicBlock) (i : ℕ) → slice_get func.body.blocks i ≡ Some block → there_rules.flow.step t i x ≡ outcome_of (infer_block (away context o) block.0 block.1 x t)
+    step_there t x block i at_index =
+        ap (λ z. step_at (context_of (elsewhere env o) func is_function_expression) z t x) at_index
+        ∙ ap (λ c. outcome_of (infer_block c block.0 block.1 x t)) context_there
+
+    given_passes : (t : TableLists) (b : ℕ) (x y : State) (k : BlockEffects) (block : BlockId × BasicBlock) → entry_at entries b ≡ Some x → slice_get func.body.blocks b ≡ Some block → flow_rules.flow.step tables b x ≡ Stepped y tables k
+        → Gives IsBlockFull tables.temporaries AlikeOut (y, k) (infer_block (away context o) block.0 block.1 x t) → Passes there_rules differs Likes IsBlockFull t b x y
+    given_passes t b x y k block is at_index step (given p v now (out _ _ q r) likes) = goes v q (step_there t x block b at_index ∙ ap outcome_of now) likes (told b x y k is step v q likes r)
+    given_passes t b x y k block is at_index step (excused c now why) = excused_step c (step_there t x block b at_index ∙ ap outcome_of now) why
+
+    passes_at : (t : TableLists) (b : ℕ) (x y : State) (k : BlockEffects) (z : Option (BlockId × BasicBlock)) → Likes t → entry_at entries b ≡ Some x → slice_get func.body.blocks b ≡ z → flow_rules.flow.step tables b x ≡ Stepped y tables k
+        → Passes there_rules differs Likes IsBlockFull t b x y
+    passes_at t b x y k None likes is at_index step =
+        let here : Stepped x tables no_effects ≡ Stepped y tables k = sym (ap (λ z. step_at context z tables x) at_index) ∙ step in
         let state : x ≡ y = cc in
         let nothing : no_effects ≡ k = cc in
-        goes t no_effects (ap (λ o. step_at context o t x) there ∙ ap (λ z. Stepped z t no_effects) state) likes
+        goes t no_effects (ap (λ z. step_at (context_of (elsewhere env o) func is_function_expression) z t x) at_index ∙ ap (λ z. Stepped z t no_effects) state) likes
         (told b x y k is step t no_effects likes (subst (λ r. AlikeRecorded r no_effects) nothing (record { instructions = none; terminal = none })))
-    passes_at t b x y k (Some block) likes is there step =
-        let run : infer_block context block.0 block.1 x tables ≡ Ok ((y, k), tables) = stepped_is (infer_block context block.0 block.1 x tables) y k tables (sym (ap (λ o. step_at context o tables x) there) ∙ step) in
-        given_passes t b x y k block is there step ((same_infer_block context block.0 block.1 x).again tables tables t (y, k) run (grows_self tables.temporaries) likes)
+    passes_at t b x y k (Some block) likes is at_index step =
+        let run : infer_block context block.0 block.1 x tables ≡ Ok ((y, k), tables) = stepped_is (infer_block context block.0 block.1 x tables) y k tables (sym (ap (λ z. step_at context z tables x) at_index) ∙ step) in
+        given_passes t b x y k block is at_index step ((same_infer_block context o block.0 block.1 x).again tables tables t (y, k) run (grows_self tables.temporaries) likes)
 
-    passes_anyway : (t : TableLists) (b : ℕ) (x y : State) → Likes t → entry_at entries b ≡ Some x → StepsTo b x y → Passes flow_rules differs Likes IsBlockFull t b x y
+    passes_anyway : (t : TableLists) (b : ℕ) (x y : State) → Likes t → entry_at entries b ≡ Some x → StepsTo b x y → Passes there_rules differs Likes IsBlockFull t b x y
     passes_anyway t b x y likes is g = passes_at t b x y g.0 (slice_get func.body.blocks b) likes is refl g.1
 
     full_is : (b : ℕ) (c : BlockRefusal) (r : Result (Arriving State TableLists BlockEffects) (Unsolved BlockRefusal D)) → r ≡ Err (fault.Step b c) → IsBlockFull c → IsAcceptedOrFull env func is_function_expression tables r
@@ -150,6 +184,6 @@ module _ (env : Environment) (func : HirFunction) (is_function_expression : Bool
     accepted_is r (refused b c is why) = full_is b c r is why
 
     pub accepts_anyway : (begun : TableLists) → Likes begun
-        → IsAcceptedOrFull env func is_function_expression tables (solution_checked state_join state_below flow_rules differs entries begun (replicate (length func.body.blocks) None))
+        → IsAcceptedOrFull env func is_function_expression tables (solution_checked state_join state_below there_rules differs entries begun (replicate (length func.body.blocks) None))
     accepts_anyway begun likes =
-        accepted_is _ (check_accepts state_laws laws differs entries StepsTo Likes IsBlockFull solved s.proper s.count passes_anyway single begun likes)
+        accepted_is _ (check_accepts state_laws there_laws differs entries StepsTo Likes IsBlockFull solved_there s.proper s.count passes_anyway single begun likes)

@@ -18,7 +18,7 @@ use Rattle.alias_tables.specs.declared.faults.Refusal.TheVariants.{TooMany}
 use Rattle.alias_tables.specs.declared.reads.ContextRead.{ContextRead}
 use Rattle.alias_tables.specs.declared.temp_key.TempKey.{TempKey}
 use Rattle.alias_tables.specs.declared.temporaries.Temporary.{Temporary}
-use Rattle.alias_accept_laws.specs.Alike.{none, more, moved, AlikePlace, at, IsFull, of_key, AlikeTemporaries, Gives, given, excused, Repeats}
+use Rattle.alias_accept_laws.specs.Alike.{none, more, moved, AlikePlace, at, IsFull, of_key, AlikeTemporaries, Gives, given, excused, Repeats, Elsewhere, elsewhere}
 
 -- ---- temporaries
 
@@ -57,8 +57,8 @@ abbrev pub AnyNumber : DiagnosticId → DiagnosticId → Type 0
 AnyNumber d e = Unit {0}
 
 module _ {whole : List Temporary} where
-  pub repeats_temporary : (env : Environment) (key : TempKey) (span other : Option Span) → Repeats IsFull whole AlikePlace (temporary env key span) (temporary env key other)
-  repeats_temporary env key span other = record {
+  pub repeats_temporary : (env : Environment) (away : Elsewhere env) (key : TempKey) (span other : Option Span) → Repeats IsFull whole AlikePlace (temporary env key span) (temporary (elsewhere env away) key other)
+  repeats_temporary env away key span other = record {
     grows = λ t u x h. ((again_temporary env key span).grows t u x h).temporaries;
     again = λ t u v x h g like.
         let w : TableLists = record u { temporaries = whole } in
@@ -66,7 +66,7 @@ module _ {whole : List Temporary} where
         let again : temporary env key span w ≡ Ok (x, w) = (again_temporary env key span).again t u w x h extends in
         let here = there_is env key span (temp_like key whole) w x again in
         let z = found_alike key whole v.temporaries here.0 like here.1 in
-        given z.0.place v (ap (λ o. temporary_after o env key other v) z.1) (subst (λ p. AlikePlace p z.0.place) here.2 z.2) like;
+        given z.0.place v (ap (λ o. temporary_after o (elsewhere env away) key other v) z.1) (subst (λ p. AlikePlace p z.0.place) here.2 z.2) like;
   }
 
   -- ---- reports

@@ -19,12 +19,15 @@ use Rattle.alias_block.specs.declared.faults.BlockRefusal.{BlockRefusal}
 use Rattle.alias_block.specs.declared.faults.BlockRefusal.TheVariants.{Instruction}
 use Rattle.alias_block.specs.declared.recorded.BlockEffects.{BlockEffects}
 use Rattle.alias_effects.specs.Numbered.{numbered}
-use Rattle.alias_accept_laws.specs.Alike.{AlikeTemporaries}
+use Rattle.alias_accept_laws.specs.Alike.{AlikeTemporaries, Elsewhere, elsewhere}
 use Rattle.alias_accept_laws.specs.AlikeBlocks.{AlikeRecorded}
+
+abbrev pub rules_of : Environment → HirFunction → Bool → Rules State TableLists BlockEffects BlockRefusal
+rules_of env func is_function_expression = numbered (context_of env func is_function_expression)
 
 module _ (env : Environment) (func : HirFunction) (is_function_expression : Bool) where
   abbrev pub rules : Rules State TableLists BlockEffects BlockRefusal
-  rules = numbered (context_of env func is_function_expression)
+  rules = rules_of env func is_function_expression
 
   -- the entry states, one or none for each block in stored order, solve the flow of the function under these tables
   pub record SolvesUnder (tables : TableLists) (entries : List (Option State)) : Type 0 where
@@ -54,8 +57,8 @@ module _ (env : Environment) (func : HirFunction) (is_function_expression : Bool
     accepted : (w : Arriving State TableLists BlockEffects) → r ≡ Ok w → AlikeTemporaries tables.temporaries w.tables.temporaries → IsAcceptedOrFull tables r
     full : (b : ℕ) (i : InstructionId) → r ≡ Err (fault.Step b (Instruction i (TooMany Diagnostics))) → IsAcceptedOrFull tables r
 
-  -- the check accepts the entry states whatever tables it begins with, where these have temporaries of the same keys and identifiers
+  -- the check accepts the entry states elsewhere, whatever tables it begins with, where these have temporaries of the same keys and identifiers
   abbrev pub IsAcceptedAnyway : TableLists → List (Option State) → Type 0
   IsAcceptedAnyway tables entries =
-      (begun : TableLists) → AlikeTemporaries tables.temporaries begun.temporaries → (differs : TableLists → ℕ → BlockEffects → Option ⊤) → AreToldAlike tables entries differs
-      → IsAcceptedOrFull tables (solution_checked state_join state_below rules differs entries begun (replicate (length func.body.blocks) None))
+      (away : Elsewhere env) (begun : TableLists) → AlikeTemporaries tables.temporaries begun.temporaries → (differs : TableLists → ℕ → BlockEffects → Option ⊤) → AreToldAlike tables entries differs
+      → IsAcceptedOrFull tables (solution_checked state_join state_below (rules_of (elsewhere env away) func is_function_expression) differs entries begun (replicate (length func.body.blocks) None))

@@ -7,11 +7,14 @@ use Rattle.alias_hir.specs.declared.effect.AliasingEffect.TheVariants as effect
 use Rattle.alias_hir.specs.declared.effect.MutationReason.{MutationReason}
 use Rattle.alias_hir.specs.declared.effect.ValueKind.{ValueKind}
 use Rattle.alias_hir.specs.declared.effect.ValueReason.{ValueReason}
+use Rattle.alias_hir.specs.declared.env.Environment.{Environment}
+use Rattle.alias_hir.specs.declared.hir.HirFunction.{HirFunction}
 use Rattle.alias_hir.specs.declared.place.Place.{Place}
 use Rattle.alias_hir.specs.declared.place.PlaceOrSpreadOrHole.{PlaceOrSpreadOrHole}
 use Rattle.alias_hir.specs.declared.place.PlaceOrSpreadOrHole.TheVariants as arg
 use Rattle.alias_hir.specs.declared.place.Span.{Span}
 use Rattle.alias_hir.specs.declared.report.DiagnosticId.{DiagnosticId}
+use Rattle.alias_hir.specs.declared.report.Interned.{Interned}
 use Rattle.alias_lattice.specs.declared.look.MissingLook.{MissingLook}
 use Rattle.alias_hir.specs.declared.error.Counter.TheVariants.{Diagnostics}
 use Rattle.alias_tables.specs.GrowingLaws.{Grows}
@@ -126,3 +129,18 @@ pub data AlikeSite : CallSite → CallSite → Type 0 where
 -- the effects are alike, and the look is the same
 pub data AlikeLegacy : Legacy → Legacy → Type 0 where
   listed : (es fs : List AliasingEffect) (look : Option MissingLook) → AlikeEffects es fs → AlikeLegacy (record { effects = es; missing = look }) (record { effects = fs; missing = look })
+
+-- ---- environments
+
+-- functions that others see alike: of the same parameters, context places and result, with summaries that are alike
+pub data AlikeFunction : HirFunction → HirFunction → Type 0 where
+  seen : (f g : HirFunction) → Maybe AlikeEffects f.aliasing_effects g.aliasing_effects → AlikeFunction f (record g { params = f.params; context = f.context; returns = f.returns })
+
+-- what an environment may have elsewhere: functions that are seen alike, and other reports
+pub record Elsewhere (env : Environment) : Type 0 where
+  pub functions : List HirFunction
+  pub interned : List Interned
+  pub alike : Paired AlikeFunction env.functions functions
+
+abbrev pub elsewhere : (env : Environment) → Elsewhere env → Environment
+elsewhere env o = record env { functions = o.functions; interned = o.interned }

@@ -14,6 +14,7 @@ use Rattle.alias_certificate.specs.declared.fault.CheckFault.{CheckFault}
 use Rattle.alias_certificate.specs.declared.fault.CheckFault.TheVariants as fault
 use Rattle.alias_cert_function.specs.Functions.{function_solved}
 use Rattle.alias_accept_laws.specs.Accepting.{rules, SolvesUnder}
+use Rattle.alias_accept_laws.specs.Alike.{Elsewhere, elsewhere}
 use Rattle.alias_accept_laws.specs.Saying.{said_function, NamesThere, AreCounted}
 
 module _ (env : Environment) (func : HirFunction) (is_function_expression : Bool) where
@@ -32,4 +33,4 @@ module _ (env : Environment) (func : HirFunction) (is_function_expression : Bool
 
   abbrev pub IsAcceptedAsSaid : TableLists → List (Option State) → List (Option BlockEffects) → Type 0
   IsAcceptedAsSaid tables entries recorded =
-      (id : Option FunctionId) (summary : List (List ℕ)) → IsCertified (function_solved (said_function id func entries recorded tables.temporaries summary) env func is_function_expression)
+      (away : Elsewhere env) (id : Option FunctionId) (summary : List (List ℕ)) → IsCertified (function_solved (said_function id func entries recorded tables.temporaries summary) (elsewhere env away) func is_function_expression)
