@@ -1,5 +1,5 @@
 -- What follows of the answers of calls that infer a unit, or analyse its nested functions.
-use Rattle.std.proofs.Common.{◌≡◌, ◌≢◌, ◌∙◌, ℕ, Bool, List, [], refl, sym, ap, subst}
+use Rattle.std.proofs.Common.{◌≡◌, ◌≢◌, Bool, List, [], refl, sym, ap, subst}
 use Rattle.std.specs.Prelude.{true, false, Result, Ok, Err, IfOk, IfErr, IsOkAnd, ⊤}
 use Rattle.alias_base.specs.Answer.{◌>>=◌}
 use Rattle.alias_base.specs.declared.ids.IdentifierId.{IdentifierId}
@@ -12,7 +12,6 @@ use Rattle.alias_hir.specs.declared.hir.HirFunction.{HirFunction}
 use Rattle.alias_hir.specs.declared.report.Report.{Report}
 use Rattle.alias_rules.specs.Functions.{rules_hold}
 use Rattle.alias_effects.specs.declared.solved.Solved.{Solved}
-use Rattle.alias_answer_laws.specs.Avoiding.{is_not_inferred}
 use Rattle.alias_answer_laws.specs.KnownUnitLaws.{no_call_says}
 use Rattle.alias_answer_laws.specs.UnitLaws.{no_call_answers}
 use Rattle.alias_cause_laws.proofs.Caused.{each_has_cause}

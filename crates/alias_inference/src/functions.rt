@@ -21,8 +21,8 @@ use alias_hir::hir::HirFunction;
 use alias_inner_passes::InnerPasses;
 use std::alloc::Global;
 
-/// Analyses the functions below a function, innermost first, as `alias_nested::analyse_functions_certified` does it, with
-/// all that is ensured there.
+/// Analyses the functions below a function, innermost first, as `alias_nested::analyse_functions_certified` does it,
+/// with all that is ensured there.
 ///
 /// Besides: that an operand has no effect is never answered. Where the function and its environment are a unit that
 /// keeps the rules, a function that a refusal blames for what it does isn't plain in that unit, and one that isn't
@@ -55,8 +55,8 @@ pub fn analyse_functions_certified<P: InnerPasses, F: FnMut(&HirFunction, &Envir
     alias_nested::analyse_functions_certified(alloc, func, env, passes, debug_logger)
 }
 
-/// Analyses the functions below a function as `alias_nested::analyse_functions` does it, with all that is ensured there,
-/// and with what is ensured of refusals by `analyse_functions_certified` above.
+/// Analyses the functions below a function as `alias_nested::analyse_functions` does it, with all that is ensured
+/// there, and with what is ensured of refusals by `analyse_functions_certified` above.
 pub fn analyse_functions<P: InnerPasses, F: FnMut(&HirFunction, &Environment)>(
     alloc: Global,
     func: &mut HirFunction,

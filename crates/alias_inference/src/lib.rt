@@ -1,5 +1,5 @@
-//! The inference of a unit and the analysis of nested functions, with all that is proved of them: the calls are those
-//! of `alias_nested`, and what follows from their contracts stands beside these as clauses.
+//! The inference of a unit and the analysis of nested functions, for a host: the calls of `alias_nested`, with their
+//! clauses, and beside these what follows from them of the answers.
 #![tactic(auto)]
 
 mod functions;

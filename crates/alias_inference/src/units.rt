@@ -20,12 +20,12 @@ use std::alloc::Global;
 
 /// Infers a unit that keeps the rules, as `alias_nested::infer_unit` does it, with all that is ensured there.
 ///
-/// Besides: each refusal has its cause in the unit, so that a plain unit is refused only where a counter was at its last
-/// value or a function isn't settled, and one that is forward as well for the counter alone; that an Apply is left, or
-/// that an operand has no effect, is never answered. What is handed out has a solution of each function once, innermost
-/// first, and of the root last, each of which solves the flow. What the clauses `cover`, `heap`, `cause` and `flows` say
-/// of the root holds of each nested function too, but for its context places; and no explanation says that a range ends
-/// without a cause.
+/// Besides: each refusal has its cause in the unit, so that a plain unit is refused only where a counter was at its
+/// last value or a function isn't settled, and one that is forward as well for the counter alone; that an Apply is left,
+/// or that an operand has no effect, is never answered. What is handed out has a solution of each function once,
+/// innermost first, and of the root last, each of which solves the flow. What the clauses `cover`, `heap`, `cause` and
+/// `flows` say of the root holds of each nested function too, but for its context places; and no explanation says that a
+/// range ends without a cause.
 pub fn infer_unit<P: InnerPasses>(
     alloc: Global,
     unit: Checked,
