@@ -1,6 +1,6 @@
 -- The lists that calls stand for are alike.
 use Rattle.std.specs.Prelude.{◌≡◌, ℕ, ◌+◌, Bool, true, false, ◌&&◌, ◌||◌, not, nat_lt, List, [], ◌∷◌, length, Option, Some, None, slice_get, refl, if◌then◌else◌}
-use Rattle.std.proofs.Common.{zero, suc, ap, ◌∙◌, subst}
+use Rattle.std.proofs.Common.{suc, ap, ◌∙◌, subst}
 use Rattle.std.specs.Option.{is_some}
 use Rattle.alias_base.specs.declared.ids.FunctionId.{FunctionId}
 use Rattle.alias_base.specs.declared.ids.IdentifierId.{IdentifierId}
@@ -30,12 +30,10 @@ use Rattle.alias_calls.specs.declared.copies.PairKind.{PairKind}
 use Rattle.alias_calls.specs.declared.copies.PairKind.TheVariants as pair
 use Rattle.alias_calls.specs.declared.copies.PlaceKind.{PlaceKind}
 use Rattle.alias_calls.specs.declared.copies.PlaceKind.TheVariants as kind
-use Rattle.alias_calls.specs.declared.summaries.SummaryEffect.{SummaryEffect}
-use Rattle.alias_calls.specs.declared.summaries.SummaryEffect.TheVariants.{OfPair, OfPlace, OfFreeze, Passed, GivenUp}
 use Rattle.alias_calls.specs.Arguments.{is_rest, with_further, with_plain, with_argument, standing, is_further, has_further, is_bad_spread_of, is_bad_spread, first_bad, first_of}
 use Rattle.alias_calls.specs.Configs.{name_index, or_places, stands_first, stands, argument_at, inner_argument, inner_arguments, with_apply, impure_step, with_impures, with_config_effect, with_config_effects, with_temporary, config_call, config_list}
 use Rattle.alias_calls.specs.Copies.{pair_of, effect_at, pairs, with_pairs, with_each, with_freezes_unless, with_freezes}
-use Rattle.alias_calls.specs.Summaries.{last_spread, rest_or_temporary, names_with, summary_names, same_id, context_standing, returned, stands_for, copied, with_copied, with_copies, names_list, summary_call, summary_list}
+use Rattle.alias_calls.specs.Summaries.{last_spread, rest_or_temporary, names_with, summary_names, same_id, context_standing, returned, stands_for, with_copies, names_list, summary_call, summary_list}
 use Rattle.alias_accept_laws.specs.Alike.{Paired, none, more, Maybe, nothing, just, moved, AlikePlace, at, AlikePlaces, AlikeArgument, plain, spread, hole, AlikeArguments, Alike, apply, create_from, immutable_capture, assign, alias, capture, maybe_alias, create, freeze, impure, mutate_frozen, mutate_global, render, mutate, mutate_conditionally, mutate_transitive, mutate_transitive_conditionally, AlikeEffects, AlikeList, AlikeSite, called, IsFull, Repeats, Elsewhere, elsewhere, create_function}
 use Rattle.alias_accept_laws.proofs.Likeness.{paired_get, paired_self, paired_append, paired_map, place_self, alike_self}
 use Rattle.alias_accept_laws.proofs.Repeating.{repeats_gives, repeats_refuses, repeats_then, repeats_if_same, repeats_each, repeats_collect}

@@ -178,7 +178,7 @@ module _ (env : Environment) (func : HirFunction) (e : Bool) (entered : is_some 
     entry_ok i = ⊎_elim
         (λ x.
         let l = line_of i x.0 x.1 in
-        let names = subst (λ n. NamesThere (length env.identifiers + n) (created_functions func) x.0) (sym (length-map tables.temporaries said_temporary)) (s.names i x.0 x.1) in
+        let names = subst (λ n. NamesThere (length env.identifiers + n) (created_functions func) x.0) (sym (length-map tables.temporaries said_temporary)) (s.names.states i x.0 x.1) in
         ap (entry_stated id count (created_functions func) lines) l.is
         ∙ ap (line_state id count (created_functions func) lines) l.there
         ∙ ap (state_or_fault id count (created_functions func) lines (block_at func.body.blocks i)) (state_rebuilt x.0 (s.solved.proper i x.0 x.1) count (created_functions func) (block_at func.body.blocks i) l.effects names)
@@ -212,13 +212,13 @@ module _ (env : Environment) (func : HirFunction) (e : Bool) (entered : is_some 
         ∙ ap (λ b. let o : Option Difference = if b then None else Some Effects in o) (told_at i x y k q h step a)
 
     abbrev begun : TableLists
-    begun = (counted_stated id abroad [] tables.temporaries (tables_of abroad) none (counted_elsewhere [] tables.temporaries s.temporaries)).tables
+    begun = (counted_stated id abroad [] tables.temporaries (tables_of abroad) none (counted_elsewhere [] tables.temporaries s.names.temporaries)).tables
 
     before : function_solved c abroad func e ≡ (steps_checked c abroad func e entries begun >>= (λ w. Ok (checked_end c abroad func e entries w)))
     before =
         ap (λ r. r >>= (λ u. entries_checked c abroad func e >>= (λ xs. temporaries_stated id abroad (map said_temporary tables.temporaries) (tables_of abroad) >>= (λ t. steps_checked c abroad func e xs t >>= (λ w. Ok (checked_end c abroad func e xs w)))))) lines_ok
         ∙ ap (λ r. r >>= (λ xs. temporaries_stated id abroad (map said_temporary tables.temporaries) (tables_of abroad) >>= (λ t. steps_checked c abroad func e xs t >>= (λ w. Ok (checked_end c abroad func e xs w))))) entries_ok
-        ∙ ap (λ r. r >>= (λ t. steps_checked c abroad func e entries t >>= (λ w. Ok (checked_end c abroad func e entries w)))) (counted_stated id abroad [] tables.temporaries (tables_of abroad) none (counted_elsewhere [] tables.temporaries s.temporaries)).is
+        ∙ ap (λ r. r >>= (λ t. steps_checked c abroad func e entries t >>= (λ w. Ok (checked_end c abroad func e entries w)))) (counted_stated id abroad [] tables.temporaries (tables_of abroad) none (counted_elsewhere [] tables.temporaries s.names.temporaries)).is
 
     finished : IsAcceptedOrFull env func e tables (solution_checked state_join state_below (rules_of (elsewhere env o) func e) (differs lines (numbers c abroad func e) (length (map said_temporary tables.temporaries))) entries begun (replicate (length func.body.blocks) None)) → IsCertified env func e (function_solved c abroad func e)
     finished (accepted w is like) =
@@ -228,7 +228,7 @@ module _ (env : Environment) (func : HirFunction) (e : Bool) (entered : is_some 
     certifies : IsCertified env func e (function_solved c abroad func e)
     certifies =
         finished (accepts_anyway env func e entered tables entries s.solved o (differs lines (numbers c abroad func e) (length (map said_temporary tables.temporaries))) told begun
-        (counted_stated id abroad [] tables.temporaries (tables_of abroad) none (counted_elsewhere [] tables.temporaries s.temporaries)).alike)
+        (counted_stated id abroad [] tables.temporaries (tables_of abroad) none (counted_elsewhere [] tables.temporaries s.names.temporaries)).alike)
 
 pub accepted_as_said : (env : Environment) (func : HirFunction) (e : Bool) → is_some (value_at func.body.blocks func.body.entry) ≡ true → (tables : TableLists) (entries : List (Option State)) (recorded : List (Option BlockEffects))
     → IsSolution env func e tables entries recorded → IsAcceptedAsSaid env func e tables entries recorded

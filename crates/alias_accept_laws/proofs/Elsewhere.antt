@@ -1,18 +1,17 @@
 -- What steps see of functions elsewhere.
-use Rattle.std.specs.Prelude.{◌≡◌, ℕ, zero, suc, Bool, ◌||◌, List, [], ◌∷◌, Option, None, Some, slice_get, refl}
-use Rattle.std.proofs.Common.{ap, sym, ◌∙◌}
+use Rattle.std.specs.Prelude.{◌≡◌, ◌||◌, List, [], Option, slice_get, refl}
+use Rattle.std.proofs.Common.{ap, ◌∙◌}
 use Rattle.std.specs.List.{list_any}
 use Rattle.std.specs.Option.{option_map_or}
 use Rattle.alias_base.specs.declared.ids.FunctionId.{FunctionId}
 use Rattle.alias_hir.specs.declared.effect.AliasingEffect.{AliasingEffect}
 use Rattle.alias_hir.specs.declared.env.Environment.{Environment}
 use Rattle.alias_hir.specs.declared.hir.HirFunction.{HirFunction}
-use Rattle.alias_hir.specs.declared.place.Place.{Place}
 use Rattle.alias_freezing.specs.Contexts.{context_of, context_in}
 use Rattle.alias_visit.specs.Operands.{context_at}
 use Rattle.alias_apply.specs.Apply.{is_error, has_error}
 use Rattle.alias_apply.specs.Contexts.{StepContext, summary_of, summary_in}
-use Rattle.alias_accept_laws.specs.Alike.{Paired, none, more, Maybe, nothing, just, Alike, impure, mutate_frozen, mutate_global, AlikeEffects, AlikeFunction, seen, Elsewhere, elsewhere}
+use Rattle.alias_accept_laws.specs.Alike.{none, more, Maybe, nothing, just, Alike, impure, mutate_frozen, mutate_global, AlikeEffects, AlikeFunction, seen, Elsewhere, elsewhere}
 use Rattle.alias_accept_laws.proofs.Likeness.{paired_get}
 
 -- the same context over the environment elsewhere

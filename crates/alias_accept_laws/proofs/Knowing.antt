@@ -4,13 +4,11 @@ use Rattle.std.proofs.Common.{◌≡◌, refl, ap, sym, ◌∙◌}
 use Rattle.std.specs.List.{fold}
 use Rattle.alias_base.specs.declared.ids.BlockId.{BlockId}
 use Rattle.alias_base.specs.declared.ids.IdentifierId.{IdentifierId}
-use Rattle.alias_base.specs.declared.ids.InstructionId.{InstructionId}
 use Rattle.alias_hir.specs.Terminals.{terminal_places}
 use Rattle.alias_hir.specs.declared.env.Environment.{Environment}
 use Rattle.alias_hir.specs.declared.hir.BasicBlock.{BasicBlock}
 use Rattle.alias_hir.specs.declared.hir.HirFunction.{HirFunction}
 use Rattle.alias_hir.specs.declared.hir.Instruction.{Instruction}
-use Rattle.alias_hir.specs.declared.place.Place.{Place}
 use Rattle.alias_hir.specs.declared.value.InstructionValue.{InstructionValue}
 use Rattle.alias_hir.specs.declared.value.InstructionValue.TheVariants.{FunctionExpression, ObjectMethod, DeclareContext, CallExpression, MethodCall, PropertyLoad, JsxExpression, JsxFragment, Destructure, LoadLocal, StoreLocal}
 use Rattle.alias_visit.specs.Operands.{operands_of}

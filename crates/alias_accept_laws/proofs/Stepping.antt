@@ -1,5 +1,5 @@
 -- The step of an instruction repeats, whatever first effects and reports there are.
-use Rattle.std.specs.Prelude.{◌≡◌, ℕ, ◌&&◌, not, Bool, true, false, List, [], ◌∷◌, Option, Some, None, slice_get, refl}
+use Rattle.std.specs.Prelude.{ℕ, ◌&&◌, not, Bool, true, false, List, [], ◌∷◌, Option, Some, None, slice_get}
 use Rattle.std.proofs.Common.{sym, subst}
 use Rattle.std.specs.Option.{is_some}
 use Rattle.alias_base.specs.declared.ids.FunctionId.{FunctionId}

@@ -18,13 +18,17 @@ use Rattle.alias_accept_laws.specs.Alike.{Elsewhere, elsewhere}
 use Rattle.alias_accept_laws.specs.Saying.{said_function, NamesThere, AreCounted}
 
 module _ (env : Environment) (func : HirFunction) (is_function_expression : Bool) where
-  -- a solution of the function's flow under these tables, with what its blocks record, that names only what is there
+  -- the entry states name only what is there, and the temporaries are counted on from the identifiers
+  pub record NamesItsOwn (tables : TableLists) (entries : List (Option State)) : Type 0 where
+    pub states : (b : ℕ) (s : State) → entry_at entries b ≡ Some s → NamesThere (length env.identifiers + length tables.temporaries) (created_functions func) s
+    pub temporaries : AreCounted env [] tables.temporaries
+
+  -- a solution of the function's flow under these tables, with what its blocks record
   pub record IsSolution (tables : TableLists) (entries : List (Option State)) (recorded : List (Option BlockEffects)) : Type 0 where
     pub solved : SolvesUnder env func is_function_expression tables entries
     pub records : RecordsSteps (rules env func is_function_expression).flow tables (entry_at entries) recorded
     pub count : length recorded ≡ length func.body.blocks
-    pub names : (b : ℕ) (s : State) → entry_at entries b ≡ Some s → NamesThere (length env.identifiers + length tables.temporaries) (created_functions func) s
-    pub temporaries : AreCounted env [] tables.temporaries
+    pub names : NamesItsOwn tables entries
 
   -- the certificate that says the solution is accepted, or no number is left for a report
   pub data IsCertified (r : Result PassEnd CheckFault) : Type 0 where

@@ -1,12 +1,15 @@
 //! That the check of entry states accepts those that solve the flow of a function.
 
 ghost use Rattle.std.specs.Prelude.{◌≡◌, true, List, Option};
+ghost use Rattle.alias_flow.specs.Machine.{SolverState, VisitLog, Solved};
+ghost use Rattle.alias_block.specs.Contexts.{context_of};
+ghost use Rattle.alias_effects.specs.Numbered.{visits_end};
 ghost use Rattle.alias_lattice.specs.States.{State};
 ghost use Rattle.alias_rules.specs.Fitting.{function_fits};
 ghost use Rattle.alias_tables.specs.Tables.{TableLists};
 ghost use Rattle.alias_block.specs.declared.recorded.BlockEffects.{BlockEffects};
 ghost use Rattle.alias_accept_laws.specs.Accepting.{SolvesUnder, IsAccepted, IsAcceptedAnyway};
-ghost use Rattle.alias_accept_laws.specs.Certifying.{IsSolution, IsAcceptedAsSaid};
+ghost use Rattle.alias_accept_laws.specs.Certifying.{IsSolution, NamesItsOwn, IsAcceptedAsSaid};
 
 use alias_hir::env::Environment;
 use alias_hir::hir::HirFunction;
@@ -40,6 +43,18 @@ pub fn tables_law(env: &Environment, func: &HirFunction, is_function_expression:
 pub fn certificate_law(env: &Environment, func: &HirFunction, is_function_expression: bool)
     requires { function_fits func.now env.now ≡ true }
     ensures { (tables : TableLists) (entries : List (Option State)) (recorded : List (Option BlockEffects)) → IsSolution env.now func.now is_function_expression tables entries recorded → IsAcceptedAsSaid env.now func.now is_function_expression tables entries recorded }
+{
+    let _env = env;
+    let _func = func;
+    let _is_function_expression = is_function_expression;
+}
+
+/// What the effects pass of the function ends with is such a solution: the certificate that says it is accepted, also over environments whose functions are
+/// seen alike and whose reports are other ones, or no number is left for a report, where the entry states name what is there and the
+/// temporaries are counted on from the identifiers. Does nothing.
+pub fn pass_law(env: &Environment, func: &HirFunction, is_function_expression: bool)
+    requires { function_fits func.now env.now ≡ true }
+    ensures { (w : SolverState (VisitLog State) TableLists BlockEffects) → visits_end (context_of env.now func.now is_function_expression) ≡ Solved w → NamesItsOwn env.now func.now is_function_expression w.tables w.progress.joined_input → IsAcceptedAsSaid env.now func.now is_function_expression w.tables w.progress.joined_input w.recorded }
 {
     let _env = env;
     let _func = func;
