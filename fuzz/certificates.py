@@ -176,23 +176,24 @@ def case(seed, certify):
     return unit + b'\n' + certificate, is_damaged
 
 
+def answer(words, data):
+    """The status and the output of a command that is given these bytes."""
+    run = subprocess.run(words, input=data, stdout=subprocess.PIPE, stderr=subprocess.DEVNULL, check=False)
+    return run.returncode, run.stdout
+
+
 def main():
     if len(sys.argv) != 5:
         sys.exit(__doc__)
     first, last, folder, program = int(sys.argv[1]), int(sys.argv[2]), sys.argv[3], shlex.split(sys.argv[4])
-
-    def answer(word, data):
-        run = subprocess.run([*program, word], input=data, stdout=subprocess.PIPE, stderr=subprocess.DEVNULL, check=False)
-        return run.returncode, run.stdout
-
     os.makedirs(folder, exist_ok=True)
     written = 0
     for seed in range(first, last):
-        made = case(seed, lambda unit: answer('certify', unit))
+        made = case(seed, lambda unit: answer([*program, 'certify'], unit))
         if made is None:
             continue
         data, is_damaged = made
-        status, text = answer('check', data)
+        status, text = answer([*program, 'check'], data)
         if status and not is_damaged:
             print(f'seed {seed}: what certify writes is refused: {text.decode()}', end='', flush=True)
         for ending, it in [('', data), ('.stdout', text)]:
