@@ -20,6 +20,7 @@ pub fn solution_law(env: &Environment, func: &HirFunction, is_function_expressio
     requires { function_fits func.now env.now ≡ true }
     ensures { (tables : TableLists) (entries : List (Option State)) → SolvesUnder env.now func.now is_function_expression tables entries → IsAccepted env.now func.now is_function_expression tables entries }
 {
+    // A law does nothing with what it is given: its clause is what it is for.
     let _env = env;
     let _func = func;
     let _is_function_expression = is_function_expression;

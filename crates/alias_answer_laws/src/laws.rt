@@ -28,6 +28,7 @@ pub fn apply_laws(env: &Environment)
     ensures terminals { (s : Solved) (f : HirFunction) → RecordsNoApply s → TerminalsLackApply f → TerminalsLackApply (with_effects_of s f) }
     ensures ranges { (b : Bool) (f : HirFunction) → InstructionsLackApply f → (i : InstructionId) (report : Report) → range_pass b f env.now ≢ Err (UnreplacedApply i report) }
 {
+    // A law does nothing with what it is given: its clause is what it is for.
     let _env = env;
 }
 

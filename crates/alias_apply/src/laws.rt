@@ -15,5 +15,6 @@ pub fn step_laws(context: &StepContext<'_>)
     ensures replays { (e : AliasingEffect) (s : StepProgress) → Again (raise_plain (held context.now) e s) }
     ensures proper { (e : AliasingEffect) (s : StepProgress) → ProgressProper s → Fine (raise_plain (held context.now) e s) }
 {
+    // A law does nothing with what it is given: its clause is what it is for.
     let _context = context;
 }

@@ -80,6 +80,7 @@ fn apply_maybe_alias(
 ) -> Result<(), EffectFault>
     ensures { Follows (apply_maybe_alias from into step.old tables.old) result step.new tables.new }
 {
+    // The target's value isn't needed, but it is read: a read before its definition is recorded.
     let _target = look(step, into.identifier, into.span);
     let source = look(step, from.identifier, from.span);
     if may_be_frozen(source.kind) {

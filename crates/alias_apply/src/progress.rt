@@ -40,6 +40,7 @@ pub fn make(
 ) -> Result<(), EffectFault>
     ensures { Follows (made identifier step.old tables.now) result step.new tables.now }
 {
+    // The clause speaks of the tables; the body doesn't need them.
     let _tables = tables;
     if step.made.contains(identifier) {
         return Err(EffectFault::Refused(Refusal::Reinitialized { identifier }));

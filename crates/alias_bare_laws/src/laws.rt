@@ -18,6 +18,7 @@ pub fn bare_laws(env: &Environment)
     ensures rules { (r : Rule) (o : Option FunctionId) (f g : HirFunction) → bare f ≡ bare g → rule_holds r env.now o g ≡ rule_holds r env.now o f }
     ensures fits { (f g : HirFunction) → but_places f ≡ but_places g → function_fits f env.now ≡ true → function_fits g env.now ≡ true }
 {
+    // A law does nothing with what it is given: its clause is what it is for.
     let _env = env;
 }
 

@@ -10,9 +10,9 @@ use Rattle.alias_hir.specs.declared.effect.ValueReason.TheVariants.{JsxCaptured}
 use Rattle.alias_hir.specs.declared.hir.Instruction.{Instruction}
 use Rattle.alias_hir.specs.declared.place.Place.{Place}
 use Rattle.alias_hir.specs.declared.terminal.Terminal.{Terminal}
-use Rattle.alias_hir.specs.declared.terminal.Terminal.TheVariants.{MaybeThrow, Return}
+use Rattle.alias_hir.specs.declared.terminal.Terminal.TheVariants as terminal
 use Rattle.alias_hir.specs.declared.value.InstructionValue.{InstructionValue}
-use Rattle.alias_hir.specs.declared.value.InstructionValue.TheVariants.{CallExpression, MethodCall}
+use Rattle.alias_hir.specs.declared.value.InstructionValue.TheVariants as value
 use Rattle.alias_lattice.specs.States.{sites_of, appended}
 use Rattle.alias_tables.specs.declared.faults.Refusal.{Refusal}
 use Rattle.alias_tables.specs.Steps.{◌>>=◌, gives, each}
@@ -42,9 +42,48 @@ catch_call binding x s =
 
 -- a call of a function or a method; a construction isn't one
 abbrev pub is_call : InstructionValue → Bool
-is_call (CallExpression callee args) = true
-is_call (MethodCall receiver property args) = true
-is_call v = false
+is_call (value.CallExpression callee args) = true
+is_call (value.MethodCall receiver property args) = true
+is_call (value.ArrayExpression elements) = false
+is_call (value.ObjectExpression properties) = false
+is_call (value.Await value) = false
+is_call (value.NewExpression callee args) = false
+is_call (value.PropertyDelete object) = false
+is_call (value.ComputedDelete object property) = false
+is_call (value.PropertyLoad object) = false
+is_call (value.ComputedLoad object property) = false
+is_call (value.PropertyStore object property value) = false
+is_call (value.ComputedStore object property value) = false
+is_call (value.FunctionExpression lowered) = false
+is_call (value.ObjectMethod lowered) = false
+is_call (value.GetIterator collection) = false
+is_call (value.IteratorNext iterator collection) = false
+is_call (value.NextPropertyOf value) = false
+is_call (value.JsxExpression tag props children) = false
+is_call (value.JsxFragment children) = false
+is_call (value.DeclareLocal lvalue) = false
+is_call (value.Destructure lvalue value) = false
+is_call (value.LoadContext place) = false
+is_call (value.DeclareContext lvalue) = false
+is_call (value.StoreContext lvalue value) = false
+is_call (value.LoadLocal place) = false
+is_call (value.StoreLocal lvalue value) = false
+is_call (value.PostfixUpdate lvalue value) = false
+is_call (value.PrefixUpdate lvalue value) = false
+is_call (value.StoreGlobal name value) = false
+is_call (value.TypeCastExpression value) = false
+is_call value.LoadGlobal = false
+is_call (value.StartMemoize deps) = false
+is_call (value.FinishMemoize decl) = false
+is_call (value.TaggedTemplateExpression tag) = false
+is_call (value.BinaryExpression left right) = false
+is_call (value.TemplateLiteral subexprs) = false
+is_call (value.UnaryExpression value) = false
+is_call value.Debugger = false
+is_call value.JSXText = false
+is_call value.MetaProperty = false
+is_call value.Primitive = false
+is_call value.RegExpLiteral = false
 
 abbrev pub catch_instruction : Place → Option Instruction → StepProgress → BlockStep StepProgress
 catch_instruction binding None s = gives s
@@ -76,6 +115,25 @@ return_value is_function_expression value s =
 
 -- of a block with these instructions
 abbrev pub terminal_action : BlockContext → List InstructionId → Terminal → StepProgress → BlockStep StepProgress
-terminal_action c is (MaybeThrow id continuation handler effects) s = catch_into c.func.instructions (handler_binding c.facts.handlers handler) is s
-terminal_action c is (Return id value effects) s = return_value c.is_function_expression value s
-terminal_action c is t s = gives s
+terminal_action c is (terminal.MaybeThrow id continuation handler effects) s = catch_into c.func.instructions (handler_binding c.facts.handlers handler) is s
+terminal_action c is (terminal.Return id value effects) s = return_value c.is_function_expression value s
+-- these do nothing; each is named, so that a new terminal doesn't go without an action
+terminal_action c is (terminal.Goto id block) s = gives s
+terminal_action c is (terminal.If id test consequent alternate) s = gives s
+terminal_action c is (terminal.Branch id test consequent alternate) s = gives s
+terminal_action c is (terminal.Switch id test cases) s = gives s
+terminal_action c is (terminal.For id init) s = gives s
+terminal_action c is (terminal.ForOf id init) s = gives s
+terminal_action c is (terminal.ForIn id init) s = gives s
+terminal_action c is (terminal.DoWhile id loop_block) s = gives s
+terminal_action c is (terminal.While id test) s = gives s
+terminal_action c is (terminal.Logical id test) s = gives s
+terminal_action c is (terminal.Ternary id test) s = gives s
+terminal_action c is (terminal.Optional id test) s = gives s
+terminal_action c is (terminal.Throw id value) s = gives s
+terminal_action c is (terminal.Unreachable id) s = gives s
+terminal_action c is (terminal.Try id block handler handler_binding) s = gives s
+terminal_action c is (terminal.Label id block) s = gives s
+terminal_action c is (terminal.Sequence id block) s = gives s
+terminal_action c is (terminal.Scope id block) s = gives s
+terminal_action c is (terminal.PrunedScope id block) s = gives s

@@ -60,10 +60,49 @@ fn catch_call(
 fn is_call(value: &InstructionValue) -> bool
     ensures { result ≡ is_call value.now }
 {
-    matches!(
-        value,
-        InstructionValue::CallExpression { .. } | InstructionValue::MethodCall { .. }
-    )
+    match value {
+        InstructionValue::CallExpression { .. } | InstructionValue::MethodCall { .. } => true,
+        InstructionValue::ArrayExpression { .. }
+        | InstructionValue::ObjectExpression { .. }
+        | InstructionValue::Await { .. }
+        | InstructionValue::NewExpression { .. }
+        | InstructionValue::PropertyDelete { .. }
+        | InstructionValue::ComputedDelete { .. }
+        | InstructionValue::PropertyLoad { .. }
+        | InstructionValue::ComputedLoad { .. }
+        | InstructionValue::PropertyStore { .. }
+        | InstructionValue::ComputedStore { .. }
+        | InstructionValue::FunctionExpression { .. }
+        | InstructionValue::ObjectMethod { .. }
+        | InstructionValue::GetIterator { .. }
+        | InstructionValue::IteratorNext { .. }
+        | InstructionValue::NextPropertyOf { .. }
+        | InstructionValue::JsxExpression { .. }
+        | InstructionValue::JsxFragment { .. }
+        | InstructionValue::DeclareLocal { .. }
+        | InstructionValue::Destructure { .. }
+        | InstructionValue::LoadContext { .. }
+        | InstructionValue::DeclareContext { .. }
+        | InstructionValue::StoreContext { .. }
+        | InstructionValue::LoadLocal { .. }
+        | InstructionValue::StoreLocal { .. }
+        | InstructionValue::PostfixUpdate { .. }
+        | InstructionValue::PrefixUpdate { .. }
+        | InstructionValue::StoreGlobal { .. }
+        | InstructionValue::TypeCastExpression { .. }
+        | InstructionValue::LoadGlobal
+        | InstructionValue::StartMemoize { .. }
+        | InstructionValue::FinishMemoize { .. }
+        | InstructionValue::TaggedTemplateExpression { .. }
+        | InstructionValue::BinaryExpression { .. }
+        | InstructionValue::TemplateLiteral { .. }
+        | InstructionValue::UnaryExpression { .. }
+        | InstructionValue::Debugger
+        | InstructionValue::JSXText
+        | InstructionValue::MetaProperty
+        | InstructionValue::Primitive
+        | InstructionValue::RegExpLiteral => false,
+    }
 }
 
 fn catch_instruction(
@@ -174,6 +213,25 @@ pub(crate) fn terminal_action(
             tables,
             *value,
         ),
-        _ => Ok(()),
+        // These do nothing. Each is named, so that a new terminal doesn't go without an action.
+        Terminal::Goto { .. }
+        | Terminal::If { .. }
+        | Terminal::Branch { .. }
+        | Terminal::Switch { .. }
+        | Terminal::For { .. }
+        | Terminal::ForOf { .. }
+        | Terminal::ForIn { .. }
+        | Terminal::DoWhile { .. }
+        | Terminal::While { .. }
+        | Terminal::Logical { .. }
+        | Terminal::Ternary { .. }
+        | Terminal::Optional { .. }
+        | Terminal::Throw { .. }
+        | Terminal::Unreachable { .. }
+        | Terminal::Try { .. }
+        | Terminal::Label { .. }
+        | Terminal::Sequence { .. }
+        | Terminal::Scope { .. }
+        | Terminal::PrunedScope { .. } => Ok(()),
     }
 }

@@ -179,6 +179,7 @@ fn finished(
 ) -> Result<(InferenceState, BlockEffects), BlockFault>
     ensures { BlockLeaves (finished progress tables.now) result tables.now }
 {
+    // The clause speaks of the tables; the body doesn't need them.
     let _tables = tables;
     match progress.missing {
         Some(look) => Err(BlockFault::Refused(BlockRefusal::Uninitialized(look))),

@@ -20,5 +20,6 @@ pub fn block_laws(context: &BlockContext<'_>)
     ensures proper { (b : BlockId) (block : BasicBlock) (x : State) → StateProper x → BlockSound OutProper (infer_block (held context.now) b block x) }
     ensures initial { StateProper (initial_state (held context.now)) }
 {
+    // A law does nothing with what it is given: its clause is what it is for.
     let _context = context;
 }

@@ -21,6 +21,7 @@ use alias_hir::env::Environment;
 pub fn block_laws(env: &Environment)
     ensures { (func : HirFunction) (is_function_expression : Bool) (b : BlockId) (block : BasicBlock) (x : State) (t : TableLists) → function_fits func env.now ≡ true → TablesWithin env.now t → ReturnWithin env.now block.terminal → StateWithin env.now x → Within env.now (OutWithin env.now) (infer_block (context_of env.now func is_function_expression) b block x) t }
 {
+    // A law does nothing with what it is given: its clause is what it is for.
     let _env = env;
 }
 

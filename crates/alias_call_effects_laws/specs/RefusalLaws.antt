@@ -27,12 +27,12 @@ use Rattle.alias_calls.specs.declared.immutable.Checked.{Checked}
 use Rattle.alias_calls.specs.declared.summaries.SummaryEffect.{SummaryEffect}
 use Rattle.alias_calls.specs.declared.summaries.SummaryEffect.TheVariants.{OfPair, OfPlace, OfFreeze, Passed, GivenUp}
 use Rattle.alias_calls.specs.declared.visits.Visits.{Visits}
-use Rattle.alias_calls.specs.Arguments.{first_bad, has_further, first_of}
+use Rattle.alias_calls.specs.Arguments.{first_bad, first_of}
 use Rattle.alias_calls.specs.Calls.{ConfigCall, SummaryCall}
 use Rattle.alias_calls.specs.Configs.{impure_step, stands, with_apply, with_config_effect, with_config_effects}
 use Rattle.alias_calls.specs.Copies.{with_freezes_unless, with_freezes}
 use Rattle.alias_calls.specs.Legacy.{return_reason, with_impure, visited, asked, with_still, legacy, ended, all_links, legacy_after, legacy_list}
-use Rattle.alias_calls.specs.Summaries.{stands_for, copied, with_copied, with_copies, names_list}
+use Rattle.alias_calls.specs.Summaries.{stands_for, copied, with_copied, with_copies, needs_rest, names_list}
 use Rattle.alias_call_effects.specs.Answers.{is_memory, signature_error}
 
 -- where the step is refused, that isn't want of memory to a host
@@ -128,7 +128,7 @@ told_copied env c GivenUp out = told_gives None
 pub told_names_list : (env : Environment) (c : SummaryCall) (es : List AliasingEffect) → IsToldWhy (names_list env c es)
 told_names_list env c es =
     told_if (nat_lt (length c.args) (length c.names.params)) _ _ (told_gives None)
-    (told_if (has_further c.names.params c.args 0 && not (is_some c.names.rest)) _ _ (told_gives None)
+    (told_if (needs_rest c.names.params c.args && not (is_some c.names.rest)) _ _ (told_gives None)
     (told_collect (with_copies env c) (λ e. told_copied env c (copied e)) es []))
 
 -- ---- signatures without an aliasing part

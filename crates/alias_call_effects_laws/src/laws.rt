@@ -32,6 +32,7 @@ pub fn pass_laws(env: &Environment)
     ensures legacy { (s : FunctionSignature) (site : CallSite) (args : List PlaceOrSpreadOrHole) (u : State) (t : TableLists) → legacy_called s site args u (host_of env.now t).env ≡ environment_alone (as_host env.now (legacy_list env.now s site args u t)) }
     ensures summaries { (f : FunctionId) (function : HirFunction) (effects : List AliasingEffect) (t : TableLists) → names_given (signature_of f function effects (host_of env.now t)) ≡ as_host env.now (summary_names env.now f function t) }
 {
+    // A law does nothing with what it is given: its clause is what it is for.
     let _env = env;
 }
 

@@ -214,3 +214,13 @@ fn a_call_without_the_parameter_gives_none(rt: HostRuntime) -> Result<(), Fail> 
     assert!(rt; parameter_gives_none(rt.alloc(), &[])?);
     Ok(())
 }
+
+#[test]
+fn a_hole_too_many_gives_none(rt: HostRuntime) -> Result<(), Fail> {
+    let args = [
+        PlaceOrSpreadOrHole::Place(place(0)),
+        PlaceOrSpreadOrHole::Hole,
+    ];
+    assert!(rt; parameter_gives_none(rt.alloc(), &args)?);
+    Ok(())
+}

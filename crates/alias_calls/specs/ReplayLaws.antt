@@ -33,7 +33,7 @@ use Rattle.alias_calls.specs.Calls.{ConfigCall, SummaryCall}
 use Rattle.alias_calls.specs.Configs.{impure_step, with_impures, with_temporary, stands, with_apply, with_config_effect, with_config_effects, config_call, config_list}
 use Rattle.alias_calls.specs.Copies.{with_freezes_unless, with_freezes}
 use Rattle.alias_calls.specs.Legacy.{return_reason, with_impure, visited, asked, with_still, legacy, ended, all_links, legacy_after, legacy_list}
-use Rattle.alias_calls.specs.Summaries.{last_spread, rest_or_temporary, names_with, summary_names, stands_for, copied, with_copied, with_copies, with_all_copies, names_list, summary_call, summary_list}
+use Rattle.alias_calls.specs.Summaries.{last_spread, rest_or_temporary, names_with, summary_names, stands_for, copied, with_copied, with_copies, with_all_copies, needs_rest, names_list, summary_call, summary_list}
 
 again_freezes_unless : (o : Option Place) (r : ValueReason) (ps : List Place) (out : List AliasingEffect) → Again (with_freezes_unless o r ps out)
 again_freezes_unless (Some p) r ps out = again_refuses (SpreadArgument p.span (spread_report p.span))
@@ -103,7 +103,7 @@ again_all_copies env c = again_collect (with_copies env c) (λ e. again_copied e
 pub again_names_list : (env : Environment) (c : SummaryCall) (es : List AliasingEffect) → Again (names_list env c es)
 again_names_list env c es =
     again_if (nat_lt (length c.args) (length c.names.params)) _ _ (again_gives None)
-    (again_if (has_further c.names.params c.args 0 && not (is_some c.names.rest)) _ _ (again_gives None) (again_all_copies env c es []))
+    (again_if (needs_rest c.names.params c.args && not (is_some c.names.rest)) _ _ (again_gives None) (again_all_copies env c es []))
 
 pub again_summary_list : (env : Environment) (f : FunctionId) (function : HirFunction) (es : List AliasingEffect) (into : Place) (args : List PlaceOrSpreadOrHole) → Again (summary_list env f function es into args)
 again_summary_list env f function es into args =

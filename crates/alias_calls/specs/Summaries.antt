@@ -1,5 +1,6 @@
 -- The effects of a call by the summary of a function.
-use Rattle.std.specs.Prelude.{Bool, ◌&&◌, not, nat_lt, List, [], ◌∷◌, length, Option, Some, None, if◌then◌else◌}
+use Rattle.std.specs.Prelude.{Bool, true, false, ◌&&◌, ◌||◌, not, nat_lt, List, [], ◌∷◌, length, Option, Some, None, if◌then◌else◌}
+use Rattle.std.specs.List.{list_any}
 use Rattle.std.specs.Option.{is_some}
 use Rattle.alias_base.specs.declared.ids.FunctionId.{FunctionId}
 use Rattle.alias_base.specs.declared.ids.IdentifierId.{IdentifierId}
@@ -12,6 +13,7 @@ use Rattle.alias_hir.specs.declared.hir.ParamPattern.{ParamPattern}
 use Rattle.alias_hir.specs.declared.hir.ParamPattern.TheVariants as param
 use Rattle.alias_hir.specs.declared.place.Place.{Place}
 use Rattle.alias_hir.specs.declared.place.PlaceOrSpreadOrHole.{PlaceOrSpreadOrHole}
+use Rattle.alias_hir.specs.declared.place.PlaceOrSpreadOrHole.TheVariants as arg
 use Rattle.alias_tables.specs.declared.temp_key.TempKey.TheVariants.{Rest}
 use Rattle.alias_tables.specs.Steps.{◌>>=◌, gives, collect}
 use Rattle.alias_tables.specs.Tables.{Step, temporary}
@@ -20,7 +22,7 @@ use Rattle.alias_calls.specs.declared.copies.PairKind.TheVariants as pair
 use Rattle.alias_calls.specs.declared.copies.PlaceKind.TheVariants as at
 use Rattle.alias_calls.specs.declared.summaries.SummaryEffect.{SummaryEffect}
 use Rattle.alias_calls.specs.declared.summaries.SummaryEffect.TheVariants.{OfPair, OfPlace, OfFreeze, Passed, GivenUp}
-use Rattle.alias_calls.specs.Arguments.{standing, has_further}
+use Rattle.alias_calls.specs.Arguments.{standing}
 use Rattle.alias_calls.specs.Calls.{SummaryCall}
 use Rattle.alias_calls.specs.Copies.{Collected, with_pairs, with_each, with_freezes}
 
@@ -110,11 +112,20 @@ with_all_copies env c = collect (with_copies env c)
 
 -- ---- the list
 
--- the list that the names give for these effects, if they give one: not where an argument is missing, nor where one needs a rest and there is none
+abbrev pub is_spread : PlaceOrSpreadOrHole → Bool
+is_spread (arg.Place p) = false
+is_spread (arg.Spread s) = true
+is_spread arg.Hole = false
+
+-- the arguments need a rest: there are more than parameters, of which a hole is one too, or some argument is spread
+abbrev pub needs_rest : List IdentifierId → List PlaceOrSpreadOrHole → Bool
+needs_rest params args = nat_lt (length params) (length args) || list_any is_spread args
+
+-- the list that the names give for these effects, if they give one: not where there are fewer arguments than parameters, nor where they need a rest and there is none
 abbrev pub names_list : Environment → SummaryCall → List AliasingEffect → Step Collected
 names_list env c effects =
     if nat_lt (length c.args) (length c.names.params) then gives None
-    else (if has_further c.names.params c.args 0 && not (is_some c.names.rest) then gives None
+    else (if needs_rest c.names.params c.args && not (is_some c.names.rest) then gives None
     else with_all_copies env c effects [])
 
 abbrev pub summary_call : SummaryNames → Place → List PlaceOrSpreadOrHole → List Place → SummaryCall

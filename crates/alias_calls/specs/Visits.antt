@@ -32,12 +32,23 @@ visit env into r p use_of.Unknown v = v
 abbrev pub spread_effect : Effect → Effect
 spread_effect use_of.Mutate = use_of.Mutate
 spread_effect use_of.ConditionallyMutate = use_of.ConditionallyMutate
-spread_effect e = use_of.ConditionallyMutateIterator
+spread_effect use_of.Unknown = use_of.ConditionallyMutateIterator
+spread_effect use_of.Freeze = use_of.ConditionallyMutateIterator
+spread_effect use_of.Read = use_of.ConditionallyMutateIterator
+spread_effect use_of.Capture = use_of.ConditionallyMutateIterator
+spread_effect use_of.ConditionallyMutateIterator = use_of.ConditionallyMutateIterator
+spread_effect use_of.Store = use_of.ConditionallyMutateIterator
 
 -- a spread isn't to be frozen
 abbrev pub is_refused : Effect → Bool
 is_refused use_of.Freeze = true
-is_refused e = false
+is_refused use_of.Unknown = false
+is_refused use_of.Read = false
+is_refused use_of.Capture = false
+is_refused use_of.ConditionallyMutateIterator = false
+is_refused use_of.ConditionallyMutate = false
+is_refused use_of.Mutate = false
+is_refused use_of.Store = false
 
 -- what an argument is used for by the effect of its parameter, and whether it is a spread that is refused
 abbrev pub argument_effect : Effect → Bool → Effect × Bool

@@ -118,6 +118,7 @@ fn is_writing_site(env: &Environment, site: Site) -> bool
 fn has_writing_site(env: &Environment, sites: &SiteSet) -> bool
     ensures { result ≡ has_writing_site env.now (in_order sites.now) }
 {
+    // Does nothing: it tells the prover that this is a proper value.
     sites.known();
     let mut after = None;
     'sites: while let Some(site) = sites.next_site(after) {

@@ -24,5 +24,6 @@ pub fn list_laws(env: &Environment)
     ensures summaries { (f : FunctionId) (function : HirFunction) (effects : List AliasingEffect) (into : Place) (args : List PlaceOrSpreadOrHole) → Again (summary_list env.now f function effects into args) }
     ensures legacy { (signature : FunctionSignature) (site : CallSite) (args : List PlaceOrSpreadOrHole) (s : State) → Again (legacy_list env.now signature site args s) }
 {
+    // A law does nothing with what it is given: its clause is what it is for.
     let _env = env;
 }

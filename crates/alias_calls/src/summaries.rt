@@ -1,13 +1,14 @@
 //! The effects of a call by the summary of a function.
 
 ghost use Rattle.std.specs.Prelude.{◌≡◌, ◌∷◌, [], Option, Some, None, IfOk};
+ghost use Rattle.std.specs.List.{list_any};
 ghost use Rattle.alias_tables.specs.Tables.{Leaves};
 ghost use Rattle.alias_calls.specs.Calls.{held_summary};
 ghost use Rattle.alias_calls.specs.Copies.{Collects, with_each, with_pairs, with_freezes};
-ghost use Rattle.alias_calls.specs.Summaries.{same_id, plain_params, last_spread, rest_or_temporary, names_with, summary_names, context_standing, returned, stands_for, copied, with_copied, with_copies, with_all_copies, names_list, summary_list};
+ghost use Rattle.alias_calls.specs.Summaries.{same_id, plain_params, last_spread, rest_or_temporary, names_with, summary_names, context_standing, returned, stands_for, copied, with_copied, with_copies, with_all_copies, is_spread, needs_rest, names_list, summary_list};
 ghost use Rattle.alias_calls.specs.declared.summaries.SummaryEffect.TheVariants.{OfPair, OfPlace};
 
-use crate::arguments::{has_further, standing};
+use crate::arguments::standing;
 use crate::call::{SummaryCall, SummaryNames};
 use crate::copies::{PairKind, PlaceKind, push_at, push_freezes, push_pairs};
 use alias_base::{FunctionId, IdentifierId, List};
@@ -318,6 +319,29 @@ fn push_all_copies(
     Ok(true)
 }
 
+fn is_spread(argument: &PlaceOrSpreadOrHole) -> bool
+    ensures { result ≡ is_spread argument.now }
+{
+    match argument {
+        PlaceOrSpreadOrHole::Spread(_) => true,
+        PlaceOrSpreadOrHole::Place(_) | PlaceOrSpreadOrHole::Hole => false,
+    }
+}
+
+fn has_spread(args: &[PlaceOrSpreadOrHole]) -> bool
+    ensures { result ≡ list_any is_spread args.now }
+{
+    args.iter().any(|argument| is_spread(argument))
+}
+
+/// Whether the arguments need a rest: there are more than parameters, of which a hole is one too, or some argument is
+/// spread.
+fn needs_rest(params: &[IdentifierId], args: &[PlaceOrSpreadOrHole]) -> bool
+    ensures { result ≡ needs_rest params.now args.now }
+{
+    params.len() < args.len() || has_spread(args)
+}
+
 /// The list that the names of a summary give for its effects, if they give one.
 pub fn compute_effects_for_aliasing_signature(
     env: &Environment,
@@ -331,7 +355,7 @@ pub fn compute_effects_for_aliasing_signature(
     if call.args.len() < names.params.len() {
         return Ok(None);
     }
-    if has_further(names.params.as_slice(), call.args) && !names.rest.is_some() {
+    if needs_rest(names.params.as_slice(), call.args) && !names.rest.is_some() {
         return Ok(None);
     }
     let mut out = List::new(tables.alloc());

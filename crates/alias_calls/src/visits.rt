@@ -97,14 +97,28 @@ fn spread_effect(effect: Effect) -> Effect
     match effect {
         Effect::Mutate => Effect::Mutate,
         Effect::ConditionallyMutate => Effect::ConditionallyMutate,
-        _ => Effect::ConditionallyMutateIterator,
+        Effect::Unknown
+        | Effect::Freeze
+        | Effect::Read
+        | Effect::Capture
+        | Effect::ConditionallyMutateIterator
+        | Effect::Store => Effect::ConditionallyMutateIterator,
     }
 }
 
 fn is_refused(effect: Effect) -> bool
     ensures { result ≡ is_refused effect }
 {
-    matches!(effect, Effect::Freeze)
+    match effect {
+        Effect::Freeze => true,
+        Effect::Unknown
+        | Effect::Read
+        | Effect::Capture
+        | Effect::ConditionallyMutateIterator
+        | Effect::ConditionallyMutate
+        | Effect::Mutate
+        | Effect::Store => false,
+    }
 }
 
 /// What an argument is used for by the effect of its parameter, and whether it is a spread that is refused.

@@ -13,5 +13,6 @@ use alias_hir::env::Unit;
 pub fn cause_laws(unit: &Unit)
     ensures { (a : UnitAnalysis) → rules_hold unit.now ≡ Ok tt → unit_analysed unit.now ≡ Ok a → EachHasCause a.inferred }
 {
+    // A law does nothing with what it is given: its clause is what it is for.
     let _unit = unit;
 }

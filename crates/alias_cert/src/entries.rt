@@ -9,6 +9,7 @@ pub(crate) fn entries_known(entries: &[BlockEntry])
     ensures { AreKnown entries.now }
 {
     for entry in entries {
+        // Does nothing: it tells the prover that this is a proper value.
         entry.state.known();
     }
 }

@@ -8,3 +8,4 @@ pub mod PassLaws
 pub mod Recording
 pub mod Inference
 pub mod Output
+pub mod Settling

@@ -16,6 +16,7 @@ ghost use Rattle.alias_effects.specs.Output.{last_visits, VisitsEnd};
 ghost use Rattle.alias_effects.specs.Inference.{pass_end, inferred, env_after, env_inferred, effects_inferred};
 ghost use Rattle.alias_effects.specs.Numbered.{numbered};
 ghost use Rattle.alias_effects.specs.Recording.{with_effects_of};
+ghost use Rattle.alias_effects.specs.Settling.{GoesForward, IsSettled};
 ghost use Rattle.alias_effects.specs.Solutions.{IsSolved};
 
 use crate::output::{LastVisits, PassEnd, all_recorded, end_of};
@@ -141,8 +142,8 @@ fn last_visits(
 /// `AliasBeforeCreate`, where an alias goes into what its instruction hasn't made; `IncompatibleLibrary`, where a function is
 /// called that can't be memoized, with validations asked for; `SpreadArgument`, where a spread would be frozen;
 /// `TooMany`, where no number is left for an identifier or a report; and `NotSettled`, where a block is still dirty
-/// after 100 rounds. `Memory` can come at any growth, and comes where the function has 2^32 blocks or more. docs/MODEL.md
-/// has the rules.
+/// after 100 rounds, which never comes where all edges go to later blocks. `Memory` can come at any growth, and comes
+/// where the function has 2^32 blocks or more. docs/MODEL.md has the rules.
 pub fn infer_effects_certified(
     alloc: Global,
     func: &mut HirFunction,
@@ -151,6 +152,7 @@ pub fn infer_effects_certified(
 ) -> Result<Solved, InferError>
     requires { function_fits func.old env.old ≡ true }
     ensures answer { Gives is_memory (inferred env.old func.old is_function_expression) result }
+    ensures settles { GoesForward env.old func.old is_function_expression → IsSettled result }
     ensures solves { IfOk result (λ s. IsSolved env.old func.old is_function_expression s) }
     ensures recorded { IfOk result (λ s. func.new ≡ with_effects_of s func.old) }
     ensures env { IfOk result (λ _. env_inferred env.old func.old is_function_expression ≡ Ok env.new) }
@@ -212,6 +214,7 @@ pub fn infer_mutation_aliasing_effects(
 ) -> Result<(), InferError>
     requires { function_fits func.old env.old ≡ true }
     ensures answer { GivesInto is_memory (effects_inferred env.old func.old is_function_expression) result func.new }
+    ensures settles { GoesForward env.old func.old is_function_expression → IsSettled result }
     ensures env { GivesInto is_memory (env_inferred env.old func.old is_function_expression) result env.new }
     ensures err { OnErr result ((func.new ≡ func.old) × (env.new ≡ env.old)) }
     ensures fits { function_fits func.new env.new ≡ true }

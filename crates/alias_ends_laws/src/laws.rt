@@ -18,6 +18,7 @@ use alias_hir::hir::HirFunction;
 pub fn ends_laws(env: &Environment, func: &HirFunction)
     ensures { (has : ℕ → Bool) (l : Listing) (old new : List Identifier) (k : ℕ) → Tested has env.now func.now → listed func.now ≡ Ok l → Causes (graph_listed l) l.mutations func.now.instructions old new → has k ≡ false → end_at new k ≡ end_at old k }
 {
+    // A law does nothing with what it is given: its clause is what it is for.
     let _env = env;
     let _func = func;
 }

@@ -53,12 +53,47 @@ phi_listed blocks k phi l = each (operand_listed blocks k phi.place) phi.operand
 
 abbrev pub returns_listed : Place → Terminal → Listing → Result Listing HirError
 returns_listed returns (terminal.Return id value effects) l = linked Alias value returns l
-returns_listed returns t l = Ok l
+returns_listed returns (terminal.Goto id block) l = Ok l
+returns_listed returns (terminal.If id test consequent alternate) l = Ok l
+returns_listed returns (terminal.Branch id test consequent alternate) l = Ok l
+returns_listed returns (terminal.Switch id test cases) l = Ok l
+returns_listed returns (terminal.For id init) l = Ok l
+returns_listed returns (terminal.ForOf id init) l = Ok l
+returns_listed returns (terminal.ForIn id init) l = Ok l
+returns_listed returns (terminal.DoWhile id loop_block) l = Ok l
+returns_listed returns (terminal.While id test) l = Ok l
+returns_listed returns (terminal.Logical id test) l = Ok l
+returns_listed returns (terminal.Ternary id test) l = Ok l
+returns_listed returns (terminal.Optional id test) l = Ok l
+returns_listed returns (terminal.Throw id value) l = Ok l
+returns_listed returns (terminal.Unreachable id) l = Ok l
+returns_listed returns (terminal.Try id block handler handler_binding) l = Ok l
+returns_listed returns (terminal.MaybeThrow id continuation handler effects) l = Ok l
+returns_listed returns (terminal.Label id block) l = Ok l
+returns_listed returns (terminal.Sequence id block) l = Ok l
+returns_listed returns (terminal.Scope id block) l = Ok l
+returns_listed returns (terminal.PrunedScope id block) l = Ok l
 
 -- an effect of a terminal
 abbrev pub alias_listed : AliasingEffect → Listing → Result Listing HirError
 alias_listed (effect.Alias a x) l = linked Alias a x l
-alias_listed e l = Ok l
+alias_listed (effect.Apply receiver function mutates args into signature span) l = Ok l
+alias_listed (effect.CreateFrom a x) l = Ok l
+alias_listed (effect.ImmutableCapture a x) l = Ok l
+alias_listed (effect.Assign a x) l = Ok l
+alias_listed (effect.Capture a x) l = Ok l
+alias_listed (effect.MaybeAlias a x) l = Ok l
+alias_listed (effect.Create x kind reason) l = Ok l
+alias_listed (effect.Freeze v reason) l = Ok l
+alias_listed (effect.Impure p error) l = Ok l
+alias_listed (effect.MutateFrozen p error) l = Ok l
+alias_listed (effect.MutateGlobal p error) l = Ok l
+alias_listed (effect.Render p) l = Ok l
+alias_listed (effect.Mutate v reason) l = Ok l
+alias_listed (effect.MutateConditionally v) l = Ok l
+alias_listed (effect.MutateTransitive v) l = Ok l
+alias_listed (effect.MutateTransitiveConditionally v) l = Ok l
+alias_listed (effect.CreateFunction x f captures) l = Ok l
 
 abbrev pub aliases_in : Option (List AliasingEffect) → Listing → Result Listing HirError
 aliases_in None l = Ok l

@@ -111,7 +111,26 @@ fn list_returns(listing: &mut Listing, returns: &Place, terminal: &Terminal) -> 
 {
     match terminal {
         Terminal::Return { value, .. } => link(listing, EdgeKind::Alias, value, returns),
-        _ => Ok(()),
+        Terminal::Goto { .. }
+        | Terminal::If { .. }
+        | Terminal::Branch { .. }
+        | Terminal::Switch { .. }
+        | Terminal::For { .. }
+        | Terminal::ForOf { .. }
+        | Terminal::ForIn { .. }
+        | Terminal::DoWhile { .. }
+        | Terminal::While { .. }
+        | Terminal::Logical { .. }
+        | Terminal::Ternary { .. }
+        | Terminal::Optional { .. }
+        | Terminal::Throw { .. }
+        | Terminal::Unreachable { .. }
+        | Terminal::Try { .. }
+        | Terminal::MaybeThrow { .. }
+        | Terminal::Label { .. }
+        | Terminal::Sequence { .. }
+        | Terminal::Scope { .. }
+        | Terminal::PrunedScope { .. } => Ok(()),
     }
 }
 
@@ -121,7 +140,23 @@ fn list_alias(listing: &mut Listing, effect: &AliasingEffect) -> Result<(), HirE
 {
     match effect {
         AliasingEffect::Alias { from, into } => link(listing, EdgeKind::Alias, from, into),
-        _ => Ok(()),
+        AliasingEffect::Apply { .. }
+        | AliasingEffect::CreateFrom { .. }
+        | AliasingEffect::ImmutableCapture { .. }
+        | AliasingEffect::Assign { .. }
+        | AliasingEffect::Capture { .. }
+        | AliasingEffect::MaybeAlias { .. }
+        | AliasingEffect::Create { .. }
+        | AliasingEffect::Freeze { .. }
+        | AliasingEffect::Impure { .. }
+        | AliasingEffect::MutateFrozen { .. }
+        | AliasingEffect::MutateGlobal { .. }
+        | AliasingEffect::Render { .. }
+        | AliasingEffect::Mutate { .. }
+        | AliasingEffect::MutateConditionally { .. }
+        | AliasingEffect::MutateTransitive { .. }
+        | AliasingEffect::MutateTransitiveConditionally { .. }
+        | AliasingEffect::CreateFunction { .. } => Ok(()),
     }
 }
 

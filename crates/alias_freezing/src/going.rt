@@ -28,6 +28,7 @@ fn freeze_top(
     ensures stack { OnOk result (stack.new.items ≡ stack.old.items ++ stacked_sites (sites_at state.old place)) }
 {
     push_sites_of(alloc, stack, state, place)?;
+    // The caller knows that it acts: it asked before.
     let _acts = state.freeze(place, reason)?;
     Ok(())
 }
@@ -42,6 +43,7 @@ fn next_freezing(
     requires { Sorted state.now }
     ensures { IfOk result (λ next. NextIs (context_of env.now) reason stack.old.items state.now next stack.new.items) }
 {
+    // The clause speaks of the reason; the body doesn't need it.
     let _reason = reason;
     'tasks: while let Some(task) = stack.pop() {
         match task {
@@ -69,6 +71,7 @@ pub fn go_into(
 {
     let mut stack = Vec::new(alloc);
     stack.push(Task::AtSite(site))?;
+    // Does nothing: it tells the prover that this is a proper value.
     state.known();
     'freezings: loop {
         match next_freezing(&mut stack, state, env, reason)? {

@@ -13,6 +13,7 @@ use std::alloc::{AllocError, Global};
 fn sites_in_order(alloc: Global, sites: &SiteSet) -> Result<Vec<Site>, AllocError>
     ensures { IfOk result (λ listed. listed.items ≡ in_order sites.now) }
 {
+    // Does nothing: it tells the prover that this is a proper value.
     sites.known();
     let mut listed = Vec::new(alloc);
     let mut after = None;
@@ -51,6 +52,7 @@ fn freezes(kind: ValueKind) -> bool
 pub fn does_freeze(state: &InferenceState, place: IdentifierId) -> bool
     ensures { result ≡ does_freeze state.now place }
 {
+    // Does nothing: it tells the prover that this is a proper value.
     state.known();
     state.is_defined(place) && freezes(state.kind_with_span(place, None).value.kind)
 }

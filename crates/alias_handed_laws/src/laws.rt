@@ -15,5 +15,6 @@ pub fn handed_laws(unit: &Unit)
     ensures earlier { (a : UnitAnalysis) → rules_hold unit.now ≡ Ok tt → unit_analysed unit.now ≡ Ok a → EarlierStay a }
     ensures solved { (i : Inferred) → rules_hold unit.now ≡ Ok tt → InfersUnit (unit_analysed unit.now) (Ok i) → IsSolvedInOrder unit.now i }
 {
+    // A law does nothing with what it is given: its clause is what it is for.
     let _unit = unit;
 }

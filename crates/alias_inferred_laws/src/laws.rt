@@ -14,6 +14,7 @@ use alias_hir::env::Unit;
 pub fn lint_laws(unit: &Unit)
     ensures { (a : UnitAnalysis) → rules_hold unit.now ≡ Ok tt → unit_analysed unit.now ≡ Ok a → LintsAreReports a.inferred }
 {
+    // A law does nothing with what it is given: its clause is what it is for.
     let _unit = unit;
 }
 

@@ -14,6 +14,7 @@ pub(crate) fn is_within<V: Lattice>(value: &V, there: &V) -> bool
     ensures same { IsTrue result → V.join there.now value.now ≡ there.now }
     ensures turned { IsTrue result → V.join value.now there.now ≡ there.now }
 {
+    // Does nothing: it tells the prover that this is a proper value.
     value.known();
     there.known();
     value.is_below(there)

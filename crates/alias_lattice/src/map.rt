@@ -48,6 +48,7 @@ impl<K: PlainKey, V: Lattice + Drop> Lattice for LatticeMap<K, V> {
     ghost laws = { list_laws K.cmp K.total K.same V.proper V.join V.below V.laws };
 
     fn known(&self) {
+        // A look at the field tells the prover what holds of it.
         let _chunks = &self.chunks;
     }
 
@@ -131,6 +132,7 @@ impl<K: PlainKey, V: Lattice + Drop> LatticeMap<K, V> {
         ensures joined { IfOk result (λ p. p.0 ≡ list_join K.cmp V.join self.now other.now) }
         ensures grew { IfOk result (λ p. p.1 ≡ not (list_below K.cmp V.below other.now self.now)) }
     {
+        // Does nothing: it tells the prover that this is a proper value.
         self.known();
         let mut joined = self.try_clone()?;
         let mut grew = false;
@@ -149,6 +151,7 @@ impl<K: PlainKey, V: Lattice + Drop> LatticeMap<K, V> {
         ensures ok { OnOk result (self.new ≡ put K.cmp key value self.old) }
         ensures err { OnErr result (self.new ≡ self.old) }
     {
+        // Does nothing: it tells the prover that this is a proper value.
         value.known();
         self.chunks.put(self.alloc, key, value)
     }
@@ -212,6 +215,7 @@ pub(crate) fn set_both<K: PlainKey, V: Lattice + Drop, L: PlainKey, W: Lattice +
     ensures err { OnErr result (first.new ≡ first.old) }
     ensures second_err { OnErr result (second.new ≡ second.old) }
 {
+    // Does nothing: it tells the prover that this is a proper value.
     second_value.known();
     let alloc = second.alloc;
     second

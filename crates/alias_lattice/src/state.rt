@@ -243,6 +243,7 @@ impl InferenceState {
         ensures ok { OnOk result (self.new ≡ phied phi operands.now self.old) }
         ensures err { OnErr result (self.new ≡ self.old) }
     {
+        // Does nothing: it tells the prover that this is a proper value.
         self.known();
         match self.union_over(operands)? {
             Some(sites) => self.define_all(phi, sites),
@@ -259,6 +260,7 @@ impl InferenceState {
         ensures ok { OnOk result (self.new ≡ appended place value self.old) }
         ensures err { OnErr result (self.new ≡ self.old) }
     {
+        // Does nothing: it tells the prover that this is a proper value.
         self.known();
         match self.union_of_both(place, value)? {
             Some(sites) => self.define_all(place, sites),
@@ -301,6 +303,7 @@ impl InferenceState {
         ensures grew { IfOk result (λ grew. grew ≡ not (state_below other.now self.old)) }
         ensures err { OnErr result (self.new ≡ self.old) }
     {
+        // Does nothing: it tells the prover that this is a proper value.
         self.known();
         other.known();
         let (values, more_values) = self.values.merged(&other.values)?;

@@ -10,6 +10,7 @@ pub fn made_unit_is_well_formed(seed: u64, size: u32)
     requires limit { size ≤ 1000 }
     ensures { rules_hold (made_unit seed size) ≡ Ok tt }
 {
+    // A law does nothing with what it is given: its clause is what it is for.
     let _seed = seed;
     let _size = size;
 }

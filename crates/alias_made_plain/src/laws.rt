@@ -11,6 +11,7 @@ pub fn made_unit_is_plain(seed: u64, size: u32)
     ensures plain { IsPlainUnit (made_unit seed size) }
     ensures forward { IsForwardUnit (made_unit seed size) }
 {
+    // A law does nothing with what it is given: its clause is what it is for.
     let _seed = seed;
     let _size = size;
 }

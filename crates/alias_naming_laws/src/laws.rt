@@ -16,6 +16,7 @@ use alias_hir::hir::HirFunction;
 pub fn naming_laws(env: &Environment, func: &HirFunction)
     ensures { (has : ℕ → Bool) (b : Bool) (e : PassEnd) → ((n : ℕ) → length env.now.identifiers ≤ n → has n ≡ true) → OwnsAll env.now (λ n. has n ≡ true) (places_in env.now func.now) → pass_end env.now func.now b ≡ Ok e → SolvedNames env.now (λ n. has n ≡ true) e.solved }
 {
+    // A law does nothing with what it is given: its clause is what it is for.
     let _env = env;
     let _func = func;
 }

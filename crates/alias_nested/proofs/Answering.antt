@@ -4,17 +4,22 @@ use Rattle.std.proofs.Common.{zero, suc, ap, sym, subst, ◌∙◌}
 use Rattle.alias_base.specs.Answer.{◌>>=◌}
 use Rattle.alias_base.specs.declared.ids.FunctionId.{FunctionId}
 use Rattle.alias_effects.specs.declared.solved.Solved.{Solved}
+use Rattle.alias_hir.specs.Errors.{is_memory}
 use Rattle.alias_hir.specs.declared.effect.AliasingEffect.{AliasingEffect}
 use Rattle.alias_hir.specs.declared.env.Environment.{Environment}
 use Rattle.alias_hir.specs.declared.error.InferError.{InferError}
+use Rattle.alias_hir.specs.declared.error.InferError.TheVariants as error
+use Rattle.alias_hir.specs.declared.error.Pass.{Pass}
+use Rattle.alias_hir.specs.declared.error.Pass.TheVariants.{DeadCodeElimination, RewriteInstructionKindsBasedOnReassignment, InferReactiveScopeVariables}
 use Rattle.alias_hir.specs.declared.hir.HirFunction.{HirFunction}
-use Rattle.alias_nested.specs.Analysis.{Analysed, Analysis, analysis, naming, each, effects_analysed, completed, completed_with, function_analysed, taken_analysed, found_analysed, slot_analysed, analysed, is_free, Accounts, Leads}
-use Rattle.alias_nested.specs.Answers.{Answers, Only, Then, done, refused, Each, IsPassed, Passed, Completed, CompletedWith, FunctionAnalysed, TakenAnalysed, FoundAnalysed, SlotAnalysed, AnalysedWith, Analyses, AnalysesInto, LeadsToOne, LeadsToOneWith, CompletesOne}
+use Rattle.alias_nested.specs.Analysis.{Analysed, Analysis, analysis, naming, each, effects_analysed, completed, completed_with, function_analysed, taken_analysed, found_analysed, slot_analysed, analysed, is_free, IsFault, IsPassFault, Accounts, Leads}
+use Rattle.alias_nested.specs.Answers.{Answers, Only, Then, done, refused, Each, IsPassed, Passed, Completed, CompletedWith, FunctionAnalysed, TakenAnalysed, FoundAnalysed, SlotAnalysed, AnalysedWith, Analyses, AnalysesInto, AnalysesExactly, AnalysesExactlyInto, LeadsToOne, LeadsToOneWith, CompletesOne}
 use Rattle.alias_nested.specs.Created.{created_functions}
 use Rattle.alias_nested.specs.Settling.{settled}
 use Rattle.alias_nested.specs.Slots.{emptied}
+use Rattle.alias_nested.proofs.Ending.{unfree}
 use Rattle.alias_nesting_laws.specs.Slots.{with_function}
-use Rattle.alias_range_pass.specs.Passes.{range_pass}
+use Rattle.alias_range_pass.specs.Passes.{Ranged, range_pass}
 
 -- ---- what follows the effects pass
 
@@ -22,12 +27,23 @@ module _ (keeps_all : Bool) (id : FunctionId) (f₀ f₁ : HirFunction) (e₀ e�
   pub completes_refused : (e : InferError) → naming id (range_pass true f₁ e₁) ≡ Err e → Completed keeps_all id (f₀, e₀) (Err e)
   completes_refused e h = done (f₁, e₁) first (refused e h refl)
 
+  pub second_refused : (f₂ : HirFunction) (e₂ : Environment) (summary : List AliasingEffect) (e : InferError) → naming id (range_pass true f₁ e₁) ≡ Ok (record { summary = summary; after = (f₂, e₂) })
+      → e ≡ error.PassFault (Some id) RewriteInstructionKindsBasedOnReassignment → Completed keeps_all id (f₀, e₀) (Err e)
+  second_refused f₂ e₂ summary e h is = done (f₁, e₁) first (done (record { summary = summary; after = (f₂, e₂) }) h (refused e is refl))
+
+  pub third_refused : (f₂ f₃ : HirFunction) (e₂ e₃ : Environment) (summary : List AliasingEffect) (e : InferError) → naming id (range_pass true f₁ e₁) ≡ Ok (record { summary = summary; after = (f₂, e₂) })
+      → IsPassed keeps_all (f₂, e₂) (f₃, e₃) → e ≡ error.PassFault (Some id) InferReactiveScopeVariables → Completed keeps_all id (f₀, e₀) (Err e)
+  third_refused f₂ f₃ e₂ e₃ summary e h second is = done (f₁, e₁) first (done (record { summary = summary; after = (f₂, e₂) }) h (done (f₃, e₃) second (refused e is refl)))
+
   pub completes : (f₂ f₃ f₄ f₅ : HirFunction) (e₂ e₃ e₄ e₅ : Environment) (summary : List AliasingEffect) → naming id (range_pass true f₁ e₁) ≡ Ok (record { summary = summary; after = (f₂, e₂) })
       → IsPassed keeps_all (f₂, e₂) (f₃, e₃) → IsPassed keeps_all (f₃, e₃) (f₄, e₄) → (f₅, e₅) ≡ settled summary (f₄, e₄) → Completed keeps_all id (f₀, e₀) (Ok (f₅, e₅))
   completes f₂ f₃ f₄ f₅ e₂ e₃ e₄ e₅ summary h second third set =
       done (f₁, e₁) first (done (record { summary = summary; after = (f₂, e₂) }) h (done (f₃, e₃) second (done (f₄, e₄) third (ap Ok (sym set)))))
 
-pub completes_error : (answers : Answers (HirFunction × Environment)) (r : Result ⊤ InferError) (e : InferError) (f : HirFunction) (env : Environment) → r ≡ Err e → (is_free e ≡ false → answers (Err e)) → CompletesOne answers r f env
+pub first_refused : (keeps_all : Bool) (id : FunctionId) (s : HirFunction × Environment) (e : InferError) → e ≡ error.PassFault (Some id) DeadCodeElimination → Completed keeps_all id s (Err e)
+first_refused keeps_all id s e is = refused e is refl
+
+pub completes_error : (answers : Answers (HirFunction × Environment)) (r : Result ⊤ InferError) (e : InferError) (f : HirFunction) (env : Environment) → r ≡ Err e → (is_memory e ≡ false → answers (Err e)) → CompletesOne answers r f env
 completes_error answers r e f env is h = subst (λ q. CompletesOne answers q f env) (sym is) h
 
 -- ---- a nested function
@@ -41,7 +57,7 @@ module _ (keeps_all : Bool) (id : FunctionId) (f : HirFunction) (a : Analysis) w
   function_leads f₁ f₂ e₁ e₂ fs solved (Ok u) h i c = (fs, done (f₁, analysis e₁ fs) h (done (f₂, e₂) c refl), i)
   function_leads f₁ f₂ e₁ e₂ fs solved (Err e) h i c = λ free. done (f₁, analysis e₁ fs) h (refused e (c free) refl)
 
-pub leads_with_error : (answers : Answers (HirFunction × Analysis)) (r : Result ⊤ InferError) (e : InferError) (f : HirFunction) (env : Environment) (solved : List Solved) → r ≡ Err e → (is_free e ≡ false → answers (Err e)) → LeadsToOneWith answers r f env solved
+pub leads_with_error : (answers : Answers (HirFunction × Analysis)) (r : Result ⊤ InferError) (e : InferError) (f : HirFunction) (env : Environment) (solved : List Solved) → r ≡ Err e → (is_memory e ≡ false → answers (Err e)) → LeadsToOneWith answers r f env solved
 leads_with_error answers r e f env solved is h = subst (λ q. LeadsToOneWith answers q f env solved) (sym is) h
 
 -- first those below it
@@ -65,70 +81,97 @@ module _ (keeps_all : Bool) (below : HirFunction → Analysis → Answers Analys
   slot_leads g after back solved (Ok u) put l = (l.0, found_one _ (done (g, analysis after l.0) (taken_there _ l.1) (ap (λ e. Ok (analysis e l.0)) (sym put))), l.2)
   slot_leads g after back solved (Err e) put l = λ free. found_one _ (refused e (taken_there _ (l free)) refl)
 
--- ---- where the passes keep everything there is one answer
+-- ---- where the passes keep everything there is one answer, but for faults
 
-then_is : {A B : Type 0} (first : Answers A) (next : A → Answers B) (p : Result A InferError) (q : A → Result B InferError) → ((s : Result A InferError) → first s → p ≡ s) → ((x : A) (s : Result B InferError) → next x s → q x ≡ s)
-    → (r : Result B InferError) → Then first next r → (p >>= q) ≡ r
-then_is first next p q f g r (done x h i) = ap (λ z. z >>= q) (f (Ok x) h) ∙ g x r i
-then_is first next p q f g r (refused e h is) = ap (λ z. z >>= q) (f (Err e) h) ∙ sym is
+-- the answer is no fault of a pass of the caller
+abbrev IsCalm : {A : Type 0} → Result A InferError → Type 0
+IsCalm r = IsPassFault r → ⊥
+
+then_is : {A B : Type 0} (first : Answers A) (next : A → Answers B) (p : Result A InferError) (q : A → Result B InferError) → ((s : Result A InferError) → IsCalm s → first s → p ≡ s) → ((x : A) (s : Result B InferError) → IsCalm s → next x s → q x ≡ s)
+    → (r : Result B InferError) → IsCalm r → Then first next r → (p >>= q) ≡ r
+then_is {A} {B} first next p q f g r calm (done x h i) = ap (λ z. z >>= q) (f (Ok x) (λ b. b) h) ∙ g x r calm i
+then_is {A} {B} first next p q f g r calm (refused e h is) = ap (λ z. z >>= q) (f (Err e) (λ b. calm (subst (λ (q : Result B InferError). IsPassFault q) (sym is) b)) h) ∙ sym is
 
 passed_is : (s t : HirFunction × Environment) → IsPassed true s t → t ≡ s
 passed_is s t p = let e = p.same refl in ap (λ f. (f, t.1)) e.0 ∙ ap (λ v. (s.0, v)) e.1
 
-passed_on : {B : Type 0} (s : HirFunction × Environment) (next : HirFunction × Environment → Answers B) (r : Result B InferError) → Then (Passed true s) next r → next s r
-passed_on s next r (done t p h) = subst (λ z. next z r) (passed_is s t p) h
-passed_on s next r (refused e h is) = absurd h
+passed_on : {B : Type 0} (id : FunctionId) (pass : Pass) (s : HirFunction × Environment) (next : HirFunction × Environment → Answers B) (r : Result B InferError) → IsCalm r → Then (Passed true id pass s) next r → next s r
+passed_on {B} id pass s next r calm (done t p h) = subst (λ z. next z r) (passed_is s t p) h
+passed_on {B} id pass s next r calm (refused e h is) = absurd (calm (subst (λ (q : Result B InferError). IsPassFault q) (sym is) (subst IsFault (sym h) tt)))
 
-completed_is : (id : FunctionId) (s : HirFunction × Environment) (r : Result (HirFunction × Environment) InferError) → Completed true id s r → completed id s.0 s.1 ≡ r
-completed_is id s r h =
-    then_is (Only (naming id (range_pass true s.0 s.1))) (λ z. Then (Passed true z.after) (λ kinds. Then (Passed true kinds) (λ scopes. Only (Ok (settled z.summary scopes))))) (naming id (range_pass true s.0 s.1)) (λ z. Ok (settled z.summary z.after))
-    (λ q e. e)
-    (λ z q e. passed_on z.after (λ scopes. Only (Ok (settled z.summary scopes))) q (passed_on z.after (λ kinds. Then (Passed true kinds) (λ scopes. Only (Ok (settled z.summary scopes)))) q e))
-    r
-    (passed_on s (λ dead. Then (Only (naming id (range_pass true dead.0 dead.1))) (λ z. Then (Passed true z.after) (λ kinds. Then (Passed true kinds) (λ scopes. Only (Ok (settled z.summary scopes)))))) r h)
+abbrev Scoped : FunctionId → List AliasingEffect → HirFunction × Environment → Answers (HirFunction × Environment)
+Scoped id summary kinds = Then (Passed true id InferReactiveScopeVariables kinds) (λ scopes. Only (Ok (settled summary scopes)))
 
-completed_with_is : (id : FunctionId) (s : HirFunction × Analysis) (r : Result (HirFunction × Analysis) InferError) → CompletedWith true id s r → completed_with id s ≡ r
-completed_with_is id s r h =
-    then_is (Completed true id (s.0, s.1.env)) (λ c. Only (Ok (c.0, analysis c.1 s.1.functions))) (completed id s.0 s.1.env) (λ c. Ok (c.0, analysis c.1 s.1.functions)) (completed_is id (s.0, s.1.env)) (λ c q e. e) r h
+abbrev Rewritten : FunctionId → Ranged → Answers (HirFunction × Environment)
+Rewritten id z = Then (Passed true id RewriteInstructionKindsBasedOnReassignment z.after) (Scoped id z.summary)
 
-function_is : (id : FunctionId) (f : HirFunction) (a : Analysis) (r : Result (HirFunction × Analysis) InferError) → FunctionAnalysed true id f a r → function_analysed id f a ≡ r
-function_is id f a r h = then_is (Only (effects_analysed id f a)) (CompletedWith true id) (effects_analysed id f a) (completed_with id) (λ q e. e) (completed_with_is id) r h
+completed_is : (id : FunctionId) (s : HirFunction × Environment) (r : Result (HirFunction × Environment) InferError) → IsCalm r → Completed true id s r → completed id s.0 s.1 ≡ r
+completed_is id s r calm h =
+    then_is (Only (naming id (range_pass true s.0 s.1))) (Rewritten id) (naming id (range_pass true s.0 s.1)) (λ z. Ok (settled z.summary z.after))
+    (λ q k e. e)
+    (λ z q k e. passed_on id InferReactiveScopeVariables z.after (λ scopes. Only (Ok (settled z.summary scopes))) q k (passed_on id RewriteInstructionKindsBasedOnReassignment z.after (Scoped id z.summary) q k e))
+    r calm
+    (passed_on id DeadCodeElimination s (λ dead. Then (Only (naming id (range_pass true dead.0 dead.1))) (Rewritten id)) r calm h)
 
-module _ (Below : HirFunction → Analysis → Answers Analysis) (below : HirFunction → Analysis → Result Analysis InferError) (below_is : (f : HirFunction) (a : Analysis) (r : Result Analysis InferError) → Below f a r → below f a ≡ r) where
-  taken_is : (id : FunctionId) (f : HirFunction) (a : Analysis) (r : Result (HirFunction × Analysis) InferError) → TakenAnalysed true Below id f a r → taken_analysed below id f a ≡ r
-  taken_is id f a r h = then_is (Below f a) (FunctionAnalysed true id f) (below f a) (function_analysed id f) (below_is f a) (function_is id f) r h
+completed_with_is : (id : FunctionId) (s : HirFunction × Analysis) (r : Result (HirFunction × Analysis) InferError) → IsCalm r → CompletedWith true id s r → completed_with id s ≡ r
+completed_with_is id s r calm h =
+    then_is (Completed true id (s.0, s.1.env)) (λ c. Only (Ok (c.0, analysis c.1 s.1.functions))) (completed id s.0 s.1.env) (λ c. Ok (c.0, analysis c.1 s.1.functions)) (completed_is id (s.0, s.1.env)) (λ c q k e. e) r calm h
 
-  found_is : (id : FunctionId) (a : Analysis) (o : Option HirFunction) (r : Result Analysis InferError) → FoundAnalysed true Below id a o r → found_analysed below id a o ≡ r
-  found_is id a None r h = h
-  found_is id a (Some f) r h =
+function_is : (id : FunctionId) (f : HirFunction) (a : Analysis) (r : Result (HirFunction × Analysis) InferError) → IsCalm r → FunctionAnalysed true id f a r → function_analysed id f a ≡ r
+function_is id f a r calm h = then_is (Only (effects_analysed id f a)) (CompletedWith true id) (effects_analysed id f a) (completed_with id) (λ q k e. e) (completed_with_is id) r calm h
+
+module _ (Below : HirFunction → Analysis → Answers Analysis) (below : HirFunction → Analysis → Result Analysis InferError) (below_is : (f : HirFunction) (a : Analysis) (r : Result Analysis InferError) → IsCalm r → Below f a r → below f a ≡ r) where
+  taken_is : (id : FunctionId) (f : HirFunction) (a : Analysis) (r : Result (HirFunction × Analysis) InferError) → IsCalm r → TakenAnalysed true Below id f a r → taken_analysed below id f a ≡ r
+  taken_is id f a r calm h = then_is (Below f a) (FunctionAnalysed true id f) (below f a) (function_analysed id f) (below_is f a) (function_is id f) r calm h
+
+  found_is : (id : FunctionId) (a : Analysis) (o : Option HirFunction) (r : Result Analysis InferError) → IsCalm r → FoundAnalysed true Below id a o r → found_analysed below id a o ≡ r
+  found_is id a None r calm h = h
+  found_is id a (Some f) r calm h =
       let out : Analysis = record a { env = with_function id (emptied f.returns) a.env } in
-      then_is (TakenAnalysed true Below id f out) (λ s. Only (Ok (record s.1 { env = with_function id s.0 s.1.env }))) (taken_analysed below id f out) (λ s. Ok (record s.1 { env = with_function id s.0 s.1.env })) (taken_is id f out) (λ s q e. e) r h
+      then_is (TakenAnalysed true Below id f out) (λ s. Only (Ok (record s.1 { env = with_function id s.0 s.1.env }))) (taken_analysed below id f out) (λ s. Ok (record s.1 { env = with_function id s.0 s.1.env })) (taken_is id f out) (λ s q k e. e) r calm h
 
-  slot_is : (id : FunctionId) (a : Analysis) (r : Result Analysis InferError) → SlotAnalysed true Below id a r → slot_analysed below id a ≡ r
-  slot_is id a r h = found_is id a (slice_get a.env.functions id.0) r h
+  slot_is : (id : FunctionId) (a : Analysis) (r : Result Analysis InferError) → IsCalm r → SlotAnalysed true Below id a r → slot_analysed below id a ≡ r
+  slot_is id a r calm h = found_is id a (slice_get a.env.functions id.0) r calm h
 
-each_is : {X A : Type 0} (Step : X → A → Answers A) (step : X → A → Result A InferError) → ((x : X) (a : A) (r : Result A InferError) → Step x a r → step x a ≡ r) → (xs : List X) (a : A) (r : Result A InferError) → Each Step xs a r → each step xs a ≡ r
-each_is Step step s [] a r h = h
-each_is Step step s (x ∷ xs) a r h = then_is (Step x a) (Each Step xs) (step x a) (each step xs) (s x a) (each_is Step step s xs) r h
+each_is : {X A : Type 0} (Step : X → A → Answers A) (step : X → A → Result A InferError) → ((x : X) (a : A) (r : Result A InferError) → IsCalm r → Step x a r → step x a ≡ r) → (xs : List X) (a : A) (r : Result A InferError) → IsCalm r → Each Step xs a r → each step xs a ≡ r
+each_is Step step s [] a r calm h = h
+each_is Step step s (x ∷ xs) a r calm h = then_is (Step x a) (Each Step xs) (step x a) (each step xs) (s x a) (each_is Step step s xs) r calm h
 
-analysed_is : (n : ℕ) (f : HirFunction) (a : Analysis) (r : Result Analysis InferError) → AnalysedWith true n f a r → analysed n f a ≡ r
+analysed_is : (n : ℕ) (f : HirFunction) (a : Analysis) (r : Result Analysis InferError) → IsCalm r → AnalysedWith true n f a r → analysed n f a ≡ r
 unfolding AnalysedWith analysed
-analysed_is zero f a r h = h
-analysed_is (suc n) f a r h = each_is (SlotAnalysed true (AnalysedWith true n)) (slot_analysed (analysed n)) (slot_is (AnalysedWith true n) (analysed n) (analysed_is n)) (created_functions f) a r h
+analysed_is zero f a r calm h = h
+analysed_is (suc n) f a r calm h = each_is (SlotAnalysed true (AnalysedWith true n)) (slot_analysed (analysed n)) (slot_is (AnalysedWith true n) (analysed n) (analysed_is n)) (created_functions f) a r calm h
+
+-- a refusal that isn't free is no fault
+not_fault : (e : InferError) → is_free e ≡ false → IsFault e → ⊥
+not_fault (error.Memory m) h i = i
+not_fault (error.PassFault f p) h i = cc
+not_fault (error.NotSettled f v r) h i = i
+not_fault (error.Uninitialized f b x s r) h i = i
+not_fault (error.Reinitialized f n x) h i = i
+not_fault (error.AliasBeforeCreate f n x) h i = i
+not_fault (error.IncompatibleLibrary f n r) h i = i
+not_fault (error.SpreadArgument f n s r) h i = i
+not_fault (error.UnreplacedApply n r) h i = i
+not_fault (error.EffectsNotInferred x) h i = i
+not_fault (error.TooMany w) h i = i
 
 -- where the passes keep everything, what the call comes to is the analysis stated, or its refusal
-pub analyses_exactly : (keeps_all : Bool) → keeps_all ≡ true → (n : ℕ) (f : HirFunction) (a : Analysis) (r : Result (List Solved) InferError) (env : Environment) → Analyses (AnalysedWith keeps_all n f a) r env → Analyses (Only (analysed n f a)) r env
-analyses_exactly keeps_all k n f a (Ok solved) env h = (h.0, analysed_is n f a (Ok (analysis env h.0)) (subst (λ b. AnalysedWith b n f a (Ok (analysis env h.0))) k h.1), h.2)
-analyses_exactly keeps_all k n f a (Err e) env h = λ free. analysed_is n f a (Err e) (subst (λ b. AnalysedWith b n f a (Err e)) k (h free))
+pub analyses_exactly : (keeps_all : Bool) → keeps_all ≡ true → (n : ℕ) (f : HirFunction) (a : Analysis) (r : Result (List Solved) InferError) (env : Environment) → Analyses (AnalysedWith keeps_all n f a) r env → AnalysesExactly (analysed n f a) r env
+analyses_exactly keeps_all k n f a (Ok solved) env h = (h.0, analysed_is n f a (Ok (analysis env h.0)) (λ b. b) (subst (λ b. AnalysedWith b n f a (Ok (analysis env h.0))) k h.1), h.2)
+analyses_exactly keeps_all k n f a (Err e) env h = λ free. analysed_is n f a (Err e) (not_fault e free) (subst (λ b. AnalysedWith b n f a (Err e)) k (h (unfree e free)))
 
 pub leads_exactly : (keeps_all : Bool) → keeps_all ≡ true → (n : ℕ) (f : HirFunction) (a : Analysis) (r : Result ⊤ InferError) (env : Environment) (solved : List Solved) → LeadsToOne (AnalysedWith keeps_all n f a) r env solved → Leads (analysed n f a) r env solved
-leads_exactly keeps_all k n f a (Ok u) env solved h = (h.0, analysed_is n f a (Ok (analysis env h.0)) (subst (λ b. AnalysedWith b n f a (Ok (analysis env h.0))) k h.1), h.2)
-leads_exactly keeps_all k n f a (Err e) env solved h = λ free. analysed_is n f a (Err e) (subst (λ b. AnalysedWith b n f a (Err e)) k (h free))
+leads_exactly keeps_all k n f a (Ok u) env solved h = (h.0, analysed_is n f a (Ok (analysis env h.0)) (λ b. b) (subst (λ b. AnalysedWith b n f a (Ok (analysis env h.0))) k h.1), h.2)
+leads_exactly keeps_all k n f a (Err e) env solved h = λ free. analysed_is n f a (Err e) (not_fault e free) (subst (λ b. AnalysedWith b n f a (Err e)) k (h (unfree e free)))
 
 -- ---- the calls
 
-pub analyses_error : (answers : Answers Analysis) (r : Result (List Solved) InferError) (e : InferError) (env : Environment) → r ≡ Err e → (is_free e ≡ false → answers (Err e)) → Analyses answers r env
+pub analyses_error : (answers : Answers Analysis) (r : Result (List Solved) InferError) (e : InferError) (env : Environment) → r ≡ Err e → (is_memory e ≡ false → answers (Err e)) → Analyses answers r env
 analyses_error answers r e env is h = subst (λ q. Analyses answers q env) (sym is) h
 
-pub into_error : (answers : Answers Analysis) (r : Result ⊤ InferError) (e : InferError) (env : Environment) → r ≡ Err e → (is_free e ≡ false → answers (Err e)) → AnalysesInto answers r env
+pub into_error : (answers : Answers Analysis) (r : Result ⊤ InferError) (e : InferError) (env : Environment) → r ≡ Err e → (is_memory e ≡ false → answers (Err e)) → AnalysesInto answers r env
 into_error answers r e env is h = subst (λ q. AnalysesInto answers q env) (sym is) h
+
+pub exactly_error : (stated : Result Analysis InferError) (r : Result ⊤ InferError) (e : InferError) (env : Environment) → r ≡ Err e → (is_free e ≡ false → stated ≡ Err e) → AnalysesExactlyInto stated r env
+exactly_error stated r e env is h = subst (λ q. AnalysesExactlyInto stated q env) (sym is) h

@@ -94,7 +94,7 @@ notes_one id s before after more = ap functions_of more ∙ map-append (λ (x : 
 -- ---- refusals
 
 -- a refusal of a function is no want of memory
-pub not_memory : (id : FunctionId) (e : InferError) → is_free (named id e) ≡ false → is_memory e ≡ false
+pub not_memory : (id : FunctionId) (e : InferError) → is_memory (named id e) ≡ false → is_memory e ≡ false
 not_memory id (error.Memory m) h = cc
 not_memory id (error.PassFault f p) h = refl
 not_memory id (error.NotSettled f v r) h = refl

@@ -5,10 +5,11 @@ use Rattle.std.proofs.lemmas.List.{drop_more}
 use Rattle.std.proofs.lemmas.Option.{slice_get_within, get_or_from_slice_get}
 use Rattle.alias_base.specs.declared.ids.FunctionId.{FunctionId}
 use Rattle.alias_effects.specs.declared.solved.Solved.{Solved}
+use Rattle.alias_hir.specs.Errors.{is_memory}
 use Rattle.alias_hir.specs.declared.env.Environment.{Environment}
 use Rattle.alias_hir.specs.declared.error.InferError.{InferError}
 use Rattle.alias_hir.specs.declared.hir.HirFunction.{HirFunction}
-use Rattle.alias_nested.specs.Analysis.{Analysed, Analysis, analysis, is_free, Accounts}
+use Rattle.alias_nested.specs.Analysis.{Analysed, Analysis, analysis, Accounts}
 use Rattle.alias_nested.specs.Answers.{Answers, done, refused, Each, SlotAnalysed, AnalysedWith, LeadsToOne}
 use Rattle.alias_nested.specs.Created.{created_functions}
 
@@ -78,5 +79,5 @@ pub analysed_more : (keeps_all : Bool) (n m : ℕ) (f : HirFunction) (a : Analys
 analysed_more keeps_all n m f a r h i = subst (λ k. AnalysedWith keeps_all k f a r) (sym h) (at_more keeps_all m f a r i)
 
 -- a call that was refused
-pub leads_error : (answers : Answers Analysis) (r : Result ⊤ InferError) (e : InferError) (env : Environment) (solved : List Solved) → r ≡ Err e → (is_free e ≡ false → answers (Err e)) → LeadsToOne answers r env solved
+pub leads_error : (answers : Answers Analysis) (r : Result ⊤ InferError) (e : InferError) (env : Environment) (solved : List Solved) → r ≡ Err e → (is_memory e ≡ false → answers (Err e)) → LeadsToOne answers r env solved
 leads_error answers r e env solved is h = subst (λ q. LeadsToOne answers q env solved) (sym is) h

@@ -3,6 +3,7 @@ use Rattle.std.specs.Prelude.{◌≡◌, ℕ, zero, suc, Bool, true, false, List
 use Rattle.std.specs.List.{AllByRecursion}
 use Rattle.alias_base.specs.Answer.{◌>>=◌}
 use Rattle.alias_base.specs.declared.ids.FunctionId.{FunctionId}
+use Rattle.alias_hir.specs.Errors.{is_memory}
 use Rattle.alias_hir.specs.declared.effect.AliasingEffect.{AliasingEffect}
 use Rattle.alias_hir.specs.declared.env.Environment.{Environment}
 use Rattle.alias_hir.specs.declared.error.InferError.{InferError}
@@ -128,15 +129,15 @@ abbrev pub Leads : Result Analysis InferError → Result ⊤ InferError → Envi
 Leads stated (Ok u) env solved = (fs : List Analysed) × (stated ≡ Ok (analysis env fs)) × Accounts fs solved
 Leads stated (Err e) env solved = is_free e ≡ false → stated ≡ Err e
 
--- the same of a call that has a function out of its slot
+-- the same of a call that has a function out of its slot, and that calls no pass of the caller
 abbrev pub LeadsWith : Result (HirFunction × Analysis) InferError → Result ⊤ InferError → HirFunction → Environment → List Solved → Type 0
 LeadsWith stated (Ok u) func env solved = (fs : List Analysed) × (stated ≡ Ok (func, analysis env fs)) × Accounts fs solved
-LeadsWith stated (Err e) func env solved = is_free e ≡ false → stated ≡ Err e
+LeadsWith stated (Err e) func env solved = is_memory e ≡ false → stated ≡ Err e
 
 -- the range pass answers the summary stated, and leaves what is stated, or answers the refusal stated
 abbrev pub Ranges : Result Ranged InferError → Result (List AliasingEffect) InferError → HirFunction → Environment → Type 0
 Ranges stated (Ok summary) func env = stated ≡ Ok (record { summary = summary; after = (func, env) })
-Ranges stated (Err e) func env = is_free e ≡ false → stated ≡ Err e
+Ranges stated (Err e) func env = is_memory e ≡ false → stated ≡ Err e
 
 -- a pass of the caller failed
 abbrev pub IsFault : InferError → Type 0

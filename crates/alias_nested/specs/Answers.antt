@@ -1,8 +1,12 @@
 -- Which answers the analysis of nested functions may come to, over passes of the caller that change functions within their law.
 use Rattle.std.specs.Prelude.{◌≡◌, ℕ, zero, suc, Bool, true, false, List, [], ◌∷◌, Option, Some, None, Result, Ok, Err, ⊤, slice_get}
 use Rattle.alias_base.specs.declared.ids.FunctionId.{FunctionId}
+use Rattle.alias_hir.specs.Errors.{is_memory}
 use Rattle.alias_hir.specs.declared.env.Environment.{Environment}
 use Rattle.alias_hir.specs.declared.error.InferError.{InferError}
+use Rattle.alias_hir.specs.declared.error.InferError.TheVariants.{PassFault}
+use Rattle.alias_hir.specs.declared.error.Pass.{Pass}
+use Rattle.alias_hir.specs.declared.error.Pass.TheVariants.{DeadCodeElimination, RewriteInstructionKindsBasedOnReassignment, InferReactiveScopeVariables}
 use Rattle.alias_hir.specs.declared.hir.HirFunction.{HirFunction}
 use Rattle.alias_effects.specs.declared.solved.Solved.{Solved}
 use Rattle.alias_inner_passes.specs.Passes.{Keeps}
@@ -36,22 +40,22 @@ Each step (x ∷ xs) a = Then (step x a) (Each step xs)
 -- ---- a nested function
 
 -- A pass of the caller that is done: of a function and its environment it leaves what it has to keep; all of both, where the passes keep everything.
--- What it answers else is free.
 pub record IsPassed (keeps_all : Bool) (old new : HirFunction × Environment) : Type 0 where
   pub keeps : Keeps old.0 old.1 new.0 new.1
   pub same : keeps_all ≡ true → (new.0 ≡ old.0) × (new.1 ≡ old.1)
 
-abbrev pub Passed : Bool → HirFunction × Environment → Answers (HirFunction × Environment)
-Passed keeps_all old (Ok new) = IsPassed keeps_all old new
-Passed keeps_all old (Err e) = ⊥
+-- This pass of the caller on the function of the number: it is done, or it fails, and the fault names both.
+abbrev pub Passed : Bool → FunctionId → Pass → HirFunction × Environment → Answers (HirFunction × Environment)
+Passed keeps_all id pass old (Ok new) = IsPassed keeps_all old new
+Passed keeps_all id pass old (Err e) = e ≡ PassFault (Some id) pass
 
 -- What follows the effects pass: `dead_code_elimination`, the range pass, the two other passes, and what is set once the summary is known.
 abbrev pub Completed : Bool → FunctionId → HirFunction × Environment → Answers (HirFunction × Environment)
 Completed keeps_all id s =
-    Then (Passed keeps_all s) (λ dead.
+    Then (Passed keeps_all id DeadCodeElimination s) (λ dead.
     Then (Only (naming id (range_pass true dead.0 dead.1))) (λ r.
-    Then (Passed keeps_all r.after) (λ kinds.
-    Then (Passed keeps_all kinds) (λ scopes.
+    Then (Passed keeps_all id RewriteInstructionKindsBasedOnReassignment r.after) (λ kinds.
+    Then (Passed keeps_all id InferReactiveScopeVariables kinds) (λ scopes.
     Only (Ok (settled r.summary scopes))))))
 
 abbrev pub CompletedWith : Bool → FunctionId → HirFunction × Analysis → Answers (HirFunction × Analysis)
@@ -81,27 +85,37 @@ AnalysedWith keeps_all (suc n) f a = Each (SlotAnalysed keeps_all (AnalysedWith 
 -- ---- what calls answer
 
 -- The call comes to one of the answers: to an analysis whose solutions it hands out, innermost first, each of which solves the flow of its function as
--- its effects pass began; or to a refusal. Want of memory is free, and so is a fault of a pass of the caller.
+-- its effects pass began; or to a refusal, or to a fault of a pass of the caller. Want of memory is free.
 abbrev pub Analyses : Answers Analysis → Result (List Solved) InferError → Environment → Type 0
 Analyses answers (Ok solved) env = (fs : List Analysed) × answers (Ok (analysis env fs)) × Accounts fs solved
-Analyses answers (Err e) env = is_free e ≡ false → answers (Err e)
+Analyses answers (Err e) env = is_memory e ≡ false → answers (Err e)
 
 -- the same of a call that hands nothing out
 abbrev pub AnalysesInto : Answers Analysis → Result ⊤ InferError → Environment → Type 0
 AnalysesInto answers (Ok u) env = (fs : List Analysed) × answers (Ok (analysis env fs))
-AnalysesInto answers (Err e) env = is_free e ≡ false → answers (Err e)
+AnalysesInto answers (Err e) env = is_memory e ≡ false → answers (Err e)
+
+-- The same where there is one answer, that of passes that keep everything and never fail: a fault of a pass of the caller is free too.
+abbrev pub AnalysesExactly : Result Analysis InferError → Result (List Solved) InferError → Environment → Type 0
+AnalysesExactly stated (Ok solved) env = (fs : List Analysed) × (stated ≡ Ok (analysis env fs)) × Accounts fs solved
+AnalysesExactly stated (Err e) env = is_free e ≡ false → stated ≡ Err e
+
+-- the same of a call that hands nothing out
+abbrev pub AnalysesExactlyInto : Result Analysis InferError → Result ⊤ InferError → Environment → Type 0
+AnalysesExactlyInto stated (Ok u) env = (fs : List Analysed) × (stated ≡ Ok (analysis env fs))
+AnalysesExactlyInto stated (Err e) env = is_free e ≡ false → stated ≡ Err e
 
 -- the same of a call within the analysis, which notes solutions behind those that were noted
 abbrev pub LeadsToOne : Answers Analysis → Result ⊤ InferError → Environment → List Solved → Type 0
 LeadsToOne answers (Ok u) env solved = (fs : List Analysed) × answers (Ok (analysis env fs)) × Accounts fs solved
-LeadsToOne answers (Err e) env solved = is_free e ≡ false → answers (Err e)
+LeadsToOne answers (Err e) env solved = is_memory e ≡ false → answers (Err e)
 
 -- the same of a call that has a function out of its slot
 abbrev pub LeadsToOneWith : Answers (HirFunction × Analysis) → Result ⊤ InferError → HirFunction → Environment → List Solved → Type 0
 LeadsToOneWith answers (Ok u) func env solved = (fs : List Analysed) × answers (Ok (func, analysis env fs)) × Accounts fs solved
-LeadsToOneWith answers (Err e) func env solved = is_free e ≡ false → answers (Err e)
+LeadsToOneWith answers (Err e) func env solved = is_memory e ≡ false → answers (Err e)
 
 -- what follows the effects pass leaves one of the functions and environments, or answers one of the refusals
 abbrev pub CompletesOne : Answers (HirFunction × Environment) → Result ⊤ InferError → HirFunction → Environment → Type 0
 CompletesOne answers (Ok u) func env = answers (Ok (func, env))
-CompletesOne answers (Err e) func env = is_free e ≡ false → answers (Err e)
+CompletesOne answers (Err e) func env = is_memory e ≡ false → answers (Err e)

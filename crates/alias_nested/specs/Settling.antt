@@ -9,7 +9,7 @@ use Rattle.alias_hir.specs.declared.env.Environment.{Environment}
 use Rattle.alias_hir.specs.declared.env.Identifier.{Identifier}
 use Rattle.alias_hir.specs.declared.hir.HirFunction.{HirFunction}
 use Rattle.alias_hir.specs.declared.place.Effect.{Effect}
-use Rattle.alias_hir.specs.declared.place.Effect.TheVariants.{Read, Capture}
+use Rattle.alias_hir.specs.declared.place.Effect.TheVariants.{Unknown, Freeze, Read, Capture, ConditionallyMutateIterator, ConditionallyMutate, Mutate, Store}
 use Rattle.alias_hir.specs.declared.place.Place.{Place}
 
 -- the effect captures or mutates the identifier: it names it as what flows into another place, or as what is mutated
@@ -23,11 +23,25 @@ takes x (effect.Mutate value reason) = value.identifier.0 == x.0
 takes x (effect.MutateConditionally value) = value.identifier.0 == x.0
 takes x (effect.MutateTransitive value) = value.identifier.0 == x.0
 takes x (effect.MutateTransitiveConditionally value) = value.identifier.0 == x.0
-takes x e = false
+takes x (effect.Apply receiver function mutates args into signature span) = false
+takes x (effect.ImmutableCapture from into) = false
+takes x (effect.Create into kind reason) = false
+takes x (effect.Freeze v reason) = false
+takes x (effect.Impure p error) = false
+takes x (effect.MutateFrozen p error) = false
+takes x (effect.MutateGlobal p error) = false
+takes x (effect.Render p) = false
+takes x (effect.CreateFunction into f captures) = false
 
 abbrev pub is_capture : Effect → Bool
 is_capture Capture = true
-is_capture e = false
+is_capture Unknown = false
+is_capture Freeze = false
+is_capture Read = false
+is_capture ConditionallyMutateIterator = false
+is_capture ConditionallyMutate = false
+is_capture Mutate = false
+is_capture Store = false
 
 -- a context place is captured: the summary captures or mutates it, or it was captured already
 abbrev pub is_captured : List AliasingEffect → Place → Bool

@@ -5,7 +5,7 @@ ghost use Rattle.alias_function_rules.specs.Rules.{is_among};
 ghost use Rattle.alias_rules.specs.Fitting.{function_fits};
 ghost use Rattle.alias_rules.specs.Nesting.{created_in, times};
 ghost use Rattle.alias_nested.specs.Analysis.{analysis, most_levels, analysed, Accounts, Leads, IsPassFault};
-ghost use Rattle.alias_nested.specs.Answers.{Only, TakenAnalysed, SlotAnalysed, AnalysedWith, Analyses, AnalysesInto, LeadsToOne, LeadsToOneWith};
+ghost use Rattle.alias_nested.specs.Answers.{TakenAnalysed, SlotAnalysed, AnalysedWith, Analyses, AnalysesInto, AnalysesExactly, AnalysesExactlyInto, LeadsToOne, LeadsToOneWith};
 ghost use Rattle.alias_nested.specs.Fitting.{EnvironmentPruned};
 ghost use Rattle.alias_nested.specs.Order.{below_innermost_first, slot_innermost_first, numbers, functions_of, Notes, KeepsToOrder, KeepsToOrderWith};
 ghost use Rattle.alias_nested.specs.Slots.{emptied};
@@ -159,8 +159,8 @@ pub(crate) fn analyse_kept<P: InnerPasses>(
 /// the effects of its context places. A refusal names its function, unless it is `TooMany`, `UnreplacedApply` or `Memory`: it is
 /// that of the first in the order whose effects or ranges are refused, as `infer_effects_certified` and the range pass tell. The
 /// functions behind it in the order are unchanged, but for the effects of their context places. `PassFault` names its function
-/// as well, and comes only where the count of the passes' faults rose, or stands at its last value; `Memory` is want of memory,
-/// which can come at any time.
+/// and the pass that failed on it, where all that comes before went well, and comes only where the count of the passes' faults
+/// rose, or stands at its last value; `Memory` is want of memory, which can come at any time.
 pub fn analyse_functions_certified<P: InnerPasses, F: FnMut(&HirFunction, &Environment)>(
     alloc: Global,
     func: &mut HirFunction,
@@ -171,7 +171,7 @@ pub fn analyse_functions_certified<P: InnerPasses, F: FnMut(&HirFunction, &Envir
     requires fits { function_fits func.old env.old ≡ true }
     requires logger { (log : F) (f : _) (e : _) → F.pre log f e }
     ensures answer { Analyses (AnalysedWith P.keeps_all most_levels func.old (analysis env.old [])) result env.new }
-    ensures exact { P.keeps_all ≡ true → Analyses (Only (analysed most_levels func.old (analysis env.old []))) result env.new }
+    ensures exact { P.keeps_all ≡ true → AnalysesExactly (analysed most_levels func.old (analysis env.old [])) result env.new }
     ensures functions { IfOk result (λ solved. functions_of solved ≡ map Some (below_innermost_first most_levels func.old env.old)) }
     ensures func { func.new ≡ func.old }
     ensures fits { function_fits func.new env.new ≡ true }
@@ -207,7 +207,7 @@ pub fn analyse_functions<P: InnerPasses, F: FnMut(&HirFunction, &Environment)>(
     requires fits { function_fits func.old env.old ≡ true }
     requires logger { (log : F) (f : _) (e : _) → F.pre log f e }
     ensures answer { AnalysesInto (AnalysedWith P.keeps_all most_levels func.old (analysis env.old [])) result env.new }
-    ensures exact { P.keeps_all ≡ true → AnalysesInto (Only (analysed most_levels func.old (analysis env.old []))) result env.new }
+    ensures exact { P.keeps_all ≡ true → AnalysesExactlyInto (analysed most_levels func.old (analysis env.old [])) result env.new }
     ensures func { func.new ≡ func.old }
     ensures fits { function_fits func.new env.new ≡ true }
     ensures slots { SlotsKept env.old env.new }

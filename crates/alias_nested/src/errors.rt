@@ -1,6 +1,8 @@
 //! Errors that name their function.
-ghost use Rattle.std.specs.Prelude.{◌≡◌, true, false, Some};
-ghost use Rattle.alias_nested.specs.Analysis.{named, is_free, IsFault};
+ghost use Rattle.std.specs.Prelude.{◌≡◌, false, Some};
+ghost use Rattle.alias_hir.specs.Errors.{is_memory};
+ghost use Rattle.alias_hir.specs.declared.error.InferError.TheVariants.{PassFault};
+ghost use Rattle.alias_nested.specs.Analysis.{named, IsFault};
 ghost use Rattle.alias_nested.specs.Order.{refused_function, is_nameless};
 
 use alias_base::FunctionId;
@@ -75,7 +77,7 @@ pub fn named(id: FunctionId, error: InferError) -> InferError
 
 /// Why nothing is inferred, where a pass of the caller stopped on the function of this number.
 pub(crate) fn stopped(id: FunctionId, pass: Pass, stop: PassStop) -> InferError
-    ensures free { is_free result ≡ true }
+    ensures named { is_memory result ≡ false → result ≡ PassFault (Some id) pass }
     ensures fault { IsFault result → stop ≡ PassStop.Failed }
     ensures names { is_nameless result ≡ false → refused_function result ≡ Some id }
 {

@@ -1,9 +1,11 @@
 //! One nested function, once those below it are analysed.
-ghost use Rattle.std.specs.Prelude.{◌≡◌, ◌≤◌, true, [], ◌∷◌, Err, IfOk, IfErr};
+ghost use Rattle.std.specs.Prelude.{◌≡◌, ◌≤◌, true, false, [], ◌∷◌, Some, Err, IfOk, IfErr};
 ghost use Rattle.alias_failures.specs.Failures.{HasFailed};
+ghost use Rattle.alias_hir.specs.Errors.{is_memory};
+ghost use Rattle.alias_hir.specs.declared.error.InferError.TheVariants.{PassFault};
 ghost use Rattle.alias_rules.specs.Fitting.{function_fits};
 ghost use Rattle.alias_range_pass.specs.Passes.{range_pass};
-ghost use Rattle.alias_nested.specs.Analysis.{naming, analysis, effects_analysed, is_free, Accounts, LeadsWith, Ranges, IsPassFault};
+ghost use Rattle.alias_nested.specs.Analysis.{naming, analysis, effects_analysed, Accounts, LeadsWith, Ranges, IsPassFault};
 ghost use Rattle.alias_nested.specs.Answers.{IsPassed, Completed, FunctionAnalysed, CompletesOne, LeadsToOneWith};
 ghost use Rattle.alias_nested.specs.Fitting.{FunctionKept, SummaryFits};
 ghost use Rattle.alias_nested.specs.Order.{SameInSlots, Names, Notes};
@@ -106,7 +108,7 @@ fn run_pass<P: InnerPasses>(
 ) -> Result<(), InferError>
     requires { function_fits func.old env.old ≡ true }
     ensures passed { IsPassed P.keeps_all (func.old, env.old) (func.new, env.new) }
-    ensures free { IfErr result (λ e. is_free e ≡ true) }
+    ensures fault { IfErr result (λ e. is_memory e ≡ false → e ≡ PassFault (Some id) pass) }
     ensures names { Names id result }
     ensures faults { P.faults passes.old ≤ P.faults passes.new }
     ensures failed { IsPassFault result → HasFailed (P.faults passes.old) (P.faults passes.new) (P.at_last passes.new) }

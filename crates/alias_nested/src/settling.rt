@@ -25,14 +25,31 @@ fn takes(effect: &AliasingEffect, identifier: IdentifierId) -> bool
         | AliasingEffect::MutateTransitiveConditionally { value } => {
             value.identifier.0 == identifier.0
         }
-        _ => false,
+        AliasingEffect::Apply { .. }
+        | AliasingEffect::ImmutableCapture { .. }
+        | AliasingEffect::Create { .. }
+        | AliasingEffect::Freeze { .. }
+        | AliasingEffect::Impure { .. }
+        | AliasingEffect::MutateFrozen { .. }
+        | AliasingEffect::MutateGlobal { .. }
+        | AliasingEffect::Render { .. }
+        | AliasingEffect::CreateFunction { .. } => false,
     }
 }
 
 fn is_capture(effect: Effect) -> bool
     ensures { result ≡ is_capture effect }
 {
-    matches!(effect, Effect::Capture)
+    match effect {
+        Effect::Capture => true,
+        Effect::Unknown
+        | Effect::Freeze
+        | Effect::Read
+        | Effect::ConditionallyMutateIterator
+        | Effect::ConditionallyMutate
+        | Effect::Mutate
+        | Effect::Store => false,
+    }
 }
 
 /// Whether some effect of the summary captures or mutates the identifier.

@@ -17,6 +17,7 @@ use alias_hir::hir::HirFunction;
 pub fn range_pass_laws(env: &Environment, func: &HirFunction)
     ensures { (b : Bool) (r : Ranged) → function_fits func.now env.now ≡ true → range_pass b func.now env.now ≡ Ok r → LeavesRanges func.now env.now r }
 {
+    // A law does nothing with what it is given: its clause is what it is for.
     let _env = env;
     let _func = func;
 }

@@ -16,5 +16,6 @@ pub fn nesting_laws(env: &Environment)
     ensures created_exists { (holder : HirFunction) (id : FunctionId) → function_fits holder env.now ≡ true → is_among (created_in holder) id.0 ≡ true → id.0 < length env.now.functions }
     ensures taken_out_fits { (holder f stand_in : HirFunction) (id : FunctionId) → function_fits holder env.now ≡ true → is_among (created_in holder) id.0 ≡ true → slice_get env.now.functions id.0 ≡ Some f → stand_in.aliasing_effects ≡ None → function_fits f (with_function id stand_in env.now) ≡ true }
 {
+    // A law does nothing with what it is given: its clause is what it is for.
     let _env = env;
 }

@@ -116,6 +116,7 @@ fn check_list(
 ) -> Result<(), Stop>
     ensures { Scans (stops_at id (failing_of env.now unsure.now instruction.now list.now) tables.now) result tables.now }
 {
+    // The clause speaks of the tables; the body doesn't need them.
     let _tables = tables;
     match first_failing(alloc, env, unsure, instruction, list)? {
         Some(rule) => Err(Stop::Broken {

@@ -179,6 +179,7 @@ pub(crate) fn entered(
 ) -> Result<UnsureSet, AllocError>
     ensures { IfOk result (λ set. set ≡ entered blocks.now phis.now state.now) }
 {
+    // Does nothing: it tells the prover that this is a proper value.
     state.known();
     let mut so_far = None;
     let mut after = None;

@@ -19,6 +19,7 @@ pub fn pruning_laws(env: &Environment, more: &Environment)
     ensures fits { Prunes env.now more.now → TablesFit more.now → (g : HirFunction) → function_fits g env.now ≡ true → function_fits g more.now ≡ true }
     ensures passes { (f g : HirFunction) → Keeps f env.now g more.now → FunctionPruned f env.now g more.now }
 {
+    // A law does nothing with what it is given: its clause is what it is for.
     let _env = env;
     let _more = more;
 }

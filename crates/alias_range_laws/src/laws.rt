@@ -18,6 +18,7 @@ pub fn pass_fits(env: &Environment, func: &HirFunction)
     ensures expression { (r : Ranged) → range_pass true func.now env.now ≡ Ok r → r.after.1.errors ≡ env.now.errors }
     ensures sound { (b : Bool) (r : Ranged) → range_pass b func.now env.now ≡ Ok r → reports_no_invariant r.after.1 ≡ true }
 {
+    // A law does nothing with what it is given: its clause is what it is for.
     let _env = env;
     let _func = func;
 }

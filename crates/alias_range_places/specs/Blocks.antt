@@ -39,7 +39,26 @@ phi_placed ids t phi = record phi { place = with_effect Store phi.place; operand
 -- what is returned gets Freeze, and in function expressions Read; other places of terminals get Read
 abbrev pub terminal_effect : Bool → Terminal → Effect
 terminal_effect is_function_expression (terminal.Return id value effects) = cond is_function_expression Read Freeze
-terminal_effect is_function_expression t = Read
+terminal_effect is_function_expression (terminal.Goto id block) = Read
+terminal_effect is_function_expression (terminal.If id test consequent alternate) = Read
+terminal_effect is_function_expression (terminal.Branch id test consequent alternate) = Read
+terminal_effect is_function_expression (terminal.Switch id test cases) = Read
+terminal_effect is_function_expression (terminal.For id init) = Read
+terminal_effect is_function_expression (terminal.ForOf id init) = Read
+terminal_effect is_function_expression (terminal.ForIn id init) = Read
+terminal_effect is_function_expression (terminal.DoWhile id loop_block) = Read
+terminal_effect is_function_expression (terminal.While id test) = Read
+terminal_effect is_function_expression (terminal.Logical id test) = Read
+terminal_effect is_function_expression (terminal.Ternary id test) = Read
+terminal_effect is_function_expression (terminal.Optional id test) = Read
+terminal_effect is_function_expression (terminal.Throw id value) = Read
+terminal_effect is_function_expression (terminal.Unreachable id) = Read
+terminal_effect is_function_expression (terminal.Try id block handler handler_binding) = Read
+terminal_effect is_function_expression (terminal.MaybeThrow id continuation handler effects) = Read
+terminal_effect is_function_expression (terminal.Label id block) = Read
+terminal_effect is_function_expression (terminal.Sequence id block) = Read
+terminal_effect is_function_expression (terminal.Scope id block) = Read
+terminal_effect is_function_expression (terminal.PrunedScope id block) = Read
 
 abbrev pub terminal_placed : Bool → Terminal → Terminal
 terminal_placed is_function_expression t = map_terminal (with_effect (terminal_effect is_function_expression t)) t

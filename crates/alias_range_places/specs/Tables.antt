@@ -50,7 +50,14 @@ effect_tabled ids t (effect.Mutate x reason) table = set_effect x.identifier Sto
 effect_tabled ids t (effect.MutateConditionally x) table = set_effect x.identifier ConditionallyMutate table
 effect_tabled ids t (effect.MutateTransitive x) table = set_effect x.identifier ConditionallyMutate table
 effect_tabled ids t (effect.MutateTransitiveConditionally x) table = set_effect x.identifier ConditionallyMutate table
-effect_tabled ids t e table = table
+effect_tabled ids t (effect.Apply receiver function mutates args into signature span) table = table
+effect_tabled ids t (effect.ImmutableCapture a x) table = table
+effect_tabled ids t (effect.Create x kind reason) table = table
+effect_tabled ids t (effect.Impure p error) table = table
+effect_tabled ids t (effect.MutateFrozen p error) table = table
+effect_tabled ids t (effect.MutateGlobal p error) table = table
+effect_tabled ids t (effect.Render p) table = table
+effect_tabled ids t (effect.CreateFunction x f captures) table = table
 
 -- what the effects set, in order
 abbrev pub effects_tabled : List Identifier → EvaluationOrder → List AliasingEffect → Table → Table

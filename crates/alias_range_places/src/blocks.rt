@@ -58,8 +58,33 @@ fn terminal_effect(is_function_expression: bool, terminal: &Terminal) -> Effect
     ensures { result ≡ terminal_effect is_function_expression terminal.now }
 {
     match terminal {
-        Terminal::Return { .. } if !is_function_expression => Effect::Freeze,
-        _ => Effect::Read,
+        Terminal::Return { .. } => {
+            if is_function_expression {
+                Effect::Read
+            } else {
+                Effect::Freeze
+            }
+        }
+        Terminal::Goto { .. }
+        | Terminal::If { .. }
+        | Terminal::Branch { .. }
+        | Terminal::Switch { .. }
+        | Terminal::For { .. }
+        | Terminal::ForOf { .. }
+        | Terminal::ForIn { .. }
+        | Terminal::DoWhile { .. }
+        | Terminal::While { .. }
+        | Terminal::Logical { .. }
+        | Terminal::Ternary { .. }
+        | Terminal::Optional { .. }
+        | Terminal::Throw { .. }
+        | Terminal::Unreachable { .. }
+        | Terminal::Try { .. }
+        | Terminal::MaybeThrow { .. }
+        | Terminal::Label { .. }
+        | Terminal::Sequence { .. }
+        | Terminal::Scope { .. }
+        | Terminal::PrunedScope { .. } => Effect::Read,
     }
 }
 

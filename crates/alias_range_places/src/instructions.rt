@@ -78,7 +78,46 @@ fn place_created(table: &EffectTable, value: &InstructionValue, functions: &mut 
         | InstructionValue::ObjectMethod { lowered_func } => {
             place_context(table, functions, lowered_func.func);
         }
-        _ => {}
+        InstructionValue::ArrayExpression { .. }
+        | InstructionValue::ObjectExpression { .. }
+        | InstructionValue::Await { .. }
+        | InstructionValue::NewExpression { .. }
+        | InstructionValue::CallExpression { .. }
+        | InstructionValue::MethodCall { .. }
+        | InstructionValue::PropertyDelete { .. }
+        | InstructionValue::ComputedDelete { .. }
+        | InstructionValue::PropertyLoad { .. }
+        | InstructionValue::ComputedLoad { .. }
+        | InstructionValue::PropertyStore { .. }
+        | InstructionValue::ComputedStore { .. }
+        | InstructionValue::GetIterator { .. }
+        | InstructionValue::IteratorNext { .. }
+        | InstructionValue::NextPropertyOf { .. }
+        | InstructionValue::JsxExpression { .. }
+        | InstructionValue::JsxFragment { .. }
+        | InstructionValue::DeclareLocal { .. }
+        | InstructionValue::Destructure { .. }
+        | InstructionValue::LoadContext { .. }
+        | InstructionValue::DeclareContext { .. }
+        | InstructionValue::StoreContext { .. }
+        | InstructionValue::LoadLocal { .. }
+        | InstructionValue::StoreLocal { .. }
+        | InstructionValue::PostfixUpdate { .. }
+        | InstructionValue::PrefixUpdate { .. }
+        | InstructionValue::StoreGlobal { .. }
+        | InstructionValue::TypeCastExpression { .. }
+        | InstructionValue::LoadGlobal
+        | InstructionValue::StartMemoize { .. }
+        | InstructionValue::FinishMemoize { .. }
+        | InstructionValue::TaggedTemplateExpression { .. }
+        | InstructionValue::BinaryExpression { .. }
+        | InstructionValue::TemplateLiteral { .. }
+        | InstructionValue::UnaryExpression { .. }
+        | InstructionValue::Debugger
+        | InstructionValue::JSXText
+        | InstructionValue::MetaProperty
+        | InstructionValue::Primitive
+        | InstructionValue::RegExpLiteral => {}
     }
 }
 

@@ -14,6 +14,7 @@ use alias_hir::hir::HirFunction;
 pub fn changed_laws(func: &HirFunction, env: &Environment)
     ensures known { (keeps_all : Bool) (n : ℕ) (fs : List Analysed) (e : InferError) → AnalysedWith keeps_all n func.now (analysis env.now fs) (Err e) → is_not_inferred e ≡ false }
 {
+    // A law does nothing with what it is given: its clause is what it is for.
     let _func = func;
     let _env = env;
 }

@@ -14,7 +14,7 @@ use Rattle.alias_json.specs.declared.fault.ValueFault.TheVariants as value
 use Rattle.alias_read.specs.Units.{unit_of, UnitReading}
 use Rattle.alias_rules.specs.Functions.{rules_hold}
 use Rattle.alias_nested.specs.Analysis.{IsFault}
-use Rattle.alias_nested.specs.Units.{InfersUnit, unit_analysed}
+use Rattle.alias_nested.specs.Units.{InfersUnit, UnitAnalysis, unit_analysed}
 use Rattle.alias_plain_laws.specs.Answers.{answer_of, unit_end, is_fault_memory}
 use Rattle.alias_plain_laws.specs.UnitLaws.{TellsOf}
 use Rattle.alias_plain_laws.specs.declared.answer.PlainFault.{PlainFault}
@@ -32,7 +32,7 @@ use Rattle.alias_run.specs.declared.outcome.Outcome.{Outcome}
 use Rattle.alias_run.specs.declared.query.Query.TheVariants.{Inference}
 use Rattle.alias_run.specs.declared.status.Status.{Status}
 use Rattle.alias_run.specs.declared.status.Status.TheVariants.{Done, NotJson, NotUnit, Unfit, Refused, ReadFault, WriteFault, TooLong, Memory}
-use Rattle.alias_run.specs.Findings.{greatest_input, IsInferred, IsLinted, IsExplained, EndsUnblamed, Settles, EndsWherePlain, IsDecided, IsChecked, IsJudged, IsRead, IsFound}
+use Rattle.alias_run.specs.Findings.{greatest_input, IsInferred, IsLinted, IsExplained, EndsUnblamed, EndsInferred, Settles, EndsWherePlain, IsDecided, IsChecked, IsJudged, IsRead, IsFound}
 use Rattle.alias_run.specs.Runs.{IsRun, IsComplete}
 use Rattle.alias_run.specs.Statuses.{infer_status, plain_status}
 use Rattle.alias_run.proofs.Running.{ended_as}
@@ -99,6 +99,13 @@ unblamed u is settles (Refused e) a i = unblamed_as u is settles e i.0 i.1
 unblamed u is settles Memory a i = tt
 unblamed u is settles status a i = absurd i
 
+-- an inference that has a result
+pub inferred_ends : (u : HirUnit) → (x : UnitAnalysis) × (unit_analysed u ≡ Ok x) → (status : Status) (a : Answer) → IsInferred u status a → EndsInferred status
+inferred_ends u is Done a i = tt
+inferred_ends u is (Refused e) a i = let no : Ok is.0 ≡ Err e = sym is.1 ∙ i.0 in absurd (cc)
+inferred_ends u is Memory a i = tt
+inferred_ends u is status a i = absurd i
+
 ends_where_plain : (u : HirUnit) (p : PlainAnswer) → TellsOf u (Ok p) → EndsWherePlain u p
 ends_where_plain u plain.Plain h = unblamed u h
 ends_where_plain u (plain.NotPlain f i rule) h = tt
@@ -152,11 +159,11 @@ module _ (bytes : List ℕ) (failed : Type 0) (no_read_fails : failed → ⊥) (
 -- ---- runs
 
 -- where what the words and the source lead to ends so, a run does
-run_ends : (asked : Option Command) (known : Option (List ℕ)) (read_failed write_failed : Type 0) (held held' : Option (List ℕ)) → ((status : Status) (a : Answer) → IsFound asked known read_failed status a → EndsUnblamed status)
-    → (write_failed → ⊥) → (status : Status) (a : Answer) → IsRun asked known read_failed write_failed held held' status a → EndsUnblamed status
-run_ends asked known read_failed write_failed held held' ends writes WriteFault a r = absurd (writes r.0)
-run_ends asked known read_failed write_failed held held' ends writes Memory a r = tt
-run_ends asked known read_failed write_failed held held' ends writes status a r = ends status a r.0
+run_ends : (Ends : Status → Type 0) → Ends Memory → (asked : Option Command) (known : Option (List ℕ)) (read_failed write_failed : Type 0) (held held' : Option (List ℕ)) → ((status : Status) (a : Answer) → IsFound asked known read_failed status a → Ends status)
+    → (write_failed → ⊥) → (status : Status) (a : Answer) → IsRun asked known read_failed write_failed held held' status a → Ends status
+run_ends Ends memory asked known read_failed write_failed held held' ends writes WriteFault a r = absurd (writes r.0)
+run_ends Ends memory asked known read_failed write_failed held held' ends writes Memory a r = memory
+run_ends Ends memory asked known read_failed write_failed held held' ends writes status a r = ends status a r.0
 
 -- what is found of the JSON of a plain unit that settles
 found_ends : (known : Option (List ℕ)) (failed : Type 0) (bytes : List ℕ) (u : HirUnit) → known ≡ Some bytes → length bytes ≤ greatest_input → UnitReading bytes u → rules_hold u ≡ Ok tt → IsPlainUnit u → Settles u → (failed → ⊥)
@@ -169,9 +176,9 @@ pub run_is_complete : (asked : Option Command) (known : Option (List ℕ)) (read
     → IsComplete asked known read_failed write_failed status
 unfolding IsComplete IsFound
 run_is_complete (Some Infer) known read_failed write_failed held held' status a r = λ bytes u whole short is rules plain settles reads writes.
-    run_ends (Some Infer) known read_failed write_failed held held' (found_ends known read_failed bytes u whole short is rules plain settles reads) writes status a r
+    run_ends EndsUnblamed tt (Some Infer) known read_failed write_failed held held' (found_ends known read_failed bytes u whole short is rules plain settles reads) writes status a r
 run_is_complete (Some Certify) known read_failed write_failed held held' status a r = λ bytes u whole short is rules plain settles reads writes.
-    run_ends (Some Certify) known read_failed write_failed held held' (found_ends known read_failed bytes u whole short is rules plain settles reads) writes status a r
+    run_ends EndsUnblamed tt (Some Certify) known read_failed write_failed held held' (found_ends known read_failed bytes u whole short is rules plain settles reads) writes status a r
 run_is_complete (Some (Made seed size)) known read_failed write_failed held held' status a r = λ writes.
-    run_ends (Some (Made seed size)) known read_failed write_failed held held' (λ s b found. found.2) writes status a r
+    run_ends EndsInferred tt (Some (Made seed size)) known read_failed write_failed held held' (λ s b found. found.2) writes status a r
 run_is_complete asked known read_failed write_failed held held' status a r = tt

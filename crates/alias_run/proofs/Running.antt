@@ -30,7 +30,7 @@ use Rattle.alias_run.specs.declared.query.Query.TheVariants.{Inference, Acceptan
 use Rattle.alias_run.specs.declared.outcome.Outcome.{Outcome}
 use Rattle.alias_rules.specs.Functions.{rules_hold, checks}
 use Rattle.alias_function_rules.specs.declared.fault.UnitFault.{UnitFault}
-use Rattle.alias_run.specs.Findings.{parts_of, EndsUnblamed, IsAccepted, IsAcceptedOf, Infers, IsExplained, IsExplainedOf, IsInferred, IsChecked, IsAnswered, IsFit, IsJudged, IsRead, IsFound, Leaves, greatest_input}
+use Rattle.alias_run.specs.Findings.{parts_of, EndsInferred, IsAccepted, IsAcceptedOf, Infers, IsExplained, IsExplainedOf, IsInferred, IsChecked, IsAnswered, IsFit, IsJudged, IsRead, IsFound, Leaves, greatest_input}
 use Rattle.alias_run.specs.Inferences.{solved_tell}
 use Rattle.alias_inferred_laws.proofs.Carrying.{solutions_carried}
 use Rattle.alias_run.specs.Runs.{IsRun, IsInferredOf, IsAnsweredOf, IsUnitOf, ArePartsOf, IsDone, IsHeadline}
@@ -43,8 +43,8 @@ ended_as status = record { status = status; answer = Nothing }
 
 -- ---- units
 
--- a unit that keeps the rules is refused by none, and where it is plain and forward not by the inference
-pub checked_fit : (certificate : List ℕ) (u : HirUnit) (status : Status) (i : Answer) → rules_hold u ≡ Ok tt → ((s : Status) (a : Answer) → IsInferred u s a → EndsUnblamed s) → IsChecked Inference certificate u status i → IsFit u status i
+-- a unit that keeps the rules is refused by none, and not by the inference where that has a result
+pub checked_fit : (certificate : List ℕ) (u : HirUnit) (status : Status) (i : Answer) → rules_hold u ≡ Ok tt → ((s : Status) (a : Answer) → IsInferred u s a → EndsInferred s) → IsChecked Inference certificate u status i → IsFit u status i
 checked_fit certificate u (Unfit fault) i k ends h = let no : Ok tt ≡ Err fault = sym k ∙ h.0 in absurd (cc)
 checked_fit certificate u Memory i k ends h = (k, h, tt)
 checked_fit certificate u status i k ends h = (h.0, h.1, ends status i h.1)

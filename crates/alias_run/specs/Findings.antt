@@ -107,6 +107,12 @@ EndsUnblamed (Refused e) = IsTooMany e
 EndsUnblamed Memory = Unit {0}
 EndsUnblamed status = ⊥
 
+-- the inference isn't refused at all
+abbrev pub EndsInferred : Status → Type 0
+EndsInferred Done = Unit {0}
+EndsInferred Memory = Unit {0}
+EndsInferred status = ⊥
+
 -- its functions are settled within 100 rounds, as each is whose edges all go to later blocks
 abbrev pub Settles : HirUnit → Type 0
 Settles u = IsForwardUnit u ⊎ ((f : Option FunctionId) (visits : ℕ) (report : Report) → unit_analysed u ≢ Err (error.NotSettled f visits report))
@@ -137,9 +143,9 @@ IsChecked q certificate u (Unfit fault) a = (rules_hold u ≡ Err fault) × (a �
 IsChecked q certificate u Memory a = a ≡ Nothing
 IsChecked q certificate u status a = (rules_hold u ≡ Ok tt) × IsAnswered q certificate u status a
 
--- what a unit leads to that is known to be fit, which is to say that it keeps the rules, and is plain and forward
+-- what a unit leads to that is known to be fit, which is to say that it keeps the rules, and its inference has a result
 abbrev pub IsFit : HirUnit → Status → Answer → Type 0
-IsFit u status a = (rules_hold u ≡ Ok tt) × IsInferred u status a × EndsUnblamed status
+IsFit u status a = (rules_hold u ≡ Ok tt) × IsInferred u status a × EndsInferred status
 
 -- the parts of the whole input: where a certificate is asked about, the unit before the first newline and the certificate behind it; else the unit alone
 abbrev pub parts_of : Query → List ℕ → List ℕ × List ℕ
@@ -162,7 +168,7 @@ IsRead q known failed Memory a = a ≡ Nothing
 IsRead q known failed status a = (bytes : List ℕ) × IsAllOf known bytes × (length bytes ≤ greatest_input) × IsJudged q (parts_of q bytes) status a
 
 -- What the words and a source lead to, before anything is written: `asked` is the command of the words, where they are one. A made unit keeps the rules, so
--- none of them refuses it, and the inference refuses it for want of numbers alone.
+-- none of them refuses it, and nor does the inference.
 unfoldable pub IsFound : Option Command → Option (List ℕ) → Type 0 → Status → Answer → Type 0
 IsFound None known failed status a = (status ≡ Words) × (a ≡ Nothing)
 IsFound (Some Infer) known failed status a = IsRead Inference known failed status a

@@ -20,7 +20,7 @@ use Rattle.alias_inferred_laws.specs.Solutions.{SolutionsAreCarried}
 use Rattle.alias_run.specs.declared.query.Query.{Query}
 use Rattle.alias_run.specs.declared.query.Query.TheVariants.{Acceptance, Lints, Explanation, Plainness}
 use Rattle.alias_plainness.specs.Plainness.{IsPlainUnit}
-use Rattle.alias_run.specs.Findings.{greatest_input, parts_of, EndsUnblamed, Settles, IsFound, IsAnswered}
+use Rattle.alias_run.specs.Findings.{greatest_input, parts_of, EndsUnblamed, EndsInferred, Settles, IsFound, IsAnswered}
 use Rattle.alias_run.specs.Inferences.{TellsItsWrites}
 use Rattle.alias_run.specs.Texts.{text_of, answer_text, inferred_text, help_text, version_text}
 
@@ -81,9 +81,9 @@ abbrev pub EndsOfPlain : Option (List ℕ) → Type 0 → Type 0 → Status → 
 EndsOfPlain known read_failed write_failed status =
     (bytes : List ℕ) (u : HirUnit) → known ≡ Some bytes → length bytes ≤ greatest_input → UnitReading bytes u → rules_hold u ≡ Ok tt → IsPlainUnit u → Settles u → (read_failed → ⊥) → (write_failed → ⊥) → EndsUnblamed status
 
--- So it is of `infer` and `certify`; and of a made unit while the sink doesn't fail.
+-- So it is of `infer` and `certify`; and a made unit is inferred, or memory runs out, while the sink doesn't fail.
 unfoldable pub IsComplete : Option Command → Option (List ℕ) → Type 0 → Type 0 → Status → Type 0
 IsComplete (Some Infer) known read_failed write_failed status = EndsOfPlain known read_failed write_failed status
 IsComplete (Some Certify) known read_failed write_failed status = EndsOfPlain known read_failed write_failed status
-IsComplete (Some (Made seed size)) known read_failed write_failed status = (write_failed → ⊥) → EndsUnblamed status
+IsComplete (Some (Made seed size)) known read_failed write_failed status = (write_failed → ⊥) → EndsInferred status
 IsComplete asked known read_failed write_failed status = Unit {0}

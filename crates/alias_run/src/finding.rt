@@ -35,6 +35,7 @@ fn infer_checked(alloc: Global, unit: Checked) -> Outcome
     ensures { IsInferred unit result.status result.answer }
 {
     let mut passes = KeepAll;
+    // Looked at for what the clause of `unit` says: the unit is well formed.
     let _unit = unit.unit();
     match infer_unit(alloc, unit, &mut passes) {
         Ok(inferred) => done(Answer::Inferred(inferred)),
@@ -80,6 +81,7 @@ fn lint_checked(alloc: Global, unit: Checked) -> Outcome
     ensures { IsLinted unit result.status result.answer }
 {
     let mut passes = KeepAll;
+    // Looked at for what the clause of `unit` says: the unit is well formed.
     let _unit = unit.unit();
     match infer_unit(alloc, unit, &mut passes) {
         Ok(inferred) => lint_inferred(alloc, inferred),
@@ -114,6 +116,7 @@ fn explain_checked(
     ensures { IsExplained function identifier unit result.status result.answer }
 {
     let mut passes = KeepAll;
+    // Looked at for what the clause of `unit` says: the unit is well formed.
     let _unit = unit.unit();
     match infer_unit(alloc, unit, &mut passes) {
         Ok(inferred) => explain_inferred(alloc, &inferred, function, identifier),
@@ -197,8 +200,8 @@ fn ask_source<S: Source>(alloc: Global, query: Query, source: &mut S) -> Outcome
     }
 }
 
-/// What the unit of a seed and a size leads to. It keeps the rules, so that none of them refuses it, and is plain and
-/// forward, so that its inference is refused for want of numbers alone.
+/// What the unit of a seed and a size leads to. It keeps the rules, so that none of them refuses it, and its
+/// inference has a result.
 fn infer_made(alloc: Global, seed: u64, size: u32) -> Outcome
     requires some { 1 ≤ size }
     requires limit { size ≤ 1000 }

@@ -15,5 +15,6 @@ pub fn step_laws(env: &Environment)
     ensures replays { (facts : FunctionFacts) (i : Instruction) (s : StepProgress) → Again (apply_signature env.now facts i s) }
     ensures proper { (facts : FunctionFacts) (i : Instruction) (s : StepProgress) → ProgressProper s → Fine (apply_signature env.now facts i s) }
 {
+    // A law does nothing with what it is given: its clause is what it is for.
     let _env = env;
 }

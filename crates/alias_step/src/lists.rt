@@ -30,6 +30,7 @@ fn function_of_site(site: Site) -> Option<FunctionId>
 fn only_function(sites: &SiteSet) -> Option<FunctionId>
     ensures { result ≡ only_function (in_order sites.now) }
 {
+    // Does nothing: it tells the prover that this is a proper value.
     sites.known();
     match sites.next_site(None) {
         Some(first) => match sites.next_site(Some(first)) {

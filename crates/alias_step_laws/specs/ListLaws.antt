@@ -35,7 +35,7 @@ use Rattle.alias_calls.specs.Calls.{ConfigCall, SummaryCall}
 use Rattle.alias_calls.specs.Configs.{impure_step, with_impures, with_temporary, stands, inner_arguments, with_apply, with_config_effect, with_config_effects, config_call, config_list}
 use Rattle.alias_calls.specs.Copies.{pair_of, effect_at, pairs, Collected, with_pairs, with_each, with_freezes_unless, with_freezes}
 use Rattle.alias_calls.specs.Legacy.{links_of, all_links, legacy, ended, still_captures, is_capture, return_reason, with_impure, with_receiver, visits_of, asked, with_still, visited, legacy_after, legacy_list}
-use Rattle.alias_calls.specs.Summaries.{last_spread, rest_or_temporary, names_with, summary_names, stands_for, copied, with_copied, with_copies, with_all_copies, names_list, summary_call, summary_list}
+use Rattle.alias_calls.specs.Summaries.{last_spread, rest_or_temporary, names_with, summary_names, stands_for, copied, with_copied, with_copies, with_all_copies, needs_rest, names_list, summary_call, summary_list}
 use Rattle.alias_calls.specs.Visits.{iterated, visit, spread_effect, is_refused, or_effect, rest_use, with_refused, visit_argument, visit_arguments}
 use Rattle.alias_calls.specs.declared.call.CallSite.{CallSite}
 use Rattle.alias_calls.specs.declared.call.SummaryNames.{SummaryNames}
@@ -261,7 +261,7 @@ module _ (env : Environment) where
   names_list_within : (c : SummaryCall) (es : List AliasingEffect) (t : TableLists) → TablesWithin env t → SummaryWithin t c → AllByRecursion (ReportWithin t) es → ListWithin (names_list env c es) t
   names_list_within c es t k h g =
       within_if (IfGiven (EffectsWithin env)) (nat_lt (length c.args) (length c.names.params)) (gives None) _ t (given_up t k)
-      (within_if (IfGiven (EffectsWithin env)) (has_further c.names.params c.args 0 && not (is_some c.names.rest)) (gives None) _ t (given_up t k) (all_copies_within c es [] t k h g tt))
+      (within_if (IfGiven (EffectsWithin env)) (needs_rest c.names.params c.args && not (is_some c.names.rest)) (gives None) _ t (given_up t k) (all_copies_within c es [] t k h g tt))
 
   -- of the names nothing need be known
   abbrev Anything : {A : Type 0} → TableLists → A → Type 0

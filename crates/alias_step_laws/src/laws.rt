@@ -17,5 +17,6 @@ use alias_hir::env::Environment;
 pub fn within_laws(env: &Environment)
     ensures { (facts : FunctionFacts) (i : Instruction) (s : StepProgress) (t : TableLists) → TablesWithin env.now t → InstructionWithin env.now i → StateHas (FunctionWithin env.now) s.state → StepWithin env.now (apply_signature env.now facts i s) t }
 {
+    // A law does nothing with what it is given: its clause is what it is for.
     let _env = env;
 }

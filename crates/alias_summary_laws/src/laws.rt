@@ -15,6 +15,7 @@ use alias_hir::hir::HirFunction;
 pub fn summary_laws(env: &Environment, func: &HirFunction, is_function_expression: bool)
     ensures { (f : Option FunctionId) (r : Ranged) → places_distinct f func.now ≡ Ok tt → range_pass is_function_expression func.now env.now ≡ Ok r → IsSummary func.now.returns.identifier.0 r.summary }
 {
+    // A law does nothing with what it is given: its clause is what it is for.
     let _env = env;
     let _func = func;
     let _is_function_expression = is_function_expression;

@@ -41,4 +41,22 @@ abbrev pub with_error_of : AliasingEffect → AliasingEffect → AliasingEffect
 with_error_of (effect.Impure p error) (effect.Impure q own) = effect.Impure p own
 with_error_of (effect.MutateFrozen p error) (effect.MutateFrozen q own) = effect.MutateFrozen p own
 with_error_of (effect.MutateGlobal p error) (effect.MutateGlobal q own) = effect.MutateGlobal p own
-with_error_of first e = first
+with_error_of (effect.Impure p error) e = effect.Impure p error
+with_error_of (effect.MutateFrozen p error) e = effect.MutateFrozen p error
+with_error_of (effect.MutateGlobal p error) e = effect.MutateGlobal p error
+-- these have no report; each is named, so that a new effect doesn't go without its own
+with_error_of (effect.Apply receiver function mutates args into signature span) e = effect.Apply receiver function mutates args into signature span
+with_error_of (effect.CreateFrom a x) e = effect.CreateFrom a x
+with_error_of (effect.ImmutableCapture a x) e = effect.ImmutableCapture a x
+with_error_of (effect.Assign a x) e = effect.Assign a x
+with_error_of (effect.Alias a x) e = effect.Alias a x
+with_error_of (effect.Capture a x) e = effect.Capture a x
+with_error_of (effect.MaybeAlias a x) e = effect.MaybeAlias a x
+with_error_of (effect.Create x kind reason) e = effect.Create x kind reason
+with_error_of (effect.Freeze v reason) e = effect.Freeze v reason
+with_error_of (effect.Render p) e = effect.Render p
+with_error_of (effect.Mutate v reason) e = effect.Mutate v reason
+with_error_of (effect.MutateConditionally v) e = effect.MutateConditionally v
+with_error_of (effect.MutateTransitive v) e = effect.MutateTransitive v
+with_error_of (effect.MutateTransitiveConditionally v) e = effect.MutateTransitiveConditionally v
+with_error_of (effect.CreateFunction x f captures) e = effect.CreateFunction x f captures

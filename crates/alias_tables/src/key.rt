@@ -242,6 +242,21 @@ pub fn with_error_of(first: AliasingEffect, effect: &AliasingEffect) -> Aliasing
             },
             _ => AliasingEffect::MutateGlobal { place, error },
         },
-        other => other,
+        // These have no report. Each is named, so that a new effect doesn't go without its own.
+        AliasingEffect::Apply { .. }
+        | AliasingEffect::CreateFrom { .. }
+        | AliasingEffect::ImmutableCapture { .. }
+        | AliasingEffect::Assign { .. }
+        | AliasingEffect::Alias { .. }
+        | AliasingEffect::Capture { .. }
+        | AliasingEffect::MaybeAlias { .. }
+        | AliasingEffect::Create { .. }
+        | AliasingEffect::Freeze { .. }
+        | AliasingEffect::Render { .. }
+        | AliasingEffect::Mutate { .. }
+        | AliasingEffect::MutateConditionally { .. }
+        | AliasingEffect::MutateTransitive { .. }
+        | AliasingEffect::MutateTransitiveConditionally { .. }
+        | AliasingEffect::CreateFunction { .. } => first,
     }
 }

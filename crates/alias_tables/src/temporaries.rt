@@ -56,6 +56,7 @@ fn push_temporary(
     match slots.insert(key, slot) {
         Ok(_) => Ok(()),
         Err(e) => {
+            // Taken back, so that an error leaves the list as it was.
             let _temporary = items.pop();
             Err(e.into())
         }

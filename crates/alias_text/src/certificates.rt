@@ -123,6 +123,7 @@ fn push_value_line(out: &mut Text, site: Site, value: AbstractValue) -> Result<(
 fn push_values(out: &mut Text, state: &InferenceState) -> Result<(), AllocError>
     ensures { OnOk result (out.new ≡ out.old ++ flat_map value_line state.now.values) }
 {
+    // Does nothing: it tells the prover that this is a proper value.
     state.known();
     let mut after = None;
     'values: while let Some((site, value)) = state.next_value(after) {
@@ -143,6 +144,7 @@ fn push_spaced_site(out: &mut Text, site: Site) -> Result<(), AllocError>
 fn push_sites(out: &mut Text, sites: &SiteSet) -> Result<(), AllocError>
     ensures { OnOk result (out.new ≡ out.old ++ sites_text sites.now) }
 {
+    // Does nothing: it tells the prover that this is a proper value.
     sites.known();
     let mut after = None;
     'sites: while let Some(site) = sites.next_site(after) {
@@ -165,6 +167,7 @@ fn push_variable_line(out: &mut Text, id: IdentifierId, sites: &SiteSet) -> Resu
 fn push_variables(out: &mut Text, state: &InferenceState) -> Result<(), AllocError>
     ensures { OnOk result (out.new ≡ out.old ++ flat_map variable_line state.now.variables) }
 {
+    // Does nothing: it tells the prover that this is a proper value.
     state.known();
     let mut after = None;
     'variables: while let Some((id, sites)) = state.next_variable(after) {

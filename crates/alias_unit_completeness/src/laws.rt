@@ -21,6 +21,7 @@ use alias_hir::env::Unit;
 pub fn callable_laws(unit: &Unit)
     ensures { rules_hold unit.now ≡ Ok tt → (levels : ℕ) (a : Analysis) → analysed levels unit.now.function (analysis unit.now.env []) ≡ Ok a → AreCallable a.env × AllByRecursion BeganCallable a.functions }
 {
+    // A law does nothing with what it is given: its clause is what it is for.
     let _unit = unit;
 }
 

@@ -19,6 +19,7 @@ pub fn tells_writes(
     requires { IsSolved env.now func.now is_function_expression solved.now }
     ensures { TellsWrites env.now func.now is_function_expression solved.now }
 {
+    // A law does nothing with what it is given: its clause is what it is for.
     let _env = env;
     let _func = func;
     let _is_function_expression = is_function_expression;

@@ -1,12 +1,14 @@
-use Rattle.std.specs.Prelude.{[], Ok}
-use Rattle.std.proofs.Common.{ap, ◌∙◌}
+use Rattle.std.specs.Prelude.{◌≡◌, [], Ok, Err}
+use Rattle.std.proofs.Common.{ap, ◌∙◌, rules}
+use Rattle.alias_hir.specs.declared.error.InferError.{InferError}
 use Rattle.alias_hir.specs.declared.hir.HirFunction.{HirFunction}
 use Rattle.alias_tables.specs.Tables.{TableLists}
 use Rattle.alias_effects.specs.declared.output.LastVisits.{LastVisits}
 use Rattle.alias_effects.specs.Inference.{pass_end, env_after}
-use Rattle.alias_effects.specs.Output.{last_of}
+use Rattle.alias_effects.specs.Output.{last_of, last_visits}
 use Rattle.alias_effects.specs.Recording.{with_effects_of}
 use Rattle.alias_effects.proofs.Refusals.{refused_alike}
+use Rattle.alias_effects.proofs.Settling.{visits_settle, settled_alike}
 use Rattle.alias_effects.proofs.StillFits.{last_fits, last_recorded, last_written, with_last, env_after_last, written_by, fits_as}
 use Rattle.alias_effects.proofs.infer.infer_mutation_aliasing_effects.Goals as goal
 
@@ -46,3 +48,11 @@ returns-clause-fits c =
     (last_fits func env c.args.is_function_expression l c.requires c.in_ok-effects.ensures)
     (cc)
     (written_by env c.write_back.new.env given left c.in_ok-write_back.ensures.ok (cc))
+
+pub returns-in_err-effects-clause-settles : goal.returns-in_err-effects-clause-settles
+returns-in_err-effects-clause-settles c =
+    let func = c.args.func.now in
+    let env = c.args.env.now in
+    let e : InferError = c.in_err-effects.field-0.0 in
+    let same : c.from_residual.result ≡ Err e = search rules in
+    λ forward. settled_alike (last_visits env func c.args.is_function_expression) c.from_residual.result e (visits_settle env func c.args.is_function_expression c.requires forward) c.in_err-effects.ensures same

@@ -1,7 +1,8 @@
 use Rattle.std.proofs.Common.{◌≡◌, true, false, Err, map, ap, sym, subst}
+use Rattle.alias_hir.specs.Errors.{is_memory}
 use Rattle.alias_hir.specs.declared.env.Environment.{Environment}
 use Rattle.alias_range_places.specs.Keeping.{but_context}
-use Rattle.alias_nested.specs.Analysis.{analysis, named, is_free, effects_analysed}
+use Rattle.alias_nested.specs.Analysis.{analysis, named, effects_analysed}
 use Rattle.alias_nested.proofs.Changing.{names_named}
 use Rattle.alias_nested.proofs.Ending.{ended, ended_keeps, ended_slots, effects_lead, accounts_numbered, notes_one, not_memory, effects_refused}
 use Rattle.alias_nested.proofs.Keeping.{kept_unchanged}
@@ -33,7 +34,7 @@ returns-in-Err-clause-kept c =
 pub returns-in-Err-clause-run : goal.returns-in-Err-clause-run
 returns-in-Err-clause-run c =
     λ fs a free.
-    let not : is_free (named c.args.id c.in-Err.error) ≡ false = subst (λ e. is_free e ≡ false) c.named.ensures free in
+    let not : is_memory (named c.args.id c.in-Err.error) ≡ false = subst (λ e. is_memory e ≡ false) c.named.ensures free in
     subst (λ e. effects_analysed c.args.id c.args.func.now (analysis c.args.env.now fs) ≡ Err e) (sym c.named.ensures)
     (effects_refused c.args.env.now c.args.func.now c.args.id fs c.in-Err.error (c.in-Err.ensures.answer (not_memory c.args.id c.in-Err.error not)))
 

@@ -6,3 +6,6 @@ returns-in-Err-clause-failed g c = λ f. c.in-Err.ensures.failed (ap Err (c.stop
 
 pub returns-in-Err-clause-names : goal.returns-in-Err-clause-names
 returns-in-Err-clause-names g c = c.stopped.ensures.names
+
+pub returns-in-Err-clause-fault : goal.returns-in-Err-clause-fault
+returns-in-Err-clause-fault g c = c.stopped.ensures.named
