@@ -30,8 +30,8 @@ fn identifier(number: u32) -> Identifier {
         declaration_id: DeclarationId(number),
         name: None,
         mutable_range: MutableRange {
-            start: EvaluationOrder(0),
-            end: EvaluationOrder(0),
+            start: EvaluationOrder::UNSET,
+            end: EvaluationOrder::UNSET,
         },
         scope: None,
         type_: TypeId(0),

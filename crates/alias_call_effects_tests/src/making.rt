@@ -31,8 +31,8 @@ fn identifier(alloc: Global, number: u32) -> Result<Identifier, AllocError> {
         declaration_id: DeclarationId(number),
         name,
         mutable_range: MutableRange {
-            start: EvaluationOrder(0),
-            end: EvaluationOrder(0),
+            start: EvaluationOrder::UNSET,
+            end: EvaluationOrder::UNSET,
         },
         scope: None,
         type_: TypeId(0),

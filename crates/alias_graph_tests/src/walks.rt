@@ -51,8 +51,8 @@ fn identifier() -> Identifier {
         declaration_id: DeclarationId(0),
         name: None,
         mutable_range: MutableRange {
-            start: EvaluationOrder(0),
-            end: EvaluationOrder(0),
+            start: EvaluationOrder::UNSET,
+            end: EvaluationOrder::UNSET,
         },
         scope: None,
         type_: TypeId(0),

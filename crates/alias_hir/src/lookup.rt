@@ -50,8 +50,8 @@ fn fresh_identifier(number: u32, type_: u32) -> Identifier
         declaration_id: DeclarationId(number),
         name: None,
         mutable_range: MutableRange {
-            start: EvaluationOrder(0),
-            end: EvaluationOrder(0),
+            start: EvaluationOrder::UNSET,
+            end: EvaluationOrder::UNSET,
         },
         scope: None,
         type_: TypeId(type_),

@@ -35,8 +35,8 @@ fn identifier(number: u32, type_: u32, name: Option<IdentifierName>) -> Identifi
         declaration_id: DeclarationId(number),
         name,
         mutable_range: MutableRange {
-            start: EvaluationOrder(0),
-            end: EvaluationOrder(0),
+            start: EvaluationOrder::UNSET,
+            end: EvaluationOrder::UNSET,
         },
         scope: None,
         type_: TypeId(type_),

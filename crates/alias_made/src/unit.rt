@@ -33,8 +33,8 @@ fn made_identifier(number: u32) -> Identifier
         declaration_id: DeclarationId(number),
         name: None,
         mutable_range: MutableRange {
-            start: EvaluationOrder(0),
-            end: EvaluationOrder(0),
+            start: EvaluationOrder::UNSET,
+            end: EvaluationOrder::UNSET,
         },
         scope: None,
         type_: TypeId(0),

@@ -103,8 +103,8 @@ pub(crate) fn reset_context(context: &[Place], identifiers: &mut List<Identifier
     for place in context {
         if let Some(identifier) = identifiers.get_mut(place.identifier.0 as usize) {
             identifier.mutable_range = MutableRange {
-                start: EvaluationOrder(0),
-                end: EvaluationOrder(0),
+                start: EvaluationOrder::UNSET,
+                end: EvaluationOrder::UNSET,
             };
             identifier.scope = None;
         }

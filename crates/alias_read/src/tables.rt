@@ -47,8 +47,8 @@ impl FromJson for Identifier {
             declaration_id: DeclarationId(declaration),
             name,
             mutable_range: MutableRange {
-                start: EvaluationOrder(0),
-                end: EvaluationOrder(0),
+                start: EvaluationOrder::UNSET,
+                end: EvaluationOrder::UNSET,
             },
             scope: None,
             type_: TypeId(type_),

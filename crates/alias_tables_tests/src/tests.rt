@@ -238,8 +238,8 @@ fn add_four_identifiers(env: &mut Environment) -> Result<(), AllocError> {
             declaration_id: DeclarationId(number),
             name: None,
             mutable_range: MutableRange {
-                start: EvaluationOrder(0),
-                end: EvaluationOrder(0),
+                start: EvaluationOrder::UNSET,
+                end: EvaluationOrder::UNSET,
             },
             scope: None,
             type_: TypeId(0),
