@@ -8,13 +8,16 @@ ghost use Rattle.alias_rules.specs.Fitting.{function_fits};
 use alias_hir::env::Environment;
 use alias_hir::hir::HirFunction;
 use std::alloc::{AllocError, Global};
+use thiserror::Error;
 
 /// Why a pass stopped.
-#[derive(Clone, Copy, Debug)]
+#[derive(Clone, Copy, Debug, Error)]
 pub enum PassStop {
     /// It failed.
+    #[error("the pass failed")]
     Failed,
     /// Want of memory, which can come at any growth.
+    #[error("no memory is left")]
     Memory(AllocError),
 }
 
