@@ -152,22 +152,22 @@ module _ (env more : Environment) (as_many : length more.identifiers ≡ length 
 -- the environment with n further identifiers
 abbrev grown : ℕ → Environment → Environment
 grown zero env = env
-grown (suc n) env = grown n (with_identifier env)
+grown (suc n) env = grown n (with_identifier None env)
 
 grown_functions : (n : ℕ) (env : Environment) → (grown n env).functions ≡ env.functions
 grown_functions zero env = refl
-grown_functions (suc n) env = grown_functions n (with_identifier env)
+grown_functions (suc n) env = grown_functions n (with_identifier None env)
 
 grown_length : (n : ℕ) (env : Environment) → length (grown n env).identifiers ≡ n + length env.identifiers
 grown_length zero env = omega arith
 grown_length (suc n) env =
-    let one = length-append env.identifiers (fresh_identifier (length env.identifiers) (length env.types) ∷ []) in
-    let rest = grown_length n (with_identifier env) in
+    let one = length-append env.identifiers (fresh_identifier None (length env.identifiers) (length env.types) ∷ []) in
+    let rest = grown_length n (with_identifier None env) in
     omega arith
 
 grown_fits : (n : ℕ) (env : Environment) (g : HirFunction) → function_fits g env ≡ true → function_fits g (grown n env) ≡ true
 grown_fits zero env g h = h
-grown_fits (suc n) env g h = grown_fits n (with_identifier env) g (fits_kept env (with_identifier env) (keeps_identifier env) g h)
+grown_fits (suc n) env g h = grown_fits n (with_identifier None env) g (fits_kept env (with_identifier None env) (keeps_identifier None env) g h)
 
 -- ---- what the inference takes
 

@@ -23,6 +23,7 @@ use Rattle.alias_hir.specs.declared.hir.Instruction.{Instruction}
 use Rattle.alias_hir.specs.declared.hir.ParamPattern.{ParamPattern}
 use Rattle.alias_hir.specs.declared.hir.Phi.{Phi}
 use Rattle.alias_hir.specs.declared.place.Place.{Place}
+use Rattle.alias_hir.specs.declared.place.Span.{Span}
 use Rattle.alias_hir.specs.declared.types.Ty as ty
 use Rattle.alias_hir.specs.declared.types.Ty.{Ty}
 use Rattle.alias_hir.specs.declared.types.Ty.TheFolds.{fold_out-Ty}
@@ -221,35 +222,36 @@ module _ (env : Environment) where
 
     -- ---- nothing more is shared
 
-    abbrev more : Environment
-    more = with_identifier env
+    module _ (span : Option Span) where
+      abbrev more : Environment
+      more = with_identifier span env
 
-    one_more : length more.identifiers ≡ suc (length env.identifiers)
-    one_more = let e = length-append env.identifiers (fresh_identifier (length env.identifiers) (length env.types) ∷ []) in omega arith
+      one_more : length more.identifiers ≡ suc (length env.identifiers)
+      one_more = let e = length-append env.identifiers (fresh_identifier span (length env.identifiers) (length env.types) ∷ []) in omega arith
 
-    nothing_shared : (k : ℕ) → first_shared (length env.identifiers) (inside env k) (outside env func fits.below k) (context_at env k) ≡ None
-        → first_shared (length more.identifiers) (inside env k) (outside env func fits.below k) (context_at env k) ≡ None
-    nothing_shared k e =
-        let p = is_shared (inside env k) (outside env func fits.below k) (context_at env k) in
-        let plain : 0 + next ≡ next = omega arith in
-        ap (λ n. find p (range_with_len 0 n)) one_more
-        ∙ found_later p next 0 (ap p plain ∙ middle_false (is_among (inside env k) next) (is_among (outside env func fits.below k) next) (not (is_among (context_at env k) next)) (outside_not_next k)) e
+      nothing_shared : (k : ℕ) → first_shared (length env.identifiers) (inside env k) (outside env func fits.below k) (context_at env k) ≡ None
+          → first_shared (length more.identifiers) (inside env k) (outside env func fits.below k) (context_at env k) ≡ None
+      nothing_shared k e =
+          let p = is_shared (inside env k) (outside env func fits.below k) (context_at env k) in
+          let plain : 0 + next ≡ next = omega arith in
+          ap (λ n. find p (range_with_len 0 n)) one_more
+          ∙ found_later p next 0 (ap p plain ∙ middle_false (is_among (inside env k) next) (is_among (outside env func fits.below k) next) (not (is_among (context_at env k) next)) (outside_not_next k)) e
 
-    apart_below : identifiers_apart env func fits.below ≡ Ok tt → identifiers_apart more func fits.below ≡ Ok tt
-    apart_below h =
-        passes_on (nested_is_apart env func fits.below) (nested_is_apart more func fits.below)
-        (λ k i. shared_same env more (λ j. refl) refl (λ j. refl) (λ j. refl) func fits.below k refl ∙ ap (in_two k) (nothing_shared k (not_two k (first_shared (length env.identifiers) (inside env k) (outside env func fits.below k) (context_at env k)) i)))
-        fits.below h
+      apart_below : identifiers_apart env func fits.below ≡ Ok tt → identifiers_apart more func fits.below ≡ Ok tt
+      apart_below h =
+          passes_on (nested_is_apart env func fits.below) (nested_is_apart more func fits.below)
+          (λ k i. shared_same env more (λ j. refl) refl (λ j. refl) (λ j. refl) func fits.below k refl ∙ ap (in_two k) (nothing_shared k (not_two k (first_shared (length env.identifiers) (inside env k) (outside env func fits.below k) (context_at env k)) i)))
+          fits.below h
 
 -- ---- the rules
 
-module _ (env : Environment) where
+module _ (span : Option Span) (env : Environment) where
   abbrev with_one : Environment
-  with_one = with_identifier env
+  with_one = with_identifier span env
 
   wider_one : Wider env with_one
   wider_one = record {
-    identifiers = (let e = length-append env.identifiers (fresh_identifier (length env.identifiers) (length env.types) ∷ []) in omega arith);
+    identifiers = (let e = length-append env.identifiers (fresh_identifier span (length env.identifiers) (length env.types) ∷ []) in omega arith);
     types = (let e = length-append env.types (Var ∷ []) in omega arith);
     functions = omega arith;
     interned = grows_self env.interned;
@@ -261,23 +263,23 @@ module _ (env : Environment) where
       then_pass (below Declarations (length with_one.identifiers) i.declaration_id.0) (below Types (length with_one.types) i.type_.0)
       (below_kept Declarations (length env.identifiers) (length with_one.identifiers) i.declaration_id.0 wider_one.identifiers b.0) (below_kept Types (length env.types) (length with_one.types) i.type_.0 wider_one.types b.1)
 
-  new_fits : identifier_fits with_one (fresh_identifier (length env.identifiers) (length env.types)) ≡ Ok tt
+  new_fits : identifier_fits with_one (fresh_identifier span (length env.identifiers) (length env.types)) ≡ Ok tt
   new_fits =
-      let e = length-append env.identifiers (fresh_identifier (length env.identifiers) (length env.types) ∷ []) in
+      let e = length-append env.identifiers (fresh_identifier span (length env.identifiers) (length env.types) ∷ []) in
       let f = length-append env.types (Var ∷ []) in
       then_pass (below Declarations (length with_one.identifiers) (length env.identifiers)) (below Types (length with_one.types) (length env.types))
       (is_below Declarations (length with_one.identifiers) (length env.identifiers) (omega arith)) (is_below Types (length with_one.types) (length env.types) (omega arith))
 
   tables_kept : tables_fit env ≡ Ok tt → tables_fit with_one ≡ Ok tt
   tables_kept h =
-      passes_both (identifier_fits with_one) env.identifiers (fresh_identifier (length env.identifiers) (length env.types) ∷ [])
+      passes_both (identifier_fits with_one) env.identifiers (fresh_identifier span (length env.identifiers) (length env.types) ∷ [])
       (passes_on (identifier_fits env) (identifier_fits with_one) identifier_kept env.identifiers h)
-      (then_pass (identifier_fits with_one (fresh_identifier (length env.identifiers) (length env.types))) (Ok tt) new_fits refl)
+      (then_pass (identifier_fits with_one (fresh_identifier span (length env.identifiers) (length env.types))) (Ok tt) new_fits refl)
 
   apart_kept : (g : HirFunction) → function_fits g env ≡ true → (ks : List ℕ) → tree_below env g ≡ Some ks → identifiers_apart env g ks ≡ Ok tt → identifiers_apart with_one g ks ≡ Ok tt
   apart_kept g h ks t =
       let f = fits_has g env h in
-      subst (λ js. identifiers_apart env g js ≡ Ok tt → identifiers_apart with_one g js ≡ Ok tt) (some_is f.below ks (sym f.tree ∙ t)) (apart_below env g f)
+      subst (λ js. identifiers_apart env g js ≡ Ok tt → identifiers_apart with_one g js ≡ Ok tt) (some_is f.below ks (sym f.tree ∙ t)) (apart_below env g f span)
 
   -- a further identifier, with its type
   pub keeps_identifier : Keeps env with_one

@@ -54,7 +54,7 @@ extended_through a b c v w = record { wider = wider_through a b c v.wider w.wide
 with_identifiers_extended : (ts : List Temporary) (env : Environment) → Extended env (with_identifiers ts env)
 with_identifiers_extended [] env = extended_self env
 with_identifiers_extended (t ∷ ts) env =
-    extended_through env (with_identifier env) (with_identifiers ts (with_identifier env)) (extended_by env (with_identifier env) (keeps_identifier env)) (with_identifiers_extended ts (with_identifier env))
+    extended_through env (with_identifier t.place.span env) (with_identifiers ts (with_identifier t.place.span env)) (extended_by env (with_identifier t.place.span env) (keeps_identifier t.place.span env)) (with_identifiers_extended ts (with_identifier t.place.span env))
 
 with_reads_extended : (rs : List ContextRead) (env : Environment) → Extended env (record env { functions = with_reads rs env.functions })
 with_reads_extended [] env = extended_self env
@@ -64,7 +64,7 @@ with_reads_extended (r ∷ rs) env =
 
 reports_same : (ts : List Temporary) (env : Environment) → (with_identifiers ts env).interned ≡ env.interned
 reports_same [] env = refl
-reports_same (t ∷ ts) env = reports_same ts (with_identifier env)
+reports_same (t ∷ ts) env = reports_same ts (with_identifier t.place.span env)
 
 module _ (env : Environment) (t : TableLists) (h : TablesWithin env t) where
   abbrev named : Environment
@@ -88,8 +88,8 @@ module _ (env : Environment) (t : TableLists) (h : TablesWithin env t) where
 count_of : (ts : List Temporary) (env : Environment) → length (with_identifiers ts env).identifiers ≡ length env.identifiers + length ts
 count_of [] env = omega arith
 count_of (t ∷ ts) env =
-    let e = count_of ts (with_identifier env) in
-    let f = length-append env.identifiers (fresh_identifier (length env.identifiers) (length env.types) ∷ []) in
+    let e = count_of ts (with_identifier t.place.span env) in
+    let f = length-append env.identifiers (fresh_identifier t.place.span (length env.identifiers) (length env.types) ∷ []) in
     omega arith
 
 module _ (env : Environment) (t : TableLists) (h : TablesWithin env t) where

@@ -1,8 +1,9 @@
 -- What only grows, grows on from step to step.
-use Rattle.std.specs.Prelude.{◌≡◌, Bool, true, false, cond, ◌==◌, List, [], ◌∷◌, ◌++◌, length, refl}
+use Rattle.std.specs.Prelude.{◌≡◌, Bool, true, false, cond, ◌==◌, List, [], ◌∷◌, ◌++◌, length, Option, refl}
 use Rattle.std.proofs.Common.{ap, sym, ◌∙◌, append_assoc}
 use Rattle.alias_base.specs.declared.ids.IdentifierId.{IdentifierId}
 use Rattle.alias_hir.specs.declared.env.Environment.{Environment}
+use Rattle.alias_hir.specs.declared.place.Span.{Span}
 use Rattle.alias_hir.specs.declared.report.Interned.{Interned}
 use Rattle.alias_hir.specs.declared.report.Report.{Report}
 use Rattle.alias_hir.specs.Diagnostics.{same_instance, number_of, interned, with_interned}
@@ -42,8 +43,8 @@ grown_through k l m a b = record {
   others = ap (λ (e : Environment). record e { identifiers = m.env.identifiers; types = m.env.types; interned = m.env.interned }) a.others ∙ b.others;
 }
 
-pub grown_by_identifier : (env : Environment) (ts : List Temporary) → HasGrown (kept env ts) (kept (with_identifier env) ts)
-grown_by_identifier env ts = record {
+pub grown_by_identifier : (span : Option Span) (env : Environment) (ts : List Temporary) → HasGrown (kept env ts) (kept (with_identifier span env) ts)
+grown_by_identifier span env ts = record {
   identifiers = grows_by env.identifiers _;
   types = grows_by env.types _;
   reports = grows_self env.interned;

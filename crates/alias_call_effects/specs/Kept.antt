@@ -26,10 +26,10 @@ kept env temporaries = record { env = env; temporaries = temporaries }
 abbrev pub HostStep : Type 0 → Type 0
 HostStep A = Kept → Result (A × Kept) SignatureError
 
--- a new identifier of the environment
-abbrev pub numbered : Result IdentifierId HirError → Environment → Result (IdentifierId × Environment) SignatureError
-numbered (Ok x) env = Ok (x, with_identifier env)
-numbered (Err e) env = Err (number_error e)
+-- a new identifier of the environment, with this span
+abbrev pub numbered : Option Span → Result IdentifierId HirError → Environment → Result (IdentifierId × Environment) SignatureError
+numbered span (Ok x) env = Ok (x, with_identifier span env)
+numbered span (Err e) env = Err (number_error e)
 
 -- the place of an identifier, with this span
 abbrev pub place_of : IdentifierId → Option Span → Place
@@ -41,9 +41,9 @@ new_temporary (Err e) key span ts = Err e
 
 abbrev pub temporary_or : Option Temporary → TempKey → Option Span → HostStep Place
 temporary_or (Some t) key span k = Ok (t.place, k)
-temporary_or None key span k = new_temporary (numbered (next_identifier k.env) k.env) key span k.temporaries
+temporary_or None key span k = new_temporary (numbered span (next_identifier k.env) k.env) key span k.temporaries
 
--- the place of the key's temporary: that of a new identifier with this span, where there is none
+-- the place of the key's temporary: that of a new identifier, both with this span, where there is none
 abbrev pub temporary_at : TempKey → Option Span → HostStep Place
 temporary_at key span k = temporary_or (temp_like key k.temporaries) key span k
 

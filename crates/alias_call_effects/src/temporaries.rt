@@ -12,13 +12,13 @@ use alias_hir::place::{Effect, Place, Span};
 use alias_tables::{TempKey, Temporaries};
 use std::alloc::Global;
 
-/// A new identifier of the environment. `TooMany` comes exactly where all numbers of identifiers or of types are taken.
-/// After an `Err` nothing has changed.
-fn new_identifier(env: &mut Environment) -> Result<IdentifierId, SignatureError>
-    ensures answer { Answers (numbered (next_identifier env.old) env.old) result env.new }
+/// A new identifier of the environment, with this span. `TooMany` comes exactly where all numbers of identifiers or of
+/// types are taken. After an `Err` nothing has changed.
+fn new_identifier(env: &mut Environment, span: Option<Span>) -> Result<IdentifierId, SignatureError>
+    ensures answer { Answers (numbered span (next_identifier env.old) env.old) result env.new }
     ensures err { OnErr result (env.new ≡ env.old) }
 {
-    Ok(env.next_identifier_id()?)
+    Ok(env.next_identifier_id_at(span)?)
 }
 
 fn place_of(identifier: IdentifierId, span: Option<Span>) -> Place
@@ -32,8 +32,8 @@ fn place_of(identifier: IdentifierId, span: Option<Span>) -> Place
     }
 }
 
-/// The place of the key's temporary. Where there is none, the environment gets a new identifier, and its place with this
-/// span is kept. After an `Err` the environment may have got an identifier that no temporary has.
+/// The place of the key's temporary. Where there is none, the environment gets a new identifier with this span, and its
+/// place, with the same span, is kept. After an `Err` the environment may have got an identifier that no temporary has.
 pub(crate) fn temporary_at(
     alloc: Global,
     env: &mut Environment,
@@ -47,7 +47,7 @@ pub(crate) fn temporary_at(
     if let Some(there) = temporaries.get(&key) {
         return Ok(there.place);
     }
-    let place = place_of(new_identifier(env)?, span);
+    let place = place_of(new_identifier(env, span)?, span);
     temporaries.push(alloc, key, place)?;
     Ok(place)
 }

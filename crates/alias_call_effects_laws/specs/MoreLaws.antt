@@ -6,6 +6,7 @@ use Rattle.std.proofs.lemmas.Option.{slice_get_past}
 use Rattle.alias_base.specs.declared.ids.IdentifierId.{IdentifierId}
 use Rattle.alias_hir.specs.declared.env.Environment.{Environment}
 use Rattle.alias_hir.specs.declared.env.Identifier.{Identifier}
+use Rattle.alias_hir.specs.declared.place.Span.{Span}
 use Rattle.alias_hir.specs.declared.types.Ty as ty
 use Rattle.alias_hir.specs.declared.types.Ty.{Ty}
 use Rattle.alias_hir.specs.declared.types.Ty.TheVariants.{Var}
@@ -33,9 +34,9 @@ module _ {X : Type 0} (q : Ty → X) (d : X) (unknown : q Var ≡ d) where
   asked_more (t ∷ ts) zero = refl
   asked_more (t ∷ ts) (suc n) = asked_more ts n
 
-  asked_at : (env : Environment) (o : Option Identifier) → option_map_or q (type_at (with_identifier env) o) d ≡ option_map_or q (type_at env o) d
-  asked_at env None = refl
-  asked_at env (Some i) = asked_more env.types i.type_.0
+  asked_at : (span : Option Span) (env : Environment) (o : Option Identifier) → option_map_or q (type_at (with_identifier span env) o) d ≡ option_map_or q (type_at env o) d
+  asked_at span env None = refl
+  asked_at span env (Some i) = asked_more env.types i.type_.0
 
   asked_new : (env : Environment) → option_map_or q (slice_get (env.types ++ Var ∷ []) (length env.types)) d ≡ d
   asked_new env =
@@ -49,10 +50,10 @@ module _ {X : Type 0} (q : Ty → X) (d : X) (unknown : q Var ≡ d) where
   asked_among env (x ∷ xs) y zero h = refl
   asked_among env (x ∷ xs) y (suc n) h = asked_among env xs y n h
 
-  asked_with_one : (env : Environment) (x : IdentifierId) → option_map_or q (type_of (with_identifier env) x) d ≡ option_map_or q (type_of env x) d
-  asked_with_one env x =
-      asked_among (with_identifier env) env.identifiers (fresh_identifier (length env.identifiers) (length env.types)) x.0 (asked_new env)
-      ∙ asked_at env (slice_get env.identifiers x.0)
+  asked_with_one : (span : Option Span) (env : Environment) (x : IdentifierId) → option_map_or q (type_of (with_identifier span env) x) d ≡ option_map_or q (type_of env x) d
+  asked_with_one span env x =
+      asked_among (with_identifier span env) env.identifiers (fresh_identifier span (length env.identifiers) (length env.types)) x.0 (asked_new env)
+      ∙ asked_at span env (slice_get env.identifiers x.0)
 
 no_collection : is_builtin_collection_type Var ≡ false
 unfolding ty.out-Ty denote.Hole.Carrier.out
@@ -66,10 +67,10 @@ asked_or : {X : Type 0} (q : Ty → Option X) (o : Option Ty) → option_and_the
 asked_or q None = refl
 asked_or q (Some t) = refl
 
-signature_with_one : (env : Environment) (x : IdentifierId) → signature_at (with_identifier env) x ≡ signature_at env x
-signature_with_one env x =
-    asked_or (function_signature env) (type_of (with_identifier env) x)
-    ∙ asked_with_one (function_signature env) None (no_signature env) env x
+signature_with_one : (span : Option Span) (env : Environment) (x : IdentifierId) → signature_at (with_identifier span env) x ≡ signature_at env x
+signature_with_one span env x =
+    asked_or (function_signature env) (type_of (with_identifier span env) x)
+    ∙ asked_with_one (function_signature env) None (no_signature env) span env x
     ∙ sym (asked_or (function_signature env) (type_of env x))
 
 -- ---- ranges
@@ -82,13 +83,13 @@ long_among (x ∷ xs) y (suc n) h = long_among xs y n h
 
 -- ---- more identifiers
 
-asks_with_one : (env : Environment) → AsksTheSame (with_identifier env) env
-asks_with_one env = record {
+asks_with_one : (span : Option Span) (env : Environment) → AsksTheSame (with_identifier span env) env
+asks_with_one span env = record {
   config = refl;
   functions = refl;
-  collections = asked_with_one is_builtin_collection_type false no_collection env;
-  signatures = signature_with_one env;
-  long = λ n. long_among env.identifiers (fresh_identifier (length env.identifiers) (length env.types)) n refl;
+  collections = asked_with_one is_builtin_collection_type false no_collection span env;
+  signatures = signature_with_one span env;
+  long = λ n. long_among env.identifiers (fresh_identifier span (length env.identifiers) (length env.types)) n refl;
 }
 
 asks_through : (e f g : Environment) → AsksTheSame e f → AsksTheSame f g → AsksTheSame e g
@@ -102,4 +103,4 @@ asks_through e f g a b = record {
 
 pub asks_with : (ts : List Temporary) (env : Environment) → AsksTheSame (with_identifiers ts env) env
 asks_with [] env = record { config = refl; functions = refl; collections = λ x. refl; signatures = λ x. refl; long = λ n. refl }
-asks_with (t ∷ ts) env = asks_through (with_identifiers ts (with_identifier env)) (with_identifier env) env (asks_with ts (with_identifier env)) (asks_with_one env)
+asks_with (t ∷ ts) env = asks_through (with_identifiers ts (with_identifier t.place.span env)) (with_identifier t.place.span env) env (asks_with ts (with_identifier t.place.span env)) (asks_with_one t.place.span env)

@@ -64,21 +64,21 @@ as_host env (Err c) = Err (signature_error c)
 
 -- ---- temporaries
 
-one_more : (ts : List Temporary) (x : Temporary) (env : Environment) → with_identifiers (ts ++ x ∷ []) env ≡ with_identifier (with_identifiers ts env)
+one_more : (ts : List Temporary) (x : Temporary) (env : Environment) → with_identifiers (ts ++ x ∷ []) env ≡ with_identifier x.place.span (with_identifiers ts env)
 one_more [] x env = refl
-one_more (t ∷ ts) x env = one_more ts x (with_identifier env)
+one_more (t ∷ ts) x env = one_more ts x (with_identifier t.place.span env)
 
 identifiers_there : (ts : List Temporary) (env : Environment) → length (with_identifiers ts env).identifiers ≡ length env.identifiers + length ts
 identifiers_there [] env = omega arith
 identifiers_there (t ∷ ts) env =
-    let more = identifiers_there ts (with_identifier env) in
-    let one = length-append env.identifiers (fresh_identifier (length env.identifiers) (length env.types) ∷ []) in
+    let more = identifiers_there ts (with_identifier t.place.span env) in
+    let one = length-append env.identifiers (fresh_identifier t.place.span (length env.identifiers) (length env.types) ∷ []) in
     omega (arith, more, one)
 
 types_there : (ts : List Temporary) (env : Environment) → length (with_identifiers ts env).types ≡ length env.types + length ts
 types_there [] env = omega arith
 types_there (t ∷ ts) env =
-    let more = types_there ts (with_identifier env) in
+    let more = types_there ts (with_identifier t.place.span env) in
     let one = length-append env.types (Var ∷ []) in
     omega (arith, more, one)
 
@@ -87,7 +87,7 @@ module _ (env : Environment) (key : TempKey) (span : Option Span) (t : TableList
   host = (host_of env t).env
 
   abbrev made_by_host : Bool → ℕ → Result (Place × Kept) SignatureError
-  made_by_host b n = new_temporary (numbered (if b then Ok (record { 0 = n }) else Err (hir.TooMany Identifiers)) host) key span t.temporaries
+  made_by_host b n = new_temporary (numbered span (if b then Ok (record { 0 = n }) else Err (hir.TooMany Identifiers)) host) key span t.temporaries
 
   abbrev pass_place : Place
   pass_place = new_place (length env.identifiers) (length t.temporaries) span

@@ -12,6 +12,7 @@ use Rattle.alias_hir.specs.Tables.{fresh_identifier, with_identifier}
 use Rattle.alias_hir.specs.declared.env.Environment.{Environment}
 use Rattle.alias_hir.specs.declared.env.Identifier.{Identifier}
 use Rattle.alias_hir.specs.declared.place.Place.{Place}
+use Rattle.alias_hir.specs.declared.place.Span.{Span}
 use Rattle.alias_nested.specs.Settling.{reset_at, reset}
 use Rattle.alias_nesting_laws.specs.PartLaws.{among_cases}
 use Rattle.alias_nesting_laws.specs.SlotLaws.{length_set}
@@ -24,15 +25,15 @@ use Rattle.alias_write_back.specs.WriteBack.{with_identifiers}
 -- ---- the effects pass
 
 -- an identifier that is added has no end
-added_end : (is : List Identifier) (number ty n : ℕ) → end_at (is ++ fresh_identifier number ty ∷ []) n ≡ end_at is n
-added_end [] number ty zero = refl
-added_end [] number ty (suc n) = refl
-added_end (i ∷ is) number ty zero = refl
-added_end (i ∷ is) number ty (suc n) = added_end is number ty n
+added_end : (is : List Identifier) (span : Option Span) (number ty n : ℕ) → end_at (is ++ fresh_identifier span number ty ∷ []) n ≡ end_at is n
+added_end [] span number ty zero = refl
+added_end [] span number ty (suc n) = refl
+added_end (i ∷ is) span number ty zero = refl
+added_end (i ∷ is) span number ty (suc n) = added_end is span number ty n
 
 identified_ends : (ts : List Temporary) (env : Environment) (n : ℕ) → end_at (with_identifiers ts env).identifiers n ≡ end_at env.identifiers n
 identified_ends [] env n = refl
-identified_ends (t ∷ ts) env n = identified_ends ts (with_identifier env) n ∙ added_end env.identifiers (length env.identifiers) (length env.types) n
+identified_ends (t ∷ ts) env n = identified_ends ts (with_identifier t.place.span env) n ∙ added_end env.identifiers t.place.span (length env.identifiers) (length env.types) n
 
 -- the effects pass ends no range
 pub passed_ends : (env : Environment) (e : PassEnd) (n : ℕ) → end_at (env_after env e).identifiers n ≡ end_at env.identifiers n
@@ -41,8 +42,8 @@ passed_ends env e n = identified_ends (end_tables e).temporaries env n
 identified_length : (ts : List Temporary) (env : Environment) → length env.identifiers ≤ length (with_identifiers ts env).identifiers
 identified_length [] env = omega arith
 identified_length (t ∷ ts) env =
-    let one = length-append env.identifiers (fresh_identifier (length env.identifiers) (length env.types) ∷ []) in
-    let rest = identified_length ts (with_identifier env) in
+    let one = length-append env.identifiers (fresh_identifier t.place.span (length env.identifiers) (length env.types) ∷ []) in
+    let rest = identified_length ts (with_identifier t.place.span env) in
     omega (arith, one, rest)
 
 -- and lets no identifier go

@@ -1,5 +1,5 @@
 //! Look-ups in the tables, and new identifiers.
-ghost use Rattle.std.specs.Prelude.{◌≡◌, ◌≤◌, length, option_map, OnOk, OnErr};
+ghost use Rattle.std.specs.Prelude.{◌≡◌, ◌≤◌, None, length, option_map, OnOk, OnErr};
 ghost use Rattle.alias_base.specs.Answer.{Gives};
 ghost use Rattle.alias_hir.specs.Errors.{is_hir_memory};
 ghost use Rattle.alias_hir.specs.Types.{function_shape};
@@ -7,6 +7,7 @@ ghost use Rattle.alias_hir.specs.Tables.{next_identifier, next_identifier_where_
 
 use crate::env::{Environment, Identifier, MutableRange};
 use crate::error::{Counter, HirError};
+use crate::place::Span;
 use crate::signature::{FunctionSignature, HookKind, Shape};
 use crate::types::{Ty, type_of};
 use alias_base::{DeclarationId, EvaluationOrder, IdentifierId, TypeId};
@@ -43,8 +44,8 @@ fn next_number(env: &Environment) -> Result<IdentifierId, HirError>
     }
 }
 
-fn fresh_identifier(number: u32, type_: u32) -> Identifier
-    ensures { result ≡ fresh_identifier number type_ }
+fn fresh_identifier(span: Option<Span>, number: u32, type_: u32) -> Identifier
+    ensures { result ≡ fresh_identifier span number type_ }
 {
     Identifier {
         declaration_id: DeclarationId(number),
@@ -55,21 +56,31 @@ fn fresh_identifier(number: u32, type_: u32) -> Identifier
         },
         scope: None,
         type_: TypeId(type_),
-        span: None,
+        span,
     }
 }
 
 impl Environment {
-    /// Makes an identifier of a declaration of its own, of which nothing is known. `TooMany` comes exactly
-    /// where as many identifiers or types are there as there are numbers. After an `Err` nothing has changed.
+    /// Makes an identifier of a declaration of its own, of which nothing is known; it has no span. `TooMany` comes
+    /// exactly where as many identifiers or types are there as there are numbers. After an `Err` nothing has changed.
     pub fn next_identifier_id(&mut self) -> Result<IdentifierId, HirError>
         ensures number { Gives is_hir_memory (next_identifier self.old) result }
         ensures taken { length self.old.identifiers ≤ 4294967295 → length self.old.types ≤ 4294967295 → Gives is_hir_memory (next_identifier_where_known self.old) result }
-        ensures ok { OnOk result (self.new ≡ with_identifier self.old) }
+        ensures ok { OnOk result (self.new ≡ with_identifier None self.old) }
+        ensures err { OnErr result (self.new ≡ self.old) }
+    {
+        self.next_identifier_id_at(None)
+    }
+
+    /// The same, but that the identifier has this span: a temporary's has the one of its place.
+    pub fn next_identifier_id_at(&mut self, span: Option<Span>) -> Result<IdentifierId, HirError>
+        ensures number { Gives is_hir_memory (next_identifier self.old) result }
+        ensures taken { length self.old.identifiers ≤ 4294967295 → length self.old.types ≤ 4294967295 → Gives is_hir_memory (next_identifier_where_known self.old) result }
+        ensures ok { OnOk result (self.new ≡ with_identifier span self.old) }
         ensures err { OnErr result (self.new ≡ self.old) }
     {
         let id = next_number(self)?;
-        let identifier = fresh_identifier(id.0, self.types.len() as u32);
+        let identifier = fresh_identifier(span, id.0, self.types.len() as u32);
         self.types.push(Ty::Var)?;
         match self.identifiers.push(identifier) {
             Ok(()) => Ok(id),

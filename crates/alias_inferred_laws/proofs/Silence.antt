@@ -27,7 +27,7 @@ errors_of e = e.errors
 
 identified : (ts : List Temporary) (env : Environment) → (with_identifiers ts env).errors ≡ env.errors
 identified [] env = refl
-identified (t ∷ ts) env = identified ts (with_identifier env)
+identified (t ∷ ts) env = identified ts (with_identifier t.place.span env)
 
 -- nor does an effects pass
 pub effects_silent : (env : Environment) (e : PassEnd) → (env_after env e).errors ≡ env.errors

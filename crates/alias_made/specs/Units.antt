@@ -23,7 +23,7 @@ made_instructions seed size = flat_map (drawn_instructions seed) (range_with_len
 
 -- three for each block, and 0, which stands for what the function returns; each is of the one type
 abbrev pub made_identifiers : ℕ → List Identifier
-made_identifiers size = map (λ n. fresh_identifier n 0) (range_with_len 0 (3 * size + 1))
+made_identifiers size = map (λ n. fresh_identifier None n 0) (range_with_len 0 (3 * size + 1))
 
 -- one type, of which nothing is known; validations are on
 abbrev pub made_environment : ℕ → Environment

@@ -1,6 +1,6 @@
 //! The unit that is made from a seed.
 
-ghost use Rattle.std.specs.Prelude.{◌≡◌, ◌≤◌, IfOk};
+ghost use Rattle.std.specs.Prelude.{◌≡◌, ◌≤◌, None, IfOk};
 ghost use Rattle.alias_made.specs.Units.{made_instructions, made_identifiers, made_environment, made_function, made_unit};
 ghost use Rattle.alias_hir.specs.Tables.{fresh_identifier};
 
@@ -27,7 +27,7 @@ fn made_instructions(alloc: Global, seed: u64, size: u32) -> Result<List<Instruc
 }
 
 fn made_identifier(number: u32) -> Identifier
-    ensures { result ≡ fresh_identifier number 0 }
+    ensures { result ≡ fresh_identifier None number 0 }
 {
     Identifier {
         declaration_id: DeclarationId(number),

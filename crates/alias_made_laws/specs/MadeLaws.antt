@@ -24,11 +24,11 @@ use Rattle.alias_made_laws.specs.InstructionLaws.{when_true, number_fits, order_
 use Rattle.alias_made_laws.specs.BlockLaws.{blocks_pass, blocks_hold, blocks_list_nothing, block_there, listed_in_order}
 
 length-made_identifiers : (size : ℕ) → length (made_identifiers size) ≡ 3 * size + 1
-length-made_identifiers size = length-map-range_with_len (λ n. fresh_identifier n 0) 0 (3 * size + 1)
+length-made_identifiers size = length-map-range_with_len (λ n. fresh_identifier None n 0) 0 (3 * size + 1)
 
 tables_kept : (size : ℕ) → tables_fit (made_environment size) ≡ Ok tt
 tables_kept size =
-    each_passes (identifier_fits (made_environment size)) (λ n. fresh_identifier n 0) 0 (3 * size + 1)
+    each_passes (identifier_fits (made_environment size)) (λ n. fresh_identifier None n 0) 0 (3 * size + 1)
     (λ k below. then_passes _ (Ok tt) (number_fits _ (length (made_identifiers size)) k (omega (arith, below, length-made_identifiers size))) refl)
 
 levels-Var : levels Var ≡ 1
@@ -87,7 +87,7 @@ orders_kept seed size limit =
 
 nothing_inferred_yet : (seed size : ℕ) → nothing_inferred (made_environment size) (made_function seed size) ≡ Ok tt
 nothing_inferred_yet seed size =
-    let tables : environment_is_uninferred (made_environment size) ≡ true = both (list_all identifier_is_uninferred (made_identifiers size)) true (each_holds identifier_is_uninferred (λ n. fresh_identifier n 0) 0 (3 * size + 1) (λ k h. refl)) refl in
+    let tables : environment_is_uninferred (made_environment size) ≡ true = both (list_all identifier_is_uninferred (made_identifiers size)) true (each_holds identifier_is_uninferred (λ n. fresh_identifier None n 0) 0 (3 * size + 1) (λ k h. refl)) refl in
     let root : function_is_uninferred (made_function seed size) ≡ true =
     both (list_all instruction_is_uninferred (made_instructions seed size)) (list_all (λ e. block_is_uninferred e.1) (made_blocks size)) (instructions_uninferred seed size) (blocks_hold (λ e. block_is_uninferred e.1) size (λ j. refl) refl) in
     when_true (environment_is_uninferred (made_environment size) && function_is_uninferred (made_function seed size)) _ (Ok tt) (both _ _ tables root) refl

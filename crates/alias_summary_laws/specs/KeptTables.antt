@@ -8,6 +8,7 @@ use Rattle.alias_base.specs.declared.ids.TypeId.{TypeId}
 use Rattle.alias_hir.specs.Tables.{fresh_identifier, with_identifier}
 use Rattle.alias_hir.specs.declared.env.Environment.{Environment}
 use Rattle.alias_hir.specs.declared.env.Identifier.{Identifier}
+use Rattle.alias_hir.specs.declared.place.Span.{Span}
 use Rattle.alias_hir.specs.declared.types.Ty.TheVariants.{Var}
 
 -- the declaration of an identifier, and its type
@@ -74,14 +75,14 @@ longer_by : (n m k : ℕ) → m ≡ n + k → n ≤ m
 longer_by n m k e = omega arith
 
 -- a further identifier
-pub tables_more : (env : Environment) → TablesKept env (with_identifier env)
-tables_more env =
-    let i : Identifier = fresh_identifier (length env.identifiers) (length env.types) in
+pub tables_more : (span : Option Span) (env : Environment) → TablesKept env (with_identifier span env)
+tables_more span env =
+    let i : Identifier = fresh_identifier span (length env.identifiers) (length env.types) in
     record {
       identifiers = λ k h. ap (λ (o : Option Identifier). option_map bound_to o) (still_there env.identifiers (i ∷ []) k h);
-      longer = longer_by (length env.identifiers) (length (with_identifier env).identifiers) (length (i ∷ [])) (length-append env.identifiers (i ∷ []));
+      longer = longer_by (length env.identifiers) (length (with_identifier span env).identifiers) (length (i ∷ [])) (length-append env.identifiers (i ∷ []));
       types = λ k h. still_there env.types (Var ∷ []) k h;
-      more_types = longer_by (length env.types) (length (with_identifier env).types) (length (Var ∷ [])) (length-append env.types (Var ∷ []));
+      more_types = longer_by (length env.types) (length (with_identifier span env).types) (length (Var ∷ [])) (length-append env.types (Var ∷ []));
       shapes = refl;
       config = refl;
     }

@@ -69,7 +69,7 @@ answer_is P (Err e) h = tt
 
 identifiers_kept : (ts : List Temporary) (env : Environment) → TablesKept env (with_identifiers ts env)
 identifiers_kept [] env = tables_self env
-identifiers_kept (t ∷ ts) env = tables_then env (with_identifier env) (with_identifiers ts (with_identifier env)) (tables_more env) (identifiers_kept ts (with_identifier env))
+identifiers_kept (t ∷ ts) env = tables_then env (with_identifier t.place.span env) (with_identifiers ts (with_identifier t.place.span env)) (tables_more t.place.span env) (identifiers_kept ts (with_identifier t.place.span env))
 
 pub pass_stays : (env : Environment) (e : PassEnd) → Stays env (env_after env e)
 pass_stays env e =

@@ -15,10 +15,10 @@ use Rattle.alias_tables.specs.Tables.{TableLists}
 abbrev pub tables_of : Environment → TableLists
 tables_of env = record { first = []; temporaries = []; reports = env.interned; reads = [] }
 
--- a new identifier for each temporary
+-- a new identifier for each temporary, with the span of its place
 abbrev pub with_identifiers : List Temporary → Environment → Environment
 with_identifiers [] env = env
-with_identifiers (t ∷ ts) env = with_identifiers ts (with_identifier env)
+with_identifiers (t ∷ ts) env = with_identifiers ts (with_identifier t.place.span env)
 
 -- the place is read, if it is this identifier's
 abbrev pub read_place : IdentifierId → Place → Place

@@ -1,10 +1,11 @@
 -- Identifiers that were added stand behind those that were there.
-use Rattle.std.specs.Prelude.{◌≡◌, ℕ, zero, suc, ◌+◌, ◌<◌, List, [], ◌∷◌, ◌++◌, map, take, drop, length, refl, slice_set}
+use Rattle.std.specs.Prelude.{◌≡◌, ℕ, zero, suc, ◌+◌, ◌<◌, List, [], ◌∷◌, ◌++◌, map, take, drop, length, Option, refl, slice_set}
 use Rattle.std.proofs.Common.{sym, ◌∙◌, ap, append_assoc, append-nil, arith, get_or}
 use Rattle.std.proofs.lemmas.List.Edits.{map_over_more}
 use Rattle.std.proofs.lemmas.List.{take-append-le, take_all}
 use Rattle.alias_hir.specs.declared.env.Environment.{Environment}
 use Rattle.alias_hir.specs.declared.env.Identifier.{Identifier}
+use Rattle.alias_hir.specs.declared.place.Span.{Span}
 use Rattle.alias_hir.specs.declared.types.Ty.{Ty}
 use Rattle.alias_hir.specs.declared.types.Ty.TheVariants.{Var}
 use Rattle.alias_hir.specs.Tables.{fresh_identifier, with_identifier}
@@ -24,19 +25,19 @@ has_itself env = record {
   is = ap (λ xs. record env { identifiers = xs; types = env.types ++ [] }) (append-nil env.identifiers) ∙ ap (λ ts. record env { types = ts }) (append-nil env.types);
 }
 
-has_one_and_more : (env more : Environment) → HasMore (with_identifier env) more → HasMore env more
-has_one_and_more env more h = record {
-  identifiers = fresh_identifier (length env.identifiers) (length env.types) ∷ h.identifiers;
+has_one_and_more : (span : Option Span) (env more : Environment) → HasMore (with_identifier span env) more → HasMore env more
+has_one_and_more span env more h = record {
+  identifiers = fresh_identifier span (length env.identifiers) (length env.types) ∷ h.identifiers;
   types = Var ∷ h.types;
   is =
-      ap (λ xs. record env { identifiers = xs; types = env.types ++ Var ∷ h.types }) (sym (append_assoc env.identifiers (fresh_identifier (length env.identifiers) (length env.types) ∷ []) h.identifiers))
-      ∙ ap (λ ts. record env { identifiers = (env.identifiers ++ fresh_identifier (length env.identifiers) (length env.types) ∷ []) ++ h.identifiers; types = ts }) (sym (append_assoc env.types (Var ∷ []) h.types))
+      ap (λ xs. record env { identifiers = xs; types = env.types ++ Var ∷ h.types }) (sym (append_assoc env.identifiers (fresh_identifier span (length env.identifiers) (length env.types) ∷ []) h.identifiers))
+      ∙ ap (λ ts. record env { identifiers = (env.identifiers ++ fresh_identifier span (length env.identifiers) (length env.types) ∷ []) ++ h.identifiers; types = ts }) (sym (append_assoc env.types (Var ∷ []) h.types))
       ∙ h.is;
 }
 
 pub with_identifiers_has_more : (ts : List Temporary) (env : Environment) → HasMore env (with_identifiers ts env)
 with_identifiers_has_more [] env = has_itself env
-with_identifiers_has_more (t ∷ ts) env = has_one_and_more env (with_identifiers ts (with_identifier env)) (with_identifiers_has_more ts (with_identifier env))
+with_identifiers_has_more (t ∷ ts) env = has_one_and_more t.place.span env (with_identifiers ts (with_identifier t.place.span env)) (with_identifiers_has_more ts (with_identifier t.place.span env))
 
 take_front : {A : Type 0} (xs ys : List A) → take (length xs) (xs ++ ys) ≡ xs
 take_front xs ys = grind (arith, take-append-le, take_all)
@@ -66,8 +67,10 @@ module _ {A : Type 0} where
       → slice_set ys i (f (get_or ys i d)) ≡ map f (take (i + 1) xs) ++ drop (i + 1) xs
   item_step f xs ys i d h same is = map_over_more f xs ys i (get_or ys i d) h is (read_again ys i d (omega arith))
 
--- one identifier more
-pub one_more : (ts : List Temporary) (i : ℕ) (env : Environment) → i < length ts → with_identifier (with_identifiers (take i ts) env) ≡ with_identifiers (take (i + 1) ts) env
-one_more [] i env h = absurd (omega arith)
-one_more (t ∷ ts) zero env h = refl
-one_more (t ∷ ts) (suc i) env h = one_more ts i (with_identifier env) (omega arith) ∙ ap (λ n. with_identifiers (take n (t ∷ ts)) env) (let e : suc (i + 1) ≡ suc i + 1 = omega arith in e)
+-- one identifier more, for the temporary at an index
+pub one_more : (ts : List Temporary) (i : ℕ) (env : Environment) (t : Temporary) → i < length ts → t ≡ get_or ts i t
+    → with_identifier t.place.span (with_identifiers (take i ts) env) ≡ with_identifiers (take (i + 1) ts) env
+one_more [] i env t h is = absurd (omega arith)
+one_more (x ∷ ts) zero env t h is = ap (λ (z : Temporary). with_identifier z.place.span env) is
+one_more (x ∷ ts) (suc i) env t h is =
+    one_more ts i (with_identifier x.place.span env) t (omega arith) is ∙ ap (λ n. with_identifiers (take n (x ∷ ts)) env) (let e : suc (i + 1) ≡ suc i + 1 = omega arith in e)

@@ -35,14 +35,14 @@ pub fn tables_of(alloc: Global, env: &Environment) -> Result<Tables, AllocError>
     Ok(Tables::new(alloc, copy_of(alloc, &env.interned)?))
 }
 
-/// Appends an identifier for each temporary. An `Err` leaves some of them.
+/// Appends an identifier for each temporary, with the span of its place. An `Err` leaves some of them.
 fn append_identifiers(env: &mut Environment, temporaries: &[Temporary]) -> Result<(), AllocError>
     ensures ok { OnOk result (env.new ≡ with_identifiers temporaries.now env.old) }
     ensures err { OnErr result ((count : ℕ) × (env.new ≡ with_identifiers (take count temporaries.now) env.old)) }
 {
-    for _temporary in temporaries {
+    for temporary in temporaries {
         // No number is wanting: there was room for each temporary when it was made.
-        let Ok(_) = env.next_identifier_id() else {
+        let Ok(_) = env.next_identifier_id_at(temporary.place.span) else {
             return Err(AllocError);
         };
     }
@@ -103,8 +103,8 @@ fn note_reads(functions: &mut List<HirFunction>, reads: &[ContextRead])
     }
 }
 
-/// The environment takes over what a pass added to its tables: an identifier for each temporary, the reports, and which
-/// context places are only read. An `Err` leaves the environment as it was.
+/// The environment takes over what a pass added to its tables: an identifier for each temporary, with the span of its
+/// place, the reports, and which context places are only read. An `Err` leaves the environment as it was.
 #[tactic(auto, using(crate::specs::WriteBackLaws::cut_of_identifiers))]
 pub fn write_back(
     alloc: Global,

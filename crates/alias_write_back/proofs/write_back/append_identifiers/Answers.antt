@@ -5,8 +5,11 @@ use Rattle.alias_write_back.proofs.write_back.append_identifiers.Goals as goal
 
 pub loop-temporary-preserved : goal.loop-temporary-preserved
 loop-temporary-preserved c =
-    let done = c.loop-temporary._temporary-index in
-    c.in-Ok.ensures.ok ∙ ap with_identifier c.loop-temporary.invariant ∙ one_more c.args.temporaries.now done c.args.env.now c.loop-temporary-test.true
+    let done = c.loop-temporary.temporary-index in
+    let t = c.temporary-item in
+    c.in-Ok.ensures.ok
+    ∙ ap (with_identifier t.result.place.span) c.loop-temporary.invariant
+    ∙ one_more c.args.temporaries.now done c.args.env.now t.result c.loop-temporary-test.true t.is
 
 pub returns-in_default-clause-err : goal.returns-in_default-clause-err
-returns-in_default-clause-err c = (c.loop-temporary._temporary-index, c.in_default.ensures.err ∙ c.loop-temporary.invariant)
+returns-in_default-clause-err c = (c.loop-temporary.temporary-index, c.in_default.ensures.err ∙ c.loop-temporary.invariant)

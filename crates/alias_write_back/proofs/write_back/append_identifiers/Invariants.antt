@@ -4,4 +4,4 @@ use Rattle.alias_write_back.proofs.write_back.append_identifiers.Given as goal
 
 -- the identifiers of the temporaries so far were added
 abbrev pub invariant-loop-temporary : goal.invariant-loop-temporary
-invariant-loop-temporary l = l.env ≡ with_identifiers (take l._temporary-index l.temporaries) l.initial.env
+invariant-loop-temporary l = l.env ≡ with_identifiers (take l.temporary-index l.temporaries) l.initial.env
