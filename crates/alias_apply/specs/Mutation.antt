@@ -10,6 +10,11 @@ use Rattle.alias_hir.specs.declared.place.Place.{Place}
 use Rattle.alias_hir.specs.declared.report.Report.{Report}
 use Rattle.alias_hir.specs.Types.{is_ref_at}
 use Rattle.alias_lattice.specs.declared.value.AbstractValue.{AbstractValue}
+use Rattle.alias_lattice.specs.declared.mutation.Mutation.{Mutation}
+use Rattle.alias_lattice.specs.declared.mutation.MutateVariant.{MutateVariant}
+use Rattle.alias_lattice.specs.declared.mutation.MutationResult.{MutationResult}
+use Rattle.alias_lattice.specs.declared.mutation.MutationResult.TheVariants as result
+use Rattle.alias_lattice.specs.Mutations.{mutation}
 use Rattle.alias_lattice.specs.States.{look, frozen, does_freeze}
 use Rattle.alias_freezing.specs.Contexts.{context_of}
 use Rattle.alias_freezing.specs.Going.{gone_into_place}
@@ -19,7 +24,7 @@ use Rattle.alias_apply.specs.declared.progress.StepProgress.{StepProgress}
 use Rattle.alias_apply.specs.Contexts.{StepContext, hoisted_access}
 use Rattle.alias_apply.specs.Kinds.{is_frozen, is_writable}
 use Rattle.alias_apply.specs.Leaves.{raise_leaf}
-use Rattle.alias_apply.specs.Progress.{record_of, with_state, looked_with_span, kind_at}
+use Rattle.alias_apply.specs.Progress.{record_of, with_state, looked_with_span, noted, kind_at}
 use Rattle.alias_apply.specs.Reports.{write_report, hoisting_report}
 
 -- a report on the place is interned, and its error is stepped
@@ -69,6 +74,19 @@ module _ (c : StepContext) where
   apply_mutate_conditionally e v s =
       if is_ref_at c.env v.identifier then s
       else (if is_writable (kind_at v s) then record_of e (looked_with_span v s) else looked_with_span v s)
+
+  -- the same, by what the state answers of a write
+  abbrev pub record_result : MutationResult → AliasingEffect → Place → StepProgress → Step StepProgress
+  record_result result.Mutate e v s = gives (record_of e s)
+  record_result result.None e v s = gives s
+  record_result result.MutateRef e v s = gives s
+  record_result result.MutateFrozen e v s = report_hoisted_write (hoisted_access c v.identifier) (look s.state v.identifier) v s
+  record_result result.MutateGlobal e v s = report_write (look s.state v.identifier) v s
+
+  abbrev pub apply_mutation : MutateVariant → AliasingEffect → Place → StepProgress → Step StepProgress
+  apply_mutation w e v s =
+      let m = mutation c.env w v.identifier v.span s.state in
+      record_result m.result e v (noted m.missing s)
 
   -- Freeze: recorded where it acts, and gone on with where that is asked
   abbrev pub apply_freeze : Place → ValueReason → StepProgress → StepProgress

@@ -29,9 +29,13 @@ abbrev pub first_missing : Option MissingLook → Option MissingLook → Option 
 first_missing None m = m
 first_missing (Some l) m = Some l
 
+-- a look that may be missing is noted, where it is the first that is
+abbrev pub noted : Option MissingLook → StepProgress → StepProgress
+noted m s = record s { missing = first_missing s.missing m }
+
 -- a look at the identifier, which is noted where it is the first without a value
 abbrev pub looked : IdentifierId → Option Span → StepProgress → StepProgress
-looked x span s = record s { missing = first_missing s.missing (missing_look s.state x span) }
+looked x span s = noted (missing_look s.state x span) s
 
 -- a look at a place without its span, and with it
 abbrev pub looked_at : Place → StepProgress → StepProgress

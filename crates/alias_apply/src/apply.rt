@@ -70,24 +70,20 @@ fn apply_simple(
             AliasingEffect::MutateTransitive { value },
             value,
         ),
-        AliasingEffect::MutateConditionally { value } => {
-            apply_mutate_conditionally(
-                context,
-                step,
-                AliasingEffect::MutateConditionally { value },
-                value,
-            )?;
-            Ok(())
-        }
-        AliasingEffect::MutateTransitiveConditionally { value } => {
-            apply_mutate_conditionally(
-                context,
-                step,
-                AliasingEffect::MutateTransitiveConditionally { value },
-                value,
-            )?;
-            Ok(())
-        }
+        AliasingEffect::MutateConditionally { value } => apply_mutate_conditionally(
+            context,
+            step,
+            tables,
+            AliasingEffect::MutateConditionally { value },
+            value,
+        ),
+        AliasingEffect::MutateTransitiveConditionally { value } => apply_mutate_conditionally(
+            context,
+            step,
+            tables,
+            AliasingEffect::MutateTransitiveConditionally { value },
+            value,
+        ),
         effect => apply_aliasing(step, tables, effect),
     }
 }

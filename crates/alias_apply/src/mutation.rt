@@ -3,20 +3,20 @@
 ghost use Rattle.std.specs.Prelude.{◌≡◌, OnOk};
 ghost use Rattle.alias_apply.specs.Contexts.{held};
 ghost use Rattle.alias_apply.specs.Progress.{Follows};
-ghost use Rattle.alias_apply.specs.Mutation.{raise_mutate_frozen, raise_mutate_global, report_write, report_hoisted_write, record_mutation, apply_mutate, apply_mutate_conditionally, freezes_on, apply_freeze};
+ghost use Rattle.alias_apply.specs.Mutation.{raise_mutate_frozen, raise_mutate_global, report_write, report_hoisted_write, record_result, apply_mutation, apply_mutate, apply_mutate_conditionally, freezes_on, apply_freeze};
+ghost use Rattle.alias_tables.specs.Steps.{gives};
 
 use crate::context::{StepContext, hoisted_access};
-use crate::kinds::{is_frozen, is_writable};
+use crate::kinds::is_frozen;
 use crate::leaves::raise_leaf;
-use crate::progress::{StepProgress, look, record};
+use crate::progress::{StepProgress, note_missing, record};
 use crate::reports::{hoisting_report, write_report};
 use alias_freezing::go_into_place;
-use alias_hir::effect::{AliasingEffect, ValueKind, ValueReason};
+use alias_hir::effect::{AliasingEffect, ValueReason};
 use alias_hir::env::Config;
 use alias_hir::place::Place;
 use alias_hir::report::Report;
-use alias_hir::types::is_ref_at;
-use alias_lattice::AbstractValue;
+use alias_lattice::{AbstractValue, MutateVariant, MutationResult};
 use alias_tables::{EffectFault, Tables};
 use std::alloc::AllocError;
 
@@ -94,30 +94,57 @@ fn report_hoisted_write(
     }
 }
 
-/// What a definite write does, by the kind of what it writes.
-fn record_mutation(
+/// What the step of a write does, by what the state answers of it.
+fn record_result(
     context: &StepContext<'_>,
     step: &mut StepProgress,
     tables: &mut Tables,
-    kind: ValueKind,
-    there: AbstractValue,
+    mutation: MutationResult,
     effect: AliasingEffect,
     place: Place,
 ) -> Result<(), EffectFault>
-    ensures { Follows (record_mutation (held context.now) kind there effect place step.old tables.old) result step.new tables.new }
+    ensures { Follows (record_result (held context.now) mutation effect place step.old tables.old) result step.new tables.new }
 {
-    match kind {
-        ValueKind::Mutable | ValueKind::Context => {
+    match mutation {
+        MutationResult::Mutate => {
             record(step, effect)?;
             Ok(())
         }
-        ValueKind::Primitive => Ok(()),
-        ValueKind::Frozen | ValueKind::MaybeFrozen => {
+        MutationResult::None | MutationResult::MutateRef => Ok(()),
+        MutationResult::MutateFrozen => {
+            let there = step
+                .state
+                .kind_with_span(place.identifier, place.span)
+                .value;
             let hoisted = hoisted_access(context, place.identifier);
             report_hoisted_write(context, step, tables, hoisted, there, place)
         }
-        ValueKind::Global => report_write(context, step, tables, there, place),
+        MutationResult::MutateGlobal => {
+            let there = step
+                .state
+                .kind_with_span(place.identifier, place.span)
+                .value;
+            report_write(context, step, tables, there, place)
+        }
     }
+}
+
+/// The step of a write of the variant: a look that is missing is noted, and then what the state answers decides.
+fn apply_mutation(
+    context: &StepContext<'_>,
+    step: &mut StepProgress,
+    tables: &mut Tables,
+    variant: MutateVariant,
+    effect: AliasingEffect,
+    place: Place,
+) -> Result<(), EffectFault>
+    ensures { Follows (apply_mutation (held context.now) variant effect place step.old tables.old) result step.new tables.new }
+{
+    let mutation = step
+        .state
+        .mutate_with_span(variant, place.identifier, context.env, place.span);
+    note_missing(step, mutation.missing);
+    record_result(context, step, tables, mutation.result, effect, place)
 }
 
 /// Mutate and MutateTransitive: a ref may be written.
@@ -130,30 +157,27 @@ pub fn apply_mutate(
 ) -> Result<(), EffectFault>
     ensures { Follows (apply_mutate (held context.now) effect place step.old tables.old) result step.new tables.new }
 {
-    if is_ref_at(context.env, place.identifier) {
-        return Ok(());
-    }
-    let there = look(step, place.identifier, place.span);
-    record_mutation(context, step, tables, there.kind, there, effect, place)
+    apply_mutation(context, step, tables, MutateVariant::Mutate, effect, place)
 }
 
 /// The conditional writes: recorded where the value is writable.
 pub fn apply_mutate_conditionally(
     context: &StepContext<'_>,
     step: &mut StepProgress,
+    tables: &mut Tables,
     effect: AliasingEffect,
     place: Place,
-) -> Result<(), AllocError>
-    ensures { OnOk result (step.new ≡ apply_mutate_conditionally (held context.now) effect place step.old) }
+) -> Result<(), EffectFault>
+    ensures { Follows (gives (apply_mutate_conditionally (held context.now) effect place step.old) tables.old) result step.new tables.new }
 {
-    if is_ref_at(context.env, place.identifier) {
-        return Ok(());
-    }
-    let there = look(step, place.identifier, place.span);
-    if is_writable(there.kind) {
-        return record(step, effect);
-    }
-    Ok(())
+    apply_mutation(
+        context,
+        step,
+        tables,
+        MutateVariant::MutateConditionally,
+        effect,
+        place,
+    )
 }
 
 fn freezes_on(config: Config) -> bool

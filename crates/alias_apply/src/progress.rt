@@ -2,7 +2,7 @@
 
 ghost use Rattle.std.specs.Prelude.{◌≡◌, OnOk};
 ghost use Rattle.alias_lattice.specs.States.{look as look_of, given};
-ghost use Rattle.alias_apply.specs.Progress.{with_state, record_of, looked, made, Follows};
+ghost use Rattle.alias_apply.specs.Progress.{with_state, record_of, looked, noted, made, Follows};
 
 use crate::made::MadeIdentifiers;
 use alias_base::IdentifierId;
@@ -49,15 +49,22 @@ pub fn make(
     Ok(())
 }
 
+/// Notes a look at an identifier without a value, if it is the first.
+pub fn note_missing(step: &mut StepProgress, missing: Option<MissingLook>)
+    ensures { step.new ≡ noted missing step.old }
+{
+    if step.missing.is_none() {
+        step.missing = missing;
+    }
+}
+
 /// The value of the identifier. A look at one without a value is noted, if it is the first.
 pub fn look(step: &mut StepProgress, identifier: IdentifierId, span: Option<Span>) -> AbstractValue
     ensures value { result ≡ look_of step.old.state identifier }
     ensures noted { step.new ≡ looked identifier span step.old }
 {
     let look = step.state.kind_with_span(identifier, span);
-    if step.missing.is_none() {
-        step.missing = look.missing;
-    }
+    note_missing(step, look.missing);
     look.value
 }
 

@@ -27,6 +27,7 @@ pub mod Sites
 pub mod SiteOrder
 pub mod SiteOrderLaws
 pub mod States
+pub mod Mutations
 pub mod Members
 pub mod ProperStates
 pub mod StateLaws
