@@ -28,10 +28,10 @@ use Rattle.alias_apply.specs.declared.progress.StepProgress.{StepProgress}
 use Rattle.alias_apply.specs.Contexts.{StepContext, hoisted_access, summary_of}
 use Rattle.alias_apply.specs.Kinds.{is_constant, is_frozen, is_writable, may_be_frozen, captures, may_alias, value_with}
 use Rattle.alias_apply.specs.Progress.{kind_at, is_made, made, first_missing, looked, looked_at, looked_with_span, record_of, with_state}
-use Rattle.alias_apply.specs.Leaves.{apply_leaf, raise_leaf, apply_maybe_alias, apply_aliasing, raise_aliasing}
+use Rattle.alias_apply.specs.Leaves.{apply_leaf, intern_and_apply_leaf, apply_maybe_alias, apply_aliasing, intern_and_apply_aliasing}
 use Rattle.alias_apply.specs.Values.{apply_create, record_create_from, apply_create_from, assign_value, apply_assign, apply_link, apply_alias}
-use Rattle.alias_apply.specs.Mutation.{raise_mutate_frozen, raise_mutate_global, report_write, report_hoisted_write, record_mutation, apply_mutate, apply_mutate_conditionally, apply_freeze, freezes_on}
-use Rattle.alias_apply.specs.Apply.{apply_simple, raise_simple, is_read_capture, note_read_capture, is_mutable_capture, has_error, is_mutable_function, function_value, capture_each, apply_create_function, apply_plain, raise_plain, raise_all_plain}
+use Rattle.alias_apply.specs.Mutation.{intern_and_apply_mutate_frozen, intern_and_apply_mutate_global, report_write, report_hoisted_write, record_mutation, apply_mutate, apply_mutate_conditionally, apply_freeze, freezes_on}
+use Rattle.alias_apply.specs.Apply.{apply_simple, intern_and_apply_simple, is_read_capture, note_read_capture, is_mutable_capture, has_error, is_mutable_function, function_value, capture_each, apply_create_function, apply_plain, intern_and_apply_plain, intern_and_apply_all_plain}
 use Rattle.alias_accept_laws.specs.Alike.{Paired, none, more, moved, AlikePlace, at, AlikePlaces, Alike, apply, create_from, immutable_capture, assign, alias, capture, maybe_alias, create, freeze, impure, mutate_frozen, mutate_global, render, mutate, mutate_conditionally, mutate_transitive, mutate_transitive_conditionally, create_function, AlikeEffects, AlikeLook, there, missing, AlikeProgress, like, IsFull, Repeats, Elsewhere, elsewhere}
 use Rattle.alias_accept_laws.proofs.Elsewhere.{other, same_has_error, summary_elsewhere, context_elsewhere, contexts_elsewhere}
 use Rattle.alias_accept_laws.proofs.Interning.{repeats_intern}
@@ -133,20 +133,20 @@ module _ {whole : List Temporary} where
 
   -- ---- leaves
 
-  pub same_raise_leaf : (e f : AliasingEffect) (s t : StepProgress) → Alike e f → AlikeProgress s t → Same whole (raise_leaf e s) (raise_leaf f t)
-  same_raise_leaf e f s t a b = raised _ _ e f a (λ x y c. same_gives _ _ (leaf_alike x y s t c b))
+  pub same_intern_and_apply_leaf : (e f : AliasingEffect) (s t : StepProgress) → Alike e f → AlikeProgress s t → Same whole (intern_and_apply_leaf e s) (intern_and_apply_leaf f t)
+  same_intern_and_apply_leaf e f s t a b = raised _ _ e f a (λ x y c. same_gives _ _ (leaf_alike x y s t c b))
 
   same_maybe_alias : (a b x y : Place) (s t : StepProgress) → AlikeProgress s t → Same whole (apply_maybe_alias a x s) (apply_maybe_alias (moved a b) (moved x y) t)
   same_maybe_alias a b x y s t (like u r m c l) =
       let now = both_looked a b x y u _ (like u r m c l) in
-      same_if (may_be_frozen (kind_at a u)) _ _ _ _ (same_raise_leaf _ _ _ _ (immutable_capture a b x y) now) (same_gives _ _ (recorded_alike _ _ _ _ (maybe_alias a b x y) now))
+      same_if (may_be_frozen (kind_at a u)) _ _ _ _ (same_intern_and_apply_leaf _ _ _ _ (immutable_capture a b x y) now) (same_gives _ _ (recorded_alike _ _ _ _ (maybe_alias a b x y) now))
 
   same_aliasing : (e f : AliasingEffect) (s t : StepProgress) → Alike e f → AlikeProgress s t → Same whole (apply_aliasing e s) (apply_aliasing f t)
   same_aliasing e f s t (maybe_alias a b x y) c = same_maybe_alias a b x y s t c
   same_aliasing e f s t a c = same_gives _ _ (leaf_alike e f s t a c)
 
-  same_raise_aliasing : (e f : AliasingEffect) (s t : StepProgress) → Alike e f → AlikeProgress s t → Same whole (raise_aliasing e s) (raise_aliasing f t)
-  same_raise_aliasing e f s t a b = raised _ _ e f a (λ x y c. same_aliasing x y s t c b)
+  same_intern_and_apply_aliasing : (e f : AliasingEffect) (s t : StepProgress) → Alike e f → AlikeProgress s t → Same whole (intern_and_apply_aliasing e s) (intern_and_apply_aliasing f t)
+  same_intern_and_apply_aliasing e f s t a b = raised _ _ e f a (λ x y c. same_aliasing x y s t c b)
 
   -- ---- values that are made
 
@@ -158,7 +158,7 @@ module _ {whole : List Temporary} where
   same_record_create_from : (k : ValueKind) (r : ValueReason) (a b x y : Place) (s t : StepProgress) → AlikeProgress s t → Same whole (record_create_from k r a x s) (record_create_from k r (moved a b) (moved x y) t)
   same_record_create_from Primitive r a b x y s t c = same_gives _ _ (recorded_alike _ _ s t (create x y Primitive r) c)
   same_record_create_from Global r a b x y s t c = same_gives _ _ (recorded_alike _ _ s t (create x y Global r) c)
-  same_record_create_from Frozen r a b x y s t c = same_raise_leaf _ _ _ _ (immutable_capture a b x y) (recorded_alike _ _ s t (create x y Frozen r) c)
+  same_record_create_from Frozen r a b x y s t c = same_intern_and_apply_leaf _ _ _ _ (immutable_capture a b x y) (recorded_alike _ _ s t (create x y Frozen r) c)
   same_record_create_from Mutable r a b x y s t c = same_gives _ _ (recorded_alike _ _ s t (create_from a b x y) c)
   same_record_create_from Context r a b x y s t c = same_gives _ _ (recorded_alike _ _ s t (create_from a b x y) c)
   same_record_create_from MaybeFrozen r a b x y s t c = same_gives _ _ (recorded_alike _ _ s t (create_from a b x y) c)
@@ -176,7 +176,7 @@ module _ {whole : List Temporary} where
   same_assign_value : (v : AbstractValue) (a b x y : Place) (s t : StepProgress) → AlikeProgress s t → Same whole (assign_value v a x s) (assign_value v (moved a b) (moved x y) t)
   same_assign_value v a b x y s t c =
       same_if (is_frozen v.kind) _ _ _ _
-      (same_then _ _ _ _ (same_raise_leaf _ _ s t (immutable_capture a b x y) c) (λ p q d. same_gives _ _ (stated (given x.identifier (AssignFrozen a.identifier x.identifier) v) p q d)))
+      (same_then _ _ _ _ (same_intern_and_apply_leaf _ _ s t (immutable_capture a b x y) c) (λ p q d. same_gives _ _ (stated (given x.identifier (AssignFrozen a.identifier x.identifier) v) p q d)))
       (same_if (is_constant v.kind) _ _ _ _
       (same_gives _ _ (stated (given x.identifier (AssignCopy a.identifier x.identifier) v) s t c))
       (same_gives _ _ (recorded_alike _ _ _ _ (assign a b x y) (stated (assigned x.identifier a.identifier) s t c))))
@@ -193,9 +193,9 @@ module _ {whole : List Temporary} where
   same_link : (e f : AliasingEffect) (a b x y : Place) (s t : StepProgress) → Alike e f → AlikeProgress s t → Same whole (apply_link e a x s) (apply_link f (moved a b) (moved x y) t)
   same_link e f a b x y s t g (like u r m c l) =
       let now = both_looked a b x y u _ (like u r m c l) in
-      same_if (may_be_frozen (kind_at a u)) _ _ _ _ (same_raise_leaf _ _ _ _ (immutable_capture a b x y) now)
+      same_if (may_be_frozen (kind_at a u)) _ _ _ _ (same_intern_and_apply_leaf _ _ _ _ (immutable_capture a b x y) now)
       (same_if (captures (kind_at a u) (kind_at x u)) _ _ _ _ (same_gives _ _ (recorded_alike e f _ _ g now))
-      (same_if (may_alias (kind_at a u) (kind_at x u)) _ _ _ _ (same_raise_aliasing _ _ _ _ (maybe_alias a b x y) now) (same_gives _ _ now)))
+      (same_if (may_alias (kind_at a u) (kind_at x u)) _ _ _ _ (same_intern_and_apply_aliasing _ _ _ _ (maybe_alias a b x y) now) (same_gives _ _ now)))
 
   same_alias : (a b x y : Place) (s t : StepProgress) → AlikeProgress s t → Same whole (apply_alias a x s) (apply_alias (moved a b) (moved x y) t)
   same_alias a b x y s t (like u r m c l) =
@@ -203,13 +203,13 @@ module _ {whole : List Temporary} where
 
   -- ---- writes
 
-  same_frozen_write : (r q : Report) (v w : Place) (s t : StepProgress) → AlikeProgress s t → Same whole (raise_mutate_frozen r v s) (raise_mutate_frozen q (moved v w) t)
+  same_frozen_write : (r q : Report) (v w : Place) (s t : StepProgress) → AlikeProgress s t → Same whole (intern_and_apply_mutate_frozen r v s) (intern_and_apply_mutate_frozen q (moved v w) t)
   same_frozen_write r q v w s t a =
-      repeats_then AnyNumber AlikeProgress (λ d. tt) _ _ _ _ (repeats_report v.identifier r q) (λ d e n. same_raise_leaf _ _ s t (mutate_frozen v w d e) a)
+      repeats_then AnyNumber AlikeProgress (λ d. tt) _ _ _ _ (repeats_report v.identifier r q) (λ d e n. same_intern_and_apply_leaf _ _ s t (mutate_frozen v w d e) a)
 
-  same_global_write : (r q : Report) (v w : Place) (s t : StepProgress) → AlikeProgress s t → Same whole (raise_mutate_global r v s) (raise_mutate_global q (moved v w) t)
+  same_global_write : (r q : Report) (v w : Place) (s t : StepProgress) → AlikeProgress s t → Same whole (intern_and_apply_mutate_global r v s) (intern_and_apply_mutate_global q (moved v w) t)
   same_global_write r q v w s t a =
-      repeats_then AnyNumber AlikeProgress (λ d. tt) _ _ _ _ (repeats_report v.identifier r q) (λ d e n. same_raise_leaf _ _ s t (mutate_global v w d e) a)
+      repeats_then AnyNumber AlikeProgress (λ d. tt) _ _ _ _ (repeats_report v.identifier r q) (λ d e n. same_intern_and_apply_leaf _ _ s t (mutate_global v w d e) a)
 
   same_note_read : (f : FunctionId) (p : Place) (s t : StepProgress) → AlikeProgress s t → Same whole (note_read_capture f p s) (note_read_capture f p t)
   same_note_read f p s t (like u r m c l) =
@@ -249,11 +249,11 @@ module _ {whole : List Temporary} where
     same_simple e f s t (mutate_transitive_conditionally v w) d = same_gives _ _ (conditionally_alike c o _ _ v w s t (mutate_transitive_conditionally v w) d)
     same_simple e f s t b d = same_aliasing e f s t b d
 
-    pub same_raise_simple : (e f : AliasingEffect) (s t : StepProgress) → Alike e f → AlikeProgress s t → Same whole (raise_simple c e s) (raise_simple (other c o) f t)
-    same_raise_simple e f s t a b = raised _ _ e f a (λ x y d. same_simple x y s t d b)
+    pub same_intern_and_apply_simple : (e f : AliasingEffect) (s t : StepProgress) → Alike e f → AlikeProgress s t → Same whole (intern_and_apply_simple c e s) (intern_and_apply_simple (other c o) f t)
+    same_intern_and_apply_simple e f s t a b = raised _ _ e f a (λ x y d. same_simple x y s t d b)
 
-    same_capture : (x y p q : Place) (s t : StepProgress) → AlikePlace p q → AlikeProgress s t → Same whole (raise_simple c (effect.Capture p x) s) (raise_simple (other c o) (effect.Capture q (moved x y)) t)
-    same_capture x y p q s t (at a b) d = same_raise_simple _ _ s t (capture a b x y) d
+    same_capture : (x y p q : Place) (s t : StepProgress) → AlikePlace p q → AlikeProgress s t → Same whole (intern_and_apply_simple c (effect.Capture p x) s) (intern_and_apply_simple (other c o) (effect.Capture q (moved x y)) t)
+    same_capture x y p q s t (at a b) d = same_intern_and_apply_simple _ _ s t (capture a b x y) d
 
     same_capture_each : (x y : Place) (ps qs : List Place) (s t : StepProgress) → AlikePlaces ps qs → AlikeProgress s t → Same whole (capture_each c x ps s) (capture_each (other c o) (moved x y) qs t)
     same_capture_each x y ps qs s t a d = repeats_each AlikePlace AlikeProgress progress_self _ _ (λ p q b u v e. same_capture x y p q u v b e) ps qs a s t d
@@ -270,8 +270,8 @@ module _ {whole : List Temporary} where
     same_plain e f s t (apply r q g h x y mutates args others signature span other b) a = same_gives s t a
     same_plain e f s t b a = same_simple e f s t b a
 
-    pub same_raise_plain : (e f : AliasingEffect) (s t : StepProgress) → Alike e f → AlikeProgress s t → Same whole (raise_plain c e s) (raise_plain (other c o) f t)
-    same_raise_plain e f s t a b = raised _ _ e f a (λ x y d. same_plain x y s t d b)
+    pub same_intern_and_apply_plain : (e f : AliasingEffect) (s t : StepProgress) → Alike e f → AlikeProgress s t → Same whole (intern_and_apply_plain c e s) (intern_and_apply_plain (other c o) f t)
+    same_intern_and_apply_plain e f s t a b = raised _ _ e f a (λ x y d. same_plain x y s t d b)
 
-    pub same_raise_all_plain : (es fs : List AliasingEffect) (s t : StepProgress) → AlikeEffects es fs → AlikeProgress s t → Same whole (raise_all_plain c es s) (raise_all_plain (other c o) fs t)
-    same_raise_all_plain es fs s t a b = repeats_each Alike AlikeProgress progress_self (raise_plain c) (raise_plain (other c o)) (λ e f d u v g. same_raise_plain e f u v d g) es fs a s t b
+    pub same_intern_and_apply_all_plain : (es fs : List AliasingEffect) (s t : StepProgress) → AlikeEffects es fs → AlikeProgress s t → Same whole (intern_and_apply_all_plain c es s) (intern_and_apply_all_plain (other c o) fs t)
+    same_intern_and_apply_all_plain es fs s t a b = repeats_each Alike AlikeProgress progress_self (intern_and_apply_plain c) (intern_and_apply_plain (other c o)) (λ e f d u v g. same_intern_and_apply_plain e f u v d g) es fs a s t b

@@ -34,7 +34,7 @@ use Rattle.alias_freezing.specs.Contexts.{context_of}
 use Rattle.alias_tables.specs.declared.faults.Refusal.TheVariants.{IncompatibleLibrary}
 use Rattle.alias_tables.specs.declared.temporaries.Temporary.{Temporary}
 use Rattle.alias_apply.specs.declared.progress.StepProgress.{StepProgress}
-use Rattle.alias_apply.specs.Apply.{raise_all_plain}
+use Rattle.alias_apply.specs.Apply.{intern_and_apply_all_plain}
 use Rattle.alias_apply.specs.Contexts.{StepContext, summary_of}
 use Rattle.alias_apply.specs.Progress.{first_missing}
 use Rattle.alias_apply.specs.Reports.{incompatible_report}
@@ -52,7 +52,7 @@ use Rattle.alias_accept_laws.specs.Alike.{Paired, none, more, AlikePlace, Maybe,
 use Rattle.alias_accept_laws.proofs.Likeness.{paired_self, paired_append, alike_self, look_self, progress_self}
 use Rattle.alias_accept_laws.proofs.Repeating.{repeats_gives, repeats_refuses, repeats_then, repeats_each, maybe_self}
 use Rattle.alias_accept_laws.proofs.Tabling.{AnyNumber, repeats_report}
-use Rattle.alias_accept_laws.proofs.Applying.{recorded_alike, first_alike, stated, Same, same_gives, same_then, same_if, same_raise_simple, same_raise_plain, same_raise_all_plain}
+use Rattle.alias_accept_laws.proofs.Applying.{recorded_alike, first_alike, stated, Same, same_gives, same_then, same_if, same_intern_and_apply_simple, same_intern_and_apply_plain, same_intern_and_apply_all_plain}
 use Rattle.alias_signature.specs.Functions.{captured, function_effects}
 use Rattle.std.specs.List.{flat_map}
 use Rattle.alias_accept_laws.proofs.Calling.{same_config_list, same_summary_list, seen_as}
@@ -123,33 +123,33 @@ module _ {whole : List Temporary} where
 
     same_mutate_operand : (c d : Call) (o p : Operand) (s t : StepProgress) → AlikeCall c d → AlikeOperand o p → AlikeProgress s t → Same whole (mutate_operand x c o s) (mutate_operand (other x o₀) d p t)
     same_mutate_operand c d o p s t (calls u v f g mutates args others site a) (operand q r b) e =
-        same_if (same_place q f && not mutates) _ _ _ _ (same_gives s t e) (same_raise_simple x o₀ _ _ s t (mutate_transitive_conditionally q r) e)
+        same_if (same_place q f && not mutates) _ _ _ _ (same_gives s t e) (same_intern_and_apply_simple x o₀ _ _ s t (mutate_transitive_conditionally q r) e)
 
     same_iterate_operand : (o p : Operand) (s t : StepProgress) → AlikeOperand o p → AlikeProgress s t → Same whole (iterate_operand x o s) (iterate_operand (other x o₀) p t)
     same_iterate_operand o p s t (operand q r b) e =
-        same_if (b && not (is_builtin_collection_at x.env q.identifier)) _ _ _ _ (same_raise_simple x o₀ _ _ s t (mutate_transitive_conditionally q r) e) (same_gives s t e)
+        same_if (b && not (is_builtin_collection_at x.env q.identifier)) _ _ _ _ (same_intern_and_apply_simple x o₀ _ _ s t (mutate_transitive_conditionally q r) e) (same_gives s t e)
 
     same_capture_operand : (o p m n : Operand) (s t : StepProgress) → AlikeOperand o p → AlikeOperand m n → AlikeProgress s t → Same whole (capture_operand x o m s) (capture_operand (other x o₀) p n t)
     same_capture_operand o p m n s t (operand q r b) (operand u v d) e =
-        same_if (same_place u q && not b) _ _ _ _ (same_gives s t e) (same_raise_simple x o₀ _ _ s t (capture q r u v) e)
+        same_if (same_place u q && not b) _ _ _ _ (same_gives s t e) (same_intern_and_apply_simple x o₀ _ _ s t (capture q r u v) e)
 
     same_operand : (c d : Call) (all every : List Operand) (o p : Operand) (s t : StepProgress) → AlikeCall c d → Paired AlikeOperand all every → AlikeOperand o p → AlikeProgress s t → Same whole (apply_operand x c all o s) (apply_operand (other x o₀) d every p t)
     same_operand c d all every o p s t a b e i =
         same_then _ _ _ _ (same_mutate_operand c d o p s t a e i) (λ u v j.
         same_then _ _ _ _ (same_iterate_operand o p u v e j) (λ w y k.
-        same_then _ _ _ _ (same_raise_simple x o₀ _ _ w y (linked c d o p a e) k) (λ z n l.
+        same_then _ _ _ _ (same_intern_and_apply_simple x o₀ _ _ w y (linked c d o p a e) k) (λ z n l.
         repeats_each AlikeOperand AlikeProgress progress_self (capture_operand x o) (capture_operand (other x o₀) p) (λ m q f g h r. same_capture_operand o p m q g h e f r) all every b z n l)))
 
     same_by_default : (c d : Call) (s t : StepProgress) → AlikeCall c d → AlikeProgress s t → Same whole (apply_by_default x c s) (apply_by_default (other x o₀) d t)
     same_by_default c d s t a b =
-        same_then _ _ _ _ (same_raise_simple x o₀ _ _ s t (made_alike c d a) b) (λ u v e.
+        same_then _ _ _ _ (same_intern_and_apply_simple x o₀ _ _ s t (made_alike c d a) b) (λ u v e.
         repeats_each AlikeOperand AlikeProgress progress_self (apply_operand x c (operands c)) (apply_operand (other x o₀) d (operands d)) (λ o p f g h i. same_operand c d (operands c) (operands d) o p g h a (operands_alike c d a) f i)
         (operands c) (operands d) (operands_alike c d a) u v e)
 
     -- ---- by a summary
 
     same_by_summary : (c d : Call) (es fs : List AliasingEffect) (s t : StepProgress) → AlikeCall c d → AlikeEffects es fs → AlikeProgress s t → Same whole (apply_by_summary x c es s) (apply_by_summary (other x o₀) d fs t)
-    same_by_summary c d es fs s t a b e = same_then _ _ _ _ (same_raise_simple x o₀ _ _ s t (function_written c d a) e) (λ u v i. same_raise_all_plain x o₀ es fs u v b i)
+    same_by_summary c d es fs s t a b e = same_then _ _ _ _ (same_intern_and_apply_simple x o₀ _ _ s t (function_written c d a) e) (λ u v i. same_intern_and_apply_all_plain x o₀ es fs u v b i)
 
     -- ---- in the list of an aliasing part
 
@@ -163,15 +163,15 @@ module _ {whole : List Temporary} where
     same_inner_effect : (e f : AliasingEffect) (s t : StepProgress) → Alike e f → AlikeProgress s t → Same whole (apply_inner_effect x e s) (apply_inner_effect (other x o₀) f t)
     same_inner_effect e f s t (apply r q g h i j mutates args others signature span other a) b =
         same_inner_call _ _ s t (calls _ _ g h mutates args others (called (record { receiver = r; into = i; span = span }) (record { receiver = q; into = j; span = other })) a) b
-    same_inner_effect e f s t a b = same_raise_plain x o₀ e f s t a b
+    same_inner_effect e f s t a b = same_intern_and_apply_plain x o₀ e f s t a b
 
     same_inner_effects : (es fs : List AliasingEffect) (s t : StepProgress) → AlikeEffects es fs → AlikeProgress s t → Same whole (apply_inner_effects x es s) (apply_inner_effects (other x o₀) fs t)
     same_inner_effects es fs s t a b = repeats_each Alike AlikeProgress progress_self (apply_inner_effect x) (apply_inner_effect (other x o₀)) (λ e f d u v g. same_inner_effect e f u v d g) es fs a s t b
 
     -- ---- by a signature
 
-    same_listed : (l m : Legacy) (s t : StepProgress) → AlikeLegacy l m → AlikeProgress s t → Same whole (raise_all_plain x l.effects (with_missing l.missing s)) (raise_all_plain (other x o₀) m.effects (with_missing m.missing t))
-    same_listed l m s t (listed es fs look a) b = same_raise_all_plain x o₀ es fs _ _ a (missing_alike look s t b)
+    same_listed : (l m : Legacy) (s t : StepProgress) → AlikeLegacy l m → AlikeProgress s t → Same whole (intern_and_apply_all_plain x l.effects (with_missing l.missing s)) (intern_and_apply_all_plain (other x o₀) m.effects (with_missing m.missing t))
+    same_listed l m s t (listed es fs look a) b = same_intern_and_apply_all_plain x o₀ es fs _ _ a (missing_alike look s t b)
 
     same_legacy_of : (g : FunctionSignature) (c d : Call) (s t : StepProgress) → AlikeCall c d → AlikeProgress s t → Repeats IsFull whole AlikeLegacy (legacy_list x.env g c.site c.args s.state) (legacy_list (elsewhere x.env o₀) g d.site d.args t.state)
     same_legacy_of g c d s t (calls p q f h mutates args others site a) (like u r m b l) = same_legacy_list x.env o₀ g args others a p q u.state site
@@ -205,7 +205,7 @@ module _ {whole : List Temporary} where
     same_effect : (e f : AliasingEffect) (s t : StepProgress) → Alike e f → AlikeProgress s t → Same whole (apply_effect x e s) (apply_effect (other x o₀) f t)
     same_effect e f s t (apply r q g h i j mutates args others signature span other a) b =
         same_call signature _ _ s t (calls _ _ g h mutates args others (called (record { receiver = r; into = i; span = span }) (record { receiver = q; into = j; span = other })) a) b
-    same_effect e f s t a b = same_raise_plain x o₀ e f s t a b
+    same_effect e f s t a b = same_intern_and_apply_plain x o₀ e f s t a b
 
     same_effects : (es fs : List AliasingEffect) (s t : StepProgress) → AlikeEffects es fs → AlikeProgress s t → Same whole (apply_effects x es s) (apply_effects (other x o₀) fs t)
     same_effects es fs s t a b = repeats_each Alike AlikeProgress progress_self (apply_effect x) (apply_effect (other x o₀)) (λ e f d u v g. same_effect e f u v d g) es fs a s t b

@@ -65,8 +65,8 @@ module _ (c : StepContext) where
   apply_simple (effect.MutateTransitiveConditionally v) s = gives (apply_mutate_conditionally c (effect.MutateTransitiveConditionally v) v s)
   apply_simple e s = apply_aliasing e s
 
-  abbrev pub raise_simple : AliasingEffect → StepProgress → Step StepProgress
-  raise_simple e s = do
+  abbrev pub intern_and_apply_simple : AliasingEffect → StepProgress → Step StepProgress
+  intern_and_apply_simple e s = do
     first ← intern e
     apply_simple first s
 
@@ -77,7 +77,7 @@ module _ (c : StepContext) where
 
   -- each of the places is captured
   abbrev pub capture_each : Place → List Place → StepProgress → Step StepProgress
-  capture_each x captures = each (λ p. raise_simple (effect.Capture p x)) captures
+  capture_each x captures = each (λ p. intern_and_apply_simple (effect.Capture p x)) captures
 
   abbrev pub apply_create_function : Place → FunctionId → List Place → StepProgress → Step StepProgress
   apply_create_function x f captures s = do
@@ -91,11 +91,11 @@ module _ (c : StepContext) where
   apply_plain (effect.Apply receiver function mutates args into signature span) s = gives s
   apply_plain e s = apply_simple e s
 
-  abbrev pub raise_plain : AliasingEffect → StepProgress → Step StepProgress
-  raise_plain e s = do
+  abbrev pub intern_and_apply_plain : AliasingEffect → StepProgress → Step StepProgress
+  intern_and_apply_plain e s = do
     first ← intern e
     apply_plain first s
 
   -- the steps of a list of effects that holds no call
-  abbrev pub raise_all_plain : List AliasingEffect → StepProgress → Step StepProgress
-  raise_all_plain = each raise_plain
+  abbrev pub intern_and_apply_all_plain : List AliasingEffect → StepProgress → Step StepProgress
+  intern_and_apply_all_plain = each intern_and_apply_plain

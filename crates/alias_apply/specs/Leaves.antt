@@ -37,8 +37,8 @@ apply_leaf (effect.MutateTransitive v) s = s
 apply_leaf (effect.MutateTransitiveConditionally v) s = s
 apply_leaf (effect.Apply receiver function mutates args into signature span) s = s
 
-abbrev pub raise_leaf : AliasingEffect → StepProgress → Step StepProgress
-raise_leaf e s = do
+abbrev pub intern_and_apply_leaf : AliasingEffect → StepProgress → Step StepProgress
+intern_and_apply_leaf e s = do
   first ← intern e
   gives (apply_leaf first s)
 
@@ -47,7 +47,7 @@ raise_leaf e s = do
 abbrev pub apply_maybe_alias : Place → Place → StepProgress → Step StepProgress
 apply_maybe_alias a x s =
     let u = looked_with_span a (looked_with_span x s) in
-    if may_be_frozen (kind_at a s) then raise_leaf (effect.ImmutableCapture a x) u
+    if may_be_frozen (kind_at a s) then intern_and_apply_leaf (effect.ImmutableCapture a x) u
     else gives (record_of (effect.MaybeAlias a x) u)
 
 -- MaybeAlias, and the leaves
@@ -55,7 +55,7 @@ abbrev pub apply_aliasing : AliasingEffect → StepProgress → Step StepProgres
 apply_aliasing (effect.MaybeAlias a x) s = apply_maybe_alias a x s
 apply_aliasing e s = gives (apply_leaf e s)
 
-abbrev pub raise_aliasing : AliasingEffect → StepProgress → Step StepProgress
-raise_aliasing e s = do
+abbrev pub intern_and_apply_aliasing : AliasingEffect → StepProgress → Step StepProgress
+intern_and_apply_aliasing e s = do
   first ← intern e
   apply_aliasing first s

@@ -23,20 +23,20 @@ use Rattle.alias_tables.specs.Tables.{Step, intern_report}
 use Rattle.alias_apply.specs.declared.progress.StepProgress.{StepProgress}
 use Rattle.alias_apply.specs.Contexts.{StepContext, hoisted_access}
 use Rattle.alias_apply.specs.Kinds.{is_frozen, is_writable}
-use Rattle.alias_apply.specs.Leaves.{raise_leaf}
+use Rattle.alias_apply.specs.Leaves.{intern_and_apply_leaf}
 use Rattle.alias_apply.specs.Progress.{record_of, with_state, looked_with_span, noted, kind_at}
 use Rattle.alias_apply.specs.Reports.{write_report, hoisting_report}
 
 -- a report on the place is interned, and its error is stepped
-abbrev pub raise_mutate_frozen : Report → Place → StepProgress → Step StepProgress
-raise_mutate_frozen r v s = do
+abbrev pub intern_and_apply_mutate_frozen : Report → Place → StepProgress → Step StepProgress
+intern_and_apply_mutate_frozen r v s = do
   error ← intern_report v.identifier r
-  raise_leaf (effect.MutateFrozen v error) s
+  intern_and_apply_leaf (effect.MutateFrozen v error) s
 
-abbrev pub raise_mutate_global : Report → Place → StepProgress → Step StepProgress
-raise_mutate_global r v s = do
+abbrev pub intern_and_apply_mutate_global : Report → Place → StepProgress → Step StepProgress
+intern_and_apply_mutate_global r v s = do
   error ← intern_report v.identifier r
-  raise_leaf (effect.MutateGlobal v error) s
+  intern_and_apply_leaf (effect.MutateGlobal v error) s
 
 -- whether a freeze goes on into the functions that it reaches
 abbrev pub freezes_on : Config → Bool
@@ -47,11 +47,11 @@ module _ (c : StepContext) where
   abbrev pub report_write : AbstractValue → Place → StepProgress → Step StepProgress
   report_write there v s =
       let r = write_report c.env v.identifier v.span there.reason in
-      if is_frozen there.kind then raise_mutate_frozen r v s else raise_mutate_global r v s
+      if is_frozen there.kind then intern_and_apply_mutate_frozen r v s else intern_and_apply_mutate_global r v s
 
   -- a write of a value that may be frozen: of a variable that is hoisted, it comes before the declaration
   abbrev pub report_hoisted_write : Option (Option Place) → AbstractValue → Place → StepProgress → Step StepProgress
-  report_hoisted_write (Some access) there v s = raise_mutate_frozen (hoisting_report c.env v.identifier v.span access) v s
+  report_hoisted_write (Some access) there v s = intern_and_apply_mutate_frozen (hoisting_report c.env v.identifier v.span access) v s
   report_hoisted_write None there v s = report_write there v s
 
   -- what a definite write does, by the kind of what it writes

@@ -30,10 +30,10 @@ use Rattle.alias_apply.specs.Contexts.{StepContext, hoisted_access}
 use Rattle.alias_apply.specs.Kinds.{is_constant, is_frozen, may_be_frozen, is_writable, captures, may_alias}
 use Rattle.alias_apply.specs.Progress.{record_of, with_state, looked_with_span, kind_at, is_made, made}
 use Rattle.alias_apply.specs.Reports.{write_report, hoisting_report}
-use Rattle.alias_apply.specs.Leaves.{apply_immutable_capture, apply_leaf, raise_leaf, apply_maybe_alias, apply_aliasing, raise_aliasing}
+use Rattle.alias_apply.specs.Leaves.{apply_immutable_capture, apply_leaf, intern_and_apply_leaf, apply_maybe_alias, apply_aliasing, intern_and_apply_aliasing}
 use Rattle.alias_apply.specs.Values.{apply_create, record_create_from, apply_create_from, assign_value, apply_assign, apply_link, apply_alias}
-use Rattle.alias_apply.specs.Mutation.{raise_mutate_frozen, raise_mutate_global, report_write, report_hoisted_write, record_mutation, apply_mutate, apply_mutate_conditionally, freezes_on, apply_freeze}
-use Rattle.alias_apply.specs.Apply.{apply_simple, raise_simple, is_read_capture, note_read_capture, is_mutable_function, function_value, capture_each, apply_create_function, apply_plain, raise_plain, raise_all_plain}
+use Rattle.alias_apply.specs.Mutation.{intern_and_apply_mutate_frozen, intern_and_apply_mutate_global, report_write, report_hoisted_write, record_mutation, apply_mutate, apply_mutate_conditionally, freezes_on, apply_freeze}
+use Rattle.alias_apply.specs.Apply.{apply_simple, intern_and_apply_simple, is_read_capture, note_read_capture, is_mutable_function, function_value, capture_each, apply_create_function, apply_plain, intern_and_apply_plain, intern_and_apply_all_plain}
 
 -- what the step gives is P
 abbrev pub Sound : {A : Type 0} → (A → Type 0) → Step A → Type 0
@@ -106,20 +106,20 @@ proper_leaf (effect.MutateGlobal p error) s h = h
 proper_leaf (effect.Render p) s h = h
 proper_leaf e s h = h
 
-fine_raise_leaf : (e : AliasingEffect) (s : StepProgress) → ProgressProper s → Fine (raise_leaf e s)
-fine_raise_leaf e s h = sound_after ProgressProper (intern e) (λ f. gives (apply_leaf f s)) (λ f. fine_gives (apply_leaf f s) (proper_leaf f s h))
+fine_intern_and_apply_leaf : (e : AliasingEffect) (s : StepProgress) → ProgressProper s → Fine (intern_and_apply_leaf e s)
+fine_intern_and_apply_leaf e s h = sound_after ProgressProper (intern e) (λ f. gives (apply_leaf f s)) (λ f. fine_gives (apply_leaf f s) (proper_leaf f s h))
 
 fine_maybe_alias : (a x : Place) (s : StepProgress) → ProgressProper s → Fine (apply_maybe_alias a x s)
 fine_maybe_alias a x s h =
     let u = looked_with_span a (looked_with_span x s) in
-    fine_if (may_be_frozen (kind_at a s)) _ _ (fine_raise_leaf (effect.ImmutableCapture a x) u h) (fine_gives (record_of (effect.MaybeAlias a x) u) h)
+    fine_if (may_be_frozen (kind_at a s)) _ _ (fine_intern_and_apply_leaf (effect.ImmutableCapture a x) u h) (fine_gives (record_of (effect.MaybeAlias a x) u) h)
 
 fine_aliasing : (e : AliasingEffect) (s : StepProgress) → ProgressProper s → Fine (apply_aliasing e s)
 fine_aliasing (effect.MaybeAlias a x) s h = fine_maybe_alias a x s h
 fine_aliasing e s h = fine_gives (apply_leaf e s) (proper_leaf e s h)
 
-fine_raise_aliasing : (e : AliasingEffect) (s : StepProgress) → ProgressProper s → Fine (raise_aliasing e s)
-fine_raise_aliasing e s h = sound_after ProgressProper (intern e) (λ f. apply_aliasing f s) (λ f. fine_aliasing f s h)
+fine_intern_and_apply_aliasing : (e : AliasingEffect) (s : StepProgress) → ProgressProper s → Fine (intern_and_apply_aliasing e s)
+fine_intern_and_apply_aliasing e s h = sound_after ProgressProper (intern e) (λ f. apply_aliasing f s) (λ f. fine_aliasing f s h)
 
 fine_create : (x : Place) (k : ValueKind) (r : ValueReason) (s : StepProgress) → ProgressProper s → Fine (apply_create x k r s)
 fine_create x k r s h = fine_then (made x.identifier s) _ (fine_made x.identifier s h) (λ u g.
@@ -128,7 +128,7 @@ fine_create x k r s h = fine_then (made x.identifier s) _ (fine_made x.identifie
 fine_record_create_from : (k : ValueKind) (r : ValueReason) (a x : Place) (s : StepProgress) → ProgressProper s → Fine (record_create_from k r a x s)
 fine_record_create_from Primitive r a x s h = fine_gives (record_of (effect.Create x Primitive r) s) h
 fine_record_create_from Global r a x s h = fine_gives (record_of (effect.Create x Global r) s) h
-fine_record_create_from Frozen r a x s h = fine_raise_leaf (effect.ImmutableCapture a x) (record_of (effect.Create x Frozen r) s) h
+fine_record_create_from Frozen r a x s h = fine_intern_and_apply_leaf (effect.ImmutableCapture a x) (record_of (effect.Create x Frozen r) s) h
 fine_record_create_from Mutable r a x s h = fine_gives (record_of (effect.CreateFrom a x) s) h
 fine_record_create_from Context r a x s h = fine_gives (record_of (effect.CreateFrom a x) s) h
 fine_record_create_from MaybeFrozen r a x s h = fine_gives (record_of (effect.CreateFrom a x) s) h
@@ -140,7 +140,7 @@ fine_create_from a x s h = fine_then (made x.identifier s) _ (fine_made x.identi
 fine_assign_value : (v : AbstractValue) (a x : Place) (s : StepProgress) → AbstractProper v → ProgressProper s → Fine (assign_value v a x s)
 fine_assign_value v a x s p h =
     fine_if (is_frozen v.kind) _ _
-    (fine_then _ _ (fine_raise_leaf (effect.ImmutableCapture a x) s h) (λ u g. fine_gives (with_state (given x.identifier (AssignFrozen a.identifier x.identifier) v u.state) u) (proper-given x.identifier (AssignFrozen a.identifier x.identifier) v u.state g p)))
+    (fine_then _ _ (fine_intern_and_apply_leaf (effect.ImmutableCapture a x) s h) (λ u g. fine_gives (with_state (given x.identifier (AssignFrozen a.identifier x.identifier) v u.state) u) (proper-given x.identifier (AssignFrozen a.identifier x.identifier) v u.state g p)))
     (fine_if (is_constant v.kind) _ _
     (fine_gives (with_state (given x.identifier (AssignCopy a.identifier x.identifier) v s.state) s) (proper-given x.identifier (AssignCopy a.identifier x.identifier) v s.state h p))
     (fine_gives (record_of (effect.Assign a x) (with_state (assigned x.identifier a.identifier s.state) s)) (proper-assigned x.identifier a.identifier s.state h)))
@@ -152,18 +152,18 @@ fine_assign a x s h = fine_then (made x.identifier s) _ (fine_made x.identifier 
 fine_link : (e : AliasingEffect) (a x : Place) (s : StepProgress) → ProgressProper s → Fine (apply_link e a x s)
 fine_link e a x s h =
     let u = looked_with_span a (looked_with_span x s) in
-    fine_if (may_be_frozen (kind_at a s)) _ _ (fine_raise_leaf (effect.ImmutableCapture a x) u h)
+    fine_if (may_be_frozen (kind_at a s)) _ _ (fine_intern_and_apply_leaf (effect.ImmutableCapture a x) u h)
     (fine_if (captures (kind_at a s) (kind_at x s)) _ _ (fine_gives (record_of e u) h)
-    (fine_if (may_alias (kind_at a s) (kind_at x s)) _ _ (fine_raise_aliasing (effect.MaybeAlias a x) u h) (fine_gives u h)))
+    (fine_if (may_alias (kind_at a s) (kind_at x s)) _ _ (fine_intern_and_apply_aliasing (effect.MaybeAlias a x) u h) (fine_gives u h)))
 
 fine_alias : (a x : Place) (s : StepProgress) → ProgressProper s → Fine (apply_alias a x s)
 fine_alias a x s h = fine_if (is_made x.identifier s.made) _ _ (fine_link (effect.Alias a x) a x s h) (sound_refuses ProgressProper (AliasBeforeCreate x.identifier))
 
-fine_frozen_write : (r : Report) (v : Place) (s : StepProgress) → ProgressProper s → Fine (raise_mutate_frozen r v s)
-fine_frozen_write r v s h = sound_after ProgressProper (intern_report v.identifier r) _ (λ d. fine_raise_leaf (effect.MutateFrozen v d) s h)
+fine_frozen_write : (r : Report) (v : Place) (s : StepProgress) → ProgressProper s → Fine (intern_and_apply_mutate_frozen r v s)
+fine_frozen_write r v s h = sound_after ProgressProper (intern_report v.identifier r) _ (λ d. fine_intern_and_apply_leaf (effect.MutateFrozen v d) s h)
 
-fine_global_write : (r : Report) (v : Place) (s : StepProgress) → ProgressProper s → Fine (raise_mutate_global r v s)
-fine_global_write r v s h = sound_after ProgressProper (intern_report v.identifier r) _ (λ d. fine_raise_leaf (effect.MutateGlobal v d) s h)
+fine_global_write : (r : Report) (v : Place) (s : StepProgress) → ProgressProper s → Fine (intern_and_apply_mutate_global r v s)
+fine_global_write r v s h = sound_after ProgressProper (intern_report v.identifier r) _ (λ d. fine_intern_and_apply_leaf (effect.MutateGlobal v d) s h)
 
 fine_note_read : (f : FunctionId) (p : Place) (s : StepProgress) → ProgressProper s → Fine (note_read_capture f p s)
 fine_note_read f p s h = fine_if (is_read_capture s.state p) _ _ (sound_noted ProgressProper _ s h) (fine_gives s h)
@@ -214,11 +214,11 @@ module _ (c : StepContext) where
   fine_simple (effect.MutateTransitiveConditionally v) s h = fine_gives (apply_mutate_conditionally c (effect.MutateTransitiveConditionally v) v s) (proper_condition (effect.MutateTransitiveConditionally v) v s h)
   fine_simple e s h = fine_aliasing e s h
 
-  pub fine_raise_simple : (e : AliasingEffect) (s : StepProgress) → ProgressProper s → Fine (raise_simple c e s)
-  fine_raise_simple e s h = sound_after ProgressProper (intern e) (λ f. apply_simple c f s) (λ f. fine_simple f s h)
+  pub fine_intern_and_apply_simple : (e : AliasingEffect) (s : StepProgress) → ProgressProper s → Fine (intern_and_apply_simple c e s)
+  fine_intern_and_apply_simple e s h = sound_after ProgressProper (intern e) (λ f. apply_simple c f s) (λ f. fine_simple f s h)
 
   fine_capture_each : (x : Place) (ps : List Place) (s : StepProgress) → ProgressProper s → Fine (capture_each c x ps s)
-  fine_capture_each x ps s h = sound_each ProgressProper _ (λ p u g. fine_raise_simple (effect.Capture p x) u g) ps s h
+  fine_capture_each x ps s h = sound_each ProgressProper _ (λ p u g. fine_intern_and_apply_simple (effect.Capture p x) u g) ps s h
 
   fine_create_function : (x : Place) (f : FunctionId) (ps : List Place) (s : StepProgress) → ProgressProper s → Fine (apply_create_function c x f ps s)
   fine_create_function x f ps s h =
@@ -231,8 +231,8 @@ module _ (c : StepContext) where
   fine_plain (effect.Apply receiver function mutates args into signature span) s h = fine_gives s h
   fine_plain e s h = fine_simple e s h
 
-  pub fine_raise_plain : (e : AliasingEffect) (s : StepProgress) → ProgressProper s → Fine (raise_plain c e s)
-  fine_raise_plain e s h = sound_after ProgressProper (intern e) (λ f. apply_plain c f s) (λ f. fine_plain f s h)
+  pub fine_intern_and_apply_plain : (e : AliasingEffect) (s : StepProgress) → ProgressProper s → Fine (intern_and_apply_plain c e s)
+  fine_intern_and_apply_plain e s h = sound_after ProgressProper (intern e) (λ f. apply_plain c f s) (λ f. fine_plain f s h)
 
-  pub fine_raise_all_plain : (es : List AliasingEffect) (s : StepProgress) → ProgressProper s → Fine (raise_all_plain c es s)
-  fine_raise_all_plain = sound_each ProgressProper (raise_plain c) fine_raise_plain
+  pub fine_intern_and_apply_all_plain : (es : List AliasingEffect) (s : StepProgress) → ProgressProper s → Fine (intern_and_apply_all_plain c es s)
+  fine_intern_and_apply_all_plain = sound_each ProgressProper (intern_and_apply_plain c) fine_intern_and_apply_plain

@@ -22,28 +22,28 @@ use Rattle.alias_apply.specs.Contexts.{StepContext, hoisted_access}
 use Rattle.alias_apply.specs.Kinds.{is_constant, is_frozen, may_be_frozen, captures, may_alias}
 use Rattle.alias_apply.specs.Progress.{kind_at, is_made, made, looked_with_span, record_of, with_state}
 use Rattle.alias_apply.specs.Reports.{write_report, hoisting_report}
-use Rattle.alias_apply.specs.Leaves.{raise_leaf, apply_maybe_alias, apply_aliasing, raise_aliasing}
+use Rattle.alias_apply.specs.Leaves.{intern_and_apply_leaf, apply_maybe_alias, apply_aliasing, intern_and_apply_aliasing}
 use Rattle.alias_apply.specs.Values.{apply_create, record_create_from, apply_create_from, assign_value, apply_assign, apply_link, apply_alias}
-use Rattle.alias_apply.specs.Mutation.{raise_mutate_frozen, raise_mutate_global, report_write, report_hoisted_write, record_mutation, apply_mutate}
-use Rattle.alias_apply.specs.Apply.{apply_simple, raise_simple, is_read_capture, note_read_capture, capture_each, apply_create_function, apply_plain, raise_plain, raise_all_plain}
+use Rattle.alias_apply.specs.Mutation.{intern_and_apply_mutate_frozen, intern_and_apply_mutate_global, report_write, report_hoisted_write, record_mutation, apply_mutate}
+use Rattle.alias_apply.specs.Apply.{apply_simple, intern_and_apply_simple, is_read_capture, note_read_capture, capture_each, apply_create_function, apply_plain, intern_and_apply_plain, intern_and_apply_all_plain}
 
 again_made : (x : IdentifierId) (s : StepProgress) → Again (made x s)
 again_made x s = again_if (is_made x s.made) _ _ (again_refuses _) (again_gives _)
 
-pub again_raise_leaf : (e : AliasingEffect) (s : StepProgress) → Again (raise_leaf e s)
-again_raise_leaf e s = again_then _ _ (again_intern e) (λ f. again_gives _)
+pub again_intern_and_apply_leaf : (e : AliasingEffect) (s : StepProgress) → Again (intern_and_apply_leaf e s)
+again_intern_and_apply_leaf e s = again_then _ _ (again_intern e) (λ f. again_gives _)
 
 again_maybe_alias : (a x : Place) (s : StepProgress) → Again (apply_maybe_alias a x s)
 again_maybe_alias a x s =
     let u = looked_with_span a (looked_with_span x s) in
-    again_if (may_be_frozen (kind_at a s)) _ _ (again_raise_leaf (effect.ImmutableCapture a x) u) (again_gives (record_of (effect.MaybeAlias a x) u))
+    again_if (may_be_frozen (kind_at a s)) _ _ (again_intern_and_apply_leaf (effect.ImmutableCapture a x) u) (again_gives (record_of (effect.MaybeAlias a x) u))
 
 again_aliasing : (e : AliasingEffect) (s : StepProgress) → Again (apply_aliasing e s)
 again_aliasing (effect.MaybeAlias a x) s = again_maybe_alias a x s
 again_aliasing e s = again_gives _
 
-again_raise_aliasing : (e : AliasingEffect) (s : StepProgress) → Again (raise_aliasing e s)
-again_raise_aliasing e s = again_then _ _ (again_intern e) (λ f. again_aliasing f s)
+again_intern_and_apply_aliasing : (e : AliasingEffect) (s : StepProgress) → Again (intern_and_apply_aliasing e s)
+again_intern_and_apply_aliasing e s = again_then _ _ (again_intern e) (λ f. again_aliasing f s)
 
 again_create : (x : Place) (k : ValueKind) (r : ValueReason) (s : StepProgress) → Again (apply_create x k r s)
 again_create x k r s = again_then _ _ (again_made x.identifier s) (λ u. again_gives _)
@@ -51,7 +51,7 @@ again_create x k r s = again_then _ _ (again_made x.identifier s) (λ u. again_g
 again_record_create_from : (k : ValueKind) (r : ValueReason) (a x : Place) (s : StepProgress) → Again (record_create_from k r a x s)
 again_record_create_from Primitive r a x s = again_gives _
 again_record_create_from Global r a x s = again_gives _
-again_record_create_from Frozen r a x s = again_raise_leaf (effect.ImmutableCapture a x) (record_of (effect.Create x Frozen r) s)
+again_record_create_from Frozen r a x s = again_intern_and_apply_leaf (effect.ImmutableCapture a x) (record_of (effect.Create x Frozen r) s)
 again_record_create_from Mutable r a x s = again_gives _
 again_record_create_from Context r a x s = again_gives _
 again_record_create_from MaybeFrozen r a x s = again_gives _
@@ -62,7 +62,7 @@ again_create_from a x s = again_then _ _ (again_made x.identifier s) (λ u. agai
 again_assign_value : (v : AbstractValue) (a x : Place) (s : StepProgress) → Again (assign_value v a x s)
 again_assign_value v a x s =
     again_if (is_frozen v.kind) _ _
-    (again_then _ _ (again_raise_leaf (effect.ImmutableCapture a x) s) (λ u. again_gives (with_state (given x.identifier (AssignFrozen a.identifier x.identifier) v u.state) u)))
+    (again_then _ _ (again_intern_and_apply_leaf (effect.ImmutableCapture a x) s) (λ u. again_gives (with_state (given x.identifier (AssignFrozen a.identifier x.identifier) v u.state) u)))
     (again_if (is_constant v.kind) _ _
     (again_gives (with_state (given x.identifier (AssignCopy a.identifier x.identifier) v s.state) s))
     (again_gives (record_of (effect.Assign a x) (with_state (assigned x.identifier a.identifier s.state) s))))
@@ -73,18 +73,18 @@ again_assign a x s = again_then _ _ (again_made x.identifier s) (λ u. again_ass
 again_link : (e : AliasingEffect) (a x : Place) (s : StepProgress) → Again (apply_link e a x s)
 again_link e a x s =
     let u = looked_with_span a (looked_with_span x s) in
-    again_if (may_be_frozen (kind_at a s)) _ _ (again_raise_leaf (effect.ImmutableCapture a x) u)
+    again_if (may_be_frozen (kind_at a s)) _ _ (again_intern_and_apply_leaf (effect.ImmutableCapture a x) u)
     (again_if (captures (kind_at a s) (kind_at x s)) _ _ (again_gives (record_of e u))
-    (again_if (may_alias (kind_at a s) (kind_at x s)) _ _ (again_raise_aliasing (effect.MaybeAlias a x) u) (again_gives u)))
+    (again_if (may_alias (kind_at a s) (kind_at x s)) _ _ (again_intern_and_apply_aliasing (effect.MaybeAlias a x) u) (again_gives u)))
 
 again_alias : (a x : Place) (s : StepProgress) → Again (apply_alias a x s)
 again_alias a x s = again_if (is_made x.identifier s.made) _ _ (again_link (effect.Alias a x) a x s) (again_refuses (AliasBeforeCreate x.identifier))
 
-again_frozen_write : (r : Report) (v : Place) (s : StepProgress) → Again (raise_mutate_frozen r v s)
-again_frozen_write r v s = again_then _ _ (again_report v.identifier r) (λ d. again_raise_leaf (effect.MutateFrozen v d) s)
+again_frozen_write : (r : Report) (v : Place) (s : StepProgress) → Again (intern_and_apply_mutate_frozen r v s)
+again_frozen_write r v s = again_then _ _ (again_report v.identifier r) (λ d. again_intern_and_apply_leaf (effect.MutateFrozen v d) s)
 
-again_global_write : (r : Report) (v : Place) (s : StepProgress) → Again (raise_mutate_global r v s)
-again_global_write r v s = again_then _ _ (again_report v.identifier r) (λ d. again_raise_leaf (effect.MutateGlobal v d) s)
+again_global_write : (r : Report) (v : Place) (s : StepProgress) → Again (intern_and_apply_mutate_global r v s)
+again_global_write r v s = again_then _ _ (again_report v.identifier r) (λ d. again_intern_and_apply_leaf (effect.MutateGlobal v d) s)
 
 again_note_read : (f : FunctionId) (p : Place) (s : StepProgress) → Again (note_read_capture f p s)
 again_note_read f p s = again_if (is_read_capture s.state p) _ _ (again_noted _ s) (again_gives s)
@@ -121,11 +121,11 @@ module _ (c : StepContext) where
   again_simple (effect.MutateTransitiveConditionally v) s = again_gives _
   again_simple e s = again_aliasing e s
 
-  pub again_raise_simple : (e : AliasingEffect) (s : StepProgress) → Again (raise_simple c e s)
-  again_raise_simple e s = again_then _ _ (again_intern e) (λ f. again_simple f s)
+  pub again_intern_and_apply_simple : (e : AliasingEffect) (s : StepProgress) → Again (intern_and_apply_simple c e s)
+  again_intern_and_apply_simple e s = again_then _ _ (again_intern e) (λ f. again_simple f s)
 
   again_capture_each : (x : Place) (ps : List Place) (s : StepProgress) → Again (capture_each c x ps s)
-  again_capture_each x ps s = again_each _ (λ p u. again_raise_simple (effect.Capture p x) u) ps s
+  again_capture_each x ps s = again_each _ (λ p u. again_intern_and_apply_simple (effect.Capture p x) u) ps s
 
   again_create_function : (x : Place) (f : FunctionId) (ps : List Place) (s : StepProgress) → Again (apply_create_function c x f ps s)
   again_create_function x f ps s =
@@ -137,8 +137,8 @@ module _ (c : StepContext) where
   again_plain (effect.Apply receiver function mutates args into signature span) s = again_gives s
   again_plain e s = again_simple e s
 
-  pub again_raise_plain : (e : AliasingEffect) (s : StepProgress) → Again (raise_plain c e s)
-  again_raise_plain e s = again_then _ _ (again_intern e) (λ f. again_plain f s)
+  pub again_intern_and_apply_plain : (e : AliasingEffect) (s : StepProgress) → Again (intern_and_apply_plain c e s)
+  again_intern_and_apply_plain e s = again_then _ _ (again_intern e) (λ f. again_plain f s)
 
-  pub again_raise_all_plain : (es : List AliasingEffect) (s : StepProgress) → Again (raise_all_plain c es s)
-  again_raise_all_plain = again_each (raise_plain c) again_raise_plain
+  pub again_intern_and_apply_all_plain : (es : List AliasingEffect) (s : StepProgress) → Again (intern_and_apply_all_plain c es s)
+  again_intern_and_apply_all_plain = again_each (intern_and_apply_plain c) again_intern_and_apply_plain

@@ -15,7 +15,7 @@ use Rattle.alias_tables.specs.Steps.{◌>>=◌, gives, refuses}
 use Rattle.alias_tables.specs.Tables.{Step}
 use Rattle.alias_apply.specs.declared.progress.StepProgress.{StepProgress}
 use Rattle.alias_apply.specs.Kinds.{is_constant, is_frozen, may_be_frozen, captures, may_alias, value_with}
-use Rattle.alias_apply.specs.Leaves.{raise_leaf, raise_aliasing}
+use Rattle.alias_apply.specs.Leaves.{intern_and_apply_leaf, intern_and_apply_aliasing}
 use Rattle.alias_apply.specs.Progress.{record_of, with_state, looked_at, looked_with_span, kind_at, is_made, made}
 
 -- ---- values that are made
@@ -30,7 +30,7 @@ apply_create x k r s = do
 abbrev pub record_create_from : ValueKind → ValueReason → Place → Place → StepProgress → Step StepProgress
 record_create_from Primitive r a x s = gives (record_of (effect.Create x Primitive r) s)
 record_create_from Global r a x s = gives (record_of (effect.Create x Global r) s)
-record_create_from Frozen r a x s = raise_leaf (effect.ImmutableCapture a x) (record_of (effect.Create x Frozen r) s)
+record_create_from Frozen r a x s = intern_and_apply_leaf (effect.ImmutableCapture a x) (record_of (effect.Create x Frozen r) s)
 record_create_from Mutable r a x s = gives (record_of (effect.CreateFrom a x) s)
 record_create_from Context r a x s = gives (record_of (effect.CreateFrom a x) s)
 record_create_from MaybeFrozen r a x s = gives (record_of (effect.CreateFrom a x) s)
@@ -46,7 +46,7 @@ apply_create_from a x s = do
 abbrev pub assign_value : AbstractValue → Place → Place → StepProgress → Step StepProgress
 assign_value v a x s =
     if is_frozen v.kind then (do
-      u ← raise_leaf (effect.ImmutableCapture a x) s
+      u ← intern_and_apply_leaf (effect.ImmutableCapture a x) s
       gives (with_state (given x.identifier (AssignFrozen a.identifier x.identifier) v u.state) u))
     else (if is_constant v.kind then gives (with_state (given x.identifier (AssignCopy a.identifier x.identifier) v s.state) s)
     else gives (record_of (effect.Assign a x) (with_state (assigned x.identifier a.identifier s.state) s)))
@@ -62,9 +62,9 @@ apply_assign a x s = do
 abbrev pub apply_link : AliasingEffect → Place → Place → StepProgress → Step StepProgress
 apply_link e a x s =
     let u = looked_with_span a (looked_with_span x s) in
-    if may_be_frozen (kind_at a s) then raise_leaf (effect.ImmutableCapture a x) u
+    if may_be_frozen (kind_at a s) then intern_and_apply_leaf (effect.ImmutableCapture a x) u
     else (if captures (kind_at a s) (kind_at x s) then gives (record_of e u)
-    else (if may_alias (kind_at a s) (kind_at x s) then raise_aliasing (effect.MaybeAlias a x) u
+    else (if may_alias (kind_at a s) (kind_at x s) then intern_and_apply_aliasing (effect.MaybeAlias a x) u
     else gives u))
 
 -- an Alias needs a target that is made here

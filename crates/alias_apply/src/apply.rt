@@ -8,7 +8,7 @@ ghost use Rattle.alias_hir.specs.Types.{is_ref_at};
 ghost use Rattle.alias_tables.specs.Steps.{each};
 ghost use Rattle.alias_apply.specs.Contexts.{held};
 ghost use Rattle.alias_apply.specs.Progress.{record_of, Follows};
-ghost use Rattle.alias_apply.specs.Apply.{apply_simple, raise_simple, is_mutable_capture, is_error, has_error, is_mutable_function, function_value, is_capture, is_read_capture, note_read_capture, capture_each, apply_create_function, apply_plain, raise_plain, raise_all_plain};
+ghost use Rattle.alias_apply.specs.Apply.{apply_simple, intern_and_apply_simple, is_mutable_capture, is_error, has_error, is_mutable_function, function_value, is_capture, is_read_capture, note_read_capture, capture_each, apply_create_function, apply_plain, intern_and_apply_plain, intern_and_apply_all_plain};
 
 use crate::context::{StepContext, summary_of};
 use crate::kinds::{is_read_only, is_writable};
@@ -89,13 +89,13 @@ fn apply_simple(
 }
 
 /// The step of an effect that creates no function and is no call.
-pub fn raise_simple(
+pub fn intern_and_apply_simple(
     context: &StepContext<'_>,
     step: &mut StepProgress,
     tables: &mut Tables,
     effect: AliasingEffect,
 ) -> Result<(), EffectFault>
-    ensures { Follows (raise_simple (held context.now) effect step.old tables.old) result step.new tables.new }
+    ensures { Follows (intern_and_apply_simple (held context.now) effect step.old tables.old) result step.new tables.new }
 {
     let first = tables.intern(effect)?;
     apply_simple(context, step, tables, first)
@@ -228,7 +228,7 @@ fn capture_each(
     ensures { Follows (capture_each (held context.now) into captures.now step.old tables.old) result step.new tables.new }
 {
     for place in captures {
-        raise_simple(
+        intern_and_apply_simple(
             context,
             step,
             tables,
@@ -304,29 +304,29 @@ fn apply_plain(
 }
 
 /// The step of an effect that is no call.
-pub fn raise_plain(
+pub fn intern_and_apply_plain(
     context: &StepContext<'_>,
     step: &mut StepProgress,
     tables: &mut Tables,
     effect: AliasingEffect,
 ) -> Result<(), EffectFault>
-    ensures { Follows (raise_plain (held context.now) effect step.old tables.old) result step.new tables.new }
+    ensures { Follows (intern_and_apply_plain (held context.now) effect step.old tables.old) result step.new tables.new }
 {
     let first = tables.intern(effect)?;
     apply_plain(context, step, tables, first)
 }
 
 /// The steps of the effects of a list that holds no call, in order. No effect is copied.
-pub fn raise_all_plain(
+pub fn intern_and_apply_all_plain(
     context: &StepContext<'_>,
     step: &mut StepProgress,
     tables: &mut Tables,
     effects: AliasingEffects,
 ) -> Result<(), EffectFault>
-    ensures { Follows (raise_all_plain (held context.now) effects step.old tables.old) result step.new tables.new }
+    ensures { Follows (intern_and_apply_all_plain (held context.now) effects step.old tables.old) result step.new tables.new }
 {
     for effect in effects.into_vec() {
-        raise_plain(context, step, tables, effect)?;
+        intern_and_apply_plain(context, step, tables, effect)?;
     }
     Ok(())
 }

@@ -2,7 +2,7 @@
 
 ghost use Rattle.std.specs.Prelude.{◌≡◌, OnOk};
 ghost use Rattle.alias_apply.specs.Progress.{Follows};
-ghost use Rattle.alias_apply.specs.Leaves.{apply_immutable_capture, apply_leaf, raise_leaf, apply_maybe_alias, apply_aliasing, raise_aliasing};
+ghost use Rattle.alias_apply.specs.Leaves.{apply_immutable_capture, apply_leaf, intern_and_apply_leaf, apply_maybe_alias, apply_aliasing, intern_and_apply_aliasing};
 
 use crate::kinds::{is_constant, may_be_frozen};
 use crate::progress::{StepProgress, look, record};
@@ -60,12 +60,12 @@ pub fn apply_leaf(step: &mut StepProgress, effect: AliasingEffect) -> Result<(),
     }
 }
 
-pub fn raise_leaf(
+pub fn intern_and_apply_leaf(
     step: &mut StepProgress,
     tables: &mut Tables,
     effect: AliasingEffect,
 ) -> Result<(), EffectFault>
-    ensures { Follows (raise_leaf effect step.old tables.old) result step.new tables.new }
+    ensures { Follows (intern_and_apply_leaf effect step.old tables.old) result step.new tables.new }
 {
     let first = tables.intern(effect)?;
     apply_leaf(step, first)?;
@@ -84,7 +84,7 @@ fn apply_maybe_alias(
     let _target = look(step, into.identifier, into.span);
     let source = look(step, from.identifier, from.span);
     if may_be_frozen(source.kind) {
-        return raise_leaf(
+        return intern_and_apply_leaf(
             step,
             tables,
             AliasingEffect::ImmutableCapture { from, into },
@@ -111,12 +111,12 @@ pub fn apply_aliasing(
     }
 }
 
-pub fn raise_aliasing(
+pub fn intern_and_apply_aliasing(
     step: &mut StepProgress,
     tables: &mut Tables,
     effect: AliasingEffect,
 ) -> Result<(), EffectFault>
-    ensures { Follows (raise_aliasing effect step.old tables.old) result step.new tables.new }
+    ensures { Follows (intern_and_apply_aliasing effect step.old tables.old) result step.new tables.new }
 {
     let first = tables.intern(effect)?;
     apply_aliasing(step, tables, first)

@@ -12,7 +12,7 @@ pub mod progress;
 pub mod reports;
 pub mod values;
 
-pub use apply::{raise_all_plain, raise_plain, raise_simple};
+pub use apply::{intern_and_apply_all_plain, intern_and_apply_plain, intern_and_apply_simple};
 pub use context::StepContext;
 pub use made::MadeIdentifiers;
 pub use progress::StepProgress;

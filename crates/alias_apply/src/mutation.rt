@@ -3,12 +3,12 @@
 ghost use Rattle.std.specs.Prelude.{◌≡◌, OnOk};
 ghost use Rattle.alias_apply.specs.Contexts.{held};
 ghost use Rattle.alias_apply.specs.Progress.{Follows};
-ghost use Rattle.alias_apply.specs.Mutation.{raise_mutate_frozen, raise_mutate_global, report_write, report_hoisted_write, record_result, apply_mutation, apply_mutate, apply_mutate_conditionally, freezes_on, apply_freeze};
+ghost use Rattle.alias_apply.specs.Mutation.{intern_and_apply_mutate_frozen, intern_and_apply_mutate_global, report_write, report_hoisted_write, record_result, apply_mutation, apply_mutate, apply_mutate_conditionally, freezes_on, apply_freeze};
 ghost use Rattle.alias_tables.specs.Steps.{gives};
 
 use crate::context::{StepContext, hoisted_access};
 use crate::kinds::is_frozen;
-use crate::leaves::raise_leaf;
+use crate::leaves::intern_and_apply_leaf;
 use crate::progress::{StepProgress, note_missing, record};
 use crate::reports::{hoisting_report, write_report};
 use alias_freezing::go_into_place;
@@ -20,28 +20,28 @@ use alias_lattice::{AbstractValue, MutateVariant, MutationResult};
 use alias_tables::{EffectFault, Tables};
 use std::alloc::AllocError;
 
-fn raise_mutate_frozen(
+fn intern_and_apply_mutate_frozen(
     step: &mut StepProgress,
     tables: &mut Tables,
     report: Report,
     place: Place,
 ) -> Result<(), EffectFault>
-    ensures { Follows (raise_mutate_frozen report place step.old tables.old) result step.new tables.new }
+    ensures { Follows (intern_and_apply_mutate_frozen report place step.old tables.old) result step.new tables.new }
 {
     let error = tables.intern_report(place.identifier, report)?;
-    raise_leaf(step, tables, AliasingEffect::MutateFrozen { place, error })
+    intern_and_apply_leaf(step, tables, AliasingEffect::MutateFrozen { place, error })
 }
 
-fn raise_mutate_global(
+fn intern_and_apply_mutate_global(
     step: &mut StepProgress,
     tables: &mut Tables,
     report: Report,
     place: Place,
 ) -> Result<(), EffectFault>
-    ensures { Follows (raise_mutate_global report place step.old tables.old) result step.new tables.new }
+    ensures { Follows (intern_and_apply_mutate_global report place step.old tables.old) result step.new tables.new }
 {
     let error = tables.intern_report(place.identifier, report)?;
-    raise_leaf(step, tables, AliasingEffect::MutateGlobal { place, error })
+    intern_and_apply_leaf(step, tables, AliasingEffect::MutateGlobal { place, error })
 }
 
 /// A write of a value that isn't to be written.
@@ -62,9 +62,9 @@ fn report_write(
         &there.reason,
     )?;
     if is_frozen(there.kind) {
-        raise_mutate_frozen(step, tables, report, place)
+        intern_and_apply_mutate_frozen(step, tables, report, place)
     } else {
-        raise_mutate_global(step, tables, report, place)
+        intern_and_apply_mutate_global(step, tables, report, place)
     }
 }
 
@@ -88,7 +88,7 @@ fn report_hoisted_write(
                 place.span,
                 access,
             )?;
-            raise_mutate_frozen(step, tables, report, place)
+            intern_and_apply_mutate_frozen(step, tables, report, place)
         }
         None => report_write(context, step, tables, there, place),
     }

@@ -5,7 +5,7 @@ ghost use Rattle.alias_apply.specs.Progress.{Follows};
 ghost use Rattle.alias_apply.specs.Values.{apply_create, record_create_from, apply_create_from, assign_value, apply_assign, apply_link, apply_alias};
 
 use crate::kinds::{captures, is_constant, is_frozen, may_alias, may_be_frozen, value_with};
-use crate::leaves::{raise_aliasing, raise_leaf};
+use crate::leaves::{intern_and_apply_aliasing, intern_and_apply_leaf};
 use crate::progress::{StepProgress, give, look, make, record};
 use alias_hir::effect::{AliasingEffect, ValueKind, ValueReason};
 use alias_hir::place::Place;
@@ -70,7 +70,7 @@ fn record_create_from(
                     reason,
                 },
             )?;
-            raise_leaf(
+            intern_and_apply_leaf(
                 step,
                 tables,
                 AliasingEffect::ImmutableCapture { from, into },
@@ -119,7 +119,7 @@ fn assign_value(
 {
     let (source, target) = (from.identifier, into.identifier);
     if is_frozen(value.kind) {
-        raise_leaf(
+        intern_and_apply_leaf(
             step,
             tables,
             AliasingEffect::ImmutableCapture { from, into },
@@ -170,7 +170,7 @@ pub fn apply_link(
     let target = look(step, into.identifier, into.span);
     let source = look(step, from.identifier, from.span);
     if may_be_frozen(source.kind) {
-        return raise_leaf(
+        return intern_and_apply_leaf(
             step,
             tables,
             AliasingEffect::ImmutableCapture { from, into },
@@ -181,7 +181,7 @@ pub fn apply_link(
         return Ok(());
     }
     if may_alias(source.kind, target.kind) {
-        return raise_aliasing(step, tables, AliasingEffect::MaybeAlias { from, into });
+        return intern_and_apply_aliasing(step, tables, AliasingEffect::MaybeAlias { from, into });
     }
     Ok(())
 }

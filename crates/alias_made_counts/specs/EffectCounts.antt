@@ -21,11 +21,11 @@ use Rattle.alias_tables.specs.declared.faults.Refusal.TheVariants.{Reinitialized
 use Rattle.alias_tables.specs.Steps.{◌>>=◌, gives, refuses}
 use Rattle.alias_tables.specs.Tables.{Step, intern, intern_report}
 use Rattle.alias_apply.specs.declared.progress.StepProgress.{StepProgress}
-use Rattle.alias_apply.specs.Apply.{apply_simple, apply_plain, raise_plain}
+use Rattle.alias_apply.specs.Apply.{apply_simple, apply_plain, intern_and_apply_plain}
 use Rattle.alias_apply.specs.Contexts.{StepContext, hoisted_access}
 use Rattle.alias_apply.specs.Kinds.{is_constant, is_frozen, is_writable, may_be_frozen, captures, may_alias, value_with}
-use Rattle.alias_apply.specs.Leaves.{apply_leaf, raise_leaf, apply_maybe_alias, apply_aliasing, raise_aliasing}
-use Rattle.alias_apply.specs.Mutation.{raise_mutate_frozen, raise_mutate_global, report_write, report_hoisted_write, record_mutation, apply_mutate, apply_mutate_conditionally, apply_freeze, freezes_on}
+use Rattle.alias_apply.specs.Leaves.{apply_leaf, intern_and_apply_leaf, apply_maybe_alias, apply_aliasing, intern_and_apply_aliasing}
+use Rattle.alias_apply.specs.Mutation.{intern_and_apply_mutate_frozen, intern_and_apply_mutate_global, report_write, report_hoisted_write, record_mutation, apply_mutate, apply_mutate_conditionally, apply_freeze, freezes_on}
 use Rattle.alias_apply.specs.Progress.{record_of, with_state, looked_at, looked_with_span, kind_at, is_made, made}
 use Rattle.alias_apply.specs.Reports.{write_report, hoisting_report}
 use Rattle.alias_apply.specs.Values.{apply_create, record_create_from, apply_create_from, assign_value, apply_assign, apply_link, apply_alias}
@@ -86,20 +86,20 @@ module _ (c : StepContext) where
   counts_raised : (k : ℕ) (s : StepProgress) (step : AliasingEffect → Step StepProgress) (e : AliasingEffect) → ((f : AliasingEffect) → IsAlike e f → Counts k s (step f)) → Counts k s (intern e >>= step)
   counts_raised k s step e h = adds_on IsOther (0 + k) k (IsWithin k s) (IsWithin k s) (intern e >>= step) (omega arith) (λ u w. w) (adds_then IsOther 0 k (IsAlike e) (IsWithin k s) (intern e) step (adds_intern c.env e) h)
 
-  counts_raise_leaf : (e : AliasingEffect) (s : StepProgress) → Counts 1 s (raise_leaf e s)
-  counts_raise_leaf e s = counts_raised 1 s (λ f. gives (apply_leaf f s)) e (λ f a. counts_gives 1 s (apply_leaf f s) (within_leaf f s))
+  counts_intern_and_apply_leaf : (e : AliasingEffect) (s : StepProgress) → Counts 1 s (intern_and_apply_leaf e s)
+  counts_intern_and_apply_leaf e s = counts_raised 1 s (λ f. gives (apply_leaf f s)) e (λ f a. counts_gives 1 s (apply_leaf f s) (within_leaf f s))
 
   counts_maybe_alias : (a x : Place) (s : StepProgress) → Counts 1 s (apply_maybe_alias a x s)
   counts_maybe_alias a x s =
       let u = looked_with_span a (looked_with_span x s) in
-      counts_if 1 s (may_be_frozen (kind_at a s)) (raise_leaf (effect.ImmutableCapture a x) u) (gives (record_of (effect.MaybeAlias a x) u)) (counts_raise_leaf (effect.ImmutableCapture a x) u) (counts_recorded (effect.MaybeAlias a x) u)
+      counts_if 1 s (may_be_frozen (kind_at a s)) (intern_and_apply_leaf (effect.ImmutableCapture a x) u) (gives (record_of (effect.MaybeAlias a x) u)) (counts_intern_and_apply_leaf (effect.ImmutableCapture a x) u) (counts_recorded (effect.MaybeAlias a x) u)
 
   counts_aliasing : (e : AliasingEffect) (s : StepProgress) → Counts 1 s (apply_aliasing e s)
   counts_aliasing (effect.MaybeAlias a x) s = counts_maybe_alias a x s
   counts_aliasing e s = counts_gives 1 s (apply_leaf e s) (within_leaf e s)
 
-  counts_raise_aliasing : (e : AliasingEffect) (s : StepProgress) → Counts 1 s (raise_aliasing e s)
-  counts_raise_aliasing e s = counts_raised 1 s (λ f. apply_aliasing f s) e (λ f a. counts_aliasing f s)
+  counts_intern_and_apply_aliasing : (e : AliasingEffect) (s : StepProgress) → Counts 1 s (intern_and_apply_aliasing e s)
+  counts_intern_and_apply_aliasing e s = counts_raised 1 s (λ f. apply_aliasing f s) e (λ f a. counts_aliasing f s)
 
   -- ---- values
 
@@ -114,7 +114,7 @@ module _ (c : StepContext) where
   counts_record_from : (k : ValueKind) (r : ValueReason) (a x : Place) (s : StepProgress) → Counts 2 s (record_create_from k r a x s)
   counts_record_from Primitive r a x s = counts_recorded_more (effect.Create x Primitive r) s
   counts_record_from Global r a x s = counts_recorded_more (effect.Create x Global r) s
-  counts_record_from Frozen r a x s = counts_then 1 1 s (gives (record_of (effect.Create x Frozen r) s)) (raise_leaf (effect.ImmutableCapture a x)) (counts_recorded (effect.Create x Frozen r) s) (counts_raise_leaf (effect.ImmutableCapture a x))
+  counts_record_from Frozen r a x s = counts_then 1 1 s (gives (record_of (effect.Create x Frozen r) s)) (intern_and_apply_leaf (effect.ImmutableCapture a x)) (counts_recorded (effect.Create x Frozen r) s) (counts_intern_and_apply_leaf (effect.ImmutableCapture a x))
   counts_record_from Mutable r a x s = counts_recorded_more (effect.CreateFrom a x) s
   counts_record_from Context r a x s = counts_recorded_more (effect.CreateFrom a x) s
   counts_record_from MaybeFrozen r a x s = counts_recorded_more (effect.CreateFrom a x) s
@@ -126,9 +126,9 @@ module _ (c : StepContext) where
 
   counts_assigned : (v : AbstractValue) (a x : Place) (s : StepProgress) → Counts 1 s (assign_value v a x s)
   counts_assigned v a x s =
-      counts_if 1 s (is_frozen v.kind) (raise_leaf (effect.ImmutableCapture a x) s >>= (λ u. gives (with_state (given x.identifier (AssignFrozen a.identifier x.identifier) v u.state) u)))
+      counts_if 1 s (is_frozen v.kind) (intern_and_apply_leaf (effect.ImmutableCapture a x) s >>= (λ u. gives (with_state (given x.identifier (AssignFrozen a.identifier x.identifier) v u.state) u)))
       (if is_constant v.kind then gives (with_state (given x.identifier (AssignCopy a.identifier x.identifier) v s.state) s) else gives (record_of (effect.Assign a x) (with_state (assigned x.identifier a.identifier s.state) s)))
-      (counts_then 1 0 s (raise_leaf (effect.ImmutableCapture a x) s) (λ u. gives (with_state (given x.identifier (AssignFrozen a.identifier x.identifier) v u.state) u)) (counts_raise_leaf (effect.ImmutableCapture a x) s) (λ u. counts_gives 0 u (with_state (given x.identifier (AssignFrozen a.identifier x.identifier) v u.state) u) (omega arith)))
+      (counts_then 1 0 s (intern_and_apply_leaf (effect.ImmutableCapture a x) s) (λ u. gives (with_state (given x.identifier (AssignFrozen a.identifier x.identifier) v u.state) u)) (counts_intern_and_apply_leaf (effect.ImmutableCapture a x) s) (λ u. counts_gives 0 u (with_state (given x.identifier (AssignFrozen a.identifier x.identifier) v u.state) u) (omega arith)))
       (counts_if 1 s (is_constant v.kind) (gives (with_state (given x.identifier (AssignCopy a.identifier x.identifier) v s.state) s)) (gives (record_of (effect.Assign a x) (with_state (assigned x.identifier a.identifier s.state) s))) (counts_gives 1 s (with_state (given x.identifier (AssignCopy a.identifier x.identifier) v s.state) s) (within_one s)) (counts_recorded (effect.Assign a x) (with_state (assigned x.identifier a.identifier s.state) s)))
 
   counts_assign : (a x : Place) (s : StepProgress) → Counts 1 s (apply_assign a x s)
@@ -137,9 +137,9 @@ module _ (c : StepContext) where
   counts_link : (e : AliasingEffect) (a x : Place) (s : StepProgress) → Counts 1 s (apply_link e a x s)
   counts_link e a x s =
       let u = looked_with_span a (looked_with_span x s) in
-      counts_if 1 s (may_be_frozen (kind_at a s)) _ _ (counts_raise_leaf (effect.ImmutableCapture a x) u)
+      counts_if 1 s (may_be_frozen (kind_at a s)) _ _ (counts_intern_and_apply_leaf (effect.ImmutableCapture a x) u)
       (counts_if 1 s (captures (kind_at a s) (kind_at x s)) _ _ (counts_recorded e u)
-      (counts_if 1 s (may_alias (kind_at a s) (kind_at x s)) _ _ (counts_raise_aliasing (effect.MaybeAlias a x) u) (counts_gives 1 s u (within_one s))))
+      (counts_if 1 s (may_alias (kind_at a s) (kind_at x s)) _ _ (counts_intern_and_apply_aliasing (effect.MaybeAlias a x) u) (counts_gives 1 s u (within_one s))))
 
   counts_alias : (a x : Place) (s : StepProgress) → Counts 1 s (apply_alias a x s)
   counts_alias a x s = counts_if 1 s (is_made x.identifier s.made) _ (refuses (AliasBeforeCreate x.identifier)) (counts_link (effect.Alias a x) a x s) (λ t room. tt)
@@ -149,11 +149,11 @@ module _ (c : StepContext) where
   counts_told : (id : IdentifierId) (r : Report) (s : StepProgress) (step : DiagnosticId → Step StepProgress) → ((d : DiagnosticId) → Counts 1 s (step d)) → Counts 2 s (intern_report id r >>= step)
   counts_told id r s step h = adds_then IsOther 1 1 (λ (d : DiagnosticId). Unit {0}) (IsWithin 2 s) (intern_report id r) step (adds_report id r) (λ d q. adds_on IsOther 1 1 (IsWithin 1 s) (IsWithin 2 s) (step d) (omega arith) (λ u w. omega (arith, w)) (h d))
 
-  counts_frozen : (r : Report) (v : Place) (s : StepProgress) → Counts 2 s (raise_mutate_frozen r v s)
-  counts_frozen r v s = counts_told v.identifier r s (λ d. raise_leaf (effect.MutateFrozen v d) s) (λ d. counts_raise_leaf (effect.MutateFrozen v d) s)
+  counts_frozen : (r : Report) (v : Place) (s : StepProgress) → Counts 2 s (intern_and_apply_mutate_frozen r v s)
+  counts_frozen r v s = counts_told v.identifier r s (λ d. intern_and_apply_leaf (effect.MutateFrozen v d) s) (λ d. counts_intern_and_apply_leaf (effect.MutateFrozen v d) s)
 
-  counts_global : (r : Report) (v : Place) (s : StepProgress) → Counts 2 s (raise_mutate_global r v s)
-  counts_global r v s = counts_told v.identifier r s (λ d. raise_leaf (effect.MutateGlobal v d) s) (λ d. counts_raise_leaf (effect.MutateGlobal v d) s)
+  counts_global : (r : Report) (v : Place) (s : StepProgress) → Counts 2 s (intern_and_apply_mutate_global r v s)
+  counts_global r v s = counts_told v.identifier r s (λ d. intern_and_apply_leaf (effect.MutateGlobal v d) s) (λ d. counts_intern_and_apply_leaf (effect.MutateGlobal v d) s)
 
   counts_write : (there : AbstractValue) (v : Place) (s : StepProgress) → Counts 2 s (report_write c there v s)
   counts_write there v s = let r = write_report c.env v.identifier v.span there.reason in counts_if 2 s (is_frozen there.kind) _ _ (counts_frozen r v s) (counts_global r v s)
@@ -208,8 +208,8 @@ module _ (c : StepContext) where
   counts_plain (effect.Apply receiver function mutates args into signature span) s h = counts_gives 2 s s (omega arith)
   counts_plain e s h = counts_simple e s
 
-  counts_raise_plain : (e : AliasingEffect) (s : StepProgress) → (shape_at e).creates ≡ None → Counts 2 s (raise_plain c e s)
-  counts_raise_plain e s h = counts_raised 2 s (λ f. apply_plain c f s) e (λ f a. counts_plain f s (ap (λ sh. sh.creates) a ∙ h))
+  counts_intern_and_apply_plain : (e : AliasingEffect) (s : StepProgress) → (shape_at e).creates ≡ None → Counts 2 s (intern_and_apply_plain c e s)
+  counts_intern_and_apply_plain e s h = counts_raised 2 s (λ f. apply_plain c f s) e (λ f a. counts_plain f s (ap (λ sh. sh.creates) a ∙ h))
 
 -- no call, and creates no function
 abbrev pub IsLight : AliasingEffect → Type 0
@@ -220,7 +220,7 @@ IsLight e = Unit {0}
 counts_effect : (c : StepContext) (e : AliasingEffect) (s : StepProgress) → IsLight e → Counts 2 s (apply_effect c e s)
 counts_effect c (effect.Apply receiver function mutates args into signature span) s h = absurd h
 counts_effect c (effect.CreateFunction x f captures) s h = absurd h
-counts_effect c e s h = counts_raise_plain c e s refl
+counts_effect c e s h = counts_intern_and_apply_plain c e s refl
 
 -- a list of them adds two for each
 pub counts_effects : (c : StepContext) (es : List AliasingEffect) (s : StepProgress) → AllByRecursion IsLight es → Counts (2 * length es) s (apply_effects c es s)

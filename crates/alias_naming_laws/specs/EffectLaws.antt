@@ -23,11 +23,11 @@ use Rattle.alias_tables.specs.Steps.{◌>>=◌, gives, refuses, each}
 use Rattle.alias_tables.specs.Tables.{Step, intern, intern_report}
 use Rattle.alias_tables.specs.declared.faults.Refusal.{Refusal}
 use Rattle.alias_tables.specs.declared.faults.Refusal.TheVariants.{AliasBeforeCreate}
-use Rattle.alias_apply.specs.Apply.{apply_simple, raise_simple, is_read_capture, note_read_capture, is_mutable_function, function_value, capture_each, apply_create_function, apply_plain, raise_plain, raise_all_plain}
+use Rattle.alias_apply.specs.Apply.{apply_simple, intern_and_apply_simple, is_read_capture, note_read_capture, is_mutable_function, function_value, capture_each, apply_create_function, apply_plain, intern_and_apply_plain, intern_and_apply_all_plain}
 use Rattle.alias_apply.specs.Contexts.{StepContext, hoisted_access}
 use Rattle.alias_apply.specs.Kinds.{is_constant, is_frozen, may_be_frozen, is_writable, captures, may_alias, value_with}
-use Rattle.alias_apply.specs.Leaves.{apply_immutable_capture, apply_leaf, raise_leaf, apply_maybe_alias, apply_aliasing, raise_aliasing}
-use Rattle.alias_apply.specs.Mutation.{raise_mutate_frozen, raise_mutate_global, report_write, report_hoisted_write, record_mutation, apply_mutate, apply_mutate_conditionally, freezes_on, apply_freeze}
+use Rattle.alias_apply.specs.Leaves.{apply_immutable_capture, apply_leaf, intern_and_apply_leaf, apply_maybe_alias, apply_aliasing, intern_and_apply_aliasing}
+use Rattle.alias_apply.specs.Mutation.{intern_and_apply_mutate_frozen, intern_and_apply_mutate_global, report_write, report_hoisted_write, record_mutation, apply_mutate, apply_mutate_conditionally, freezes_on, apply_freeze}
 use Rattle.alias_apply.specs.Progress.{record_of, with_state, looked_at, looked_with_span, kind_at, is_made, made}
 use Rattle.alias_apply.specs.Reports.{write_report, hoisting_report}
 use Rattle.alias_apply.specs.Values.{apply_create, record_create_from, apply_create_from, assign_value, apply_assign, apply_link, apply_alias}
@@ -90,10 +90,10 @@ module _ (env : Environment) (P : ℕ → Type 0) where
   leaf_owns (effect.Render p) s g h = recorded (effect.Render p) s g h
   leaf_owns e s g h = h
 
-  pub raised_leaf : (e : AliasingEffect) (s : StepProgress) → EffectOwns env P e → ProgressOwns env P s → StepLeads (raise_leaf e s)
+  pub raised_leaf : (e : AliasingEffect) (s : StepProgress) → EffectOwns env P e → ProgressOwns env P s → StepLeads (intern_and_apply_leaf e s)
   raised_leaf e s g h = leads_then (EffectOwns env P) (ProgressOwns env P) (intern e) (λ f. gives (apply_leaf f s)) (leads_intern e g) (λ f i. step_gives (apply_leaf f s) (leaf_owns f s i h))
 
-  raised_capture : (a x : Place) (s : StepProgress) → Owns env P a → Owns env P x → ProgressOwns env P s → StepLeads (raise_leaf (effect.ImmutableCapture a x) s)
+  raised_capture : (a x : Place) (s : StepProgress) → Owns env P a → Owns env P x → ProgressOwns env P s → StepLeads (intern_and_apply_leaf (effect.ImmutableCapture a x) s)
   raised_capture a x s p q h = raised_leaf (effect.ImmutableCapture a x) s (of_pair a x p q) h
 
   maybe_alias_leads : (a x : Place) (s : StepProgress) → Owns env P a → Owns env P x → ProgressOwns env P s → StepLeads (apply_maybe_alias a x s)
@@ -105,7 +105,7 @@ module _ (env : Environment) (P : ℕ → Type 0) where
   aliasing_leads (effect.MaybeAlias a x) s g h = maybe_alias_leads a x s g.0.0 g.0.1.0 h
   aliasing_leads e s g h = step_gives (apply_leaf e s) (leaf_owns e s g h)
 
-  raised_aliasing : (e : AliasingEffect) (s : StepProgress) → EffectOwns env P e → ProgressOwns env P s → StepLeads (raise_aliasing e s)
+  raised_aliasing : (e : AliasingEffect) (s : StepProgress) → EffectOwns env P e → ProgressOwns env P s → StepLeads (intern_and_apply_aliasing e s)
   raised_aliasing e s g h = leads_then (EffectOwns env P) (ProgressOwns env P) (intern e) (λ f. apply_aliasing f s) (leads_intern e g) (λ f i. aliasing_leads f s i h)
 
   -- ---- values
@@ -136,7 +136,7 @@ module _ (env : Environment) (P : ℕ → Type 0) where
   assigned_value_leads : (v : AbstractValue) (a x : Place) (s : StepProgress) → Owns env P a → Owns env P x → ProgressOwns env P s → StepLeads (assign_value v a x s)
   assigned_value_leads v a x s p q h =
       step_if (is_frozen v.kind) _ _
-      (step_then (raise_leaf (effect.ImmutableCapture a x) s) _ (raised_capture a x s p q h)
+      (step_then (intern_and_apply_leaf (effect.ImmutableCapture a x) s) _ (raised_capture a x s p q h)
       (λ w i. step_gives (with_state (given x.identifier (AssignFrozen a.identifier x.identifier) v w.state) w) (i.0, has_given (OwnsContext env P) x.identifier (AssignFrozen a.identifier x.identifier) v w.state i.1 tt)))
       (step_if (is_constant v.kind) _ _
       (step_gives (with_state (given x.identifier (AssignCopy a.identifier x.identifier) v s.state) s) (h.0, has_given (OwnsContext env P) x.identifier (AssignCopy a.identifier x.identifier) v s.state h.1 tt))
@@ -159,10 +159,10 @@ module _ (env : Environment) (P : ℕ → Type 0) where
 
   -- ---- writes
 
-  frozen_write_leads : (r : Report) (v : Place) (s : StepProgress) → Owns env P v → ProgressOwns env P s → StepLeads (raise_mutate_frozen r v s)
+  frozen_write_leads : (r : Report) (v : Place) (s : StepProgress) → Owns env P v → ProgressOwns env P s → StepLeads (intern_and_apply_mutate_frozen r v s)
   frozen_write_leads r v s p h = leads_then (Anything {A = DiagnosticId}) (ProgressOwns env P) (intern_report v.identifier r) _ (leads_report v.identifier r) (λ d i. raised_leaf (effect.MutateFrozen v d) s (of_place v p) h)
 
-  global_write_leads : (r : Report) (v : Place) (s : StepProgress) → Owns env P v → ProgressOwns env P s → StepLeads (raise_mutate_global r v s)
+  global_write_leads : (r : Report) (v : Place) (s : StepProgress) → Owns env P v → ProgressOwns env P s → StepLeads (intern_and_apply_mutate_global r v s)
   global_write_leads r v s p h = leads_then (Anything {A = DiagnosticId}) (ProgressOwns env P) (intern_report v.identifier r) _ (leads_report v.identifier r) (λ d i. raised_leaf (effect.MutateGlobal v d) s (of_place v p) h)
 
   note_read_leads : (f : FunctionId) (p : Place) (s : StepProgress) → ProgressOwns env P s → StepLeads (note_read_capture f p s)
@@ -220,13 +220,13 @@ module _ (c : StepContext) (P : ℕ → Type 0) where
       step_gives c.env P (apply_mutate_conditionally c (effect.MutateTransitiveConditionally v) v s) (condition_owns (effect.MutateTransitiveConditionally v) v s g h)
   simple_leads e s g h = aliasing_leads c.env P e s g h
 
-  pub raised_simple : (e : AliasingEffect) (s : StepProgress) → EffectOwns c.env P e → ProgressOwns c.env P s → StepLeads c.env P (raise_simple c e s)
+  pub raised_simple : (e : AliasingEffect) (s : StepProgress) → EffectOwns c.env P e → ProgressOwns c.env P s → StepLeads c.env P (intern_and_apply_simple c e s)
   raised_simple e s g h = leads_then (EffectOwns c.env P) (ProgressOwns c.env P) (intern e) (λ f. apply_simple c f s) (leads_intern e g) (λ f i. simple_leads f s i h)
 
   -- the places to capture, together with the one that they go into
   capture_each_leads : (x : Place) (ps : List Place) (s : StepProgress) → Owns c.env P x → OwnsAll c.env P ps → ProgressOwns c.env P s → StepLeads c.env P (capture_each c x ps s)
   capture_each_leads x ps s p qs h =
-      leads_each (Owns c.env P) (ProgressOwns c.env P) (λ a. raise_simple c (effect.Capture a x)) (λ a u q i. raised_simple (effect.Capture a x) u (of_pair c.env P a x q p) i) ps s qs h
+      leads_each (Owns c.env P) (ProgressOwns c.env P) (λ a. intern_and_apply_simple c (effect.Capture a x)) (λ a u q i. raised_simple (effect.Capture a x) u (of_pair c.env P a x q p) i) ps s qs h
 
   note_each_leads : (f : FunctionId) (ps : List Place) (s : StepProgress) → ProgressOwns c.env P s → StepLeads c.env P (each (note_read_capture f) ps s)
   note_each_leads f [] s h = step_gives c.env P s h
@@ -246,8 +246,8 @@ module _ (c : StepContext) (P : ℕ → Type 0) where
   plain_leads e s g h = simple_leads e s g h
 
   -- the step of each effect but calls, raised
-  pub raised_plain : (e : AliasingEffect) (s : StepProgress) → EffectOwns c.env P e → ProgressOwns c.env P s → StepLeads c.env P (raise_plain c e s)
+  pub raised_plain : (e : AliasingEffect) (s : StepProgress) → EffectOwns c.env P e → ProgressOwns c.env P s → StepLeads c.env P (intern_and_apply_plain c e s)
   raised_plain e s g h = leads_then (EffectOwns c.env P) (ProgressOwns c.env P) (intern e) (λ f. apply_plain c f s) (leads_intern e g) (λ f i. plain_leads f s i h)
 
-  pub raised_all_plain : (es : List AliasingEffect) (s : StepProgress) → EffectsOwn c.env P es → ProgressOwns c.env P s → StepLeads c.env P (raise_all_plain c es s)
-  raised_all_plain es s g h = leads_each (EffectOwns c.env P) (ProgressOwns c.env P) (raise_plain c) (λ e a i j. raised_plain e a i j) es s g h
+  pub raised_all_plain : (es : List AliasingEffect) (s : StepProgress) → EffectsOwn c.env P es → ProgressOwns c.env P s → StepLeads c.env P (intern_and_apply_all_plain c es s)
+  raised_all_plain es s g h = leads_each (EffectOwns c.env P) (ProgressOwns c.env P) (intern_and_apply_plain c) (λ e a i j. raised_plain e a i j) es s g h

@@ -44,7 +44,7 @@ use Rattle.alias_freezing.specs.Sites.{listed}
 use Rattle.alias_tables.specs.Steps.{gives, each}
 use Rattle.alias_tables.specs.Tables.{intern_report}
 use Rattle.alias_tables.specs.declared.faults.Refusal.TheVariants.{IncompatibleLibrary}
-use Rattle.alias_apply.specs.Apply.{raise_simple, raise_all_plain}
+use Rattle.alias_apply.specs.Apply.{intern_and_apply_simple, intern_and_apply_all_plain}
 use Rattle.alias_apply.specs.Contexts.{StepContext, summary_in}
 use Rattle.alias_apply.specs.Progress.{record_of}
 use Rattle.alias_apply.specs.Reports.{incompatible_report, write_report}
@@ -159,7 +159,7 @@ module _ (c : StepContext) (P : ℕ → Type 0) (fresh : (n : ℕ) → length c.
   operand_leads call all o s h a p g =
       step_then c.env P (mutate_operand c call o s) _ (mutated_operand call o s p g) (λ s1 g1.
       step_then c.env P (iterate_operand c o s1) _ (iterated_operand o s1 p g1) (λ s2 g2.
-      step_then c.env P (raise_simple c (effect.MaybeAlias o.place call.site.into) s2) (capture_operand_in_each c o all)
+      step_then c.env P (intern_and_apply_simple c (effect.MaybeAlias o.place call.site.into) s2) (capture_operand_in_each c o all)
       (raised_simple c P (effect.MaybeAlias o.place call.site.into) s2 (of_pair c.env P o.place call.site.into p h.into) g2) (λ s3 g3. captured_in_each o all s3 p a g3)))
 
   operands_applied : (call : Call) (all os : List Operand) (s : StepProgress) → CallOwns c.env P call → AllByRecursion (OperandOwns c.env P) all → AllByRecursion (OperandOwns c.env P) os → Progress s → StepLeads c.env P (apply_operands c call all os s)
@@ -167,14 +167,14 @@ module _ (c : StepContext) (P : ℕ → Type 0) (fresh : (n : ℕ) → length c.
 
   by_default : (call : Call) (s : StepProgress) → CallOwns c.env P call → Progress s → StepLeads c.env P (apply_by_default c call s)
   by_default call s h g =
-      step_then c.env P (raise_simple c (effect.Create call.site.into Mutable Other) s) _ (raised_simple c P (effect.Create call.site.into Mutable Other) s (of_place c.env P call.site.into h.into) g)
+      step_then c.env P (intern_and_apply_simple c (effect.Create call.site.into Mutable Other) s) _ (raised_simple c P (effect.Create call.site.into Mutable Other) s (of_place c.env P call.site.into h.into) g)
       (λ w i. operands_applied call (operands call) (operands call) w h (operands_own c.env P call h) (operands_own c.env P call h) i)
 
   -- ---- by a summary
 
   by_summary : (call : Call) (list : List AliasingEffect) (s : StepProgress) → CallOwns c.env P call → EffectsOwn c.env P list → Progress s → StepLeads c.env P (apply_by_summary c call list s)
   by_summary call list s h o g =
-      step_then c.env P (raise_simple c (effect.MutateTransitiveConditionally call.function) s) (raise_all_plain c list) (raised_simple c P (effect.MutateTransitiveConditionally call.function) s (of_place c.env P call.function h.function) g)
+      step_then c.env P (intern_and_apply_simple c (effect.MutateTransitiveConditionally call.function) s) (intern_and_apply_all_plain c list) (raised_simple c P (effect.MutateTransitiveConditionally call.function) s (of_place c.env P call.function h.function) g)
       (λ w i. raised_all_plain c P list w o i)
 
   -- ---- a call in the list of an aliasing part
@@ -199,7 +199,7 @@ module _ (c : StepContext) (P : ℕ → Type 0) (fresh : (n : ℕ) → length c.
 
   by_legacy : (signature : FunctionSignature) (call : Call) (s : StepProgress) → CallOwns c.env P call → Progress s → StepLeads c.env P (apply_by_legacy c signature call s)
   by_legacy signature call s h g =
-      leads_then (LegacyOwns c.env P) (ProgressOwns c.env P) (legacy_list c.env signature call.site call.args s.state) (λ l. raise_all_plain c l.effects (with_missing l.missing s))
+      leads_then (LegacyOwns c.env P) (ProgressOwns c.env P) (legacy_list c.env signature call.site call.args s.state) (λ l. intern_and_apply_all_plain c l.effects (with_missing l.missing s))
       (legacy_list_leads c.env P signature call.site call.args (h.receiver, h.into) h.args s.state) (λ l i. raised_all_plain c P l.effects (with_missing l.missing s) i g)
 
   by_config : (o : Collected) (signature : FunctionSignature) (call : Call) (s : StepProgress) → CallOwns c.env P call → IfGiven (EffectsOwn c.env P) o → Progress s → StepLeads c.env P (apply_by_config c o signature call s)

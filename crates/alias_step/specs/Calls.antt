@@ -14,7 +14,7 @@ use Rattle.alias_tables.specs.declared.faults.Refusal.TheVariants.{IncompatibleL
 use Rattle.alias_tables.specs.Steps.{◌>>=◌, refuses, each}
 use Rattle.alias_tables.specs.Tables.{Step}
 use Rattle.alias_apply.specs.declared.progress.StepProgress.{StepProgress}
-use Rattle.alias_apply.specs.Apply.{raise_simple, raise_plain, raise_all_plain}
+use Rattle.alias_apply.specs.Apply.{intern_and_apply_simple, intern_and_apply_plain, intern_and_apply_all_plain}
 use Rattle.alias_apply.specs.Contexts.{StepContext}
 use Rattle.alias_apply.specs.Progress.{first_missing}
 use Rattle.alias_apply.specs.Reports.{incompatible_report}
@@ -42,8 +42,8 @@ module _ (c : StepContext) where
   -- the function may be written, and then the list of its summary is stepped
   abbrev pub apply_by_summary : Call → List AliasingEffect → StepProgress → Step StepProgress
   apply_by_summary call list s = do
-    t ← raise_simple c (effect.MutateTransitiveConditionally call.function) s
-    raise_all_plain c list t
+    t ← intern_and_apply_simple c (effect.MutateTransitiveConditionally call.function) s
+    intern_and_apply_all_plain c list t
 
   -- ---- a call in the list of an aliasing part
 
@@ -58,7 +58,7 @@ module _ (c : StepContext) where
 
   abbrev pub apply_inner_effect : AliasingEffect → StepProgress → Step StepProgress
   apply_inner_effect (effect.Apply receiver function mutates args into signature span) s = apply_inner_call (call_of receiver function mutates args into span) s
-  apply_inner_effect e s = raise_plain c e s
+  apply_inner_effect e s = intern_and_apply_plain c e s
 
   abbrev pub apply_inner_effects : List AliasingEffect → StepProgress → Step StepProgress
   apply_inner_effects = each apply_inner_effect
@@ -68,7 +68,7 @@ module _ (c : StepContext) where
   abbrev pub apply_by_legacy : FunctionSignature → Call → StepProgress → Step StepProgress
   apply_by_legacy signature call s = do
     legacy ← legacy_list c.env signature call.site call.args s.state
-    raise_all_plain c legacy.effects (with_missing legacy.missing s)
+    intern_and_apply_all_plain c legacy.effects (with_missing legacy.missing s)
 
   abbrev pub apply_by_config : Collected → FunctionSignature → Call → StepProgress → Step StepProgress
   apply_by_config (Some list) signature call s = apply_inner_effects list s
@@ -104,7 +104,7 @@ module _ (c : StepContext) where
   -- the step of each effect of an instruction
   abbrev pub apply_effect : AliasingEffect → StepProgress → Step StepProgress
   apply_effect (effect.Apply receiver function mutates args into signature span) s = apply_call signature (call_of receiver function mutates args into span) s
-  apply_effect e s = raise_plain c e s
+  apply_effect e s = intern_and_apply_plain c e s
 
   -- the steps of the effects, in order
   abbrev pub apply_effects : List AliasingEffect → StepProgress → Step StepProgress

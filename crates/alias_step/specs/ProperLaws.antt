@@ -28,10 +28,10 @@ use Rattle.alias_tables.specs.declared.faults.Refusal.TheVariants.{IncompatibleL
 use Rattle.alias_tables.specs.Steps.{gives}
 use Rattle.alias_tables.specs.Tables.{intern_report}
 use Rattle.alias_apply.specs.declared.progress.StepProgress.{StepProgress}
-use Rattle.alias_apply.specs.Apply.{raise_all_plain}
+use Rattle.alias_apply.specs.Apply.{intern_and_apply_all_plain}
 use Rattle.alias_apply.specs.Contexts.{StepContext, summary_of}
 use Rattle.alias_apply.specs.Progress.{record_of}
-use Rattle.alias_apply.specs.ProperLaws.{ProgressProper, Fine, sound_refuses, sound_after, sound_each, fine_gives, fine_then, fine_if, fine_raise_simple, fine_raise_plain, fine_raise_all_plain}
+use Rattle.alias_apply.specs.ProperLaws.{ProgressProper, Fine, sound_refuses, sound_after, sound_each, fine_gives, fine_then, fine_if, fine_intern_and_apply_simple, fine_intern_and_apply_plain, fine_intern_and_apply_all_plain}
 use Rattle.alias_apply.specs.Reports.{write_report, incompatible_report}
 use Rattle.alias_calls.specs.Copies.{Collected}
 use Rattle.alias_calls.specs.Legacy.{legacy_list}
@@ -46,28 +46,28 @@ module _ (c : StepContext) where
   -- ---- by default
 
   fine_mutate_operand : (call : Call) (o : Operand) (s : StepProgress) → ProgressProper s → Fine (mutate_operand c call o s)
-  fine_mutate_operand call o s h = fine_if (same_place o.place call.function && not call.mutates_function) _ _ (fine_gives s h) (fine_raise_simple c (effect.MutateTransitiveConditionally o.place) s h)
+  fine_mutate_operand call o s h = fine_if (same_place o.place call.function && not call.mutates_function) _ _ (fine_gives s h) (fine_intern_and_apply_simple c (effect.MutateTransitiveConditionally o.place) s h)
 
   fine_iterate_operand : (o : Operand) (s : StepProgress) → ProgressProper s → Fine (iterate_operand c o s)
-  fine_iterate_operand o s h = fine_if (o.is_spread && not (is_builtin_collection_at c.env o.place.identifier)) _ _ (fine_raise_simple c (effect.MutateTransitiveConditionally o.place) s h) (fine_gives s h)
+  fine_iterate_operand o s h = fine_if (o.is_spread && not (is_builtin_collection_at c.env o.place.identifier)) _ _ (fine_intern_and_apply_simple c (effect.MutateTransitiveConditionally o.place) s h) (fine_gives s h)
 
   fine_capture_operand : (o other : Operand) (s : StepProgress) → ProgressProper s → Fine (capture_operand c o other s)
-  fine_capture_operand o other s h = fine_if (same_place other.place o.place && not o.is_spread) _ _ (fine_gives s h) (fine_raise_simple c (effect.Capture o.place other.place) s h)
+  fine_capture_operand o other s h = fine_if (same_place other.place o.place && not o.is_spread) _ _ (fine_gives s h) (fine_intern_and_apply_simple c (effect.Capture o.place other.place) s h)
 
   fine_operand : (call : Call) (all : List Operand) (o : Operand) (s : StepProgress) → ProgressProper s → Fine (apply_operand c call all o s)
   fine_operand call all o s h =
       fine_then _ _ (fine_mutate_operand call o s h) (λ t i.
       fine_then _ _ (fine_iterate_operand o t i) (λ u j.
-      fine_then _ _ (fine_raise_simple c (effect.MaybeAlias o.place call.site.into) u j) (λ v k. sound_each ProgressProper (capture_operand c o) (fine_capture_operand o) all v k)))
+      fine_then _ _ (fine_intern_and_apply_simple c (effect.MaybeAlias o.place call.site.into) u j) (λ v k. sound_each ProgressProper (capture_operand c o) (fine_capture_operand o) all v k)))
 
   fine_by_default : (call : Call) (s : StepProgress) → ProgressProper s → Fine (apply_by_default c call s)
   fine_by_default call s h =
-      fine_then _ _ (fine_raise_simple c (effect.Create call.site.into Mutable Other) s h) (λ t i. sound_each ProgressProper (apply_operand c call (operands call)) (fine_operand call (operands call)) (operands call) t i)
+      fine_then _ _ (fine_intern_and_apply_simple c (effect.Create call.site.into Mutable Other) s h) (λ t i. sound_each ProgressProper (apply_operand c call (operands call)) (fine_operand call (operands call)) (operands call) t i)
 
   -- ---- by a summary
 
   fine_by_summary : (call : Call) (list : List AliasingEffect) (s : StepProgress) → ProgressProper s → Fine (apply_by_summary c call list s)
-  fine_by_summary call list s h = fine_then _ _ (fine_raise_simple c (effect.MutateTransitiveConditionally call.function) s h) (λ t i. fine_raise_all_plain c list t i)
+  fine_by_summary call list s h = fine_then _ _ (fine_intern_and_apply_simple c (effect.MutateTransitiveConditionally call.function) s h) (λ t i. fine_intern_and_apply_all_plain c list t i)
 
   -- ---- in the list of an aliasing part
 
@@ -81,7 +81,7 @@ module _ (c : StepContext) where
 
   fine_inner_effect : (e : AliasingEffect) (s : StepProgress) → ProgressProper s → Fine (apply_inner_effect c e s)
   fine_inner_effect (effect.Apply receiver function mutates args into signature span) s h = fine_inner_call (call_of receiver function mutates args into span) s h
-  fine_inner_effect e s h = fine_raise_plain c e s h
+  fine_inner_effect e s h = fine_intern_and_apply_plain c e s h
 
   fine_inner_effects : (es : List AliasingEffect) (s : StepProgress) → ProgressProper s → Fine (apply_inner_effects c es s)
   fine_inner_effects = sound_each ProgressProper (apply_inner_effect c) fine_inner_effect
@@ -90,7 +90,7 @@ module _ (c : StepContext) where
 
   fine_by_legacy : (signature : FunctionSignature) (call : Call) (s : StepProgress) → ProgressProper s → Fine (apply_by_legacy c signature call s)
   fine_by_legacy signature call s h =
-      sound_after ProgressProper (legacy_list c.env signature call.site call.args s.state) (λ l. raise_all_plain c l.effects (with_missing l.missing s)) (λ l. fine_raise_all_plain c l.effects (with_missing l.missing s) h)
+      sound_after ProgressProper (legacy_list c.env signature call.site call.args s.state) (λ l. intern_and_apply_all_plain c l.effects (with_missing l.missing s)) (λ l. fine_intern_and_apply_all_plain c l.effects (with_missing l.missing s) h)
 
   fine_by_config : (o : Collected) (signature : FunctionSignature) (call : Call) (s : StepProgress) → ProgressProper s → Fine (apply_by_config c o signature call s)
   fine_by_config (Some list) signature call s h = fine_inner_effects list s h
@@ -117,7 +117,7 @@ module _ (c : StepContext) where
 
   pub fine_apply_effect : (e : AliasingEffect) (s : StepProgress) → ProgressProper s → Fine (apply_effect c e s)
   fine_apply_effect (effect.Apply receiver function mutates args into signature span) s h = fine_call signature (call_of receiver function mutates args into span) s h
-  fine_apply_effect e s h = fine_raise_plain c e s h
+  fine_apply_effect e s h = fine_intern_and_apply_plain c e s h
 
   pub fine_apply_effects : (es : List AliasingEffect) (s : StepProgress) → ProgressProper s → Fine (apply_effects c es s)
   fine_apply_effects = sound_each ProgressProper (apply_effect c) fine_apply_effect

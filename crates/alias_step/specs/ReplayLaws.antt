@@ -31,7 +31,7 @@ use Rattle.alias_tables.specs.ReportLaws.{again_report}
 use Rattle.alias_apply.specs.declared.progress.StepProgress.{StepProgress}
 use Rattle.alias_apply.specs.Contexts.{StepContext, summary_of}
 use Rattle.alias_apply.specs.Progress.{record_of}
-use Rattle.alias_apply.specs.ReplayLaws.{again_raise_simple, again_raise_plain, again_raise_all_plain}
+use Rattle.alias_apply.specs.ReplayLaws.{again_intern_and_apply_simple, again_intern_and_apply_plain, again_intern_and_apply_all_plain}
 use Rattle.alias_apply.specs.Reports.{write_report, incompatible_report}
 use Rattle.alias_calls.specs.Copies.{Collected}
 use Rattle.alias_calls.specs.ReplayLaws.{again_config_list, again_summary_list, again_legacy_list}
@@ -64,28 +64,28 @@ module _ (c : StepContext) where
   -- ---- by default
 
   again_mutate_operand : (call : Call) (o : Operand) (s : StepProgress) → Again (mutate_operand c call o s)
-  again_mutate_operand call o s = again_if (same_place o.place call.function && not call.mutates_function) _ _ (again_gives s) (again_raise_simple c (effect.MutateTransitiveConditionally o.place) s)
+  again_mutate_operand call o s = again_if (same_place o.place call.function && not call.mutates_function) _ _ (again_gives s) (again_intern_and_apply_simple c (effect.MutateTransitiveConditionally o.place) s)
 
   again_iterate_operand : (o : Operand) (s : StepProgress) → Again (iterate_operand c o s)
-  again_iterate_operand o s = again_if (o.is_spread && not (is_builtin_collection_at c.env o.place.identifier)) _ _ (again_raise_simple c (effect.MutateTransitiveConditionally o.place) s) (again_gives s)
+  again_iterate_operand o s = again_if (o.is_spread && not (is_builtin_collection_at c.env o.place.identifier)) _ _ (again_intern_and_apply_simple c (effect.MutateTransitiveConditionally o.place) s) (again_gives s)
 
   again_capture_operand : (o other : Operand) (s : StepProgress) → Again (capture_operand c o other s)
-  again_capture_operand o other s = again_if (same_place other.place o.place && not o.is_spread) _ _ (again_gives s) (again_raise_simple c (effect.Capture o.place other.place) s)
+  again_capture_operand o other s = again_if (same_place other.place o.place && not o.is_spread) _ _ (again_gives s) (again_intern_and_apply_simple c (effect.Capture o.place other.place) s)
 
   again_operand : (call : Call) (all : List Operand) (o : Operand) (s : StepProgress) → Again (apply_operand c call all o s)
   again_operand call all o s =
       again_then _ _ (again_mutate_operand call o s) (λ t.
       again_then _ _ (again_iterate_operand o t) (λ u.
-      again_then _ _ (again_raise_simple c (effect.MaybeAlias o.place call.site.into) u) (λ v. again_each (capture_operand c o) (again_capture_operand o) all v)))
+      again_then _ _ (again_intern_and_apply_simple c (effect.MaybeAlias o.place call.site.into) u) (λ v. again_each (capture_operand c o) (again_capture_operand o) all v)))
 
   again_by_default : (call : Call) (s : StepProgress) → Again (apply_by_default c call s)
   again_by_default call s =
-      again_then _ _ (again_raise_simple c (effect.Create call.site.into Mutable Other) s) (λ t. again_each (apply_operand c call (operands call)) (again_operand call (operands call)) (operands call) t)
+      again_then _ _ (again_intern_and_apply_simple c (effect.Create call.site.into Mutable Other) s) (λ t. again_each (apply_operand c call (operands call)) (again_operand call (operands call)) (operands call) t)
 
   -- ---- by a summary
 
   again_by_summary : (call : Call) (list : List AliasingEffect) (s : StepProgress) → Again (apply_by_summary c call list s)
-  again_by_summary call list s = again_then _ _ (again_raise_simple c (effect.MutateTransitiveConditionally call.function) s) (λ t. again_raise_all_plain c list t)
+  again_by_summary call list s = again_then _ _ (again_intern_and_apply_simple c (effect.MutateTransitiveConditionally call.function) s) (λ t. again_intern_and_apply_all_plain c list t)
 
   -- ---- in the list of an aliasing part
 
@@ -98,7 +98,7 @@ module _ (c : StepContext) where
 
   again_inner_effect : (e : AliasingEffect) (s : StepProgress) → Again (apply_inner_effect c e s)
   again_inner_effect (effect.Apply receiver function mutates args into signature span) s = again_inner_call (call_of receiver function mutates args into span) s
-  again_inner_effect e s = again_raise_plain c e s
+  again_inner_effect e s = again_intern_and_apply_plain c e s
 
   again_inner_effects : (es : List AliasingEffect) (s : StepProgress) → Again (apply_inner_effects c es s)
   again_inner_effects = again_each (apply_inner_effect c) again_inner_effect
@@ -106,7 +106,7 @@ module _ (c : StepContext) where
   -- ---- by a signature
 
   again_by_legacy : (signature : FunctionSignature) (call : Call) (s : StepProgress) → Again (apply_by_legacy c signature call s)
-  again_by_legacy signature call s = again_then _ _ (again_legacy_list c.env signature call.site call.args s.state) (λ l. again_raise_all_plain c l.effects (with_missing l.missing s))
+  again_by_legacy signature call s = again_then _ _ (again_legacy_list c.env signature call.site call.args s.state) (λ l. again_intern_and_apply_all_plain c l.effects (with_missing l.missing s))
 
   again_by_config : (o : Collected) (signature : FunctionSignature) (call : Call) (s : StepProgress) → Again (apply_by_config c o signature call s)
   again_by_config (Some list) signature call s = again_inner_effects list s
@@ -131,7 +131,7 @@ module _ (c : StepContext) where
 
   pub again_apply_effect : (e : AliasingEffect) (s : StepProgress) → Again (apply_effect c e s)
   again_apply_effect (effect.Apply receiver function mutates args into signature span) s = again_call signature (call_of receiver function mutates args into span) s
-  again_apply_effect e s = again_raise_plain c e s
+  again_apply_effect e s = again_intern_and_apply_plain c e s
 
   pub again_apply_effects : (es : List AliasingEffect) (s : StepProgress) → Again (apply_effects c es s)
   again_apply_effects = again_each (apply_effect c) again_apply_effect

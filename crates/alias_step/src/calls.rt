@@ -2,7 +2,7 @@
 //! signature of its type, or by default.
 
 ghost use Rattle.std.specs.Prelude.{◌≡◌, option_map};
-ghost use Rattle.alias_apply.specs.Apply.{raise_plain};
+ghost use Rattle.alias_apply.specs.Apply.{intern_and_apply_plain};
 ghost use Rattle.alias_apply.specs.Contexts.{held};
 ghost use Rattle.alias_apply.specs.Progress.{Follows};
 ghost use Rattle.alias_step.specs.Operands.{held_call};
@@ -12,7 +12,10 @@ use crate::call::Call;
 use crate::defaults::apply_by_default;
 use crate::lists::{called_function, list_of_called, list_of_config, signature_of_type};
 use alias_apply::reports::incompatible_report;
-use alias_apply::{StepContext, StepProgress, raise_all_plain, raise_plain, raise_simple};
+use alias_apply::{
+    StepContext, StepProgress, intern_and_apply_all_plain, intern_and_apply_plain,
+    intern_and_apply_simple,
+};
 use alias_base::{Text, TypeId};
 use alias_calls::{CallSite, compute_effects_for_legacy_signature};
 use alias_hir::effect::{AliasingEffect, AliasingEffects};
@@ -39,7 +42,7 @@ fn apply_by_summary(
 ) -> Result<(), EffectFault>
     ensures { Follows (apply_by_summary (held context.now) (held_call call.now) list step.old tables.old) result step.new tables.new }
 {
-    raise_simple(
+    intern_and_apply_simple(
         context,
         step,
         tables,
@@ -47,7 +50,7 @@ fn apply_by_summary(
             value: call.function,
         },
     )?;
-    raise_all_plain(context, step, tables, list)
+    intern_and_apply_all_plain(context, step, tables, list)
 }
 
 fn apply_inner_call_by(
@@ -112,7 +115,7 @@ fn apply_inner_effect(
                 args: args.as_slice(),
             },
         ),
-        effect => raise_plain(context, step, tables, effect),
+        effect => intern_and_apply_plain(context, step, tables, effect),
     }
 }
 
@@ -148,7 +151,7 @@ fn apply_by_legacy(
         call.args,
     )?;
     note_missing(step, legacy.missing);
-    raise_all_plain(context, step, tables, legacy.effects)
+    intern_and_apply_all_plain(context, step, tables, legacy.effects)
 }
 
 fn apply_by_config(
@@ -290,7 +293,7 @@ pub fn apply_effect(
                 args: args.as_slice(),
             },
         ),
-        effect => raise_plain(context, step, tables, effect),
+        effect => intern_and_apply_plain(context, step, tables, effect),
     }
 }
 

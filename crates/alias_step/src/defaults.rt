@@ -8,7 +8,7 @@ ghost use Rattle.alias_step.specs.Defaults.{mutate_operand, iterate_operand, cap
 
 use crate::call::{Call, Operand};
 use crate::operands::{operands, same_place};
-use alias_apply::{StepContext, StepProgress, raise_simple};
+use alias_apply::{StepContext, StepProgress, intern_and_apply_simple};
 use alias_hir::effect::{AliasingEffect, ValueKind, ValueReason};
 use alias_hir::types::is_builtin_collection_at;
 use alias_tables::{EffectFault, Tables};
@@ -26,7 +26,7 @@ fn mutate_operand(
     if same_place(operand.place, call.function) && !call.mutates_function {
         return Ok(());
     }
-    raise_simple(
+    intern_and_apply_simple(
         context,
         step,
         tables,
@@ -46,7 +46,7 @@ fn iterate_operand(
     ensures { Follows (iterate_operand (held context.now) operand step.old tables.old) result step.new tables.new }
 {
     if operand.is_spread && !is_builtin_collection_at(context.env, operand.place.identifier) {
-        return raise_simple(
+        return intern_and_apply_simple(
             context,
             step,
             tables,
@@ -71,7 +71,7 @@ fn capture_operand(
     if same_place(other.place, operand.place) && !operand.is_spread {
         return Ok(());
     }
-    raise_simple(
+    intern_and_apply_simple(
         context,
         step,
         tables,
@@ -110,7 +110,7 @@ fn apply_operand(
 {
     mutate_operand(context, step, tables, call, operand)?;
     iterate_operand(context, step, tables, operand)?;
-    raise_simple(
+    intern_and_apply_simple(
         context,
         step,
         tables,
@@ -149,7 +149,7 @@ pub fn apply_by_default(
     ensures { Follows (apply_by_default (held context.now) (held_call call.now) step.old tables.old) result step.new tables.new }
 {
     let all = operands(tables.alloc(), call)?;
-    raise_simple(
+    intern_and_apply_simple(
         context,
         step,
         tables,

@@ -24,11 +24,11 @@ use Rattle.alias_tables.specs.Steps.{◌>>=◌, gives, refuses, each}
 use Rattle.alias_tables.specs.Tables.{TableLists, Step, intern, intern_report}
 use Rattle.alias_tables.specs.declared.faults.Refusal.{Refusal}
 use Rattle.alias_tables.specs.declared.faults.Refusal.TheVariants.{AliasBeforeCreate}
-use Rattle.alias_apply.specs.Apply.{apply_simple, raise_simple, is_read_capture, note_read_capture, is_mutable_function, function_value, capture_each, apply_create_function, apply_plain, raise_plain, raise_all_plain}
+use Rattle.alias_apply.specs.Apply.{apply_simple, intern_and_apply_simple, is_read_capture, note_read_capture, is_mutable_function, function_value, capture_each, apply_create_function, apply_plain, intern_and_apply_plain, intern_and_apply_all_plain}
 use Rattle.alias_apply.specs.Contexts.{StepContext, hoisted_access}
 use Rattle.alias_apply.specs.Kinds.{is_constant, is_frozen, may_be_frozen, is_writable, captures, may_alias, value_with}
-use Rattle.alias_apply.specs.Leaves.{apply_immutable_capture, apply_leaf, raise_leaf, apply_maybe_alias, apply_aliasing, raise_aliasing}
-use Rattle.alias_apply.specs.Mutation.{raise_mutate_frozen, raise_mutate_global, report_write, report_hoisted_write, record_mutation, apply_mutate, apply_mutate_conditionally, freezes_on, apply_freeze}
+use Rattle.alias_apply.specs.Leaves.{apply_immutable_capture, apply_leaf, intern_and_apply_leaf, apply_maybe_alias, apply_aliasing, intern_and_apply_aliasing}
+use Rattle.alias_apply.specs.Mutation.{intern_and_apply_mutate_frozen, intern_and_apply_mutate_global, report_write, report_hoisted_write, record_mutation, apply_mutate, apply_mutate_conditionally, freezes_on, apply_freeze}
 use Rattle.alias_apply.specs.Progress.{record_of, with_state, looked_at, looked_with_span, kind_at, is_made, made}
 use Rattle.alias_apply.specs.Reports.{write_report, hoisting_report}
 use Rattle.alias_apply.specs.Values.{apply_create, record_create_from, apply_create_from, assign_value, apply_assign, apply_link, apply_alias}
@@ -91,12 +91,12 @@ module _ (env : Environment) where
   leaf_within (effect.Render p) s t g h = recorded (effect.Render p) s t g h
   leaf_within e s t g h = h
 
-  pub raised_leaf : (e : AliasingEffect) (s : StepProgress) (t : TableLists) → TablesWithin env t → EffectWithin env t e → ProgressWithin env t s → StepWithin env (raise_leaf e s) t
+  pub raised_leaf : (e : AliasingEffect) (s : StepProgress) (t : TableLists) → TablesWithin env t → EffectWithin env t e → ProgressWithin env t s → StepWithin env (intern_and_apply_leaf e s) t
   raised_leaf e s t k g h =
       within_then (EffectWithin env) (ProgressWithin env) (intern e) (λ f. gives (apply_leaf f s)) t (within_intern env e t k g)
       (λ f u x l i. step_gives (apply_leaf f s) u l (leaf_within f s u i (progress_grows env t u x s h)))
 
-  raised_capture : (a x : Place) (s : StepProgress) (t : TableLists) → TablesWithin env t → PlaceWithin env t a → PlaceWithin env t x → ProgressWithin env t s → StepWithin env (raise_leaf (effect.ImmutableCapture a x) s) t
+  raised_capture : (a x : Place) (s : StepProgress) (t : TableLists) → TablesWithin env t → PlaceWithin env t a → PlaceWithin env t x → ProgressWithin env t s → StepWithin env (intern_and_apply_leaf (effect.ImmutableCapture a x) s) t
   raised_capture a x s t k p q h = raised_leaf (effect.ImmutableCapture a x) s t k (of_pair t a x p q) h
 
   maybe_alias_within : (a x : Place) (s : StepProgress) (t : TableLists) → TablesWithin env t → PlaceWithin env t a → PlaceWithin env t x → ProgressWithin env t s → StepWithin env (apply_maybe_alias a x s) t
@@ -108,7 +108,7 @@ module _ (env : Environment) where
   aliasing_within (effect.MaybeAlias a x) s t k g h = maybe_alias_within a x s t k g.0.0 g.0.1.0 h
   aliasing_within e s t k g h = step_gives (apply_leaf e s) t k (leaf_within e s t g h)
 
-  raised_aliasing : (e : AliasingEffect) (s : StepProgress) (t : TableLists) → TablesWithin env t → EffectWithin env t e → ProgressWithin env t s → StepWithin env (raise_aliasing e s) t
+  raised_aliasing : (e : AliasingEffect) (s : StepProgress) (t : TableLists) → TablesWithin env t → EffectWithin env t e → ProgressWithin env t s → StepWithin env (intern_and_apply_aliasing e s) t
   raised_aliasing e s t k g h =
       within_then (EffectWithin env) (ProgressWithin env) (intern e) (λ f. apply_aliasing f s) t (within_intern env e t k g)
       (λ f u x l i. aliasing_within f s u l i (progress_grows env t u x s h))
@@ -142,7 +142,7 @@ module _ (env : Environment) where
   assigned_value_within : (v : AbstractValue) (a x : Place) (s : StepProgress) (t : TableLists) → TablesWithin env t → PlaceWithin env t a → PlaceWithin env t x → ProgressWithin env t s → StepWithin env (assign_value v a x s) t
   assigned_value_within v a x s t k p q h =
       step_if (is_frozen v.kind) _ _ t
-      (step_then (raise_leaf (effect.ImmutableCapture a x) s) _ t (raised_capture a x s t k p q h)
+      (step_then (intern_and_apply_leaf (effect.ImmutableCapture a x) s) _ t (raised_capture a x s t k p q h)
       (λ w u y l i. step_gives (with_state (given x.identifier (AssignFrozen a.identifier x.identifier) v w.state) w) u l (i.0, has_given (FunctionWithin env) x.identifier (AssignFrozen a.identifier x.identifier) v w.state i.1 tt)))
       (step_if (is_constant v.kind) _ _ t
       (step_gives (with_state (given x.identifier (AssignCopy a.identifier x.identifier) v s.state) s) t k (h.0, has_given (FunctionWithin env) x.identifier (AssignCopy a.identifier x.identifier) v s.state h.1 tt))
@@ -168,12 +168,12 @@ module _ (env : Environment) where
 
   -- ---- writes
 
-  frozen_write_within : (r : Report) (v : Place) (s : StepProgress) (t : TableLists) → is_invariant r.category ≡ false → TablesWithin env t → PlaceWithin env t v → ProgressWithin env t s → StepWithin env (raise_mutate_frozen r v s) t
+  frozen_write_within : (r : Report) (v : Place) (s : StepProgress) (t : TableLists) → is_invariant r.category ≡ false → TablesWithin env t → PlaceWithin env t v → ProgressWithin env t s → StepWithin env (intern_and_apply_mutate_frozen r v s) t
   frozen_write_within r v s t c k p h =
       within_then IsInterned (ProgressWithin env) (intern_report v.identifier r) _ t (within_report env v.identifier r t c k)
       (λ d u x l i. raised_leaf (effect.MutateFrozen v d) s u l ((place_grows env t u x v p, tt), (i, (tt, refl))) (progress_grows env t u x s h))
 
-  global_write_within : (r : Report) (v : Place) (s : StepProgress) (t : TableLists) → is_invariant r.category ≡ false → TablesWithin env t → PlaceWithin env t v → ProgressWithin env t s → StepWithin env (raise_mutate_global r v s) t
+  global_write_within : (r : Report) (v : Place) (s : StepProgress) (t : TableLists) → is_invariant r.category ≡ false → TablesWithin env t → PlaceWithin env t v → ProgressWithin env t s → StepWithin env (intern_and_apply_mutate_global r v s) t
   global_write_within r v s t c k p h =
       within_then IsInterned (ProgressWithin env) (intern_report v.identifier r) _ t (within_report env v.identifier r t c k)
       (λ d u x l i. raised_leaf (effect.MutateGlobal v d) s u l ((place_grows env t u x v p, tt), (i, (tt, refl))) (progress_grows env t u x s h))
@@ -236,7 +236,7 @@ module _ (c : StepContext) where
       step_gives c.env (apply_mutate_conditionally c (effect.MutateTransitiveConditionally v) v s) t k (condition_within (effect.MutateTransitiveConditionally v) v s t g h)
   simple_within e s t k g h = aliasing_within c.env e s t k g h
 
-  pub raised_simple : (e : AliasingEffect) (s : StepProgress) (t : TableLists) → TablesWithin c.env t → EffectWithin c.env t e → ProgressWithin c.env t s → StepWithin c.env (raise_simple c e s) t
+  pub raised_simple : (e : AliasingEffect) (s : StepProgress) (t : TableLists) → TablesWithin c.env t → EffectWithin c.env t e → ProgressWithin c.env t s → StepWithin c.env (intern_and_apply_simple c e s) t
   raised_simple e s t k g h =
       within_then (EffectWithin c.env) (ProgressWithin c.env) (intern e) (λ f. apply_simple c f s) t (within_intern c.env e t k g)
       (λ f u x l i. simple_within f s u l i (progress_grows c.env t u x s h))
@@ -245,7 +245,7 @@ module _ (c : StepContext) where
   capture_each_within : (x : Place) (ps : List Place) (s : StepProgress) (t : TableLists) → TablesWithin c.env t → PlaceWithin c.env t x → AllByRecursion (PlaceWithin c.env t) ps → ProgressWithin c.env t s → StepWithin c.env (capture_each c x ps s) t
   capture_each_within x [] s t k p ps h = step_gives c.env s t k h
   capture_each_within x (a ∷ sources) s t k p ps h =
-      step_then c.env (raise_simple c (effect.Capture a x) s) (capture_each c x sources) t (raised_simple (effect.Capture a x) s t k (of_pair c.env t a x ps.0 p) h)
+      step_then c.env (intern_and_apply_simple c (effect.Capture a x) s) (capture_each c x sources) t (raised_simple (effect.Capture a x) s t k (of_pair c.env t a x ps.0 p) h)
       (λ w u y l i. capture_each_within x sources w u l (place_grows c.env t u y x p) (places_grow c.env t u y sources ps.1) i)
 
   note_each_within : (f : FunctionId) (ps : List Place) (s : StepProgress) (t : TableLists) → TablesWithin c.env t → ProgressWithin c.env t s → StepWithin c.env (each (note_read_capture f) ps s) t
@@ -268,11 +268,11 @@ module _ (c : StepContext) where
   plain_within e s t k g h = simple_within e s t k g h
 
   -- the step of each effect but calls, raised
-  pub raised_plain : (e : AliasingEffect) (s : StepProgress) (t : TableLists) → TablesWithin c.env t → EffectWithin c.env t e → ProgressWithin c.env t s → StepWithin c.env (raise_plain c e s) t
+  pub raised_plain : (e : AliasingEffect) (s : StepProgress) (t : TableLists) → TablesWithin c.env t → EffectWithin c.env t e → ProgressWithin c.env t s → StepWithin c.env (intern_and_apply_plain c e s) t
   raised_plain e s t k g h =
       within_then (EffectWithin c.env) (ProgressWithin c.env) (intern e) (λ f. apply_plain c f s) t (within_intern c.env e t k g)
       (λ f u x l i. plain_within f s u l i (progress_grows c.env t u x s h))
 
-  pub raised_all_plain : (es : List AliasingEffect) (s : StepProgress) (t : TableLists) → TablesWithin c.env t → EffectsWithin c.env t es → ProgressWithin c.env t s → StepWithin c.env (raise_all_plain c es s) t
+  pub raised_all_plain : (es : List AliasingEffect) (s : StepProgress) (t : TableLists) → TablesWithin c.env t → EffectsWithin c.env t es → ProgressWithin c.env t s → StepWithin c.env (intern_and_apply_all_plain c es s) t
   raised_all_plain es s t k g h =
-      within_each (EffectWithin c.env) (ProgressWithin c.env) (raise_plain c) (effect_grows c.env) (λ e a u l i j. raised_plain e a u l i j) es s t k g h
+      within_each (EffectWithin c.env) (ProgressWithin c.env) (intern_and_apply_plain c) (effect_grows c.env) (λ e a u l i j. raised_plain e a u l i j) es s t k g h

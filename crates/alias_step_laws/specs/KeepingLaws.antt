@@ -25,11 +25,11 @@ use Rattle.alias_tables.specs.Steps.{◌>>=◌, gives}
 use Rattle.alias_tables.specs.ReplayLaws.{first_is}
 use Rattle.alias_freezing.specs.Contexts.{context_of}
 use Rattle.alias_apply.specs.declared.progress.StepProgress.{StepProgress}
-use Rattle.alias_apply.specs.Apply.{apply_simple, raise_simple, is_read_capture, note_read_capture, capture_each, apply_create_function, apply_plain, raise_plain, raise_all_plain}
+use Rattle.alias_apply.specs.Apply.{apply_simple, intern_and_apply_simple, is_read_capture, note_read_capture, capture_each, apply_create_function, apply_plain, intern_and_apply_plain, intern_and_apply_all_plain}
 use Rattle.alias_apply.specs.Contexts.{StepContext, hoisted_access}
 use Rattle.alias_apply.specs.Kinds.{is_constant, is_frozen, may_be_frozen, is_writable, captures, may_alias}
-use Rattle.alias_apply.specs.Leaves.{apply_immutable_capture, apply_leaf, raise_leaf, apply_maybe_alias, apply_aliasing, raise_aliasing}
-use Rattle.alias_apply.specs.Mutation.{raise_mutate_frozen, raise_mutate_global, report_write, report_hoisted_write, record_mutation, apply_mutate, apply_mutate_conditionally, freezes_on, apply_freeze}
+use Rattle.alias_apply.specs.Leaves.{apply_immutable_capture, apply_leaf, intern_and_apply_leaf, apply_maybe_alias, apply_aliasing, intern_and_apply_aliasing}
+use Rattle.alias_apply.specs.Mutation.{intern_and_apply_mutate_frozen, intern_and_apply_mutate_global, report_write, report_hoisted_write, record_mutation, apply_mutate, apply_mutate_conditionally, freezes_on, apply_freeze}
 use Rattle.alias_apply.specs.Progress.{record_of, with_state, looked_at, looked_with_span, kind_at, is_made, made}
 use Rattle.alias_apply.specs.ProperLaws.{Sound, sound_gives, sound_refuses, sound_then, sound_after, sound_if, sound_each}
 use Rattle.alias_apply.specs.Reports.{write_report, hoisting_report, incompatible_report}
@@ -88,20 +88,20 @@ module _ (P : List AliasingEffect → Type 0) (more : (e : AliasingEffect) → i
   holds_leaf (effect.Render p) s h = holds_more (effect.Render p) refl s h
   holds_leaf e s h = h
 
-  keeps_raise_leaf : (e : AliasingEffect) (s : StepProgress) → Holds s → Keeps (raise_leaf e s)
-  keeps_raise_leaf e s h = sound_after Holds (intern e) (λ f. gives (apply_leaf f s)) (λ f. keeps_gives (apply_leaf f s) (holds_leaf f s h))
+  keeps_intern_and_apply_leaf : (e : AliasingEffect) (s : StepProgress) → Holds s → Keeps (intern_and_apply_leaf e s)
+  keeps_intern_and_apply_leaf e s h = sound_after Holds (intern e) (λ f. gives (apply_leaf f s)) (λ f. keeps_gives (apply_leaf f s) (holds_leaf f s h))
 
   keeps_maybe_alias : (a x : Place) (s : StepProgress) → Holds s → Keeps (apply_maybe_alias a x s)
   keeps_maybe_alias a x s h =
       let u = looked_with_span a (looked_with_span x s) in
-      keeps_if (may_be_frozen (kind_at a s)) _ _ (keeps_raise_leaf (effect.ImmutableCapture a x) u h) (keeps_records (effect.MaybeAlias a x) refl u h)
+      keeps_if (may_be_frozen (kind_at a s)) _ _ (keeps_intern_and_apply_leaf (effect.ImmutableCapture a x) u h) (keeps_records (effect.MaybeAlias a x) refl u h)
 
   keeps_aliasing : (e : AliasingEffect) (s : StepProgress) → Holds s → Keeps (apply_aliasing e s)
   keeps_aliasing (effect.MaybeAlias a x) s h = keeps_maybe_alias a x s h
   keeps_aliasing e s h = keeps_gives (apply_leaf e s) (holds_leaf e s h)
 
-  keeps_raise_aliasing : (e : AliasingEffect) (s : StepProgress) → Holds s → Keeps (raise_aliasing e s)
-  keeps_raise_aliasing e s h = sound_after Holds (intern e) (λ f. apply_aliasing f s) (λ f. keeps_aliasing f s h)
+  keeps_intern_and_apply_aliasing : (e : AliasingEffect) (s : StepProgress) → Holds s → Keeps (intern_and_apply_aliasing e s)
+  keeps_intern_and_apply_aliasing e s h = sound_after Holds (intern e) (λ f. apply_aliasing f s) (λ f. keeps_aliasing f s h)
 
   -- ---- values
 
@@ -111,7 +111,7 @@ module _ (P : List AliasingEffect → Type 0) (more : (e : AliasingEffect) → i
   keeps_record_create_from : (k : ValueKind) (r : ValueReason) (a x : Place) (s : StepProgress) → Holds s → Keeps (record_create_from k r a x s)
   keeps_record_create_from Primitive r a x s h = keeps_records (effect.Create x Primitive r) refl s h
   keeps_record_create_from Global r a x s h = keeps_records (effect.Create x Global r) refl s h
-  keeps_record_create_from Frozen r a x s h = keeps_raise_leaf (effect.ImmutableCapture a x) (record_of (effect.Create x Frozen r) s) (holds_more (effect.Create x Frozen r) refl s h)
+  keeps_record_create_from Frozen r a x s h = keeps_intern_and_apply_leaf (effect.ImmutableCapture a x) (record_of (effect.Create x Frozen r) s) (holds_more (effect.Create x Frozen r) refl s h)
   keeps_record_create_from Mutable r a x s h = keeps_records (effect.CreateFrom a x) refl s h
   keeps_record_create_from Context r a x s h = keeps_records (effect.CreateFrom a x) refl s h
   keeps_record_create_from MaybeFrozen r a x s h = keeps_records (effect.CreateFrom a x) refl s h
@@ -122,7 +122,7 @@ module _ (P : List AliasingEffect → Type 0) (more : (e : AliasingEffect) → i
   keeps_assign_value : (v : AbstractValue) (a x : Place) (s : StepProgress) → Holds s → Keeps (assign_value v a x s)
   keeps_assign_value v a x s h =
       keeps_if (is_frozen v.kind) _ _
-      (keeps_then _ _ (keeps_raise_leaf (effect.ImmutableCapture a x) s h) (λ u g. keeps_gives (with_state (given x.identifier (AssignFrozen a.identifier x.identifier) v u.state) u) g))
+      (keeps_then _ _ (keeps_intern_and_apply_leaf (effect.ImmutableCapture a x) s h) (λ u g. keeps_gives (with_state (given x.identifier (AssignFrozen a.identifier x.identifier) v u.state) u) g))
       (keeps_if (is_constant v.kind) _ _
       (keeps_gives (with_state (given x.identifier (AssignCopy a.identifier x.identifier) v s.state) s) h)
       (keeps_records (effect.Assign a x) refl (with_state (assigned x.identifier a.identifier s.state) s) h))
@@ -133,18 +133,18 @@ module _ (P : List AliasingEffect → Type 0) (more : (e : AliasingEffect) → i
   keeps_link : (e : AliasingEffect) → is_apply e ≡ false → (a x : Place) (s : StepProgress) → Holds s → Keeps (apply_link e a x s)
   keeps_link e other a x s h =
       let u = looked_with_span a (looked_with_span x s) in
-      keeps_if (may_be_frozen (kind_at a s)) _ _ (keeps_raise_leaf (effect.ImmutableCapture a x) u h)
+      keeps_if (may_be_frozen (kind_at a s)) _ _ (keeps_intern_and_apply_leaf (effect.ImmutableCapture a x) u h)
       (keeps_if (captures (kind_at a s) (kind_at x s)) _ _ (keeps_records e other u h)
-      (keeps_if (may_alias (kind_at a s) (kind_at x s)) _ _ (keeps_raise_aliasing (effect.MaybeAlias a x) u h) (keeps_gives u h)))
+      (keeps_if (may_alias (kind_at a s) (kind_at x s)) _ _ (keeps_intern_and_apply_aliasing (effect.MaybeAlias a x) u h) (keeps_gives u h)))
 
   keeps_alias : (a x : Place) (s : StepProgress) → Holds s → Keeps (apply_alias a x s)
   keeps_alias a x s h = keeps_if (is_made x.identifier s.made) _ _ (keeps_link (effect.Alias a x) refl a x s h) (sound_refuses Holds (AliasBeforeCreate x.identifier))
 
-  keeps_frozen_write : (r : Report) (v : Place) (s : StepProgress) → Holds s → Keeps (raise_mutate_frozen r v s)
-  keeps_frozen_write r v s h = sound_after Holds (intern_report v.identifier r) _ (λ d. keeps_raise_leaf (effect.MutateFrozen v d) s h)
+  keeps_frozen_write : (r : Report) (v : Place) (s : StepProgress) → Holds s → Keeps (intern_and_apply_mutate_frozen r v s)
+  keeps_frozen_write r v s h = sound_after Holds (intern_report v.identifier r) _ (λ d. keeps_intern_and_apply_leaf (effect.MutateFrozen v d) s h)
 
-  keeps_global_write : (r : Report) (v : Place) (s : StepProgress) → Holds s → Keeps (raise_mutate_global r v s)
-  keeps_global_write r v s h = sound_after Holds (intern_report v.identifier r) _ (λ d. keeps_raise_leaf (effect.MutateGlobal v d) s h)
+  keeps_global_write : (r : Report) (v : Place) (s : StepProgress) → Holds s → Keeps (intern_and_apply_mutate_global r v s)
+  keeps_global_write r v s h = sound_after Holds (intern_report v.identifier r) _ (λ d. keeps_intern_and_apply_leaf (effect.MutateGlobal v d) s h)
 
   keeps_note_read : (f : FunctionId) (p : Place) (s : StepProgress) → Holds s → Keeps (note_read_capture f p s)
   keeps_note_read f p s h = keeps_if (is_read_capture s.state p) _ _ (keeps_noted _ s h) (keeps_gives s h)
@@ -192,11 +192,11 @@ module _ (P : List AliasingEffect → Type 0) (more : (e : AliasingEffect) → i
     keeps_simple (effect.MutateTransitiveConditionally v) s h = keeps_gives (apply_mutate_conditionally c (effect.MutateTransitiveConditionally v) v s) (holds_conditionally (effect.MutateTransitiveConditionally v) refl v s h)
     keeps_simple e s h = keeps_aliasing e s h
 
-    keeps_raise_simple : (e : AliasingEffect) (s : StepProgress) → Holds s → Keeps (raise_simple c e s)
-    keeps_raise_simple e s h = sound_after Holds (intern e) (λ f. apply_simple c f s) (λ f. keeps_simple f s h)
+    keeps_intern_and_apply_simple : (e : AliasingEffect) (s : StepProgress) → Holds s → Keeps (intern_and_apply_simple c e s)
+    keeps_intern_and_apply_simple e s h = sound_after Holds (intern e) (λ f. apply_simple c f s) (λ f. keeps_simple f s h)
 
     keeps_capture_each : (x : Place) (ps : List Place) (s : StepProgress) → Holds s → Keeps (capture_each c x ps s)
-    keeps_capture_each x ps s h = sound_each Holds _ (λ p u g. keeps_raise_simple (effect.Capture p x) u g) ps s h
+    keeps_capture_each x ps s h = sound_each Holds _ (λ p u g. keeps_intern_and_apply_simple (effect.Capture p x) u g) ps s h
 
     keeps_create_function : (x : Place) (f : FunctionId) (ps : List Place) (s : StepProgress) → Holds s → Keeps (apply_create_function c x f ps s)
     keeps_create_function x f ps s h =
@@ -208,35 +208,35 @@ module _ (P : List AliasingEffect → Type 0) (more : (e : AliasingEffect) → i
     keeps_plain (effect.Apply receiver function mutates args into signature span) s h = keeps_gives s h
     keeps_plain e s h = keeps_simple e s h
 
-    pub keeps_raise_plain : (e : AliasingEffect) (s : StepProgress) → Holds s → Keeps (raise_plain c e s)
-    keeps_raise_plain e s h = sound_after Holds (intern e) (λ f. apply_plain c f s) (λ f. keeps_plain f s h)
+    pub keeps_intern_and_apply_plain : (e : AliasingEffect) (s : StepProgress) → Holds s → Keeps (intern_and_apply_plain c e s)
+    keeps_intern_and_apply_plain e s h = sound_after Holds (intern e) (λ f. apply_plain c f s) (λ f. keeps_plain f s h)
 
-    pub keeps_raise_all_plain : (es : List AliasingEffect) (s : StepProgress) → Holds s → Keeps (raise_all_plain c es s)
-    keeps_raise_all_plain = sound_each Holds (raise_plain c) keeps_raise_plain
+    pub keeps_intern_and_apply_all_plain : (es : List AliasingEffect) (s : StepProgress) → Holds s → Keeps (intern_and_apply_all_plain c es s)
+    keeps_intern_and_apply_all_plain = sound_each Holds (intern_and_apply_plain c) keeps_intern_and_apply_plain
 
     -- ---- calls
 
     keeps_mutate_operand : (call : Call) (o : Operand) (s : StepProgress) → Holds s → Keeps (mutate_operand c call o s)
-    keeps_mutate_operand call o s h = keeps_if (same_place o.place call.function && not call.mutates_function) _ _ (keeps_gives s h) (keeps_raise_simple (effect.MutateTransitiveConditionally o.place) s h)
+    keeps_mutate_operand call o s h = keeps_if (same_place o.place call.function && not call.mutates_function) _ _ (keeps_gives s h) (keeps_intern_and_apply_simple (effect.MutateTransitiveConditionally o.place) s h)
 
     keeps_iterate_operand : (o : Operand) (s : StepProgress) → Holds s → Keeps (iterate_operand c o s)
-    keeps_iterate_operand o s h = keeps_if (o.is_spread && not (is_builtin_collection_at c.env o.place.identifier)) _ _ (keeps_raise_simple (effect.MutateTransitiveConditionally o.place) s h) (keeps_gives s h)
+    keeps_iterate_operand o s h = keeps_if (o.is_spread && not (is_builtin_collection_at c.env o.place.identifier)) _ _ (keeps_intern_and_apply_simple (effect.MutateTransitiveConditionally o.place) s h) (keeps_gives s h)
 
     keeps_capture_operand : (o other : Operand) (s : StepProgress) → Holds s → Keeps (capture_operand c o other s)
-    keeps_capture_operand o other s h = keeps_if (same_place other.place o.place && not o.is_spread) _ _ (keeps_gives s h) (keeps_raise_simple (effect.Capture o.place other.place) s h)
+    keeps_capture_operand o other s h = keeps_if (same_place other.place o.place && not o.is_spread) _ _ (keeps_gives s h) (keeps_intern_and_apply_simple (effect.Capture o.place other.place) s h)
 
     keeps_operand : (call : Call) (all : List Operand) (o : Operand) (s : StepProgress) → Holds s → Keeps (apply_operand c call all o s)
     keeps_operand call all o s h =
         keeps_then _ _ (keeps_mutate_operand call o s h) (λ t i.
         keeps_then _ _ (keeps_iterate_operand o t i) (λ u j.
-        keeps_then _ _ (keeps_raise_simple (effect.MaybeAlias o.place call.site.into) u j) (λ v k. sound_each Holds (capture_operand c o) (keeps_capture_operand o) all v k)))
+        keeps_then _ _ (keeps_intern_and_apply_simple (effect.MaybeAlias o.place call.site.into) u j) (λ v k. sound_each Holds (capture_operand c o) (keeps_capture_operand o) all v k)))
 
     keeps_by_default : (call : Call) (s : StepProgress) → Holds s → Keeps (apply_by_default c call s)
     keeps_by_default call s h =
-        keeps_then _ _ (keeps_raise_simple (effect.Create call.site.into Mutable Other) s h) (λ t i. sound_each Holds (apply_operand c call (operands call)) (keeps_operand call (operands call)) (operands call) t i)
+        keeps_then _ _ (keeps_intern_and_apply_simple (effect.Create call.site.into Mutable Other) s h) (λ t i. sound_each Holds (apply_operand c call (operands call)) (keeps_operand call (operands call)) (operands call) t i)
 
     keeps_by_summary : (call : Call) (list : List AliasingEffect) (s : StepProgress) → Holds s → Keeps (apply_by_summary c call list s)
-    keeps_by_summary call list s h = keeps_then _ _ (keeps_raise_simple (effect.MutateTransitiveConditionally call.function) s h) (λ t i. keeps_raise_all_plain list t i)
+    keeps_by_summary call list s h = keeps_then _ _ (keeps_intern_and_apply_simple (effect.MutateTransitiveConditionally call.function) s h) (λ t i. keeps_intern_and_apply_all_plain list t i)
 
     keeps_inner_call_by : (o : Collected) (call : Call) (s : StepProgress) → Holds s → Keeps (apply_inner_call_by c o call s)
     keeps_inner_call_by (Some list) call s h = keeps_by_summary call list s h
@@ -248,14 +248,14 @@ module _ (P : List AliasingEffect → Type 0) (more : (e : AliasingEffect) → i
 
     pub keeps_inner_effect : (e : AliasingEffect) (s : StepProgress) → Holds s → Keeps (apply_inner_effect c e s)
     keeps_inner_effect (effect.Apply receiver function mutates args into signature span) s h = keeps_inner_call (call_of receiver function mutates args into span) s h
-    keeps_inner_effect e s h = keeps_raise_plain e s h
+    keeps_inner_effect e s h = keeps_intern_and_apply_plain e s h
 
     pub keeps_inner_effects : (es : List AliasingEffect) (s : StepProgress) → Holds s → Keeps (apply_inner_effects c es s)
     keeps_inner_effects = sound_each Holds (apply_inner_effect c) keeps_inner_effect
 
     keeps_by_legacy : (signature : FunctionSignature) (call : Call) (s : StepProgress) → Holds s → Keeps (apply_by_legacy c signature call s)
     keeps_by_legacy signature call s h =
-        sound_after Holds (legacy_list c.env signature call.site call.args s.state) (λ l. raise_all_plain c l.effects (with_missing l.missing s)) (λ l. keeps_raise_all_plain l.effects (with_missing l.missing s) h)
+        sound_after Holds (legacy_list c.env signature call.site call.args s.state) (λ l. intern_and_apply_all_plain c l.effects (with_missing l.missing s)) (λ l. keeps_intern_and_apply_all_plain l.effects (with_missing l.missing s) h)
 
     keeps_by_config : (o : Collected) (signature : FunctionSignature) (call : Call) (s : StepProgress) → Holds s → Keeps (apply_by_config c o signature call s)
     keeps_by_config (Some list) signature call s h = keeps_inner_effects list s h
@@ -280,7 +280,7 @@ module _ (P : List AliasingEffect → Type 0) (more : (e : AliasingEffect) → i
 
     pub keeps_effect : (e : AliasingEffect) (s : StepProgress) → Holds s → Keeps (apply_effect c e s)
     keeps_effect (effect.Apply receiver function mutates args into signature span) s h = keeps_call signature (call_of receiver function mutates args into span) s h
-    keeps_effect e s h = keeps_raise_plain e s h
+    keeps_effect e s h = keeps_intern_and_apply_plain e s h
 
     pub keeps_effects : (es : List AliasingEffect) (s : StepProgress) → Holds s → Keeps (apply_effects c es s)
     keeps_effects = sound_each Holds (apply_effect c) keeps_effect

@@ -47,7 +47,7 @@ use Rattle.alias_tables.specs.GrowingLaws.{Grows, Extends}
 use Rattle.alias_tables.specs.Steps.{gives}
 use Rattle.alias_tables.specs.Tables.{TableLists, intern_report}
 use Rattle.alias_tables.specs.declared.faults.Refusal.TheVariants.{IncompatibleLibrary}
-use Rattle.alias_apply.specs.Apply.{raise_simple, raise_all_plain}
+use Rattle.alias_apply.specs.Apply.{intern_and_apply_simple, intern_and_apply_all_plain}
 use Rattle.alias_apply.specs.Contexts.{StepContext, summary_in}
 use Rattle.alias_apply.specs.Progress.{record_of}
 use Rattle.alias_apply.specs.Reports.{incompatible_report, write_report}
@@ -213,7 +213,7 @@ module _ (c : StepContext) where
       step_then c.env (iterate_operand c o s1) _ t1 (iterated_operand o s1 t1 k1 p1 g1) (λ s2 t2 x2 k2 g2.
       let p2 = place_grows c.env t1 t2 x2 o.place p1 in
       let i2 = place_grows c.env t1 t2 x2 call.site.into (place_grows c.env t t1 x1 call.site.into h.into) in
-      step_then c.env (raise_simple c (effect.MaybeAlias o.place call.site.into) s2) (capture_operand_in_each c o all) t2
+      step_then c.env (intern_and_apply_simple c (effect.MaybeAlias o.place call.site.into) s2) (capture_operand_in_each c o all) t2
       (raised_simple c (effect.MaybeAlias o.place call.site.into) s2 t2 k2 (of_pair c.env t2 o.place call.site.into p2 i2) g2) (λ s3 t3 x3 k3 g3.
       captured_in_each o all s3 t3 k3 (place_grows c.env t2 t3 x3 o.place p2) (operands_grow c.env t2 t3 x3 all (operands_grow c.env t1 t2 x2 all (operands_grow c.env t t1 x1 all a))) g3)))
 
@@ -226,14 +226,14 @@ module _ (c : StepContext) where
 
   by_default : (call : Call) (s : StepProgress) (t : TableLists) → TablesWithin c.env t → CallWithin c.env t call → Progress t s → StepWithin c.env (apply_by_default c call s) t
   by_default call s t k h g =
-      step_then c.env (raise_simple c (effect.Create call.site.into Mutable Other) s) _ t (raised_simple c (effect.Create call.site.into Mutable Other) s t k (of_place c.env t call.site.into h.into) g)
+      step_then c.env (intern_and_apply_simple c (effect.Create call.site.into Mutable Other) s) _ t (raised_simple c (effect.Create call.site.into Mutable Other) s t k (of_place c.env t call.site.into h.into) g)
       (λ w u x l i. let m = call_grows c.env t u x call h in operands_applied call (operands call) (operands call) w u l m (operands_within c.env u call m) (operands_within c.env u call m) i)
 
   -- ---- by a summary
 
   by_summary : (call : Call) (list : List AliasingEffect) (s : StepProgress) (t : TableLists) → TablesWithin c.env t → CallWithin c.env t call → EffectsWithin c.env t list → Progress t s → StepWithin c.env (apply_by_summary c call list s) t
   by_summary call list s t k h o g =
-      step_then c.env (raise_simple c (effect.MutateTransitiveConditionally call.function) s) (raise_all_plain c list) t
+      step_then c.env (intern_and_apply_simple c (effect.MutateTransitiveConditionally call.function) s) (intern_and_apply_all_plain c list) t
       (raised_simple c (effect.MutateTransitiveConditionally call.function) s t k (of_place c.env t call.function h.function) g)
       (λ w u x l i. raised_all_plain c list w u l (effects_grow c.env t u x list o) i)
 
@@ -262,7 +262,7 @@ module _ (c : StepContext) where
 
   by_legacy : (signature : FunctionSignature) (call : Call) (s : StepProgress) (t : TableLists) → TablesWithin c.env t → CallWithin c.env t call → Progress t s → StepWithin c.env (apply_by_legacy c signature call s) t
   by_legacy signature call s t k h g =
-      within_then (LegacyWithin c.env) (ProgressWithin c.env) (legacy_list c.env signature call.site call.args s.state) (λ l. raise_all_plain c l.effects (with_missing l.missing s)) t
+      within_then (LegacyWithin c.env) (ProgressWithin c.env) (legacy_list c.env signature call.site call.args s.state) (λ l. intern_and_apply_all_plain c l.effects (with_missing l.missing s)) t
       (legacy_list_within c.env signature call.site call.args s.state t k (h.receiver, h.into) h.args)
       (λ l u x n i. raised_all_plain c l.effects (with_missing l.missing s) u n i (progress_grows c.env t u x s g))
 

@@ -1,4 +1,4 @@
-use alias_apply::{MadeIdentifiers, StepContext, StepProgress, raise_plain};
+use alias_apply::{MadeIdentifiers, StepContext, StepProgress, intern_and_apply_plain};
 use alias_base::{
     BlockId, BlockMap, DeclarationId, EvaluationOrder, FunctionId, IdentifierId, List, Text, TypeId,
 };
@@ -305,7 +305,7 @@ fn freeze(alloc: Global, env: &Environment, step: &mut StepProgress) {
         value: place(1),
         reason: ValueReason::JsxCaptured,
     };
-    let _ = raise_plain(&context, step, &mut tables, freeze);
+    let _ = intern_and_apply_plain(&context, step, &mut tables, freeze);
 }
 
 /// The state after the function of place 1, which captures place 0, is frozen.

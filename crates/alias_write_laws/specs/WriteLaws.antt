@@ -37,11 +37,11 @@ use Rattle.alias_tables.specs.ReplayLaws.{first_is}
 use Rattle.alias_tables.specs.Steps.{◌>>=◌, gives, each}
 use Rattle.alias_tables.specs.Tables.{TableLists, Step, intern, intern_after, intern_report}
 use Rattle.alias_apply.specs.declared.progress.StepProgress.{StepProgress}
-use Rattle.alias_apply.specs.Apply.{apply_plain, raise_plain, raise_all_plain, raise_simple}
+use Rattle.alias_apply.specs.Apply.{apply_plain, intern_and_apply_plain, intern_and_apply_all_plain, intern_and_apply_simple}
 use Rattle.alias_apply.specs.Contexts.{StepContext, hoisted_access}
 use Rattle.alias_apply.specs.Kinds.{is_frozen}
-use Rattle.alias_apply.specs.Leaves.{apply_leaf, raise_leaf}
-use Rattle.alias_apply.specs.Mutation.{raise_mutate_frozen, raise_mutate_global, report_write, report_hoisted_write, record_mutation, apply_mutate}
+use Rattle.alias_apply.specs.Leaves.{apply_leaf, intern_and_apply_leaf}
+use Rattle.alias_apply.specs.Mutation.{intern_and_apply_mutate_frozen, intern_and_apply_mutate_global, report_write, report_hoisted_write, record_mutation, apply_mutate}
 use Rattle.alias_apply.specs.Progress.{kind_at, looked_with_span}
 use Rattle.alias_apply.specs.ProperLaws.{Sound, sound_gives, sound_then, sound_after, sound_if}
 use Rattle.alias_apply.specs.Reports.{write_report, hoisting_report}
@@ -51,7 +51,7 @@ use Rattle.alias_step.specs.Calls.{call_of, with_missing, apply_by_summary, appl
 use Rattle.alias_step.specs.Instructions.{written_by, check_created, begun, with_result, apply_instruction, intern_told, context_with, apply_signature_with, apply_signature}
 use Rattle.alias_step.specs.Lists.{called_function, list_of_called, signature_of_type, list_of_config}
 use Rattle.alias_step.specs.Operands.{Call}
-use Rattle.alias_step_laws.specs.KeepingLaws.{keeps_raise_plain, keeps_inner_effect, keeps_effect}
+use Rattle.alias_step_laws.specs.KeepingLaws.{keeps_intern_and_apply_plain, keeps_inner_effect, keeps_effect}
 use Rattle.alias_write_laws.specs.Telling.{LeadsTo, All, Tells, tells_nothing, tells_after, tells_before, tells_each}
 use Rattle.alias_write_laws.specs.Writes.{Write, over_each, write_of, plain_writes, list_writes, summary_writes, inner_call_writes_by, inner_call_writes, inner_writes, legacy_writes, config_writes, compatible_writes, signature_writes, call_writes_by, call_writes, effect_writes, writes_of_effects, writes_with, instruction_writes, is_protected, is_forbidden, is_write_error, has_write_error}
 
@@ -135,13 +135,13 @@ errs_leaf x (effect.MutateFrozen p error) s h = any_last (is_write_error x) s.re
 errs_leaf x (effect.MutateGlobal p error) s h = any_last (is_write_error x) s.recorded (effect.MutateGlobal p error) h
 errs_leaf x e s h = cc
 
-errs_raised : (x : IdentifierId) (e : AliasingEffect) (s : StepProgress) → Sound (IsErrorOf x) (intern e) → Sound (Errs x) (raise_leaf e s)
+errs_raised : (x : IdentifierId) (e : AliasingEffect) (s : StepProgress) → Sound (IsErrorOf x) (intern e) → Sound (Errs x) (intern_and_apply_leaf e s)
 errs_raised x e s h = sound_then (IsErrorOf x) (Errs x) (intern e) (λ f. gives (apply_leaf f s)) h (λ f i. sound_gives (Errs x) (apply_leaf f s) (errs_leaf x f s i))
 
-errs_frozen : (r : Report) (v : Place) (s : StepProgress) → Sound (Errs v.identifier) (raise_mutate_frozen r v s)
+errs_frozen : (r : Report) (v : Place) (s : StepProgress) → Sound (Errs v.identifier) (intern_and_apply_mutate_frozen r v s)
 errs_frozen r v s = sound_after (Errs v.identifier) (intern_report v.identifier r) _ (λ d. errs_raised v.identifier (effect.MutateFrozen v d) s (sound_frozen v d))
 
-errs_global : (r : Report) (v : Place) (s : StepProgress) → Sound (Errs v.identifier) (raise_mutate_global r v s)
+errs_global : (r : Report) (v : Place) (s : StepProgress) → Sound (Errs v.identifier) (intern_and_apply_mutate_global r v s)
 errs_global r v s = sound_after (Errs v.identifier) (intern_report v.identifier r) _ (λ d. errs_raised v.identifier (effect.MutateGlobal v d) s (sound_global v d))
 
 absurd_and : {X : Type 0} (b : Bool) → (b && false) ≡ true → X
@@ -202,16 +202,16 @@ module _ (c : StepContext) where
   tells_plain (effect.MutateTransitive v) s t u y h = ((λ f. errs_mutate (effect.MutateTransitive v) v s f t u y h), tt)
   tells_plain e s t u y h = tt
 
-  tells_raise_plain : (e : AliasingEffect) (s : StepProgress) → TellsWrites (raise_plain c e s) (plain_writes e s)
-  tells_raise_plain e s = tells_after Reported (intern e) (λ first. apply_plain c first s) (λ first t. write_of (written_by first) s.state) (λ first. tells_plain first s)
+  tells_intern_and_apply_plain : (e : AliasingEffect) (s : StepProgress) → TellsWrites (intern_and_apply_plain c e s) (plain_writes e s)
+  tells_intern_and_apply_plain e s = tells_after Reported (intern e) (λ first. apply_plain c first s) (λ first t. write_of (written_by first) s.state) (λ first. tells_plain first s)
 
-  tells_list : (es : List AliasingEffect) (s : StepProgress) → TellsWrites (raise_all_plain c es s) (list_writes c es s)
-  tells_list = tells_each Reported (raise_plain c) plain_writes tells_raise_plain (λ ws. keeps_raise_plain (AllTold ws) (λ e other es. all_told_more e ws es) c)
+  tells_list : (es : List AliasingEffect) (s : StepProgress) → TellsWrites (intern_and_apply_all_plain c es s) (list_writes c es s)
+  tells_list = tells_each Reported (intern_and_apply_plain c) plain_writes tells_intern_and_apply_plain (λ ws. keeps_intern_and_apply_plain (AllTold ws) (λ e other es. all_told_more e ws es) c)
 
   -- ---- calls
 
   tells_by_summary : (call : Call) (list : List AliasingEffect) (s : StepProgress) → TellsWrites (apply_by_summary c call list s) (summary_writes c call list s)
-  tells_by_summary call list s = tells_after Reported (raise_simple c (effect.MutateTransitiveConditionally call.function) s) (raise_all_plain c list) (list_writes c list) (tells_list list)
+  tells_by_summary call list s = tells_after Reported (intern_and_apply_simple c (effect.MutateTransitiveConditionally call.function) s) (intern_and_apply_all_plain c list) (list_writes c list) (tells_list list)
 
   tells_inner_call_by : (o : Collected) (call : Call) (s : StepProgress) → TellsWrites (apply_inner_call_by c o call s) (inner_call_writes_by c o call s)
   tells_inner_call_by (Some list) call s = tells_by_summary call list s
@@ -223,14 +223,14 @@ module _ (c : StepContext) where
 
   tells_inner_effect : (e : AliasingEffect) (s : StepProgress) → TellsWrites (apply_inner_effect c e s) (inner_writes c e s)
   tells_inner_effect (effect.Apply receiver function mutates args into signature span) s = tells_inner_call (call_of receiver function mutates args into span) s
-  tells_inner_effect e s = tells_raise_plain e s
+  tells_inner_effect e s = tells_intern_and_apply_plain e s
 
   tells_inner_effects : (es : List AliasingEffect) (s : StepProgress) → TellsWrites (each (apply_inner_effect c) es s) (over_each (apply_inner_effect c) (inner_writes c) es s)
   tells_inner_effects = tells_each Reported (apply_inner_effect c) (inner_writes c) tells_inner_effect (λ ws. keeps_inner_effect (AllTold ws) (λ e other es. all_told_more e ws es) c)
 
   tells_by_legacy : (signature : FunctionSignature) (call : Call) (s : StepProgress) → TellsWrites (apply_by_legacy c signature call s) (legacy_writes c signature call s)
   tells_by_legacy signature call s =
-      tells_after Reported (legacy_list c.env signature call.site call.args s.state) (λ legacy. raise_all_plain c legacy.effects (with_missing legacy.missing s)) (λ legacy. list_writes c legacy.effects (with_missing legacy.missing s)) (λ legacy. tells_list legacy.effects (with_missing legacy.missing s))
+      tells_after Reported (legacy_list c.env signature call.site call.args s.state) (λ legacy. intern_and_apply_all_plain c legacy.effects (with_missing legacy.missing s)) (λ legacy. list_writes c legacy.effects (with_missing legacy.missing s)) (λ legacy. tells_list legacy.effects (with_missing legacy.missing s))
 
   tells_by_config : (o : Collected) (signature : FunctionSignature) (call : Call) (s : StepProgress) → TellsWrites (apply_by_config c o signature call s) (config_writes c o signature call s)
   tells_by_config (Some list) signature call s = tells_inner_effects list s
@@ -255,7 +255,7 @@ module _ (c : StepContext) where
 
   tells_effect : (e : AliasingEffect) (s : StepProgress) → TellsWrites (apply_effect c e s) (effect_writes c e s)
   tells_effect (effect.Apply receiver function mutates args into signature span) s = tells_call signature (call_of receiver function mutates args into span) s
-  tells_effect e s = tells_raise_plain e s
+  tells_effect e s = tells_intern_and_apply_plain e s
 
   tells_effects : (es : List AliasingEffect) (s : StepProgress) → TellsWrites (apply_effects c es s) (over_each (apply_effect c) (effect_writes c) es s)
   tells_effects = tells_each Reported (apply_effect c) (effect_writes c) tells_effect (λ ws. keeps_effect (AllTold ws) (λ e other es. all_told_more e ws es) c)

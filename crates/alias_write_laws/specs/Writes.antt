@@ -24,7 +24,7 @@ use Rattle.alias_signature.specs.Signatures.{signature_of}
 use Rattle.alias_lattice.specs.States.{State, look}
 use Rattle.alias_tables.specs.Tables.{TableLists, intern}
 use Rattle.alias_apply.specs.declared.progress.StepProgress.{StepProgress}
-use Rattle.alias_apply.specs.Apply.{raise_simple, raise_plain}
+use Rattle.alias_apply.specs.Apply.{intern_and_apply_simple, intern_and_apply_plain}
 use Rattle.alias_apply.specs.Contexts.{StepContext}
 use Rattle.alias_calls.specs.Copies.{Collected}
 use Rattle.alias_calls.specs.Legacy.{legacy_list}
@@ -71,10 +71,10 @@ plain_writes e s = after (intern e) (λ first t. write_of (written_by first) s.s
 module _ (c : StepContext) where
   -- of a list that holds no call
   abbrev pub list_writes : List AliasingEffect → StepProgress → TableLists → List Write
-  list_writes = over_each (raise_plain c) plain_writes
+  list_writes = over_each (intern_and_apply_plain c) plain_writes
 
   abbrev pub summary_writes : Call → List AliasingEffect → StepProgress → TableLists → List Write
-  summary_writes call list s = after (raise_simple c (effect.MutateTransitiveConditionally call.function) s) (list_writes list)
+  summary_writes call list s = after (intern_and_apply_simple c (effect.MutateTransitiveConditionally call.function) s) (list_writes list)
 
   -- ---- a call in the list of an aliasing part; by default nothing is written for certain
 

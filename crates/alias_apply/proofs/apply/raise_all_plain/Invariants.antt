@@ -1,8 +1,0 @@
-use Rattle.std.proofs.Common.{◌≡◌}
-use Rattle.alias_apply.specs.Apply.{raise_all_plain}
-use Rattle.alias_apply.specs.Contexts.{held}
-use Rattle.alias_apply.proofs.apply.raise_all_plain.Given as goal
-
--- the effects that are left go where all of them do
-abbrev pub invariant-loop-effect : goal.invariant-loop-effect
-invariant-loop-effect l = raise_all_plain (held l.context) l.effect-iterator.rest.items l.step l.tables ≡ raise_all_plain (held l.context) l.fn.effects l.initial.step l.initial.tables
