@@ -9,7 +9,7 @@ ghost use Rattle.alias_tables.specs.Steps.{gives};
 use crate::context::{StepContext, hoisted_access};
 use crate::kinds::is_frozen;
 use crate::leaves::intern_and_apply_leaf;
-use crate::progress::{StepProgress, note_missing, record};
+use crate::progress::{StepProgress, note_missing, record, value_at};
 use crate::reports::{hoisting_report, write_report};
 use alias_freezing::go_into_place;
 use alias_hir::effect::{AliasingEffect, ValueReason};
@@ -112,18 +112,12 @@ fn record_result(
         }
         MutationResult::None | MutationResult::MutateRef => Ok(()),
         MutationResult::MutateFrozen => {
-            let there = step
-                .state
-                .kind_with_span(place.identifier, place.span)
-                .value;
+            let there = value_at(step, &place);
             let hoisted = hoisted_access(context, place.identifier);
             report_hoisted_write(context, step, tables, hoisted, there, place)
         }
         MutationResult::MutateGlobal => {
-            let there = step
-                .state
-                .kind_with_span(place.identifier, place.span)
-                .value;
+            let there = value_at(step, &place);
             report_write(context, step, tables, there, place)
         }
     }

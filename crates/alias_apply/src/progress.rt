@@ -49,6 +49,15 @@ pub fn make(
     Ok(())
 }
 
+/// The value of the place. A look at one without a value isn't noted.
+pub fn value_at(step: &StepProgress, place: &Place) -> AbstractValue
+    ensures { result ≡ look_of step.now.state place.now.identifier }
+{
+    step.state
+        .kind_with_span(place.identifier, place.span)
+        .value
+}
+
 /// Notes a look at an identifier without a value, if it is the first.
 pub fn note_missing(step: &mut StepProgress, missing: Option<MissingLook>)
     ensures { step.new ≡ noted missing step.old }
