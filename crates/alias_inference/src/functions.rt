@@ -9,6 +9,7 @@ ghost use Rattle.alias_rules.specs.Nesting.{times};
 ghost use Rattle.alias_nested.specs.Analysis.{analysis, most_levels, analysed, is_free, IsPassFault};
 ghost use Rattle.alias_nested.specs.Answers.{Only, AnalysedWith, Analyses, AnalysesInto};
 ghost use Rattle.alias_nested.specs.Order.{below_innermost_first, numbers, functions_of, KeepsToOrder};
+ghost use Rattle.alias_nested.specs.Refusals.{AnalysisRefused, Leaves};
 ghost use Rattle.alias_pruning_laws.specs.Pruning.{SlotsKept};
 ghost use Rattle.alias_unit_completeness.specs.Refusals.{BlamesRightly, IsCaused};
 ghost use Rattle.alias_inference.specs.Inferences.{unit_with};
@@ -39,6 +40,7 @@ pub fn analyse_functions_certified<P: InnerPasses, F: FnMut(&HirFunction, &Envir
     requires logger { (log : F) (f : _) (e : _) → F.pre log f e }
     ensures answer { Analyses (AnalysedWith P.keeps_all most_levels func.old (analysis env.old [])) result env.new }
     ensures exact { P.keeps_all ≡ true → Analyses (Only (analysed most_levels func.old (analysis env.old []))) result env.new }
+    ensures left { Leaves (AnalysisRefused P.keeps_all most_levels func.old (analysis env.old [])) result env.new }
     ensures functions { IfOk result (λ solved. functions_of solved ≡ map Some (below_innermost_first most_levels func.old env.old)) }
     ensures func { func.new ≡ func.old }
     ensures fits { function_fits func.new env.new ≡ true }
@@ -68,6 +70,7 @@ pub fn analyse_functions<P: InnerPasses, F: FnMut(&HirFunction, &Environment)>(
     requires logger { (log : F) (f : _) (e : _) → F.pre log f e }
     ensures answer { AnalysesInto (AnalysedWith P.keeps_all most_levels func.old (analysis env.old [])) result env.new }
     ensures exact { P.keeps_all ≡ true → AnalysesInto (Only (analysed most_levels func.old (analysis env.old []))) result env.new }
+    ensures left { Leaves (AnalysisRefused P.keeps_all most_levels func.old (analysis env.old [])) result env.new }
     ensures func { func.new ≡ func.old }
     ensures fits { function_fits func.new env.new ≡ true }
     ensures slots { SlotsKept env.old env.new }

@@ -4,7 +4,6 @@ use Rattle.std.specs.List.{AllByRecursion}
 use Rattle.alias_base.specs.Answer.{◌>>=◌}
 use Rattle.alias_base.specs.declared.ids.FunctionId.{FunctionId}
 use Rattle.alias_hir.specs.Errors.{is_memory}
-use Rattle.alias_hir.specs.declared.effect.AliasingEffect.{AliasingEffect}
 use Rattle.alias_hir.specs.declared.env.Environment.{Environment}
 use Rattle.alias_hir.specs.declared.error.InferError.{InferError}
 use Rattle.alias_hir.specs.declared.error.InferError.TheVariants.{NotSettled, Uninitialized, Reinitialized, AliasBeforeCreate, IncompatibleLibrary, SpreadArgument, PassFault, Memory}
@@ -13,7 +12,7 @@ use Rattle.alias_effects.specs.declared.solved.Solved.{Solved}
 use Rattle.alias_effects.specs.Inference.{pass_end, env_after}
 use Rattle.alias_effects.specs.Recording.{with_effects_of}
 use Rattle.alias_effects.specs.Solutions.{IsSolved}
-use Rattle.alias_range_pass.specs.Passes.{Ranged, range_pass}
+use Rattle.alias_range_pass.specs.Passes.{range_pass}
 use Rattle.alias_nested.specs.Created.{created_functions}
 use Rattle.alias_nested.specs.Settling.{settled}
 use Rattle.alias_nesting_laws.specs.Slots.{with_function}
@@ -133,11 +132,6 @@ Leads stated (Err e) env solved = is_free e ≡ false → stated ≡ Err e
 abbrev pub LeadsWith : Result (HirFunction × Analysis) InferError → Result ⊤ InferError → HirFunction → Environment → List Solved → Type 0
 LeadsWith stated (Ok u) func env solved = (fs : List Analysed) × (stated ≡ Ok (func, analysis env fs)) × Accounts fs solved
 LeadsWith stated (Err e) func env solved = is_memory e ≡ false → stated ≡ Err e
-
--- the range pass answers the summary stated, and leaves what is stated, or answers the refusal stated
-abbrev pub Ranges : Result Ranged InferError → Result (List AliasingEffect) InferError → HirFunction → Environment → Type 0
-Ranges stated (Ok summary) func env = stated ≡ Ok (record { summary = summary; after = (func, env) })
-Ranges stated (Err e) func env = is_memory e ≡ false → stated ≡ Err e
 
 -- a pass of the caller failed
 abbrev pub IsFault : InferError → Type 0

@@ -104,18 +104,3 @@ AnalysesExactly stated (Err e) env = is_free e ≡ false → stated ≡ Err e
 abbrev pub AnalysesExactlyInto : Result Analysis InferError → Result ⊤ InferError → Environment → Type 0
 AnalysesExactlyInto stated (Ok u) env = (fs : List Analysed) × (stated ≡ Ok (analysis env fs))
 AnalysesExactlyInto stated (Err e) env = is_free e ≡ false → stated ≡ Err e
-
--- the same of a call within the analysis, which notes solutions behind those that were noted
-abbrev pub LeadsToOne : Answers Analysis → Result ⊤ InferError → Environment → List Solved → Type 0
-LeadsToOne answers (Ok u) env solved = (fs : List Analysed) × answers (Ok (analysis env fs)) × Accounts fs solved
-LeadsToOne answers (Err e) env solved = is_memory e ≡ false → answers (Err e)
-
--- the same of a call that has a function out of its slot
-abbrev pub LeadsToOneWith : Answers (HirFunction × Analysis) → Result ⊤ InferError → HirFunction → Environment → List Solved → Type 0
-LeadsToOneWith answers (Ok u) func env solved = (fs : List Analysed) × answers (Ok (func, analysis env fs)) × Accounts fs solved
-LeadsToOneWith answers (Err e) func env solved = is_memory e ≡ false → answers (Err e)
-
--- what follows the effects pass leaves one of the functions and environments, or answers one of the refusals
-abbrev pub CompletesOne : Answers (HirFunction × Environment) → Result ⊤ InferError → HirFunction → Environment → Type 0
-CompletesOne answers (Ok u) func env = answers (Ok (func, env))
-CompletesOne answers (Err e) func env = is_memory e ≡ false → answers (Err e)

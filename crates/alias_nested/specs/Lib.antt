@@ -1,5 +1,6 @@
 pub mod Analysis
 pub mod Answers
+pub mod Refusals
 pub mod Created
 pub mod Order
 pub mod Fitting

@@ -5,9 +5,10 @@ ghost use Rattle.alias_function_rules.specs.Rules.{is_among};
 ghost use Rattle.alias_rules.specs.Fitting.{function_fits};
 ghost use Rattle.alias_rules.specs.Nesting.{created_in, times};
 ghost use Rattle.alias_nested.specs.Analysis.{analysis, most_levels, analysed, Accounts, Leads, IsPassFault};
-ghost use Rattle.alias_nested.specs.Answers.{TakenAnalysed, SlotAnalysed, AnalysedWith, Analyses, AnalysesInto, AnalysesExactly, AnalysesExactlyInto, LeadsToOne, LeadsToOneWith};
+ghost use Rattle.alias_nested.specs.Answers.{TakenAnalysed, SlotAnalysed, AnalysedWith, Analyses, AnalysesInto, AnalysesExactly, AnalysesExactlyInto};
 ghost use Rattle.alias_nested.specs.Fitting.{EnvironmentPruned};
 ghost use Rattle.alias_nested.specs.Order.{below_innermost_first, slot_innermost_first, numbers, functions_of, Notes, KeepsToOrder, KeepsToOrderWith};
+ghost use Rattle.alias_nested.specs.Refusals.{TakenRefused, SlotRefused, AnalysisRefused, Leaves, LeadsToOne, LeadsToOneWith};
 ghost use Rattle.alias_nested.specs.Slots.{emptied};
 ghost use Rattle.alias_nesting_laws.specs.Slots.{with_function};
 ghost use Rattle.alias_pruning_laws.specs.Pruning.{FunctionPruned, SlotsKept};
@@ -39,7 +40,7 @@ fn analyse_created<P: InnerPasses, F: FnMut(&HirFunction, &Environment)>(
 ) -> Result<(), InferError>
     requires fits { function_fits func.now env.old ≡ true }
     requires logger { (log : F) (f : _) (e : _) → F.pre log f e }
-    ensures run { (fs : _) → Accounts fs solved.old → LeadsToOne (AnalysedWith P.keeps_all levels func.now (analysis env.old fs)) result env.new solved.new }
+    ensures run { (fs : _) → Accounts fs solved.old → LeadsToOne (AnalysedWith P.keeps_all levels func.now (analysis env.old fs)) (AnalysisRefused P.keeps_all levels func.now (analysis env.old fs)) result env.new solved.new }
     ensures kept { EnvironmentPruned env.old env.new }
     ensures order { KeepsToOrder (below_innermost_first levels func.now env.old) result env.old env.new }
     ensures noted { IfOk result (λ _. Notes (below_innermost_first levels func.now env.old) solved.old solved.new) }
@@ -72,7 +73,7 @@ fn analyse_slot<P: InnerPasses, F: FnMut(&HirFunction, &Environment)>(
     requires other { (f : _) → slice_get env.old.functions id.0 ≡ Some f → is_among (created_in f) id.0 ≡ false }
     requires apart { (f : _) → slice_get env.old.functions id.0 ≡ Some f → is_among (numbers (below_innermost_first levels f env.old)) id.0 ≡ false }
     requires logger { (log : F) (f : _) (e : _) → F.pre log f e }
-    ensures run { (fs : _) → Accounts fs solved.old → LeadsToOne (SlotAnalysed P.keeps_all (AnalysedWith P.keeps_all levels) id (analysis env.old fs)) result env.new solved.new }
+    ensures run { (fs : _) → Accounts fs solved.old → LeadsToOne (SlotAnalysed P.keeps_all (AnalysedWith P.keeps_all levels) id (analysis env.old fs)) (SlotRefused P.keeps_all levels (AnalysisRefused P.keeps_all levels) id (analysis env.old fs)) result env.new solved.new }
     ensures kept { EnvironmentPruned env.old env.new }
     ensures order { KeepsToOrder (slot_innermost_first levels id env.old) result env.old env.new }
     ensures noted { IfOk result (λ _. Notes (slot_innermost_first levels id env.old) solved.old solved.new) }
@@ -108,7 +109,7 @@ fn analyse_taken<P: InnerPasses, F: FnMut(&HirFunction, &Environment)>(
 ) -> Result<(), InferError>
     requires fits { function_fits func.old env.old ≡ true }
     requires logger { (log : F) (f : _) (e : _) → F.pre log f e }
-    ensures run { (fs : _) → Accounts fs solved.old → LeadsToOneWith (TakenAnalysed P.keeps_all (AnalysedWith P.keeps_all levels) id func.old (analysis env.old fs)) result func.new env.new solved.new }
+    ensures run { (fs : _) → Accounts fs solved.old → LeadsToOneWith (TakenAnalysed P.keeps_all (AnalysedWith P.keeps_all levels) id func.old (analysis env.old fs)) (TakenRefused P.keeps_all levels (AnalysisRefused P.keeps_all levels) id func.old (analysis env.old fs)) result func.new env.new solved.new }
     ensures kept { FunctionPruned func.old env.old func.new env.new }
     ensures order { KeepsToOrderWith (below_innermost_first levels func.old env.old) id result func.old func.new env.old env.new }
     ensures noted { IfOk result (λ _. Notes (below_innermost_first levels func.old env.old ++ id ∷ []) solved.old solved.new) }
@@ -157,10 +158,12 @@ pub(crate) fn analyse_kept<P: InnerPasses>(
 /// On every answer the function handed in stays as it was, each function stands in its slot again, with its parameters, its
 /// context and its returns, `check_function` still holds, and no function changes that isn't below the one handed in, but for
 /// the effects of its context places. A refusal names its function, unless it is `TooMany`, `UnreplacedApply` or `Memory`: it is
-/// that of the first in the order whose effects or ranges are refused, as `infer_effects_certified` and the range pass tell. The
-/// functions behind it in the order are unchanged, but for the effects of their context places. `PassFault` names its function
-/// and the pass that failed on it, where all that comes before went well, and comes only where the count of the passes' faults
-/// rose, or stands at its last value; `Memory` is want of memory, which can come at any time.
+/// that of the first in the order whose effects or ranges are refused, as `infer_effects_certified` and the range pass tell. It
+/// leaves the environment in which that pass was refused, with its function and those around it back in their slots: what was
+/// found of the functions before it in the order stays. Those behind it are unchanged, but for the effects of their context
+/// places. `PassFault` names its function and the pass that failed on it, where all that comes before went well, and comes only
+/// where the count of the passes' faults rose, or stands at its last value: beside the same environment, what that pass may
+/// change stays. `Memory` is want of memory, which can come at any time.
 pub fn analyse_functions_certified<P: InnerPasses, F: FnMut(&HirFunction, &Environment)>(
     alloc: Global,
     func: &mut HirFunction,
@@ -172,6 +175,7 @@ pub fn analyse_functions_certified<P: InnerPasses, F: FnMut(&HirFunction, &Envir
     requires logger { (log : F) (f : _) (e : _) → F.pre log f e }
     ensures answer { Analyses (AnalysedWith P.keeps_all most_levels func.old (analysis env.old [])) result env.new }
     ensures exact { P.keeps_all ≡ true → AnalysesExactly (analysed most_levels func.old (analysis env.old [])) result env.new }
+    ensures left { Leaves (AnalysisRefused P.keeps_all most_levels func.old (analysis env.old [])) result env.new }
     ensures functions { IfOk result (λ solved. functions_of solved ≡ map Some (below_innermost_first most_levels func.old env.old)) }
     ensures func { func.new ≡ func.old }
     ensures fits { function_fits func.new env.new ≡ true }
@@ -208,6 +212,7 @@ pub fn analyse_functions<P: InnerPasses, F: FnMut(&HirFunction, &Environment)>(
     requires logger { (log : F) (f : _) (e : _) → F.pre log f e }
     ensures answer { AnalysesInto (AnalysedWith P.keeps_all most_levels func.old (analysis env.old [])) result env.new }
     ensures exact { P.keeps_all ≡ true → AnalysesExactlyInto (analysed most_levels func.old (analysis env.old [])) result env.new }
+    ensures left { Leaves (AnalysisRefused P.keeps_all most_levels func.old (analysis env.old [])) result env.new }
     ensures func { func.new ≡ func.old }
     ensures fits { function_fits func.new env.new ≡ true }
     ensures slots { SlotsKept env.old env.new }

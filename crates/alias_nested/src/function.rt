@@ -4,11 +4,12 @@ ghost use Rattle.alias_failures.specs.Failures.{HasFailed};
 ghost use Rattle.alias_hir.specs.Errors.{is_memory};
 ghost use Rattle.alias_hir.specs.declared.error.InferError.TheVariants.{PassFault};
 ghost use Rattle.alias_rules.specs.Fitting.{function_fits};
-ghost use Rattle.alias_range_pass.specs.Passes.{range_pass};
-ghost use Rattle.alias_nested.specs.Analysis.{naming, analysis, effects_analysed, Accounts, LeadsWith, Ranges, IsPassFault};
-ghost use Rattle.alias_nested.specs.Answers.{IsPassed, Completed, FunctionAnalysed, CompletesOne, LeadsToOneWith};
+ghost use Rattle.alias_range_pass.specs.Passes.{range_pass, PassGives};
+ghost use Rattle.alias_nested.specs.Analysis.{naming, analysis, effects_analysed, Accounts, LeadsWith, IsPassFault};
+ghost use Rattle.alias_nested.specs.Answers.{IsPassed, Completed, FunctionAnalysed};
 ghost use Rattle.alias_nested.specs.Fitting.{FunctionKept, SummaryFits};
 ghost use Rattle.alias_nested.specs.Order.{SameInSlots, Names, Notes};
+ghost use Rattle.alias_nested.specs.Refusals.{CompletionRefused, FunctionRefused, CompletesOne, LeadsToOneWith};
 ghost use Rattle.alias_nested.specs.Settling.{settled};
 ghost use Rattle.alias_pruning_laws.specs.Pruning.{FunctionPruned};
 
@@ -34,6 +35,7 @@ fn infer_effects(
 ) -> Result<(), InferError>
     requires { function_fits func.old env.old ≡ true }
     ensures run { (fs : _) → Accounts fs solved.old → LeadsWith (effects_analysed id func.old (analysis env.old fs)) result func.new env.new solved.new }
+    ensures unchanged { IfErr result (λ e. is_memory e ≡ false → (func.new ≡ func.old) × (env.new ≡ env.old)) }
     ensures noted { IfOk result (λ _. Notes (id ∷ []) solved.old solved.new) }
     ensures kept { FunctionKept func.old env.old func.new env.new }
     ensures slots { SameInSlots env.old env.new }
@@ -60,7 +62,7 @@ fn infer_ranges(
     env: &mut Environment,
 ) -> Result<AliasingEffects, InferError>
     requires { function_fits func.old env.old ≡ true }
-    ensures run { Ranges (naming id (range_pass true func.old env.old)) result func.new env.new }
+    ensures run { PassGives (naming id (range_pass true func.old env.old)) func.old env.old result func.new env.new }
     ensures kept { FunctionKept func.old env.old func.new env.new }
     ensures summary { IfOk result (λ s. SummaryFits env.new s) }
     ensures slots { SameInSlots env.old env.new }
@@ -145,7 +147,7 @@ fn complete<P: InnerPasses, F: FnMut(&HirFunction, &Environment)>(
 ) -> Result<(), InferError>
     requires fits { function_fits func.old env.old ≡ true }
     requires logger { (log : F) (f : _) (e : _) → F.pre log f e }
-    ensures run { CompletesOne (Completed P.keeps_all id (func.old, env.old)) result func.new env.new }
+    ensures run { CompletesOne (Completed P.keeps_all id (func.old, env.old)) (CompletionRefused P.keeps_all id (func.old, env.old)) result func.new env.new }
     ensures kept { FunctionPruned func.old env.old func.new env.new }
     ensures slots { SameInSlots env.old env.new }
     ensures names { Names id result }
@@ -186,7 +188,7 @@ pub(crate) fn infer_function<P: InnerPasses, F: FnMut(&HirFunction, &Environment
 ) -> Result<(), InferError>
     requires fits { function_fits func.old env.old ≡ true }
     requires logger { (log : F) (f : _) (e : _) → F.pre log f e }
-    ensures run { (fs : _) → Accounts fs solved.old → LeadsToOneWith (FunctionAnalysed P.keeps_all id func.old (analysis env.old fs)) result func.new env.new solved.new }
+    ensures run { (fs : _) → Accounts fs solved.old → LeadsToOneWith (FunctionAnalysed P.keeps_all id func.old (analysis env.old fs)) (FunctionRefused P.keeps_all id func.old (analysis env.old fs)) result func.new env.new solved.new }
     ensures noted { IfOk result (λ _. Notes (id ∷ []) solved.old solved.new) }
     ensures kept { FunctionPruned func.old env.old func.new env.new }
     ensures slots { SameInSlots env.old env.new }

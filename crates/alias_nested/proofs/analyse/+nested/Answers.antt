@@ -7,12 +7,13 @@ use Rattle.alias_nested.specs.Analysis.{analysis}
 use Rattle.alias_nested.specs.Answers.{TakenAnalysed, SlotAnalysed, AnalysedWith, Each}
 use Rattle.alias_nested.specs.Created.{created_functions}
 use Rattle.alias_nested.specs.Order.{below_innermost_first}
+use Rattle.alias_nested.specs.Refusals.{TakenRefused, OneOfRefused, SlotRefused, AnalysisRefused}
 use Rattle.alias_nested.specs.Slots.{emptied}
 use Rattle.alias_nested.proofs.Answering.{leads_with_error, taken_refused, taken_leads, slot_leads}
 use Rattle.alias_nested.proofs.Changing.{each_innermost_first, over_nothing, over_more, over_all, nothing_below, nameless_below, next_apart, refused_in, once_each, in_order, refused_below, keeps_itself, slot_keeps, slot_notes, notes_both, notes_all, notes_none, where_ok}
 use Rattle.alias_nested.proofs.Creating.{created_is_among}
 use Rattle.alias_nested.proofs.Keeping.{pruned_self, pruned_through, pruned_fits, pruned_beside, environment_back, not_itself}
-use Rattle.alias_nested.proofs.Leading.{item_at, stops_here, all_done, continues_all, continues_on, analysed_none, analysed_more, leads_error}
+use Rattle.alias_nested.proofs.Leading.{item_at, stops_here, all_done, continues_all, continues_on, analysed_none, analysed_more, refused_more, leads_error}
 use Rattle.alias_nesting_laws.specs.NestingLaws.{taken_out_fits}
 use Rattle.alias_nesting_laws.specs.SlotLaws.{created_exists}
 use Rattle.alias_pruning_laws.specs.PruningLaws.{function_through}
@@ -42,7 +43,7 @@ pub analyse_created-loop-id-init : goal.analyse_created-loop-id-init
 analyse_created-loop-id-init g t c =
     let k = g.P.InnerPasses.keeps_all in
     record {
-      run = λ fs a. continues_all (SlotAnalysed k (AnalysedWith k (c.args.levels - 1))) c.as_slice-id-items.result.now c.args.env.now fs c.args.solved.now a;
+      run = λ fs a. continues_all (SlotRefused k (c.args.levels - 1) (AnalysisRefused k (c.args.levels - 1))) (SlotAnalysed k (AnalysedWith k (c.args.levels - 1))) c.as_slice-id-items.result.now c.args.env.now fs c.args.solved.now a;
       kept = pruned_self c.args.func.now c.args.env.now c.requires.fits;
       order = over_nothing (each_innermost_first (c.args.levels - 1) c.args.env.now c.as_slice-id-items.result.now) c.args.env.now c.args.solved.now;
       faults = omega arith;
@@ -60,7 +61,7 @@ analyse_created-loop-id-preserved g t c =
     let now = c.analyse_slot.ensures.faults in
     record {
       run = λ fs a.
-          continues_on (SlotAnalysed k (AnalysedWith k (c.args.levels - 1))) items c.loop-id.id-index id (analysis c.args.env.now fs) c.loop-id.env c.analyse_slot.new.env c.loop-id.solved c.analyse_slot.new.solved
+          continues_on (SlotRefused k (c.args.levels - 1) (AnalysisRefused k (c.args.levels - 1))) (SlotAnalysed k (AnalysedWith k (c.args.levels - 1))) items c.loop-id.id-index id (analysis c.args.env.now fs) c.loop-id.env c.analyse_slot.new.env c.loop-id.solved c.analyse_slot.new.solved
           at (c.loop-id.invariant.run fs a) c.in_ok-analyse_slot.ensures.run;
       kept = pruned_through c.args.env.now c.loop-id.env c.analyse_slot.new.env c.loop-id.invariant.kept c.analyse_slot.ensures.kept;
       order =
@@ -98,13 +99,15 @@ analyse_created-returns-in_err-analyse_slot-clause-run g t c =
     let all : items ≡ created_functions f = c.as_slice-id-items.ensures ∙ c.in_ok-created.ensures in
     let id : FunctionId = slice_index_or items c.loop-id.id-index (record { 0 = 0 }) in
     let step = SlotAnalysed k (AnalysedWith k (c.args.levels - 1)) in
+    let stops = SlotRefused k (c.args.levels - 1) (AnalysisRefused k (c.args.levels - 1)) in
+    let last = c.analyse_slot.new.env in
     λ fs a.
     let so_far = c.loop-id.invariant.run fs a in
-    leads_error (AnalysedWith k c.args.levels f (analysis c.args.env.now fs)) c.from_residual-in_err-analyse_slot.result e c.analyse_slot.new.env c.analyse_slot.new.solved same
-    (λ free. analysed_more k c.args.levels (c.args.levels - 1) f (analysis c.args.env.now fs) (Err e) more
-    (subst (λ xs. Each step xs (analysis c.args.env.now fs) (Err e)) all
-    (so_far.1.rest (Err e)
-    (stops_here step items c.loop-id.id-index id (item_at items c.loop-id.id-index (record { 0 = 0 }) c.loop-id-test.true) (analysis c.loop-id.env so_far.0) e (c.in_err-analyse_slot.ensures.run so_far.0 so_far.1.accounts free)))))
+    leads_error (AnalysedWith k c.args.levels f (analysis c.args.env.now fs)) (AnalysisRefused k c.args.levels f (analysis c.args.env.now fs)) c.from_residual-in_err-analyse_slot.result e last c.analyse_slot.new.solved same
+    (λ free. refused_more k c.args.levels (c.args.levels - 1) f (analysis c.args.env.now fs) e last more
+    (subst (λ xs. OneOfRefused stops step xs (analysis c.args.env.now fs) e last) all
+    (so_far.1.refusals e last
+    (stops_here stops step items c.loop-id.id-index id (item_at items c.loop-id.id-index (record { 0 = 0 }) c.loop-id-test.true) (analysis c.loop-id.env so_far.0) e last (c.in_err-analyse_slot.ensures.run so_far.0 so_far.1.accounts free)))))
 
 pub analyse_created-returns-clause-run : goal.analyse_created-returns-clause-run
 analyse_created-returns-clause-run g t c =
@@ -177,7 +180,7 @@ analyse_slot-returns-clause-run g t c =
     let taken = c.take_out-func in
     let done = c.analyse_taken-answer in
     λ fs a.
-    slot_leads k (AnalysedWith k c.args.levels) c.args.id c.args.env.now taken.new.env fs taken.result taken.ensures.func taken.ensures.env done.new.func done.new.env c.put_back.new.env done.new.solved done.result c.put_back.ensures (done.ensures.run fs a)
+    slot_leads k c.args.levels c.args.id c.args.env.now taken.new.env fs taken.result taken.ensures.func taken.ensures.env done.new.func done.new.env c.put_back.new.env done.new.solved done.result c.put_back.ensures (done.ensures.run fs a)
 
 pub analyse_slot-returns-clause-kept : goal.analyse_slot-returns-clause-kept
 analyse_slot-returns-clause-kept g t c =
@@ -189,7 +192,10 @@ pub analyse_taken-returns-in_err-analyse_created-clause-run : goal.analyse_taken
 analyse_taken-returns-in_err-analyse_created-clause-run g t c =
     let e : InferError = c.in_err-analyse_created.field-0.0 in
     let same : c.from_residual.result ≡ Err e = search rules in
-    λ fs a. leads_with_error (TakenAnalysed g.P.InnerPasses.keeps_all (AnalysedWith g.P.InnerPasses.keeps_all c.args.levels) c.args.id c.args.func.now (analysis c.args.env.now fs)) c.from_residual.result e c.args.func.now c.analyse_created.new.env c.analyse_created.new.solved same (λ free. taken_refused g.P.InnerPasses.keeps_all (AnalysedWith g.P.InnerPasses.keeps_all c.args.levels) c.args.id c.args.func.now (analysis c.args.env.now fs) e (c.in_err-analyse_created.ensures.run fs a free))
+    let k = g.P.InnerPasses.keeps_all in
+    λ fs a.
+    leads_with_error (TakenAnalysed k (AnalysedWith k c.args.levels) c.args.id c.args.func.now (analysis c.args.env.now fs)) (TakenRefused k c.args.levels (AnalysisRefused k c.args.levels) c.args.id c.args.func.now (analysis c.args.env.now fs)) c.from_residual.result e c.args.func.now
+    c.analyse_created.new.env c.analyse_created.new.solved same (λ free. taken_refused k c.args.levels c.args.id c.args.func.now (analysis c.args.env.now fs) c.analyse_created.new.env e (c.in_err-analyse_created.ensures.run fs a free))
 
 pub analyse_taken-returns-in_err-analyse_created-clause-kept : goal.analyse_taken-returns-in_err-analyse_created-clause-kept
 analyse_taken-returns-in_err-analyse_created-clause-kept g t c = pruned_beside c.args.env.now c.analyse_created.new.env c.analyse_created.ensures.kept c.args.func.now c.requires.fits
@@ -218,7 +224,7 @@ analyse_taken-returns-clause-run g t c =
     let k = g.P.InnerPasses.keeps_all in
     λ fs a.
     let l = c.in_ok-analyse_created.ensures.run fs a in
-    taken_leads k (AnalysedWith k c.args.levels) c.args.id c.args.func.now (analysis c.args.env.now fs) c.infer_function.new.func c.analyse_created.new.env c.infer_function.new.env l.0 c.infer_function.new.solved c.infer_function.result l.1 (c.infer_function.ensures.run l.0 l.2)
+    taken_leads k c.args.levels c.args.id c.args.func.now (analysis c.args.env.now fs) c.infer_function.new.func c.analyse_created.new.env c.infer_function.new.env l.0 c.infer_function.new.solved c.infer_function.result l.1 (c.infer_function.ensures.run l.0 l.2)
 
 pub analyse_taken-returns-clause-kept : goal.analyse_taken-returns-clause-kept
 analyse_taken-returns-clause-kept g t c =

@@ -4,7 +4,8 @@ use Rattle.alias_hir.specs.declared.error.InferError.{InferError}
 use Rattle.alias_nested.specs.Analysis.{analysis}
 use Rattle.alias_nested.specs.Answers.{AnalysedWith}
 use Rattle.alias_nested.specs.Order.{below_innermost_first, functions_of}
-use Rattle.alias_nested.proofs.Answering.{analyses_error, analyses_exactly}
+use Rattle.alias_nested.specs.Refusals.{AnalysisRefused}
+use Rattle.alias_nested.proofs.Answering.{analyses_error, analyses_exactly, leaves_error, refusal_answers}
 use Rattle.alias_nested.proofs.Changing.{handed_on, handed_out}
 use Rattle.alias_nested.proofs.InOrder.{once_below}
 use Rattle.alias_nested.proofs.Keeping.{pruned_fits}
@@ -14,7 +15,14 @@ pub returns-in_err-analyse_created-clause-answer : goal.returns-in_err-analyse_c
 returns-in_err-analyse_created-clause-answer g c =
     let e : InferError = c.in_err-analyse_created.field-0.0 in
     let same : c.from_residual.result ≡ Err e = search rules in
-    analyses_error (AnalysedWith g.P.InnerPasses.keeps_all 63 c.args.func.now (analysis c.args.env.now [])) c.from_residual.result e c.analyse_created.new.env same (λ free. c.in_err-analyse_created.ensures.run [] (record { same = sym c.new-solved.ensures; solve = tt }) free)
+    analyses_error (AnalysedWith g.P.InnerPasses.keeps_all 63 c.args.func.now (analysis c.args.env.now [])) c.from_residual.result e c.analyse_created.new.env same
+    (λ free. refusal_answers g.P.InnerPasses.keeps_all 63 c.args.func.now (analysis c.args.env.now []) e c.analyse_created.new.env (c.in_err-analyse_created.ensures.run [] (record { same = sym c.new-solved.ensures; solve = tt }) free))
+
+pub returns-in_err-analyse_created-clause-left : goal.returns-in_err-analyse_created-clause-left
+returns-in_err-analyse_created-clause-left g c =
+    let e : InferError = c.in_err-analyse_created.field-0.0 in
+    let same : c.from_residual.result ≡ Err e = search rules in
+    leaves_error (AnalysisRefused g.P.InnerPasses.keeps_all 63 c.args.func.now (analysis c.args.env.now [])) c.from_residual.result e c.analyse_created.new.env same (λ free. c.in_err-analyse_created.ensures.run [] (record { same = sym c.new-solved.ensures; solve = tt }) free)
 
 pub returns-in_err-analyse_created-clause-exact : goal.returns-in_err-analyse_created-clause-exact
 returns-in_err-analyse_created-clause-exact g c =

@@ -1,6 +1,7 @@
 use Rattle.std.proofs.Common.{◌≡◌, ◌∙◌, Err, rules}
 use Rattle.alias_hir.specs.declared.error.InferError.{InferError}
 use Rattle.alias_nested.specs.Answers.{Completed}
+use Rattle.alias_nested.specs.Refusals.{CompletionRefused}
 use Rattle.alias_nested.proofs.Answering.{completes, completes_refused, completes_error, first_refused, second_refused, third_refused}
 use Rattle.alias_nested.proofs.Changing.{names_on, passed_slots, settled_slots}
 use Rattle.alias_nested.proofs.Keeping.{passed_pruned, range_pruned, more_pruned, settled_pruned}
@@ -16,8 +17,11 @@ pub returns-in_err-summary-clause-run : goal.returns-in_err-summary-clause-run
 returns-in_err-summary-clause-run g c =
     let e : InferError = c.in_err-summary.field-0.0 in
     let same : c.from_residual-in_err-summary.result ≡ Err e = search rules in
-    completes_error (Completed g.P.InnerPasses.keeps_all c.args.id (c.args.func.now, c.args.env.now)) c.from_residual-in_err-summary.result e c.infer_ranges.new.func c.infer_ranges.new.env same
-    (λ free. completes_refused g.P.InnerPasses.keeps_all c.args.id c.args.func.now c.run_pass.new.func c.args.env.now c.run_pass.new.env c.run_pass.ensures.passed e (c.in_err-summary.ensures.run free))
+    let k = g.P.InnerPasses.keeps_all in
+    completes_error (Completed k c.args.id (c.args.func.now, c.args.env.now)) (CompletionRefused k c.args.id (c.args.func.now, c.args.env.now)) c.from_residual-in_err-summary.result e c.infer_ranges.new.func c.infer_ranges.new.env same
+    (λ free.
+    let stays = c.in_err-summary.ensures.run free in
+    completes_refused k c.args.id c.args.func.now c.run_pass.new.func c.args.env.now c.run_pass.new.env c.run_pass.ensures.passed c.infer_ranges.new.func c.infer_ranges.new.env e stays.0 stays.1 stays.2)
 
 pub returns-in_err-summary-clause-kept : goal.returns-in_err-summary-clause-kept
 returns-in_err-summary-clause-kept g c =
@@ -103,23 +107,24 @@ returns-in_err-run_pass-clause-run g c =
     let k = g.P.InnerPasses.keeps_all in
     let e : InferError = c.in_err-run_pass.field-0.0 in
     let same : c.from_residual.result ≡ Err e = search rules in
-    completes_error (Completed k c.args.id (c.args.func.now, c.args.env.now)) c.from_residual.result e c.run_pass.new.func c.run_pass.new.env same
-    (λ no. first_refused k c.args.id (c.args.func.now, c.args.env.now) e (c.in_err-run_pass.ensures.fault no))
+    completes_error (Completed k c.args.id (c.args.func.now, c.args.env.now)) (CompletionRefused k c.args.id (c.args.func.now, c.args.env.now)) c.from_residual.result e c.run_pass.new.func c.run_pass.new.env same
+    (λ no. first_refused k c.args.id (c.args.func.now, c.args.env.now) (c.run_pass.new.func, c.run_pass.new.env) e (c.in_err-run_pass.ensures.fault no) c.run_pass.ensures.passed)
 
 pub returns-in_err-run_pass-2-clause-run : goal.returns-in_err-run_pass-2-clause-run
 returns-in_err-run_pass-2-clause-run g c =
     let k = g.P.InnerPasses.keeps_all in
     let e : InferError = c.in_err-run_pass-2.field-0.0 in
     let same : c.from_residual-in_err-run_pass-2.result ≡ Err e = search rules in
-    completes_error (Completed k c.args.id (c.args.func.now, c.args.env.now)) c.from_residual-in_err-run_pass-2.result e c.run_pass-2.new.func c.run_pass-2.new.env same
+    completes_error (Completed k c.args.id (c.args.func.now, c.args.env.now)) (CompletionRefused k c.args.id (c.args.func.now, c.args.env.now)) c.from_residual-in_err-run_pass-2.result e c.run_pass-2.new.func c.run_pass-2.new.env same
     (λ no. second_refused k c.args.id c.args.func.now c.run_pass.new.func c.args.env.now c.run_pass.new.env c.run_pass.ensures.passed
-    c.infer_ranges.new.func c.infer_ranges.new.env c.in_ok-summary.summary e c.in_ok-summary.ensures.run (c.in_err-run_pass-2.ensures.fault no))
+    c.infer_ranges.new.func c.run_pass-2.new.func c.infer_ranges.new.env c.run_pass-2.new.env c.in_ok-summary.summary e c.in_ok-summary.ensures.run (c.in_err-run_pass-2.ensures.fault no) c.run_pass-2.ensures.passed)
 
 pub returns-in_err-run_pass-3-clause-run : goal.returns-in_err-run_pass-3-clause-run
 returns-in_err-run_pass-3-clause-run g c =
     let k = g.P.InnerPasses.keeps_all in
     let e : InferError = c.in_err-run_pass-3.field-0.0 in
     let same : c.from_residual-in_err-run_pass-3.result ≡ Err e = search rules in
-    completes_error (Completed k c.args.id (c.args.func.now, c.args.env.now)) c.from_residual-in_err-run_pass-3.result e c.run_pass-3.new.func c.run_pass-3.new.env same
+    completes_error (Completed k c.args.id (c.args.func.now, c.args.env.now)) (CompletionRefused k c.args.id (c.args.func.now, c.args.env.now)) c.from_residual-in_err-run_pass-3.result e c.run_pass-3.new.func c.run_pass-3.new.env same
     (λ no. third_refused k c.args.id c.args.func.now c.run_pass.new.func c.args.env.now c.run_pass.new.env c.run_pass.ensures.passed
-    c.infer_ranges.new.func c.run_pass-2.new.func c.infer_ranges.new.env c.run_pass-2.new.env c.in_ok-summary.summary e c.in_ok-summary.ensures.run c.run_pass-2.ensures.passed (c.in_err-run_pass-3.ensures.fault no))
+    c.infer_ranges.new.func c.run_pass-2.new.func c.run_pass-3.new.func c.infer_ranges.new.env c.run_pass-2.new.env c.run_pass-3.new.env c.in_ok-summary.summary e c.in_ok-summary.ensures.run c.run_pass-2.ensures.passed
+    (c.in_err-run_pass-3.ensures.fault no) c.run_pass-3.ensures.passed)

@@ -2,6 +2,7 @@ use Rattle.std.proofs.Common.{◌≡◌, ◌∙◌, [], ◌∷◌, Err, rules}
 use Rattle.alias_hir.specs.declared.error.InferError.{InferError}
 use Rattle.alias_nested.specs.Analysis.{analysis}
 use Rattle.alias_nested.specs.Answers.{FunctionAnalysed}
+use Rattle.alias_nested.specs.Refusals.{FunctionRefused}
 use Rattle.alias_nested.proofs.Answering.{function_refused, function_leads, leads_with_error}
 use Rattle.alias_nested.specs.Order.{Notes}
 use Rattle.alias_nested.proofs.Changing.{names_on, always_ok}
@@ -13,7 +14,12 @@ pub returns-in_err-infer_effects-clause-run : goal.returns-in_err-infer_effects-
 returns-in_err-infer_effects-clause-run g c =
     let e : InferError = c.in_err-infer_effects.field-0.0 in
     let same : c.from_residual.result ≡ Err e = search rules in
-    λ fs a. leads_with_error (FunctionAnalysed g.P.InnerPasses.keeps_all c.args.id c.args.func.now (analysis c.args.env.now fs)) c.from_residual.result e c.infer_effects.new.func c.infer_effects.new.env c.infer_effects.new.solved same (λ free. function_refused g.P.InnerPasses.keeps_all c.args.id c.args.func.now (analysis c.args.env.now fs) e (c.in_err-infer_effects.ensures.run fs a free))
+    let k = g.P.InnerPasses.keeps_all in
+    λ fs a.
+    leads_with_error (FunctionAnalysed k c.args.id c.args.func.now (analysis c.args.env.now fs)) (FunctionRefused k c.args.id c.args.func.now (analysis c.args.env.now fs)) c.from_residual.result e c.infer_effects.new.func c.infer_effects.new.env c.infer_effects.new.solved same
+    (λ free.
+    let stays = c.in_err-infer_effects.ensures.unchanged free in
+    function_refused k c.args.id c.args.func.now (analysis c.args.env.now fs) c.infer_effects.new.func c.infer_effects.new.env e (c.in_err-infer_effects.ensures.run fs a free) stays.0 stays.1)
 
 pub returns-in_err-infer_effects-clause-kept : goal.returns-in_err-infer_effects-clause-kept
 returns-in_err-infer_effects-clause-kept g c = kept_pruned c.args.func.now c.args.env.now c.infer_effects.new.func c.infer_effects.new.env c.infer_effects.ensures.kept

@@ -1,8 +1,18 @@
-use Rattle.std.proofs.Common.{true}
+use Rattle.std.proofs.Common.{◌≡◌, ◌∙◌, true, false, Err, ap, sym, subst}
+use Rattle.alias_hir.specs.Errors.{is_memory}
 use Rattle.alias_range_laws.specs.SummaryLaws.{summary_fits}
+use Rattle.alias_nested.specs.Analysis.{named, naming}
 use Rattle.alias_nested.proofs.Changing.{names_named, ranged_slots}
+use Rattle.alias_nested.proofs.Ending.{not_memory}
 use Rattle.alias_nested.proofs.Keeping.{ranged_keeps, summary_kept}
 use Rattle.alias_nested.proofs.function.infer_ranges.Goals as goal
+
+pub returns-in-Err-clause-run : goal.returns-in-Err-clause-run
+returns-in-Err-clause-run c =
+    λ free.
+    let not : is_memory (named c.args.id c.in-Err.error) ≡ false = subst (λ e. is_memory e ≡ false) c.named.ensures free in
+    let stays = c.in-Err.ensures.pass (not_memory c.args.id c.in-Err.error not) in
+    (ap (λ r. naming c.args.id r) stays.0 ∙ ap Err (sym c.named.ensures), stays.1, stays.2)
 
 pub returns-in-Ok-clause-kept : goal.returns-in-Ok-clause-kept
 returns-in-Ok-clause-kept c =
