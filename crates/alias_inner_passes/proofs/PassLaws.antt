@@ -15,7 +15,8 @@ keeps_unchanged func env fits = record {
     terminals = λ b e h. h;
     summary = λ e h. h;
     creations = λ k f h. h;
-    operands = λ h. h;
+    operands = λ k p h u. (p, h, refl, u);
+    ends = λ b p h u. (p, h, refl, u);
   };
   tables = record { types = refl; shapes = refl; functions = refl; errors = refl; interned = refl; config = refl };
   identifiers = refl;

@@ -1,6 +1,5 @@
 -- What a pass of the caller keeps.
-use Rattle.std.specs.Prelude.{◌≡◌, ℕ, Bool, true, false, not, ◌&&◌, List, [], Option, None, Some, Contains, map, slice_get}
-use Rattle.std.specs.List.{list_all}
+use Rattle.std.specs.Prelude.{◌≡◌, ℕ, true, false, List, [], Option, None, Some, Contains, map, slice_get}
 use Rattle.alias_base.specs.Find.{value_at}
 use Rattle.alias_base.specs.declared.ids.BlockId.{BlockId}
 use Rattle.alias_base.specs.declared.ids.DeclarationId.{DeclarationId}
@@ -45,14 +44,17 @@ creation (Some i) = created i.value
 
 -- ---- effects of operands
 
-abbrev pub is_inferred : Place → Bool
-is_inferred p = not (is_unknown p.effect)
+-- each place of the second list that has no effect stands in the first, without one there too
+abbrev pub NoneLost : List Place → List Place → Type 0
+NoneLost old new = (p : Place) → Contains new p → is_unknown p.effect ≡ true → (q : Place) × Contains old q × (q.identifier ≡ p.identifier) × (is_unknown q.effect ≡ true)
 
--- each operand of the instructions and of the terminals has an effect
-abbrev pub operands_inferred : HirFunction → Bool
-operands_inferred func =
-    list_all (λ (i : Instruction). list_all is_inferred (owned_operands i.value)) func.instructions
-    && list_all (λ (e : BlockId × BasicBlock). list_all is_inferred (terminal_places e.1.terminal)) func.body.blocks
+abbrev pub instruction_operands : Option Instruction → List Place
+instruction_operands None = []
+instruction_operands (Some i) = owned_operands i.value
+
+abbrev pub block_operands : Option BasicBlock → List Place
+block_operands None = []
+block_operands (Some b) = terminal_places b.terminal
 
 -- ---- identifiers
 
@@ -84,7 +86,8 @@ pub record NothingAdded (old new : HirFunction) : Type 0 where
   pub terminals : (b : BlockId) → NoneAdded (block_effects (value_at old.body.blocks b)) (block_effects (value_at new.body.blocks b))
   pub summary : NoneAdded old.aliasing_effects new.aliasing_effects
   pub creations : (k : ℕ) (f : FunctionId) → creation (slice_get new.instructions k) ≡ Some f → creation (slice_get old.instructions k) ≡ Some f
-  pub operands : operands_inferred old ≡ true → operands_inferred new ≡ true
+  pub operands : (k : ℕ) → NoneLost (instruction_operands (slice_get old.instructions k)) (instruction_operands (slice_get new.instructions k))
+  pub ends : (b : BlockId) → NoneLost (block_operands (value_at old.body.blocks b)) (block_operands (value_at new.body.blocks b))
 
 -- what a pass leaves of a function that the inference takes, and of its tables
 pub record Keeps (func : HirFunction) (env : Environment) (func' : HirFunction) (env' : Environment) : Type 0 where

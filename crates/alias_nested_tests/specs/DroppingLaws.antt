@@ -1,6 +1,6 @@
 -- A pass that lets the first block list fewer instructions keeps what a pass has to keep, where the inference still takes the function.
-use Rattle.std.specs.Prelude.{◌≡◌, ℕ, Bool, true, false, ◌&&◌, if◌then◌else◌, List, [], ◌∷◌, ◌++◌, Some, map, refl}
-use Rattle.std.specs.List.{flat_map, list_all}
+use Rattle.std.specs.Prelude.{◌≡◌, ℕ, true, false, if◌then◌else◌, List, [], ◌∷◌, ◌++◌, Some, map, refl}
+use Rattle.std.specs.List.{flat_map}
 use Rattle.std.proofs.Common.{ap, sym, ◌∙◌, subst}
 use Rattle.std.proofs.lemmas.List.{map-append}
 use Rattle.alias_base.specs.Find.{same_block, value_at}
@@ -8,17 +8,14 @@ use Rattle.alias_base.specs.declared.ids.BlockId.{BlockId}
 use Rattle.alias_base.specs.declared.ids.InstructionId.{InstructionId}
 use Rattle.alias_function_rules.specs.Rules.{is_among}
 use Rattle.alias_hir.specs.Parts.{param_place}
-use Rattle.alias_hir.specs.Terminals.{terminal_places}
 use Rattle.alias_hir.specs.declared.env.Environment.{Environment}
 use Rattle.alias_hir.specs.declared.hir.BasicBlock.{BasicBlock}
 use Rattle.alias_hir.specs.declared.hir.HirFunction.{HirFunction}
-use Rattle.alias_hir.specs.declared.hir.Instruction.{Instruction}
 use Rattle.alias_hir.specs.declared.place.Place.{Place}
-use Rattle.alias_inner_passes.specs.Passes.{NoneAdded, block_effects, is_inferred, Keeps}
+use Rattle.alias_inner_passes.specs.Passes.{NoneAdded, NoneLost, block_effects, block_operands, Keeps}
 use Rattle.alias_nesting_laws.specs.PartLaws.{append_cases, absent, not_both}
 use Rattle.alias_nesting_laws.specs.ClosureLaws.{among_front, among_rest}
 use Rattle.alias_rules.specs.Fitting.{function_fits}
-use Rattle.alias_visit.specs.Operands.{owned_operands}
 use Rattle.alias_visit.specs.Places.{instruction_places, block_places}
 use Rattle.alias_nested_tests.specs.Dropping.{first_lists, with_first, first_or, IsFront}
 
@@ -63,12 +60,13 @@ places_same : (l : List InstructionId) (bs : List (BlockId × BasicBlock)) → f
 places_same l [] = refl
 places_same l (e ∷ es) = refl
 
-abbrev ends_inferred : List (BlockId × BasicBlock) → Bool
-ends_inferred bs = list_all (λ (e : BlockId × BasicBlock). list_all is_inferred (terminal_places e.1.terminal)) bs
-
-operands_same : (l : List InstructionId) (bs : List (BlockId × BasicBlock)) → ends_inferred (first_lists l bs) ≡ ends_inferred bs
-operands_same l [] = refl
-operands_same l (e ∷ es) = refl
+operands_same : (l : List InstructionId) (bs : List (BlockId × BasicBlock)) (b : BlockId) → block_operands (value_at (first_lists l bs) b) ≡ block_operands (value_at bs b)
+operands_same l [] b = refl
+operands_same l (e ∷ es) b =
+    elim (same_block b e.0) as (λ c. block_operands (if c then Some (record e.1 { instructions = l }) else value_at es b) ≡ block_operands (if c then Some e.1 else value_at es b)) [
+      | true ↦ refl
+      | false ↦ refl
+    ]
 
 listed_again : (l : List InstructionId) (bs : List (BlockId × BasicBlock)) → first_lists (first_or l bs) (first_lists l bs) ≡ bs
 listed_again l [] = refl
@@ -95,7 +93,8 @@ front_keeps l f env front fits = record {
     terminals = λ b. subst (NoneAdded (block_effects (value_at f.body.blocks b))) (sym (ends_same l f.body.blocks b)) (λ e c. c);
     summary = λ e c. c;
     creations = λ k g h. h;
-    operands = λ h. ap (λ z. list_all (λ (i : Instruction). list_all is_inferred (owned_operands i.value)) f.instructions && z) (operands_same l f.body.blocks) ∙ h;
+    operands = λ k p c u. (p, c, refl, u);
+    ends = λ b. subst (NoneLost (block_operands (value_at f.body.blocks b))) (sym (operands_same l f.body.blocks b)) (λ p c u. (p, c, refl, u));
   };
   tables = record { types = refl; shapes = refl; functions = refl; errors = refl; interned = refl; config = refl };
   identifiers = refl;
