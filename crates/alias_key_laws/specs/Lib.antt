@@ -1,0 +1,2 @@
+pub mod KeySites
+pub mod Orders
