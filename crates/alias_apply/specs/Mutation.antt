@@ -10,7 +10,6 @@ use Rattle.alias_hir.specs.declared.place.Place.{Place}
 use Rattle.alias_hir.specs.declared.report.Report.{Report}
 use Rattle.alias_hir.specs.Types.{is_ref_at}
 use Rattle.alias_lattice.specs.declared.value.AbstractValue.{AbstractValue}
-use Rattle.alias_lattice.specs.declared.mutation.Mutation.{Mutation}
 use Rattle.alias_lattice.specs.declared.mutation.MutateVariant.{MutateVariant}
 use Rattle.alias_lattice.specs.declared.mutation.MutationResult.{MutationResult}
 use Rattle.alias_lattice.specs.declared.mutation.MutationResult.TheVariants as result

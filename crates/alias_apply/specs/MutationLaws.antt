@@ -1,5 +1,6 @@
 -- What the state answers of a write decides as the kind of the value does.
-use Rattle.std.specs.Prelude.{◌≡◌, refl, ap, Bool, true, false, Option, Some, None, if◌then◌else◌}
+use Rattle.std.specs.Prelude.{◌≡◌, refl, Bool, true, false, Option, Some, None, if◌then◌else◌}
+use Rattle.std.proofs.Common.{ap}
 use Rattle.alias_hir.specs.declared.effect.AliasingEffect.{AliasingEffect}
 use Rattle.alias_hir.specs.declared.effect.ValueKind.{ValueKind}
 use Rattle.alias_hir.specs.declared.effect.ValueKind.TheVariants.{Primitive, Global, Frozen, Mutable, Context, MaybeFrozen}
@@ -13,7 +14,6 @@ use Rattle.alias_lattice.specs.declared.mutation.MutationResult.TheVariants as r
 use Rattle.alias_lattice.specs.Mutations.{definite_result, conditional_result, mutation_result}
 use Rattle.alias_lattice.specs.States.{look, missing_look}
 use Rattle.alias_tables.specs.Steps.{gives}
-use Rattle.alias_tables.specs.Tables.{Step}
 use Rattle.alias_apply.specs.declared.progress.StepProgress.{StepProgress}
 use Rattle.alias_apply.specs.Contexts.{StepContext}
 use Rattle.alias_apply.specs.Kinds.{is_writable}
@@ -46,7 +46,7 @@ module _ (c : StepContext) (e : AliasingEffect) (v : Place) where
   conditional_by_kind MaybeFrozen s = refl
 
   -- the answer of a write of the variant, where b tells whether the place is a ref
-  answer : MutateVariant → Bool → StepProgress → Mutation
+  abbrev answer : MutateVariant → Bool → StepProgress → Mutation
   answer w b s =
       if b then record { result = result.MutateRef; missing = None }
       else record { result = mutation_result w (kind_at v s); missing = missing_look s.state v.identifier v.span }
