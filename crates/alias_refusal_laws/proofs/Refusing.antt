@@ -1,9 +1,12 @@
 -- What the steps of an analysis never refuse with, the analysis never does, over passes of the caller that change functions.
-use Rattle.std.specs.Prelude.{◌≡◌, ℕ, Bool, true, false, List, [], ◌∷◌, Option, Some, None, Result, Ok, Err, slice_get}
+use Rattle.std.specs.Prelude.{◌≡◌, ℕ, Bool, true, false, List, [], ◌∷◌, Option, Some, None, Result, Ok, Err, slice_get, refl}
 use Rattle.std.proofs.Common.{zero, suc, sym, subst}
 use Rattle.alias_base.specs.declared.ids.FunctionId.{FunctionId}
 use Rattle.alias_hir.specs.declared.env.Environment.{Environment}
 use Rattle.alias_hir.specs.declared.error.InferError.{InferError}
+use Rattle.alias_hir.specs.declared.error.InferError.TheVariants.{PassFault}
+use Rattle.alias_hir.specs.declared.error.Pass.{Pass}
+use Rattle.alias_hir.specs.declared.error.Pass.TheVariants.{DeadCodeElimination, RewriteInstructionKindsBasedOnReassignment, InferReactiveScopeVariables}
 use Rattle.alias_hir.specs.declared.hir.HirFunction.{HirFunction}
 use Rattle.alias_effects.specs.Inference.{pass_end}
 use Rattle.alias_effects.specs.declared.output.PassEnd.{PassEnd}
@@ -33,12 +36,13 @@ module _ (is : InferError → Bool) where
   each_never step h [] a = only_never (Ok a) tt
   each_never step h (x ∷ xs) a = then_never (step x a) (Each step xs) (h x a) (each_never step h xs)
 
-  -- what a pass of the caller answers but Ok is free
-  passed_never : (keeps_all : Bool) (old : HirFunction × Environment) → NeverRefuses (Passed keeps_all old)
-  passed_never keeps_all old e h = absurd h
+  module _ (faults : (id : FunctionId) (pass : Pass) → is (PassFault (Some id) pass) ≡ false) (same : (id : FunctionId) (e : InferError) → is (named id e) ≡ is e)
+      (passes : (env : Environment) (f : HirFunction) → Avoids is (Answered {A = PassEnd}) (pass_end env f true)) (ranges : (f : HirFunction) (env : Environment) → Avoids is (Answered {A = Ranged}) (range_pass true f env))
+      (keeps_all : Bool) where
+    -- what a pass of the caller answers but Ok is its fault
+    passed_never : (id : FunctionId) (pass : Pass) (old : HirFunction × Environment) → NeverRefuses (Passed keeps_all id pass old)
+    passed_never id pass old e q = subst (λ (z : InferError). is z ≡ false) (sym q) (faults id pass)
 
-  module _ (same : (id : FunctionId) (e : InferError) → is (named id e) ≡ is e) (passes : (env : Environment) (f : HirFunction) → Avoids is (Answered {A = PassEnd}) (pass_end env f true))
-      (ranges : (f : HirFunction) (env : Environment) → Avoids is (Answered {A = Ranged}) (range_pass true f env)) (keeps_all : Bool) where
     effects_never : (id : FunctionId) (f : HirFunction) (a : Analysis) → NeverRefuses (Only (effects_analysed id f a))
     effects_never id f a =
         only_never (effects_analysed id f a)
@@ -46,11 +50,11 @@ module _ (is : InferError → Bool) where
 
     completed_never : (id : FunctionId) (s : HirFunction × Environment) → NeverRefuses (Completed keeps_all id s)
     completed_never id s =
-        then_never (Passed keeps_all s) _ (passed_never keeps_all s) (λ dead.
+        then_never (Passed keeps_all id DeadCodeElimination s) _ (passed_never id DeadCodeElimination s) (λ dead.
         then_never (Only (naming id (range_pass true dead.0 dead.1))) _
         (only_never (naming id (range_pass true dead.0 dead.1)) (avoids_naming is (Answered {A = Ranged}) id (range_pass true dead.0 dead.1) (same id) (ranges dead.0 dead.1))) (λ r.
-        then_never (Passed keeps_all r.after) _ (passed_never keeps_all r.after) (λ kinds.
-        then_never (Passed keeps_all kinds) _ (passed_never keeps_all kinds) (λ scopes. only_never (Ok (settled r.summary scopes)) tt))))
+        then_never (Passed keeps_all id RewriteInstructionKindsBasedOnReassignment r.after) _ (passed_never id RewriteInstructionKindsBasedOnReassignment r.after) (λ kinds.
+        then_never (Passed keeps_all id InferReactiveScopeVariables kinds) _ (passed_never id InferReactiveScopeVariables kinds) (λ scopes. only_never (Ok (settled r.summary scopes)) tt))))
 
     function_never : (id : FunctionId) (f : HirFunction) (a : Analysis) → NeverRefuses (FunctionAnalysed keeps_all id f a)
     function_never id f a =
@@ -75,5 +79,5 @@ module _ (is : InferError → Bool) where
 -- the analysis of nested functions never says that an operand has no effect
 pub never_unknown : (keeps_all : Bool) (n : ℕ) (f : HirFunction) (env : Environment) (fs : List Analysed) (e : InferError) → AnalysedWith keeps_all n f (analysis env fs) (Err e) → is_not_inferred e ≡ false
 never_unknown keeps_all n f env fs =
-    analysed_never is_not_inferred (λ id e. (named_alike id e).1) (λ more g. pass_comes more g true)
+    analysed_never is_not_inferred (λ id pass. refl) (λ id e. (named_alike id e).1) (λ more g. pass_comes more g true)
     (λ g more. avoids_on is_not_inferred _ (Answered {A = Ranged}) (range_pass true g more) (λ r h. tt) (range_comes true g more)) keeps_all n f (analysis env fs)

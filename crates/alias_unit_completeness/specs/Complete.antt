@@ -210,23 +210,26 @@ module _ (u : HirUnit) (rules : rules_hold u ≡ Ok tt) where
   abbrev AllStand : Analysis → Type 0
   AllStand b = Stands u.env [] NoneWaits b.env
 
-  module _ (one : One)
-      (turns : (id : FunctionId) (g : HirFunction) (a : Analysis) → HasPlaces (length a.env.identifiers) g → ((e : InferError) → pass_end a.env g true ≡ Err e → Caused u (named id e)) → AllMeet (Caused u) (Turned g a) (one id g a)) where
-    below_root : AllMeet (Caused u) AllStand (Below one most_levels u.function (analysis u.env []))
+  -- where each function's passes are refused for a cause alone, which what has its cause in the unit is
+  module _ (E : InferError → Type 0) (weaker : (e : InferError) → Caused u e → E e) (one : One)
+      (turns : (id : FunctionId) (g : HirFunction) (a : Analysis) → HasPlaces (length a.env.identifiers) g → ((e : InferError) → pass_end a.env g true ≡ Err e → E (named id e)) → AllMeet E (Turned g a) (one id g a)) where
+    below_root : AllMeet E AllStand (Below one most_levels u.function (analysis u.env []))
     below_root =
-        goes (Caused u) one u.env tables faces listed_creations (λ id f g a at same agrees callable places. turns id g a places (nested_caused id f g a.env at same agrees callable)) most_levels u.function u.function [] (λ k. Unit {0})
+        goes E one u.env tables faces listed_creations (λ id f g a at same agrees callable places. turns id g a places (λ e q. weaker (named id e) (nested_caused id f g a.env at same agrees callable e q))) most_levels u.function u.function [] (λ k. Unit {0})
         (analysis u.env []) refl deep (stands_self u.env faces) all_once
 
   -- where the passes keep all
   nested_stated : Meets (Caused u) AllStand (analysed most_levels u.function (analysis u.env []))
   nested_stated =
-      below_root AsStated (λ id g a places caused. turns_stated (Caused u) id (ranges_caused id) g a places caused) (analysed most_levels u.function (analysis u.env []))
+      below_root (Caused u) (λ e h. h) AsStated (λ id g a places caused. turns_stated (Caused u) id (ranges_caused id) g a places caused) (analysed most_levels u.function (analysis u.env []))
       (below_stated most_levels u.function (analysis u.env []) (analysed most_levels u.function (analysis u.env [])) refl)
 
   -- over passes of the caller, whatever their law lets them change
   pub passes_blame : (b : Bool) (e : InferError) → AnalysedWith b most_levels u.function (analysis u.env []) (Err e) → BlamesRightly u e
   passes_blame b e h =
-      (below_root (FunctionAnalysed b) (λ id g a places caused. turns_by_passes (Caused u) id (ranges_caused id) g a places caused b) (Err e) (below_with b most_levels u.function (analysis u.env []) (Err e) h)).0
+      below_root (BlamesRightly u) (λ e c. c.0) (FunctionAnalysed b)
+      (λ id g a places caused. turns_by_passes (BlamesRightly u) id (λ f env e q. (ranges_caused id f env e q).0) g a places caused (λ pass. tt) b) (Err e)
+      (below_with b most_levels u.function (analysis u.env []) (Err e) h)
 
   -- ---- the whole inference
 

@@ -1,7 +1,7 @@
 -- What the passes leave of a nested function and of its environment, where they keep all and where passes of the
 -- caller change functions within their law.
-use Rattle.std.specs.Prelude.{◌≡◌, Bool, true, List, [], ◌∷◌, Option, Result, Ok, Err, length, map, refl}
-use Rattle.std.proofs.Common.{ap, ◌∙◌, subst}
+use Rattle.std.specs.Prelude.{◌≡◌, Bool, true, List, [], ◌∷◌, Option, Some, Result, Ok, Err, length, map, refl}
+use Rattle.std.proofs.Common.{ap, sym, ◌∙◌, subst}
 use Rattle.alias_base.specs.declared.ids.DeclarationId.{DeclarationId}
 use Rattle.alias_base.specs.declared.ids.FunctionId.{FunctionId}
 use Rattle.alias_base.specs.declared.ids.TypeId.{TypeId}
@@ -12,6 +12,9 @@ use Rattle.alias_hir.specs.declared.env.Environment.{Environment}
 use Rattle.alias_hir.specs.declared.env.Identifier.{Identifier}
 use Rattle.alias_hir.specs.declared.env.IdentifierName.{IdentifierName}
 use Rattle.alias_hir.specs.declared.error.InferError.{InferError}
+use Rattle.alias_hir.specs.declared.error.InferError.TheVariants.{PassFault}
+use Rattle.alias_hir.specs.declared.error.Pass.{Pass}
+use Rattle.alias_hir.specs.declared.error.Pass.TheVariants.{DeadCodeElimination, RewriteInstructionKindsBasedOnReassignment, InferReactiveScopeVariables}
 use Rattle.alias_hir.specs.declared.hir.HirFunction.{HirFunction}
 use Rattle.alias_hir.specs.declared.hir.ParamPattern.{ParamPattern}
 use Rattle.alias_hir.specs.declared.place.Place.{Place}
@@ -64,13 +67,18 @@ pass_keeps old new k = record {
   };
 }
 
-module _ (E : InferError → Type 0) where
-  passed_case : (b : Bool) (old : HirFunction × Environment) (r : Result (HirFunction × Environment) InferError) → Passed b old r → Meets E (Kept old.0 old.1) r
-  passed_case b old (Ok new) h = pass_keeps old new h.keeps
-  passed_case b old (Err e) h = absurd h
+-- a fault of one has its cause
+abbrev HasFaults : (InferError → Type 0) → FunctionId → Type 0
+HasFaults E id = (pass : Pass) → E (PassFault (Some id) pass)
 
-  passed_keeps : (b : Bool) (old : HirFunction × Environment) → AllMeet E (Kept old.0 old.1) (Passed b old)
-  passed_keeps b old = λ r h. passed_case b old r h
+module _ (E : InferError → Type 0) where
+  module _ (id : FunctionId) (faults : HasFaults E id) (b : Bool) (pass : Pass) (old : HirFunction × Environment) where
+    passed_case : (r : Result (HirFunction × Environment) InferError) → Passed b id pass old r → Meets E (Kept old.0 old.1) r
+    passed_case (Ok new) h = pass_keeps old new h.keeps
+    passed_case (Err e) q = subst E (sym q) (faults pass)
+
+    passed_keeps : AllMeet E (Kept old.0 old.1) (Passed b id pass old)
+    passed_keeps = λ r h. passed_case r h
 
   -- ---- a function
 
@@ -88,18 +96,18 @@ module _ (E : InferError → Type 0) where
     completed_turns : (f : HirFunction) (env : Environment) → HasPlaces (length env.identifiers) f → Meets E (Finished env f) (completed id f env)
     completed_turns f env places = meets_then E (λ (r : Ranged). range_pass true f env ≡ Ok r) (Finished env f) (naming id (range_pass true f env)) _ (range_is f env) (λ r q. ranged_finished f env r places q)
 
-    completed_by_passes : (b : Bool) (f : HirFunction) (env : Environment) → HasPlaces (length env.identifiers) f → AllMeet E (Finished env f) (Completed b id (f, env))
-    completed_by_passes b f env places =
-        then_meets E (Kept f env) (Finished env f) (Passed b (f, env)) _ (passed_keeps b (f, env)) (λ dead d.
+    completed_by_passes : HasFaults E id → (b : Bool) (f : HirFunction) (env : Environment) → HasPlaces (length env.identifiers) f → AllMeet E (Finished env f) (Completed b id (f, env))
+    completed_by_passes faults b f env places =
+        then_meets E (Kept f env) (Finished env f) (Passed b id DeadCodeElimination (f, env)) _ (passed_keeps id faults b DeadCodeElimination (f, env)) (λ dead d.
         then_meets E (λ (r : Ranged). range_pass true dead.0 dead.1 ≡ Ok r) (Finished env f) (Only (naming id (range_pass true dead.0 dead.1))) _
         (only_meets E (λ (r : Ranged). range_pass true dead.0 dead.1 ≡ Ok r) (naming id (range_pass true dead.0 dead.1)) (range_is dead.0 dead.1)) (λ r q.
         let there : HasPlaces (length dead.1.identifiers) dead.0 = places_alike (length env.identifiers) (length dead.1.identifiers) f dead.0 d.own d.stays.tables.longer places in
         let ranged : RangesDone dead.1 dead.0 r = ranges_done dead.0 dead.1 r there q in
         let order : IsSummary f.returns.identifier.0 r.summary = subst (λ (p : Place). IsSummary p.identifier.0 r.summary) d.own.returns ranged.order in
         let after : Kept f env r.after = kept_then f dead.0 env dead.1 r.after d.own d.stays (record { own = ranged.own; stays = ranged.stays }) in
-        then_meets E (Kept r.after.0 r.after.1) (Finished env f) (Passed b r.after) _ (passed_keeps b r.after) (λ kinds k.
+        then_meets E (Kept r.after.0 r.after.1) (Finished env f) (Passed b id RewriteInstructionKindsBasedOnReassignment r.after) _ (passed_keeps id faults b RewriteInstructionKindsBasedOnReassignment r.after) (λ kinds k.
         let second : Kept f env kinds = kept_then f r.after.0 env r.after.1 kinds after.own after.stays k in
-        then_meets E (Kept kinds.0 kinds.1) (Finished env f) (Passed b kinds) _ (passed_keeps b kinds) (λ scopes s.
+        then_meets E (Kept kinds.0 kinds.1) (Finished env f) (Passed b id InferReactiveScopeVariables kinds) _ (passed_keeps id faults b InferReactiveScopeVariables kinds) (λ scopes s.
         let third : Kept f env scopes = kept_then f kinds.0 env kinds.1 scopes second.own second.stays s in
         only_meets E (Finished env f) (Ok (settled r.summary scopes)) (settled_finished env f r.summary scopes third.own third.stays places order)))))
 
@@ -118,9 +126,9 @@ module _ (E : InferError → Type 0) where
           meets_then E (Finished s.1.env s.0) (Turned g a) (completed id s.0 s.1.env) _ (completed_turns s.0 s.1.env (still_there s k)) (finished_turned s k)))
 
       -- where they change functions within their law
-      pub turns_by_passes : (b : Bool) → AllMeet E (Turned g a) (FunctionAnalysed b id g a)
-      turns_by_passes b =
+      pub turns_by_passes : HasFaults E id → (b : Bool) → AllMeet E (Turned g a) (FunctionAnalysed b id g a)
+      turns_by_passes faults b =
           then_meets E (λ (s : HirFunction × Analysis). Kept g a.env (s.0, s.1.env)) (Turned g a) (Only (effects_analysed id g a)) (CompletedWith b id)
           (only_meets E (λ (s : HirFunction × Analysis). Kept g a.env (s.0, s.1.env)) (effects_analysed id g a) (effects_turn id g a caused)) (λ s k.
-          then_meets E (Finished s.1.env s.0) (Turned g a) (Completed b id (s.0, s.1.env)) _ (completed_by_passes b s.0 s.1.env (still_there s k)) (λ c d.
+          then_meets E (Finished s.1.env s.0) (Turned g a) (Completed b id (s.0, s.1.env)) _ (completed_by_passes faults b s.0 s.1.env (still_there s k)) (λ c d.
           only_meets E (Turned g a) (Ok (c.0, analysis c.1 s.1.functions)) (finished_turned s k c d)))
