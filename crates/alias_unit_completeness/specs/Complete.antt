@@ -19,6 +19,7 @@ use Rattle.alias_events.specs.BlockListings.{listed}
 use Rattle.alias_events.specs.declared.listing.Listing.{Listing}
 use Rattle.alias_function_rules.specs.Rules.{tables_fit}
 use Rattle.alias_hir.specs.Values.{created}
+use Rattle.alias_hir.specs.Errors.{is_memory}
 use Rattle.alias_hir.specs.declared.env.Environment.{Environment}
 use Rattle.alias_hir.specs.declared.env.Unit.{Unit as HirUnit}
 use Rattle.alias_hir.specs.declared.error.Counter.TheVariants.{GraphPositions}
@@ -249,18 +250,17 @@ module _ (u : HirUnit) (rules : rules_hold u ≡ Ok tt) where
 
 -- ---- calls that analyse the functions below the root
 
-free_blames : (u : HirUnit) (e : InferError) → is_free e ≡ true → BlamesRightly u e
-free_blames u (error.Memory x) h = tt
-free_blames u (error.PassFault f pass) h = tt
-free_blames u e h = cc
+memory_blames : (u : HirUnit) (e : InferError) → is_memory e ≡ true → BlamesRightly u e
+memory_blames u (error.Memory x) h = tt
+memory_blames u e h = cc
 
-answer_blames : (u : HirUnit) (rules : rules_hold u ≡ Ok tt) (b : Bool) (e : InferError) → (is_free e ≡ false → AnalysedWith b most_levels u.function (analysis u.env []) (Err e)) → (free : Bool) → is_free e ≡ free → BlamesRightly u e
-answer_blames u rules b e h true free = free_blames u e free
+answer_blames : (u : HirUnit) (rules : rules_hold u ≡ Ok tt) (b : Bool) (e : InferError) → (is_memory e ≡ false → AnalysedWith b most_levels u.function (analysis u.env []) (Err e)) → (free : Bool) → is_memory e ≡ free → BlamesRightly u e
+answer_blames u rules b e h true free = memory_blames u e free
 answer_blames u rules b e h false free = passes_blame u rules b e (h free)
 
 pub analyses_blame : (u : HirUnit) → rules_hold u ≡ Ok tt → (b : Bool) (answer : Result (List Solved) InferError) (env : Environment) → Analyses (AnalysedWith b most_levels u.function (analysis u.env [])) answer env → (e : InferError) → answer ≡ Err e
     → BlamesRightly u e
-analyses_blame u rules b answer env h e q = answer_blames u rules b e (subst (λ r. Analyses (AnalysedWith b most_levels u.function (analysis u.env [])) r env) q h) (is_free e) refl
+analyses_blame u rules b answer env h e q = answer_blames u rules b e (subst (λ r. Analyses (AnalysedWith b most_levels u.function (analysis u.env [])) r env) q h) (is_memory e) refl
 
 pub into_blame : (u : HirUnit) → rules_hold u ≡ Ok tt → (b : Bool) (answer : Result ⊤ InferError) (env : Environment) → AnalysesInto (AnalysedWith b most_levels u.function (analysis u.env [])) answer env → (e : InferError) → answer ≡ Err e → BlamesRightly u e
-into_blame u rules b answer env h e q = answer_blames u rules b e (subst (λ r. AnalysesInto (AnalysedWith b most_levels u.function (analysis u.env [])) r env) q h) (is_free e) refl
+into_blame u rules b answer env h e q = answer_blames u rules b e (subst (λ r. AnalysesInto (AnalysedWith b most_levels u.function (analysis u.env [])) r env) q h) (is_memory e) refl
