@@ -19,7 +19,7 @@ use Rattle.alias_cause_laws.specs.Causes.{EachHasCause}
 use Rattle.alias_handed_laws.proofs.Handing.{solved_over}
 use Rattle.alias_handed_laws.specs.Handed.{IsSolvedInOrder}
 use Rattle.alias_nested.specs.Analysis.{Analysis, analysis, analysed, most_levels, is_free}
-use Rattle.alias_nested.specs.Answers.{Only, AnalysedWith, Analyses, AnalysesInto}
+use Rattle.alias_nested.specs.Answers.{AnalysedWith, Analyses, AnalysesInto, AnalysesExactly, AnalysesExactlyInto}
 use Rattle.alias_nested.specs.Units.{RootAnalysis, UnitAnalysis, root_analysed, handed_out, unit_analysed, InfersUnit}
 use Rattle.alias_nested.specs.declared.infer.Inferred.{Inferred}
 use Rattle.alias_nested_range_laws.proofs.Ranging.{nested_are_ranged}
@@ -109,10 +109,10 @@ module _ (f : HirFunction) (env : Environment) where
   refused_unit : (e : InferError) → analysed most_levels f (analysis env []) ≡ Err e → unit_analysed (unit_with f env) ≡ Err e
   refused_unit e h = ap (λ (r : Result Analysis InferError). (r >>= root_analysed f) >>= (λ (x : RootAnalysis). Ok (handed_out x))) h
 
-  pub certified_complete : (r : Result (List Solved) InferError) (after : Environment) → Analyses (Only (analysed most_levels f (analysis env []))) r after → rules_hold (unit_with f env) ≡ Ok tt → IfErr r (λ e. is_free e ≡ false → IsCaused (unit_with f env) e)
+  pub certified_complete : (r : Result (List Solved) InferError) (after : Environment) → AnalysesExactly (analysed most_levels f (analysis env [])) r after → rules_hold (unit_with f env) ≡ Ok tt → IfErr r (λ e. is_free e ≡ false → IsCaused (unit_with f env) e)
   certified_complete (Ok x) after h rules = tt
   certified_complete (Err e) after h rules = λ free. unit_caused (unit_with f env) rules e (refused_unit e (h free))
 
-  pub into_complete : (r : Result ⊤ InferError) (after : Environment) → AnalysesInto (Only (analysed most_levels f (analysis env []))) r after → rules_hold (unit_with f env) ≡ Ok tt → IfErr r (λ e. is_free e ≡ false → IsCaused (unit_with f env) e)
+  pub into_complete : (r : Result ⊤ InferError) (after : Environment) → AnalysesExactlyInto (analysed most_levels f (analysis env [])) r after → rules_hold (unit_with f env) ≡ Ok tt → IfErr r (λ e. is_free e ≡ false → IsCaused (unit_with f env) e)
   into_complete (Ok x) after h rules = tt
   into_complete (Err e) after h rules = λ free. unit_caused (unit_with f env) rules e (refused_unit e (h free))

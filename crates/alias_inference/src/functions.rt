@@ -7,7 +7,7 @@ ghost use Rattle.alias_rules.specs.Fitting.{function_fits};
 ghost use Rattle.alias_rules.specs.Functions.{rules_hold};
 ghost use Rattle.alias_rules.specs.Nesting.{times};
 ghost use Rattle.alias_nested.specs.Analysis.{analysis, most_levels, analysed, is_free, IsPassFault};
-ghost use Rattle.alias_nested.specs.Answers.{Only, AnalysedWith, Analyses, AnalysesInto};
+ghost use Rattle.alias_nested.specs.Answers.{AnalysedWith, Analyses, AnalysesInto, AnalysesExactly, AnalysesExactlyInto};
 ghost use Rattle.alias_nested.specs.Order.{below_innermost_first, numbers, functions_of, KeepsToOrder};
 ghost use Rattle.alias_nested.specs.Refusals.{AnalysisRefused, Leaves};
 ghost use Rattle.alias_pruning_laws.specs.Pruning.{SlotsKept};
@@ -39,7 +39,7 @@ pub fn analyse_functions_certified<P: InnerPasses, F: FnMut(&HirFunction, &Envir
     requires fits { function_fits func.old env.old ≡ true }
     requires logger { (log : F) (f : _) (e : _) → F.pre log f e }
     ensures answer { Analyses (AnalysedWith P.keeps_all most_levels func.old (analysis env.old [])) result env.new }
-    ensures exact { P.keeps_all ≡ true → Analyses (Only (analysed most_levels func.old (analysis env.old []))) result env.new }
+    ensures exact { P.keeps_all ≡ true → AnalysesExactly (analysed most_levels func.old (analysis env.old [])) result env.new }
     ensures left { Leaves (AnalysisRefused P.keeps_all most_levels func.old (analysis env.old [])) result env.new }
     ensures functions { IfOk result (λ solved. functions_of solved ≡ map Some (below_innermost_first most_levels func.old env.old)) }
     ensures func { func.new ≡ func.old }
@@ -69,7 +69,7 @@ pub fn analyse_functions<P: InnerPasses, F: FnMut(&HirFunction, &Environment)>(
     requires fits { function_fits func.old env.old ≡ true }
     requires logger { (log : F) (f : _) (e : _) → F.pre log f e }
     ensures answer { AnalysesInto (AnalysedWith P.keeps_all most_levels func.old (analysis env.old [])) result env.new }
-    ensures exact { P.keeps_all ≡ true → AnalysesInto (Only (analysed most_levels func.old (analysis env.old []))) result env.new }
+    ensures exact { P.keeps_all ≡ true → AnalysesExactlyInto (analysed most_levels func.old (analysis env.old [])) result env.new }
     ensures left { Leaves (AnalysisRefused P.keeps_all most_levels func.old (analysis env.old [])) result env.new }
     ensures func { func.new ≡ func.old }
     ensures fits { function_fits func.new env.new ≡ true }
