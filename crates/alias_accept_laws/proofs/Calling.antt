@@ -1,6 +1,7 @@
 -- The lists that calls stand for are alike.
 use Rattle.std.specs.Prelude.{◌≡◌, ℕ, ◌+◌, Bool, true, false, ◌&&◌, ◌||◌, not, nat_lt, List, [], ◌∷◌, length, Option, Some, None, slice_get, refl, if◌then◌else◌}
 use Rattle.std.proofs.Common.{suc, ap, ◌∙◌, subst}
+use Rattle.std.specs.List.{list_any}
 use Rattle.std.specs.Option.{is_some}
 use Rattle.alias_base.specs.declared.ids.FunctionId.{FunctionId}
 use Rattle.alias_base.specs.declared.ids.IdentifierId.{IdentifierId}
@@ -33,7 +34,7 @@ use Rattle.alias_calls.specs.declared.copies.PlaceKind.TheVariants as kind
 use Rattle.alias_calls.specs.Arguments.{is_rest, with_further, with_plain, with_argument, standing, is_further, has_further, is_bad_spread_of, is_bad_spread, first_bad, first_of}
 use Rattle.alias_calls.specs.Configs.{name_index, or_places, stands_first, stands, argument_at, inner_argument, inner_arguments, with_apply, impure_step, with_impures, with_config_effect, with_config_effects, with_temporary, config_call, config_list}
 use Rattle.alias_calls.specs.Copies.{pair_of, effect_at, pairs, with_pairs, with_each, with_freezes_unless, with_freezes}
-use Rattle.alias_calls.specs.Summaries.{last_spread, rest_or_temporary, names_with, summary_names, same_id, context_standing, returned, stands_for, with_copies, names_list, summary_call, summary_list}
+use Rattle.alias_calls.specs.Summaries.{last_spread, rest_or_temporary, names_with, summary_names, same_id, context_standing, returned, stands_for, with_copies, is_spread, needs_rest, names_list, summary_call, summary_list}
 use Rattle.alias_accept_laws.specs.Alike.{Paired, none, more, Maybe, nothing, just, moved, AlikePlace, at, AlikePlaces, AlikeArgument, plain, spread, hole, AlikeArguments, Alike, apply, create_from, immutable_capture, assign, alias, capture, maybe_alias, create, freeze, impure, mutate_frozen, mutate_global, render, mutate, mutate_conditionally, mutate_transitive, mutate_transitive_conditionally, AlikeEffects, AlikeList, AlikeSite, called, IsFull, Repeats, Elsewhere, elsewhere, create_function}
 use Rattle.alias_accept_laws.proofs.Likeness.{paired_get, paired_self, paired_append, paired_map, place_self, alike_self}
 use Rattle.alias_accept_laws.proofs.Repeating.{repeats_gives, repeats_refuses, repeats_then, repeats_if_same, repeats_each, repeats_collect}
@@ -80,6 +81,20 @@ same_has_further params args others i none = refl
 same_has_further params args others i (more {a = x} {b = y} {xs = us} {ys = vs} q qs) =
     ap (λ b. if b then true else has_further params us (i + 1)) (same_further (slice_get params i) x y q)
     ∙ ap (λ c. if is_further (slice_get params i) y then true else c) (same_has_further params us vs (i + 1) qs)
+
+same_is_spread : (a b : PlaceOrSpreadOrHole) → AlikeArgument a b → is_spread a ≡ is_spread b
+same_is_spread a b (plain p q) = refl
+same_is_spread a b (spread p q) = refl
+same_is_spread a b hole = refl
+
+same_spreads : (args others : List PlaceOrSpreadOrHole) → AlikeArguments args others → list_any is_spread args ≡ list_any is_spread others
+same_spreads args others none = refl
+same_spreads args others (more {a = a} {b = b} {xs = us} {ys = vs} q qs) =
+    ap (λ c. c || list_any is_spread us) (same_is_spread a b q) ∙ ap (λ c. is_spread b || c) (same_spreads us vs qs)
+
+same_needs_rest : (params : List IdentifierId) (args others : List PlaceOrSpreadOrHole) → AlikeArguments args others → needs_rest params args ≡ needs_rest params others
+same_needs_rest params args others a =
+    ap (λ n. nat_lt (length params) n || list_any is_spread args) (same_length args others a) ∙ ap (λ c. nat_lt (length params) (length others) || c) (same_spreads args others a)
 
 same_bad_of : (env : Environment) (x : IdentifierId) (a b : PlaceOrSpreadOrHole) → AlikeArgument a b → is_bad_spread_of env x a ≡ is_bad_spread_of env x b
 same_bad_of env x a b (plain p q) = refl
@@ -301,7 +316,7 @@ module _ (names : SummaryNames) (into to : Place) (args others : List PlaceOrSpr
         → Repeats IsFull whole AlikeList (names_list env (summary_call names into args context) summary) (names_list (elsewhere env away) (summary_call names to others context) told)
     same_names_list env away summary told a =
         repeats_if_same AlikeList _ _ _ _ _ _ (ap (λ n. nat_lt n (length names.params)) (same_length args others arguments)) (repeats_gives AlikeList None None nothing)
-        (repeats_if_same AlikeList _ _ _ _ _ _ (ap (λ f. f && not (is_some names.rest)) (same_has_further names.params args others 0 arguments)) (repeats_gives AlikeList None None nothing)
+        (repeats_if_same AlikeList _ _ _ _ _ _ (ap (λ f. f && not (is_some names.rest)) (same_needs_rest names.params args others arguments)) (repeats_gives AlikeList None None nothing)
         (repeats_collect Alike AlikeEffects (paired_self Alike alike_self) (with_copies env (summary_call names into args context)) (with_copies (elsewhere env away) (summary_call names to others context))
         (λ x y e u v d. same_copies env away x y u v e d) summary told a [] [] none))
 
