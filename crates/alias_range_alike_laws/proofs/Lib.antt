@@ -1,0 +1,14 @@
+pub mod Answers
+pub mod Listings
+pub mod Blocks
+pub mod Recording
+pub mod Nodes
+pub mod Around
+pub mod Walks
+pub mod Summaries
+pub mod Contexts
+pub mod Placing
+pub mod Functions
+pub mod Ranging
+pub mod Spans
+pub mod Spanning
