@@ -41,7 +41,7 @@ use Rattle.alias_effects.specs.Inference.{entries_of, instructions_recorded, ter
 use Rattle.alias_effects.specs.Numbered.{Blocks, position_of, step_at, numbered, visits_end}
 use Rattle.alias_effects.specs.PassLaws.{outcome_is, pass_laws}
 use Rattle.alias_effects.specs.Recording.{recorded_instructions, recorded_terminals, with_effects_of}
-use Rattle.alias_text.specs.Lines.{recorded, recorded_of}
+use Rattle.alias_text.specs.Lines.{recorded_of}
 use Rattle.alias_cert_text_laws.specs.Certifying.{cert_effect, effects_of, effects_in, ends_in, cert_block}
 use Rattle.alias_certificate.specs.declared.certificate.CertBlock.{CertBlock}
 use Rattle.alias_certificate.specs.declared.certificate.CertEffect.{CertEffect}
