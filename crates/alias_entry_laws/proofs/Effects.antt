@@ -171,8 +171,8 @@ module _ (env : Environment) (N : ℕ → Type 0) (F : FunctionId → Type 0) (w
   global_write_leads r v s =
       leads_then (Anything {A = DiagnosticId}) (ProgressNamed N F) (intern_report v.identifier r) _ (leads_report v.identifier r) (λ d. step_on _ (λ p. (tt, p.0)) (raised_leaf (effect.MutateGlobal v d) s))
 
-  note_read_leads : (f : FunctionId) (p : Place) (s : StepProgress) → To (Named s) (note_read_capture f p s)
-  note_read_leads f p s = step_if (is_read_capture s.state p) _ _ (leads_noted (ProgressNamed N F) (record { function = f; place = p.identifier }) s (λ h. h)) (step_gives s (λ h. h))
+  note_read_leads : (f : FunctionId) (p : Place) (s : StepProgress) → To (F f × Named s) (note_read_capture f p s)
+  note_read_leads f p s = step_if (is_read_capture s.state p) _ _ (leads_noted (ProgressNamed N F) (record { function = f; place = p.identifier }) s (λ h. h.0) (λ h. h.1)) (step_gives s (λ h. h.1))
 
 -- ---- the steps that know tables and hoisted declarations
 
@@ -234,15 +234,15 @@ module _ (c : StepContext) (N : ℕ → Type 0) (F : FunctionId → Type 0) (who
   capture_each_leads x [] s = step_gives s (λ h. h)
   capture_each_leads x (p ∷ ps) s = step_then (intern_and_apply_simple c (effect.Capture p x) s) (capture_each c x ps) (step_on _ (λ h. (tt, h)) (raised_simple (effect.Capture p x) s)) (λ w. step_on _ (λ p. p.1) (capture_each_leads x ps w))
 
-  note_each_leads : (f : FunctionId) (ps : List Place) (s : StepProgress) → Into (At s) (each (note_read_capture f) ps s)
-  note_each_leads f [] s = step_gives s (λ h. h)
-  note_each_leads f (p ∷ ps) s = step_then (note_read_capture f p s) (each (note_read_capture f) ps) (note_read_leads c.env N F whole placed f p s) (λ w. step_on _ (λ p. p.1) (note_each_leads f ps w))
+  note_each_leads : (f : FunctionId) (ps : List Place) (s : StepProgress) → Into (F f × At s) (each (note_read_capture f) ps s)
+  note_each_leads f [] s = step_gives s (λ h. h.1)
+  note_each_leads f (p ∷ ps) s = step_then (note_read_capture f p s) (each (note_read_capture f) ps) (note_read_leads c.env N F whole placed f p s) (λ w. step_on _ (λ p. (p.0.0, p.1)) (note_each_leads f ps w))
 
   create_function_leads : (x : Place) (f : FunctionId) (ps : List Place) (s : StepProgress) → Into ((N x.identifier.0 × F f) × At s) (apply_create_function c x f ps s)
   create_function_leads x f ps s =
       step_then (made x.identifier s) _ (step_on _ (λ p. p.1) (made_leads c.env N F whole placed x.identifier s)) (λ w.
       step_then (each (note_read_capture f) (context_of c.env f) (record_of (effect.CreateFunction x f ps) w)) _
-      (step_on _ (λ p. p.1) (note_each_leads f (context_of c.env f) (record_of (effect.CreateFunction x f ps) w))) (λ a.
+      (step_on _ (λ p. (p.0.0.1, p.1)) (note_each_leads f (context_of c.env f) (record_of (effect.CreateFunction x f ps) w))) (λ a.
       step_on _ (λ p. named_given N F x.identifier (Function f) (function_value (is_mutable_function c f ps a.state)) a.state p.0.0.0.0 p.0.0.0.1 p.1)
       (capture_each_leads x ps (with_state (given x.identifier (Function f) (function_value (is_mutable_function c f ps a.state)) a.state) a))))
 

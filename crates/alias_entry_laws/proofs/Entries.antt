@@ -24,7 +24,7 @@ use Rattle.alias_hir.specs.declared.hir.ParamPattern.{ParamPattern}
 use Rattle.alias_hir.specs.declared.hir.Phi.{Phi}
 use Rattle.alias_hir.specs.declared.place.Place.{Place}
 use Rattle.alias_visit.specs.Places.{created_places}
-use Rattle.alias_lattice.specs.Flows.{Stepped}
+use Rattle.alias_lattice.specs.Flows.{Stepped, IsReached, at_entry, by_edge}
 use Rattle.alias_lattice.specs.JoinLaws.{state_laws}
 use Rattle.alias_lattice.specs.ProperStates.{StateProper}
 use Rattle.alias_lattice.specs.States.{State, state_join, state_below}
@@ -76,6 +76,10 @@ at_of Q (y ∷ ys) (suc n) x h e = at_of Q ys n x h.1 e
 
 -- ---- what a function that fits names
 
+-- each function that an instruction of the block creates has F
+abbrev pub CreateIn : (FunctionId → Type 0) → HirFunction → BlockId × BasicBlock → Type 0
+CreateIn F func b = AllByRecursion (λ (i : InstructionId). CreatesAt F (slice_get func.instructions i.0)) b.1.instructions
+
 module _ (env : Environment) where
   in_table : (p : Place) → place_within_tables env p ≡ true → InTable env p
   in_table p h = ltb-true p.identifier.0 (length env.identifiers) h
@@ -101,7 +105,8 @@ module _ (env : Environment) where
   phis_pass : (g : HirFunction) (b : BasicBlock) → block_fits env g b ≡ Ok tt → AllByRecursion (λ (p : Phi). InTable env p.place) b.phis
   phis_pass g b h = each_passes (phi_fits env) (λ (p : Phi). InTable env p.place) phi_passes b.phis (both_pass (all_pass (phi_fits env) b.phis) _ h).0
 
-module _ (func : HirFunction) (env : Environment) (f : Bool) (fits : function_fits func env ≡ true) (F : FunctionId → Type 0) (functions : (g : FunctionId) → F g → g.0 < length env.functions) (creates : BlocksCreate F func) where
+module _ (func : HirFunction) (env : Environment) (f : Bool) (fits : function_fits func env ≡ true) (F : FunctionId → Type 0) (functions : (g : FunctionId) → F g → g.0 < length env.functions)
+    (creates : (n : ℕ) (b : BlockId × BasicBlock) → IsReached (numbered (context_of env func f)).flow n → slice_get func.body.blocks n ≡ Some b → CreateIn F func b) where
   abbrev c : BlockContext
   c = context_of env func f
 
@@ -176,38 +181,38 @@ module _ (func : HirFunction) (env : Environment) (f : Bool) (fits : function_fi
   good_on : (t u : TableLists) → Grows t.temporaries u.temporaries → (x : State) → Good t x → Good u x
   good_on t u g x h = (h.0, stating_on (N t) (N u) F F (more_named t u g) (λ k i. i) x h.1)
 
-  block_kept : (n : ℕ) (b : BlockId × BasicBlock) (t : TableLists) (x y : State) (u : TableLists) (k : BlockEffects) → slice_get func.body.blocks n ≡ Some b → TablesWithin env u → StateWithin env y → Invariant t → Good t x
+  block_kept : (n : ℕ) (b : BlockId × BasicBlock) (t : TableLists) (x y : State) (u : TableLists) (k : BlockEffects) → IsReached (numbered c).flow n → slice_get func.body.blocks n ≡ Some b → TablesWithin env u → StateWithin env y → Invariant t → Good t x
       → infer_block c b.0 b.1 x t ≡ Ok ((y, k), u) → Kept Invariant Good t u y
-  block_kept n b t x y u k at_index tables state i g e =
+  block_kept n b t x y u k reached at_index tables state i g e =
       let grown : Extends t u = (again_infer_block c b.0 b.1 x).grows t u (y, k) e in
-      let r = (block_inferred c (N u) F u.first (first_placed u u.first tables.first) (known u) functions (bindings_named u) b.0 b.1 x (phis_named u n b at_index) (are_known u b.1.instructions
-      (at_of (λ (z : BlockId × BasicBlock). AllByRecursion (λ (i : InstructionId). CreatesAt F (slice_get func.instructions i.0)) z.1.instructions) func.body.blocks n b creates at_index))).leads
+      let r = (block_inferred c (N u) F u.first (first_placed u u.first tables.first) (known u) functions (bindings_named u) b.0 b.1 x (phis_named u n b at_index) (are_known u b.1.instructions (creates n b reached at_index))).leads
       t u (y, k) (good_on t u grown.temporaries x g).1 i.1 (grows_self u.first) e in
       record { tables = (tables, r.0); state = (state, r.1); still = good_on t u grown.temporaries }
 
-  step_kept : (n : ℕ) (o : Option (BlockId × BasicBlock)) (t : TableLists) (x y : State) (u : TableLists) (k : BlockEffects) → slice_get func.body.blocks n ≡ o → TablesWithin env u → StateWithin env y → Invariant t → Good t x
+  step_kept : (n : ℕ) (o : Option (BlockId × BasicBlock)) (t : TableLists) (x y : State) (u : TableLists) (k : BlockEffects) → IsReached (numbered c).flow n → slice_get func.body.blocks n ≡ o → TablesWithin env u → StateWithin env y → Invariant t → Good t x
       → step_at c o t x ≡ Stepped y u k → Kept Invariant Good t u y
-  step_kept n None t x y u k o tables state i g e =
+  step_kept n None t x y u k reached o tables state i g e =
       let same : t ≡ u = cc in
       let still : x ≡ y = cc in
       let here : Good t y = subst (Good t) still g in
       record { tables = subst Invariant same i; state = subst (λ v. Good v y) same here; still = λ z q. subst (λ v. Good v z) same q }
-  step_kept n (Some b) t x y u k o tables state i g e = block_kept n b t x y u k o tables state i g (outcome_is (infer_block c b.0 b.1 x t) y u k e)
+  step_kept n (Some b) t x y u k reached o tables state i g e = block_kept n b t x y u k reached o tables state i g (outcome_is (infer_block c b.0 b.1 x t) y u k e)
 
   -- ---- the visits
 
-  -- the entry states at the end, and the temporaries
-  entries_kept : (w : SolverState (VisitLog State) TableLists BlockEffects) → visits_end c ≡ end.Solved w → AllHold (Good w.tables) w.progress.joined_input × AreNumbered env [] w.tables.temporaries
+  -- the entry states at the end, and the tables
+  entries_kept : (w : SolverState (VisitLog State) TableLists BlockEffects) → visits_end c ≡ end.Solved w → AllHold (Good w.tables) w.progress.joined_input × Counted env F w.tables
   entries_kept w e =
-      let r = solution_keeps state_join state_below (numbered c) Invariant Good (length func.body.blocks) joins_good
-      (λ t n x y u k i g s. let q = position_within func env f fits n t x y u k i.0 g.0 s in step_kept n (slice_get func.body.blocks n) t x y u k refl q.tables q.state i g s)
-      (tables_of env) (replicate (length func.body.blocks) None) w (begun_within func env f fits, record { first = tt; temporaries = tt }) (initial_good (tables_of env)) (length-replicate (length func.body.blocks) None) e in
-      (r.1, r.0.1.temporaries)
+      let r = solution_keeps state_join state_below (numbered c) Invariant Good (length func.body.blocks) joins_good (IsReached (numbered c).flow) at_entry (λ b d reached one. by_edge b d reached one)
+      (λ t n x y u k reached i g s. let q = position_within func env f fits n t x y u k i.0 g.0 s in step_kept n (slice_get func.body.blocks n) t x y u k reached refl q.tables q.state i g s)
+      (tables_of env) (replicate (length func.body.blocks) None) w (begun_within func env f fits, record { first = tt; temporaries = tt; reads = tt }) (initial_good (tables_of env)) (length-replicate (length func.body.blocks) None) e in
+      (r.1, r.0.1)
 
 -- ---- with functions that have F, which are those of the table where they are created
 
-module _ (func : HirFunction) (env : Environment) (f : Bool) (fits : function_fits func env ≡ true) (F : FunctionId → Type 0) (creates : BlocksCreate F func) where
-  abbrev There : FunctionId → Type 0
+module _ (func : HirFunction) (env : Environment) (f : Bool) (fits : function_fits func env ≡ true) (F : FunctionId → Type 0)
+    (creates : (n : ℕ) (b : BlockId × BasicBlock) → IsReached (numbered (context_of env func f)).flow n → slice_get func.body.blocks n ≡ Some b → CreateIn F func b) where
+  abbrev pub There : FunctionId → Type 0
   There g = F g × (g.0 < length env.functions)
 
   created_in_table : (o : Option FunctionId) → CreatedWithin env o → CreatesHas F o → CreatesHas There o
@@ -218,12 +223,10 @@ module _ (func : HirFunction) (env : Environment) (f : Bool) (fits : function_fi
   creates_at None h g = tt
   creates_at (Some x) h g = created_in_table (created x.value) (h x refl).created g
 
-  blocks_create : BlocksCreate There func
-  blocks_create =
-      all_on (λ (b : BlockId × BasicBlock). AllByRecursion (λ (i : InstructionId). CreatesAt F (slice_get func.instructions i.0)) b.1.instructions)
-      (λ (b : BlockId × BasicBlock). AllByRecursion (λ (i : InstructionId). CreatesAt There (slice_get func.instructions i.0)) b.1.instructions)
-      (λ b. all_on (λ (i : InstructionId). CreatesAt F (slice_get func.instructions i.0)) (λ (i : InstructionId). CreatesAt There (slice_get func.instructions i.0))
-      (λ i. creates_at (slice_get func.instructions i.0) (λ x e. at_of (InstructionWithin env) func.instructions i.0 x (context_within func env f fits).instructions e)) b.1.instructions) func.body.blocks creates
+  reached_create : (n : ℕ) (b : BlockId × BasicBlock) → IsReached (numbered (context_of env func f)).flow n → slice_get func.body.blocks n ≡ Some b → CreateIn There func b
+  reached_create n b reached at =
+      all_on (λ (i : InstructionId). CreatesAt F (slice_get func.instructions i.0)) (λ (i : InstructionId). CreatesAt There (slice_get func.instructions i.0))
+      (λ i. creates_at (slice_get func.instructions i.0) (λ x e. at_of (InstructionWithin env) func.instructions i.0 x (context_within func env f fits).instructions e)) b.1.instructions (creates n b reached at)
 
   all_named : (t : TableLists) (xs : List (Option State)) → AllHold (λ s. StateWithin env s × Stating (λ n. n < length env.identifiers + length t.temporaries) There s) xs → AllHold (StateNamed (λ n. n < length env.identifiers + length t.temporaries) F) xs
   all_named t [] h = tt
@@ -232,7 +235,19 @@ module _ (func : HirFunction) (env : Environment) (f : Bool) (fits : function_fi
       let M : ℕ → Type 0 = λ n. n < length env.identifiers + length t.temporaries in
       (state_named M F s (stating_on M M There F (λ n i. i) (λ k i. i.0) s h.0.1), all_named t xs h.1)
 
-  pub entries_named : (w : SolverState (VisitLog State) TableLists BlockEffects) → visits_end (context_of env func f) ≡ end.Solved w → EntriesNamed env F w
-  entries_named w e =
-      let r = entries_kept func env f fits There (λ k i. i.1) blocks_create w e in
-      record { states = all_named w.tables w.progress.joined_input r.0; temporaries = r.1 }
+  -- where reached blocks create functions with F: the entry states, and the tables, context places that were read among them
+  pub tables_named : (w : SolverState (VisitLog State) TableLists BlockEffects) → visits_end (context_of env func f) ≡ end.Solved w
+      → AllHold (λ s. StateWithin env s × Stating (λ n. n < length env.identifiers + length w.tables.temporaries) There s) w.progress.joined_input × Counted env There w.tables
+  tables_named w e = entries_kept func env f fits There (λ k i. i.1) reached_create w e
+
+  -- what the instructions of a reached block name
+  pub reached_known : (n : ℕ) (b : BlockId × BasicBlock) → IsReached (numbered (context_of env func f)).flow n → slice_get func.body.blocks n ≡ Some b → AreKnown env There func b.1.instructions
+  reached_known n b reached at = are_known func env f fits There (λ k i. i.1) reached_create (tables_of env) b.1.instructions (reached_create n b reached at)
+
+  pub reached_named : (w : SolverState (VisitLog State) TableLists BlockEffects) → visits_end (context_of env func f) ≡ end.Solved w → EntriesNamed env F w
+  reached_named w e = let r = tables_named w e in record { states = all_named w.tables w.progress.joined_input r.0; temporaries = r.1.temporaries }
+
+-- where all blocks do
+pub entries_named : (func : HirFunction) (env : Environment) (f : Bool) → function_fits func env ≡ true → (F : FunctionId → Type 0) → BlocksCreate F func → (w : SolverState (VisitLog State) TableLists BlockEffects)
+    → visits_end (context_of env func f) ≡ end.Solved w → EntriesNamed env F w
+entries_named func env f fits F creates w e = reached_named func env f fits F (λ n b reached at. at_of (λ (z : BlockId × BasicBlock). CreateIn F func z) func.body.blocks n b creates at) w e

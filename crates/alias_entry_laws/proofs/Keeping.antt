@@ -1,8 +1,8 @@
 -- What steps keep of tables and states, the entry states have in the end.
 use Rattle.std.specs.Prelude.{slice_set, slice_index_or, replicate}
-use Rattle.std.proofs.Common.{◌≡◌, ◌∙◌, ℕ, zero, suc, Bool, true, false, if◌then◌else◌, List, [], ◌∷◌, length, Option, Some, None, refl, subst}
+use Rattle.std.proofs.Common.{◌≡◌, ◌∙◌, ℕ, zero, suc, Bool, true, false, if◌then◌else◌, List, [], ◌∷◌, length, Option, Some, None, inl, inr, refl, subst}
 use Rattle.std.proofs.lemmas.List.{length-set}
-use Rattle.alias_lattice.specs.Flows.{Outcome, Stepped, Refused}
+use Rattle.alias_lattice.specs.Flows.{Outcome, Stepped, Refused, IsOneOf}
 use Rattle.alias_flow.specs.Machine.{Rules, VisitLog, SolverState, Run, Going, Stopped, End, Solved, NotSettled, after, ending, up, joined, send, send_all, visited, dirty, outcome_after, visit_at, visit, turn, round, any_dirty, rounds, start, solution}
 use Rattle.alias_flow.specs.RecordingLaws.{HoldsOf, AllHold}
 
@@ -28,6 +28,19 @@ all_held_on : {X : Type 0} (p q : X → Type 0) → ((x : X) → p x → q x) �
 all_held_on p q f [] a = tt
 all_held_on p q f (x ∷ xs) a = (held_on p q f x a.0, all_held_on p q f xs a.1)
 
+-- where all that have a state have R, and the one that gets one, all have it then
+set_reach : {X : Type 0} (R : ℕ → Type 0) (xs : List (Option X)) (n : ℕ) (v : Option X) → ((b : ℕ) (x : X) → slice_index_or xs b None ≡ Some x → R b) → R n → (b : ℕ) (x : X) → slice_index_or (slice_set xs n v) b None ≡ Some x → R b
+set_reach R [] n v h r b x e = h b x e
+set_reach R (y ∷ ys) zero v h r zero x e = r
+set_reach R (y ∷ ys) zero v h r (suc b) x e = h (suc b) x e
+set_reach R (y ∷ ys) (suc n) v h r zero x e = h zero x e
+set_reach R (y ∷ ys) (suc n) v h r (suc b) x e = set_reach (λ k. R (suc k)) ys n v (λ c z f. h (suc c) z f) r b x e
+
+none_reached : {X : Type 0} (R : ℕ → Type 0) (n b : ℕ) (x : X) → slice_index_or (replicate n None) b None ≡ Some x → R b
+none_reached R zero b x e = cc
+none_reached R (suc n) zero x e = cc
+none_reached R (suc n) (suc b) x e = none_reached (λ k. R (suc k)) n b x e
+
 -- what a step leaves: tables and a state that keep what is kept, and each state keeps it under these tables
 pub record Kept {P T : Type 0} (inv : T → Type 0) (good : T → P → Type 0) (t u : T) (y : P) : Type 0 where
   pub tables : inv u
@@ -36,13 +49,15 @@ pub record Kept {P T : Type 0} (inv : T → Type 0) (good : T → P → Type 0) 
 
 module _ {P T K C : Type 0} (join : P → P → P) (below : P → P → Bool) (rules : Rules P T K C) (inv : T → Type 0) (good : T → P → Type 0) (n : ℕ)
     (joins : (t : T) (x y : P) → good t x → good t y → good t (join x y))
-    (step : (t : T) (b : ℕ) (x y : P) (u : T) (k : K) → inv t → good t x → rules.flow.step t b x ≡ Stepped y u k → Kept inv good t u y) where
+    (reached : ℕ → Type 0) (begins : reached rules.flow.entry) (edge : (b c : ℕ) → reached b → IsOneOf c (rules.flow.edges b) → reached c)
+    (step : (t : T) (b : ℕ) (x y : P) (u : T) (k : K) → reached b → inv t → good t x → rules.flow.step t b x ≡ Stepped y u k → Kept inv good t u y) where
   abbrev W : Type 0
   W = SolverState (VisitLog P) T K
 
   record Stands (w : W) : Type 0 where
     tables : inv w.tables
     inputs : AllHold (good w.tables) w.progress.joined_input
+    reach : (b : ℕ) (x : P) → slice_index_or w.progress.joined_input b None ≡ Some x → reached b
     long : length w.recorded ≡ n
 
   joined_good : (t : T) (o : Option P) (x : P) → HoldsOf (good t) o → good t x → good t (joined join o x)
@@ -56,20 +71,32 @@ module _ {P T K C : Type 0} (join : P → P → P) (below : P → P → Bool) (r
   all_sent t x xs [] g a = a
   all_sent t x xs (e ∷ es) g a = all_sent t x (send join x xs e) es g (sent t x xs e g a)
 
-  outcome_stands : (w v : W) (b : ℕ) (x : P) (o : Outcome P T K C) → rules.flow.step w.tables b x ≡ o → good w.tables x → Stands w → outcome_after join below rules w b x o ≡ Going v → Stands v
-  outcome_stands w v b x (Stepped y t k) s g h e =
-      let i = step w.tables b x y t k h.tables g s in
+  -- what is sent along edges arrives at reached blocks
+  sends_reach : (x : P) (xs : List (Option P)) (es : List ℕ) → ((b : ℕ) (y : P) → slice_index_or xs b None ≡ Some y → reached b) → ((c : ℕ) → IsOneOf c es → reached c)
+      → (b : ℕ) (y : P) → slice_index_or (send_all join x xs es) b None ≡ Some y → reached b
+  sends_reach x xs [] h f b y e = h b y e
+  sends_reach x xs (to ∷ es) h f b y e =
+      sends_reach x (send join x xs to) es (set_reach reached xs to (Some (joined join (slice_index_or xs to None) x)) h (f to (inl refl))) (λ c i. f c (inr i)) b y e
+
+  outcome_stands : (w v : W) (b : ℕ) (x : P) (o : Outcome P T K C) → rules.flow.step w.tables b x ≡ o → reached b → good w.tables x → Stands w → outcome_after join below rules w b x o ≡ Going v → Stands v
+  outcome_stands w v b x (Stepped y t k) s r g h e =
+      let i = step w.tables b x y t k r h.tables g s in
       let made : W = record { progress = visited join w.progress b x y (rules.flow.edges b); tables = t; recorded = slice_set w.recorded b (Some k) } in
       let same : made ≡ v = cc in
-      subst Stands same (record { tables = i.tables; inputs = all_sent t y w.progress.joined_input (rules.flow.edges b) i.state (all_held_on (good w.tables) (good t) i.still w.progress.joined_input h.inputs); long = length-set w.recorded b (Some k) ∙ h.long })
-  outcome_stands w v b x (Refused c) s g h e = cc
+      subst Stands same (record {
+        tables = i.tables;
+        inputs = all_sent t y w.progress.joined_input (rules.flow.edges b) i.state (all_held_on (good w.tables) (good t) i.still w.progress.joined_input h.inputs);
+        reach = sends_reach y w.progress.joined_input (rules.flow.edges b) h.reach (λ c one. edge b c r one);
+        long = length-set w.recorded b (Some k) ∙ h.long;
+      })
+  outcome_stands w v b x (Refused c) s r g h e = cc
 
-  visit_stands : (w v : W) (b : ℕ) (o : Option P) → HoldsOf (good w.tables) o → Stands w → visit_at join below rules w b o ≡ Going v → Stands v
-  visit_stands w v b None g h e = let same : w ≡ v = cc in subst Stands same h
-  visit_stands w v b (Some x) g h e = outcome_stands w v b x (rules.flow.step w.tables b x) refl g h e
+  visit_stands : (w v : W) (b : ℕ) (o : Option P) → slice_index_or w.progress.joined_input b None ≡ o → HoldsOf (good w.tables) o → Stands w → visit_at join below rules w b o ≡ Going v → Stands v
+  visit_stands w v b None is g h e = let same : w ≡ v = cc in subst Stands same h
+  visit_stands w v b (Some x) is g h e = outcome_stands w v b x (rules.flow.step w.tables b x) refl (h.reach b x is) g h e
 
   turn_stands : (w v : W) (b : ℕ) (wish : Bool) → Stands w → ◌≡◌ {A = Run (VisitLog P) T K C} (if wish then visit join below rules w b else Going w) (Going v) → Stands v
-  turn_stands w v b true h e = visit_stands w v b (slice_index_or w.progress.joined_input b None) (at_holds (good w.tables) w.progress.joined_input b h.inputs) h e
+  turn_stands w v b true h e = visit_stands w v b (slice_index_or w.progress.joined_input b None) refl (at_holds (good w.tables) w.progress.joined_input b h.inputs) h e
   turn_stands w v b false h e = let same : w ≡ v = cc in subst Stands same h
 
   after_stands : (r : Run (VisitLog P) T K C) (f : W → Run (VisitLog P) T K C) (v : W) → ((u : W) → r ≡ Going u → Stands u) → ((u : W) → Stands u → f u ≡ Going v → Stands v) → after r f ≡ Going v → Stands v
@@ -103,5 +130,5 @@ module _ {P T K C : Type 0} (join : P → P → P) (below : P → P → Bool) (r
   pub solution_keeps : (tables : T) (recorded : List (Option K)) (v : W) → inv tables → good tables rules.flow.initial → length recorded ≡ n → solution join below rules tables recorded ≡ Solved v → inv v.tables × AllHold (good v.tables) v.progress.joined_input × (length v.recorded ≡ n)
   unfolding solution
   solution_keeps tables recorded v i g l e =
-      let s = rounds_stand 100 (start join below rules tables recorded) v (record { tables = i; inputs = sent tables rules.flow.initial (replicate rules.blocks None) rules.flow.entry g (none_hold (good tables) rules.blocks); long = l }) e in
+      let s = rounds_stand 100 (start join below rules tables recorded) v (record { tables = i; inputs = sent tables rules.flow.initial (replicate rules.blocks None) rules.flow.entry g (none_hold (good tables) rules.blocks); reach = set_reach reached (replicate rules.blocks None) rules.flow.entry (Some (joined join (slice_index_or (replicate rules.blocks None) rules.flow.entry None) rules.flow.initial)) (none_reached reached rules.blocks) begins; long = l }) e in
       (s.tables, s.inputs, s.long)

@@ -20,6 +20,7 @@ use Rattle.alias_tables.specs.FirstEffects.{same_key, first_like}
 use Rattle.alias_tables.specs.GrowingLaws.{Grows, grows_self, again_intern, again_temporary}
 use Rattle.alias_tables.specs.Keys.{key_of, with_error_of}
 use Rattle.alias_tables.specs.ReplayLaws.{first_is, tables_are, not_given}
+use Rattle.alias_tables.specs.Reads.{is_noted}
 use Rattle.alias_tables.specs.Steps.{◌>>=◌, and_then, gives, refuses, each, if_some, collect}
 use Rattle.alias_tables.specs.Tables.{TableLists, intern, intern_by, intern_after, has_room, new_place, temporary, temporary_after, with_reports, intern_report, note_read, noted}
 use Rattle.alias_tables.specs.Temporaries.{temp_like, temporary_of}
@@ -80,10 +81,15 @@ abbrev pub Interned : (ℕ → Type 0) → (FunctionId → Type 0) → AliasingE
 Interned N F (effect.Apply receiver function mutates args into signature span) = Unit {0}
 Interned N F e = Placed N e × Makes F e
 
--- first effects create functions with F alone, and the temporaries are counted on from the identifiers
+-- context places that were read are of functions with F
+abbrev pub ReadsHave : (FunctionId → Type 0) → List ContextRead → Type 0
+ReadsHave F rs = AllByRecursion (λ (r : ContextRead). F r.function) rs
+
+-- first effects create functions with F alone, the temporaries are counted on from the identifiers, and context places are read of functions with F
 pub record Counted (env : Environment) (F : FunctionId → Type 0) (t : TableLists) : Type 0 where
   pub first : MakesAll F t.first
   pub temporaries : AreNumbered env [] t.temporaries
+  pub reads : ReadsHave F t.reads
 
 abbrev pub StepOf : Type 0 → Type 0 → Type 0
 StepOf C A = TableLists → Result (A × TableLists) C
@@ -170,7 +176,7 @@ module _ (env : Environment) (F : FunctionId → Type 0) (key : TempKey) (span :
       let x = temporary_of key p in
       let there = key_on (length env.identifiers) (length env.identifiers + length t.temporaries) (length env.functions) key (omega arith) k in
       let more : AreNumbered env [] (t.temporaries ++ x ∷ []) = numbered_more env [] t.temporaries x h.temporaries (refl, none, there, room) in
-      same_leads (Anything {A = Place}) p y (record t { temporaries = t.temporaries ++ x ∷ [] }) u e (record { first = h.first; temporaries = more }) tt
+      same_leads (Anything {A = Place}) p y (record t { temporaries = t.temporaries ++ x ∷ [] }) u e (record { first = h.first; temporaries = more; reads = h.reads }) tt
   new_leads t u y false room none k h e = not_given _ y u e
 
   temporary_leads : (t u : TableLists) (y : Place) (o : Option Temporary) → temp_like key t.temporaries ≡ o → KeyThere → Counted env F t → temporary_after o env key span t ≡ Ok (y, u) → Counted env F u × Anything y
@@ -201,17 +207,21 @@ numbers_in id r t = record { identity = number_of (same_identity id r) t.reports
 abbrev has_numbers : IdentifierId → Report → TableLists → Bool
 has_numbers id r t = nat_lt (number_of (same_identity id r) t.reports) 4294967295 && nat_lt (number_of (same_instance id r) t.reports) 4294967295
 
+noted_have : (F : FunctionId → Type 0) (b : Bool) (r : ContextRead) (rs : List ContextRead) → F r.function → ReadsHave F rs → ReadsHave F (if b then rs else rs ++ r ∷ [])
+noted_have F true r rs h g = g
+noted_have F false r rs h g = all_of_both (λ (q : ContextRead). F q.function) rs (r ∷ []) g (h, tt)
+
 module _ {env : Environment} {F : FunctionId → Type 0} {whole : List AliasingEffect} where
   pub leads_report : {P : Type 0} (id : IdentifierId) (r : Report) → Leads env F whole P (Anything {A = DiagnosticId}) (intern_report id r)
   leads_report id r = record {
     grows = λ t u y e. report_grows t u y (numbers_in id r t) (with_reports t (with_interned t.reports id r)) (has_numbers id r t) (grows_self t.first) e;
-    leads = λ t u y p k g e. report_counts env F u y (numbers_in id r t) (with_reports t (with_interned t.reports id r)) (has_numbers id r t) (record { first = k.first; temporaries = k.temporaries }) e;
+    leads = λ t u y p k g e. report_counts env F u y (numbers_in id r t) (with_reports t (with_interned t.reports id r)) (has_numbers id r t) (record { first = k.first; temporaries = k.temporaries; reads = k.reads }) e;
   }
 
-  pub leads_noted : {A : Type 0} {P : Type 0} (Q : A → Type 0) (r : ContextRead) (x : A) → (P → Q x) → Leads env F whole P Q (noted r x)
-  leads_noted Q r x f = record {
+  pub leads_noted : {A : Type 0} {P : Type 0} (Q : A → Type 0) (r : ContextRead) (x : A) → (P → F r.function) → (P → Q x) → Leads env F whole P Q (noted r x)
+  leads_noted Q r x own f = record {
     grows = λ t u y e. same_grows x y t (note_read r t) u e (grows_self t.first);
-    leads = λ t u y p k g e. same_leads Q x y (note_read r t) u e (record { first = k.first; temporaries = k.temporaries }) (f p);
+    leads = λ t u y p k g e. same_leads Q x y (note_read r t) u e (record { first = k.first; temporaries = k.temporaries; reads = noted_have F (is_noted r t.reads) r t.reads (own p) k.reads }) (f p);
   }
 
 -- ---- effects
@@ -244,7 +254,7 @@ module _ (env : Environment) (N : ℕ → Type 0) (F : FunctionId → Type 0) (w
       let v = record t { first = t.first ++ e ∷ [] } in
       let grown : Grows v.first whole = subst (λ (w : TableLists). Grows w.first whole) (sym (tables_are e y v u i)) g in
       let here = (all_of_parts (Placed N) t.first (e ∷ []) (placed_in N whole placed v.first grown)).1.0 in
-      same_leads (Interned N F) e y v u i (record { first = all_of_both (Makes F) t.first (e ∷ []) h.first (m, tt); temporaries = h.temporaries }) (interned_of N F e here m)
+      same_leads (Interned N F) e y v u i (record { first = all_of_both (Makes F) t.first (e ∷ []) h.first (m, tt); temporaries = h.temporaries; reads = h.reads }) (interned_of N F e here m)
   interned_after k (Some z) e t u y is m h g i =
       let grown : Grows t.first whole = subst (λ (w : TableLists). Grows w.first whole) (sym (tables_are (with_error_of z e) y t u i)) g in
       let here = first_has same_key key_of (Placed N) k t.first z is (placed_in N whole placed t.first grown) in

@@ -1,0 +1,176 @@
+-- What the check of a function notes of context places is of functions that an instruction creates that carries an effect afterwards.
+use Rattle.std.specs.Prelude.{◌≡◌, ℕ, ◌+◌, ◌<◌, cond, Bool, true, false, if◌then◌else◌, ◌&&◌, ◌==◌, List, [], ◌∷◌, ◌++◌, length, map, Option, Some, None, Result, Ok, Err, slice_get, replicate, refl}
+use Rattle.std.proofs.Common.{ap, sym, ◌∙◌, subst, ⊎_elim}
+use Rattle.std.specs.List.{AllByRecursion}
+use Rattle.std.specs.Option.{option_map_or}
+use Rattle.alias_base.specs.Answer.{◌>>=◌}
+use Rattle.alias_base.specs.declared.ids.BlockId.{BlockId}
+use Rattle.alias_base.specs.declared.ids.FunctionId.{FunctionId}
+use Rattle.alias_base.specs.declared.ids.IdentifierId.{IdentifierId}
+use Rattle.alias_base.specs.declared.ids.InstructionId.{InstructionId}
+use Rattle.alias_hir.specs.Effects.{effect_places}
+use Rattle.alias_hir.specs.Values.{places_of, created}
+use Rattle.alias_hir.specs.declared.effect.AliasingEffect.{AliasingEffect}
+use Rattle.alias_hir.specs.declared.env.Environment.{Environment}
+use Rattle.alias_hir.specs.declared.error.Counter.TheVariants.{Identifiers}
+use Rattle.alias_hir.specs.declared.hir.BasicBlock.{BasicBlock}
+use Rattle.alias_hir.specs.declared.hir.HirFunction.{HirFunction}
+use Rattle.alias_hir.specs.declared.hir.Instruction.{Instruction}
+use Rattle.alias_hir.specs.declared.hir.Phi.{Phi}
+use Rattle.alias_hir.specs.declared.place.Place.{Place}
+use Rattle.alias_visit.specs.Operands.{context_at}
+use Rattle.alias_visit.specs.Places.{created_places}
+use Rattle.alias_lattice.specs.Flows.{Stepped, IsReached}
+use Rattle.alias_lattice.specs.States.{State}
+use Rattle.alias_tables.specs.GrowingLaws.{grows_self}
+use Rattle.alias_tables.specs.ReplayLaws.{tables_are, not_given}
+use Rattle.alias_tables.specs.Tables.{TableLists, new_place, temporary, temporary_after, has_room}
+use Rattle.alias_tables.specs.Temporaries.{same_temp, temp_like, temporary_of}
+use Rattle.alias_tables.specs.declared.faults.Refusal.{Refusal}
+use Rattle.alias_tables.specs.declared.faults.Refusal.TheVariants as refused
+use Rattle.alias_tables.specs.declared.temp_key.TempKey.{TempKey}
+use Rattle.alias_tables.specs.declared.temporaries.Temporary.{Temporary}
+use Rattle.alias_block.specs.Contexts.{context_of}
+use Rattle.alias_block.specs.Blocks.{infer_block}
+use Rattle.alias_block.specs.declared.recorded.BlockEffects.{BlockEffects}
+use Rattle.alias_effects.specs.Numbered.{numbered, step_at}
+use Rattle.alias_effects.specs.PassLaws.{outcome_is}
+use Rattle.alias_certificate.specs.declared.certificate.CertTemporary.{CertTemporary}
+use Rattle.alias_certificate.specs.declared.fault.CheckFault.{CheckFault}
+use Rattle.alias_certificate.specs.declared.fault.CheckFault.TheVariants as fault
+use Rattle.alias_cert_function.specs.Temporaries.{is_key_there, next_number, given, temporary_stated, temporaries_stated}
+use Rattle.alias_entry_laws.specs.Named.{KeyNamed, IsNext, AreNumbered, CreatesHas}
+use Rattle.alias_entry_laws.proofs.Blocks.{OptionKnown, AreKnown, PhisNamed, block_inferred}
+use Rattle.alias_entry_laws.proofs.Leading.{Placed, Counted}
+use Rattle.alias_entry_laws.proofs.States.{Stating, stating_on}
+use Rattle.alias_entry_laws.proofs.Stepping.{InTable, InstructionKnown}
+use Rattle.alias_order_laws.proofs.Ordering.{went}
+use Rattle.alias_accept_laws.specs.Alike.{Paired, none, more, moved, AlikeTemporary, of_key, AlikeTemporaries}
+use Rattle.alias_accept_laws.proofs.Calling.{same_length}
+use Rattle.alias_accept_laws.proofs.Likeness.{paired_append}
+
+-- ---- the tables that a check begins with
+
+-- nothing is noted, and there is no first effect yet
+pub record IsFresh (t : TableLists) : Type 0 where
+  pub first : t.first ≡ []
+  pub reads : t.reads ≡ []
+
+made_fresh : (b : Bool) (v t u : TableLists) (p q : Place) (c : Refusal) → IsFresh v → (let r : Result (Place × TableLists) Refusal = if b then Ok (q, v) else Err c in r ≡ Ok (p, u)) → IsFresh u
+made_fresh true v t u p q c f h = subst IsFresh (tables_are q p v u h) f
+made_fresh false v t u p q c f h = not_given c p u h
+
+module _ (function : Option FunctionId) (env : Environment) where
+  temporary_fresh : (o : Option Temporary) (key : TempKey) (t u : TableLists) (p : Place) → IsFresh t → temporary_after o env key None t ≡ Ok (p, u) → IsFresh u
+  temporary_fresh (Some x) key t u p f h = subst IsFresh (tables_are x.place p t u h) f
+  temporary_fresh None key t u p f h =
+      let q : Place = new_place (length env.identifiers) (length t.temporaries) None in
+      made_fresh (has_room (length env.identifiers) (length env.types) (length t.temporaries)) (record t { temporaries = t.temporaries ++ temporary_of key q ∷ [] }) t u p q (refused.TooMany Identifiers) (record { first = f.first; reads = f.reads }) h
+
+  given_fresh : (n : ℕ) (t u : TableLists) (r : Result (Place × TableLists) Refusal) → ((p : Place) (v : TableLists) → r ≡ Ok (p, v) → IsFresh v) → given function env n r ≡ Ok u → IsFresh u
+  given_fresh n t u (Ok (p, v)) f h = right_fresh (p.identifier.0 == n) h
+    where
+      right_fresh : (b : Bool) → (let r : Result TableLists CheckFault = if b then Ok v else Err (fault.Temporaries function) in r ≡ Ok u) → IsFresh u
+      right_fresh true g = let same : v ≡ u = cc in subst IsFresh same (f p v refl)
+      right_fresh false g = cc
+  given_fresh n t u (Err (refused.TooMany which)) f h = cc
+  given_fresh n t u (Err e) f h = cc
+
+  one_fresh : (c : CertTemporary) (t u : TableLists) (b : Bool) → IsFresh t → (let r : Result TableLists CheckFault = if b then given function env c.identifier.0 (temporary env c.key None t) else Err (fault.Temporaries function) in r ≡ Ok u) → IsFresh u
+  one_fresh c t u true f h = given_fresh c.identifier.0 t u (temporary env c.key None t) (λ p v e. temporary_fresh (temp_like c.key t.temporaries) c.key t v p f e) h
+  one_fresh c t u false f h = cc
+
+  pub stated_fresh : (cs : List CertTemporary) (t u : TableLists) → IsFresh t → temporaries_stated function env cs t ≡ Ok u → IsFresh u
+  stated_fresh [] t u f h = let same : t ≡ u = cc in subst IsFresh same f
+  stated_fresh (c ∷ cs) t u f h =
+      let p = went (temporary_stated function env c t) (temporaries_stated function env cs) u h in
+      stated_fresh cs p.0 u (one_fresh c t p.0 (is_key_there (next_number function env t) (length env.functions) c.key && (c.identifier.0 == next_number function env t)) f p.1) p.2
+
+-- ---- temporaries that are alike are counted on from the identifiers too
+
+none_alike : (key : TempKey) (xs ys : List Temporary) → AlikeTemporaries xs ys → temp_like key xs ≡ None → temp_like key ys ≡ None
+none_alike key xs ys none h = refl
+none_alike key xs ys (more {xs = us} {ys = vs} (of_key k p q) rest) h =
+    elim (same_temp k key) as (λ b. cond b (Some (record { key = k; place = p })) (temp_like key us) ≡ None → cond b (Some (record { key = k; place = moved p q })) (temp_like key vs) ≡ None) [ true ↦ λ g. cc | false ↦ λ g. none_alike key us vs rest g ] h
+
+module _ (env other : Environment) (identifiers : length env.identifiers ≡ length other.identifiers) (types : length env.types ≡ length other.types) (functions : length env.functions ≡ length other.functions) where
+  key_too : (n m : ℕ) (key : TempKey) → n ≡ m → KeyNamed n (length env.functions) key → KeyNamed m (length other.functions) key
+  key_too n m key e h = subst (λ k. KeyNamed k (length other.functions) key) e (subst (λ k. KeyNamed n k key) functions h)
+
+  pub numbered_too : (done others xs ys : List Temporary) → AlikeTemporaries done others → AlikeTemporaries xs ys → AreNumbered env done xs → AreNumbered other others ys
+  numbered_too done others xs ys d none h = tt
+  numbered_too done others xs ys d (more {xs = us} {ys = vs} (of_key k p q) rest) h =
+      let long : length done ≡ length others = same_length done others d in
+      let next : length env.identifiers + length done ≡ length other.identifiers + length others = ap (λ n. n + length done) identifiers ∙ ap (λ n. length other.identifiers + n) long in (
+        (
+          h.0.0 ∙ next,
+          none_alike k done others d h.0.1,
+          key_too (length env.identifiers + length done) (length other.identifiers + length others) k next h.0.2,
+          ap (λ n. has_room n (length other.types) (length others)) (sym identifiers) ∙ ap (λ n. has_room (length env.identifiers) n (length others)) (sym types) ∙ ap (has_room (length env.identifiers) (length env.types)) (sym long) ∙ h.0.3,
+        ),
+        numbered_too _ _ us vs (paired_append d (more (of_key k p q) none)) rest h.1,
+      )
+
+  -- ---- instructions that are known
+
+  all_too : (P Q : Place → Type 0) → ((p : Place) → P p → Q p) → (ps : List Place) → AllByRecursion P ps → AllByRecursion Q ps
+  all_too P Q f [] h = tt
+  all_too P Q f (p ∷ ps) h = (f p h.0, all_too P Q f ps h.1)
+
+  in_table_too : (p : Place) → InTable env p → InTable other p
+  in_table_too p h = subst (λ n. p.identifier.0 < n) identifiers h
+
+  module _ (F : FunctionId → Type 0) (contexts : (f : FunctionId) → context_at env f ≡ context_at other f) where
+    places_same : (o : Option FunctionId) → created_places env o ≡ created_places other o
+    places_same None = refl
+    places_same (Some f) = contexts f
+
+    instruction_too : (i : Instruction) → InstructionKnown env F i → InstructionKnown other F i
+    instruction_too i k = record {
+      lvalue = in_table_too i.lvalue k.lvalue;
+      places = all_too (InTable env) (InTable other) in_table_too (places_of i.value) k.places;
+      context = subst (AllByRecursion (InTable other)) (places_same (created i.value)) (all_too (InTable env) (InTable other) in_table_too (created_places env (created i.value)) k.context);
+      created = k.created;
+    }
+
+    option_too : (o : Option Instruction) → OptionKnown env F o → OptionKnown other F o
+    option_too None k = tt
+    option_too (Some i) k = instruction_too i k
+
+    pub known_too : (func : HirFunction) (ids : List InstructionId) → AreKnown env F func ids → AreKnown other F func ids
+    known_too func [] k = tt
+    known_too func (id ∷ ids) k = (option_too (slice_get func.instructions id.0) k.0, known_too func ids k.1)
+
+-- ---- the step of a block
+
+abbrev pub AnyNumber : ℕ → Type 0
+AnyNumber n = Unit {0}
+
+any_places : (ps : List Place) → AllByRecursion (λ (p : Place). AnyNumber p.identifier.0) ps
+any_places [] = tt
+any_places (p ∷ ps) = (tt, any_places ps)
+
+any_placed : (es : List AliasingEffect) → AllByRecursion (Placed AnyNumber) es
+any_placed [] = tt
+any_placed (e ∷ es) = (any_places (effect_places e), any_placed es)
+
+module _ (env : Environment) (func : HirFunction) (b : Bool) (F : FunctionId → Type 0) (functions : (f : FunctionId) → F f → f.0 < length env.functions)
+    (known : (n : ℕ) (block : BlockId × BasicBlock) → IsReached (numbered (context_of env func b)).flow n → slice_get func.body.blocks n ≡ Some block → AreKnown env F func block.1.instructions) where
+  any_phis : (ps : List Phi) → PhisNamed AnyNumber F ps
+  any_phis [] = tt
+  any_phis (p ∷ ps) = (tt, any_phis ps)
+
+  step_counts : (n : ℕ) (o : Option (BlockId × BasicBlock)) (t : TableLists) (x y : State) (u : TableLists) (k : BlockEffects) → slice_get func.body.blocks n ≡ o → IsReached (numbered (context_of env func b)).flow n → Stating AnyNumber F x → Counted env F t
+      → step_at (context_of env func b) o t x ≡ Stepped y u k → Counted env F u
+  step_counts n None t x y u k at reached s c e = let same : t ≡ u = cc in subst (Counted env F) same c
+  step_counts n (Some block) t x y u k at reached s c e =
+      ((block_inferred (context_of env func b) AnyNumber F u.first (any_placed u.first) (λ m h. tt) functions (λ d p h. tt) block.0 block.1 x (any_phis block.1.phis) (known n block reached at)).leads
+      t u (y, k) s c (grows_self u.first) (outcome_is (infer_block (context_of env func b) block.0 block.1 x t) y u k e)).0
+
+  -- a step of a reached block, from a state whose function sites have F
+  pub flow_counts : (n : ℕ) (t : TableLists) (x y : State) (u : TableLists) (k : BlockEffects) → IsReached (numbered (context_of env func b)).flow n → Stating AnyNumber F x → Counted env F t → (numbered (context_of env func b)).flow.step t n x ≡ Stepped y u k → Counted env F u
+  flow_counts n t x y u k reached s c e = step_counts n (slice_get func.body.blocks n) t x y u k refl reached s c e
+
+-- of the identifiers that a state names nothing is asked
+pub any_stating : (N : ℕ → Type 0) (F : FunctionId → Type 0) (s : State) → Stating N F s → Stating AnyNumber F s
+any_stating N F s h = stating_on N AnyNumber F F (λ n k. tt) (λ f k. k) s h

@@ -1,0 +1,3 @@
+pub mod Spans
+pub mod Following
+pub mod Complete
