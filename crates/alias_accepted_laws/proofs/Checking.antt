@@ -1,12 +1,11 @@
 -- What steps keep of the tables of a check.
-use Rattle.std.specs.Prelude.{Result, slice_set}
-use Rattle.std.proofs.Common.{◌≡◌, ℕ, Bool, List, [], ◌∷◌, Option, Some, None, Ok, Err, refl, ap, sym, ◌∙◌, subst}
+use Rattle.std.specs.Prelude.{slice_set}
+use Rattle.std.proofs.Common.{◌≡◌, ℕ, Bool, List, [], ◌∷◌, Option, Some, None, Ok, refl, subst}
 use Rattle.alias_base.specs.Answer.{◌>>=◌}
 use Rattle.alias_lattice.specs.Flows.{Outcome, Stepped, Refused}
 use Rattle.alias_flow.specs.Machine.{Rules, up, send_all}
 use Rattle.alias_flow.specs.Solutions.{entry_at}
 use Rattle.alias_flow_check.specs.Checks.{first_not_above, not_joined, Arriving, passed, outcome_checked, state_checked, block_checked, blocks_checked, joined_unless, joins_checked, begins, begun_with, solution_checked}
-use Rattle.alias_flow_check.specs.declared.fault.Unsolved.{Unsolved}
 use Rattle.alias_order_laws.proofs.Ordering.{went}
 
 module _ {P T K C D : Type 0} (join : P → P → P) (below : P → P → Bool) (rules : Rules P T K C) (differs : T → ℕ → K → Option D) (entries : List (Option P)) (inv : T → Type 0)

@@ -1,12 +1,9 @@
 -- What the check of a function notes of context places is of functions that an instruction creates that carries an effect afterwards.
-use Rattle.std.specs.Prelude.{◌≡◌, ℕ, ◌+◌, ◌<◌, cond, Bool, true, false, if◌then◌else◌, ◌&&◌, ◌==◌, List, [], ◌∷◌, ◌++◌, length, map, Option, Some, None, Result, Ok, Err, slice_get, replicate, refl}
-use Rattle.std.proofs.Common.{ap, sym, ◌∙◌, subst, ⊎_elim}
+use Rattle.std.specs.Prelude.{◌≡◌, ℕ, ◌+◌, ◌<◌, cond, Bool, true, false, if◌then◌else◌, ◌&&◌, ◌==◌, List, [], ◌∷◌, ◌++◌, length, Option, Some, None, Result, Ok, Err, slice_get, refl}
+use Rattle.std.proofs.Common.{ap, sym, ◌∙◌, subst}
 use Rattle.std.specs.List.{AllByRecursion}
-use Rattle.std.specs.Option.{option_map_or}
-use Rattle.alias_base.specs.Answer.{◌>>=◌}
 use Rattle.alias_base.specs.declared.ids.BlockId.{BlockId}
 use Rattle.alias_base.specs.declared.ids.FunctionId.{FunctionId}
-use Rattle.alias_base.specs.declared.ids.IdentifierId.{IdentifierId}
 use Rattle.alias_base.specs.declared.ids.InstructionId.{InstructionId}
 use Rattle.alias_hir.specs.Effects.{effect_places}
 use Rattle.alias_hir.specs.Values.{places_of, created}
@@ -39,13 +36,13 @@ use Rattle.alias_certificate.specs.declared.certificate.CertTemporary.{CertTempo
 use Rattle.alias_certificate.specs.declared.fault.CheckFault.{CheckFault}
 use Rattle.alias_certificate.specs.declared.fault.CheckFault.TheVariants as fault
 use Rattle.alias_cert_function.specs.Temporaries.{is_key_there, next_number, given, temporary_stated, temporaries_stated}
-use Rattle.alias_entry_laws.specs.Named.{KeyNamed, IsNext, AreNumbered, CreatesHas}
+use Rattle.alias_entry_laws.specs.Named.{KeyNamed, AreNumbered}
 use Rattle.alias_entry_laws.proofs.Blocks.{OptionKnown, AreKnown, PhisNamed, block_inferred}
 use Rattle.alias_entry_laws.proofs.Leading.{Placed, Counted}
 use Rattle.alias_entry_laws.proofs.States.{Stating, stating_on}
 use Rattle.alias_entry_laws.proofs.Stepping.{InTable, InstructionKnown}
 use Rattle.alias_order_laws.proofs.Ordering.{went}
-use Rattle.alias_accept_laws.specs.Alike.{Paired, none, more, moved, AlikeTemporary, of_key, AlikeTemporaries}
+use Rattle.alias_accept_laws.specs.Alike.{none, more, moved, of_key, AlikeTemporaries}
 use Rattle.alias_accept_laws.proofs.Calling.{same_length}
 use Rattle.alias_accept_laws.proofs.Likeness.{paired_append}
 

@@ -1,6 +1,6 @@
 -- The check of one function follows its inference.
-use Rattle.std.specs.Prelude.{◌≡◌, ℕ, ⊤, Bool, true, false, if◌then◌else◌, List, [], ◌∷◌, ◌++◌, length, map, Option, Some, None, Result, Ok, Err, slice_get, refl}
-use Rattle.std.proofs.Common.{ap, sym, ◌∙◌, subst, arith, ◌+◌}
+use Rattle.std.specs.Prelude.{◌≡◌, ⊤, true, false, if◌then◌else◌, List, [], ◌∷◌, ◌++◌, length, map, Some, None, Result, Ok, Err, slice_get, refl}
+use Rattle.std.proofs.Common.{ap, sym, ◌∙◌, subst, ◌+◌}
 use Rattle.std.proofs.lemmas.List.{length-append}
 use Rattle.alias_base.specs.Answer.{◌>>=◌}
 use Rattle.alias_base.specs.declared.ids.FunctionId.{FunctionId}
@@ -14,7 +14,7 @@ use Rattle.alias_rules.specs.Fitting.{function_fits}
 use Rattle.alias_tables.specs.Tables.{TableLists}
 use Rattle.alias_block.specs.Contexts.{context_of}
 use Rattle.alias_block.specs.declared.recorded.BlockEffects.{BlockEffects}
-use Rattle.alias_effects.specs.Inference.{solved_of, end_of, env_after, answer_of, pass_end}
+use Rattle.alias_effects.specs.Inference.{end_of, env_after, answer_of, pass_end}
 use Rattle.alias_effects.specs.Numbered.{visits_end}
 use Rattle.alias_effects.specs.Recording.{with_effects_of}
 use Rattle.alias_effects.specs.declared.output.PassEnd.{PassEnd}
@@ -26,22 +26,21 @@ use Rattle.alias_nested.specs.Order.{SameInSlot}
 use Rattle.alias_nested.specs.Settling.{settled}
 use Rattle.alias_nested.proofs.Changing.{slots_stay}
 use Rattle.alias_nested.proofs.Evolving.{passed_contexts}
-use Rattle.alias_order_laws.proofs.Ordering.{Finished, function_finished}
 use Rattle.alias_inferred_laws.proofs.Listing.{Passed, function_passed}
 use Rattle.alias_inferred_laws.proofs.Ranging.{PassLeaves, pass_leaves}
 use Rattle.alias_text.specs.Lines.{effect_text}
 use Rattle.alias_certificate.specs.declared.certificate.CertFunction.{CertFunction}
 use Rattle.alias_certificate.specs.declared.fault.CheckFault.{CheckFault}
 use Rattle.alias_certificate.specs.declared.fault.CheckFault.TheVariants as fault
-use Rattle.alias_cert.specs.Functions.{CheckedFunction, Checking, checking, checked_function, said, effects_checked, ranging, stored_summary, summed, summary_checked, nested_finished, nested_as_said, nested_checked, root_finished, root_as_said, root_checked}
+use Rattle.alias_cert.specs.Functions.{CheckedFunction, Checking, checking, checked_function, said, ranging, stored_summary, summed, nested_finished, nested_as_said, nested_checked, root_finished, root_as_said, root_checked}
 use Rattle.alias_cert_effects.specs.Telling.{is_summary_told}
 use Rattle.alias_cert_function.specs.Functions.{function_solved}
 use Rattle.alias_accept_laws.specs.Alike.{AlikeEffects, AlikeFunction}
 use Rattle.alias_accept_laws.specs.Saying.{said_function}
 use Rattle.alias_handed_laws.specs.Handed.{IsNamed}
-use Rattle.alias_accepted_laws.specs.Following.{SeenAlike, SeenNearly, OrFull, done, full, EndsAlike, PassesAreFollowed, ReadsAreSet, RangeFollowed, RangesAreFollowed, Follows}
+use Rattle.alias_accepted_laws.specs.Following.{SeenAlike, SeenNearly, OrFull, done, EndsAlike, PassesAreFollowed, ReadsAreSet, RangeFollowed, RangesAreFollowed, Follows}
 use Rattle.alias_accepted_laws.proofs.Seen.{after_seen, settled_alike, settled_seen}
-use Rattle.alias_accepted_laws.proofs.Telling.{IsSaidOf, or_full_then, or_full_made, said_there, summary_told}
+use Rattle.alias_accepted_laws.proofs.Telling.{IsSaidOf, or_full_made, said_there, summary_told}
 
 ok_same : {A E : Type 0} (x y : A) → ◌≡◌ {A = Result A E} (Ok x) (Ok y) → x ≡ y
 ok_same x y h = cc

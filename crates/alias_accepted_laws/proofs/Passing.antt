@@ -22,7 +22,7 @@ use Rattle.alias_block.specs.Contexts.{context_of}
 use Rattle.alias_block.specs.declared.recorded.BlockEffects.{BlockEffects}
 use Rattle.alias_block_laws.specs.BlockLaws.{StateWithin}
 use Rattle.alias_write_back.specs.WriteBack.{tables_of}
-use Rattle.alias_effects.specs.Inference.{solved_of, end_of}
+use Rattle.alias_effects.specs.Inference.{end_of}
 use Rattle.alias_effects.specs.Numbered.{numbered, visits_end}
 use Rattle.alias_effects.specs.Recording.{with_effects_of}
 use Rattle.alias_effects.specs.declared.output.PassEnd.{PassEnd}
@@ -36,7 +36,7 @@ use Rattle.alias_entry_laws.proofs.Entries.{tables_named, reached_known}
 use Rattle.alias_entry_laws.proofs.Keeping.{at_holds}
 use Rattle.alias_entry_laws.proofs.Leading.{MakesAll, ReadsHave, Counted}
 use Rattle.alias_entry_laws.proofs.States.{Stating}
-use Rattle.alias_accept_laws.specs.Alike.{Paired, none, AlikeTemporaries, Elsewhere, elsewhere}
+use Rattle.alias_accept_laws.specs.Alike.{none, AlikeTemporaries, Elsewhere, elsewhere}
 use Rattle.alias_accept_laws.specs.Certifying.{NamesItsOwn}
 use Rattle.alias_accept_laws.specs.Saying.{NamesThere, AreCounted, said_temporary, said_function}
 use Rattle.alias_accept_laws.proofs.Calling.{same_length}

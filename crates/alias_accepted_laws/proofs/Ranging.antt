@@ -1,10 +1,9 @@
 -- The range pass of the check follows that of the inference.
-use Rattle.std.specs.Prelude.{◌≡◌, ℕ, ◌&&◌, not, Bool, true, false, List, [], ◌∷◌, Some, Ok, map, refl}
+use Rattle.std.specs.Prelude.{◌≡◌, ℕ, Bool, true, false, List, Some, Ok, refl}
 use Rattle.std.proofs.Common.{zero, suc, ⊎_elim, ap, sym, ◌∙◌, subst}
 use Rattle.alias_hir.specs.declared.env.Environment.{Environment}
 use Rattle.alias_hir.specs.declared.env.Identifier.{Identifier}
 use Rattle.alias_hir.specs.declared.hir.HirFunction.{HirFunction}
-use Rattle.alias_hir.specs.declared.place.Place.{Place}
 use Rattle.alias_range_pass.specs.Passes.{Ranged, range_pass, records}
 use Rattle.alias_accept_laws.specs.Alike.{Paired, none, more, AlikeFunction, seen}
 use Rattle.alias_accepted_laws.specs.Following.{but_seen, SeenAlike, SeenNearly, RangeFollowed, RangesAreFollowed}

@@ -1,8 +1,7 @@
 -- What an effects pass notes of context places is of functions that an instruction creates that carries an effect afterwards.
-use Rattle.std.specs.Prelude.{◌≡◌, ℕ, ◌<◌, Bool, true, List, [], ◌∷◌, length, replicate, Option, Some, None, Ok, slice_get, slice_index_or, IsTrue, is_some, refl}
+use Rattle.std.specs.Prelude.{◌≡◌, ℕ, Bool, true, List, [], ◌∷◌, length, replicate, Option, Some, None, Ok, slice_get, slice_index_or, is_some, refl}
 use Rattle.std.proofs.Common.{zero, suc, inl, inr, ap, sym, ◌∙◌, subst}
 use Rattle.std.specs.List.{flat_map, AllByRecursion}
-use Rattle.alias_base.specs.Find.{value_at}
 use Rattle.alias_base.specs.declared.ids.BlockId.{BlockId}
 use Rattle.alias_base.specs.declared.ids.FunctionId.{FunctionId}
 use Rattle.alias_base.specs.declared.ids.InstructionId.{InstructionId}
@@ -23,7 +22,7 @@ use Rattle.alias_tables.specs.declared.reads.ContextRead.{ContextRead}
 use Rattle.alias_block.specs.Contexts.{context_of}
 use Rattle.alias_block.specs.declared.recorded.BlockEffects.{BlockEffects}
 use Rattle.alias_block.specs.Blocks.{infer_block}
-use Rattle.alias_effects.specs.Inference.{solved_of, end_of, instructions_recorded}
+use Rattle.alias_effects.specs.Inference.{solved_of, instructions_recorded}
 use Rattle.alias_effects.specs.Numbered.{numbered, step_at, visits_end}
 use Rattle.alias_effects.specs.PassLaws.{outcome_is}
 use Rattle.alias_effects.specs.Recording.{with_effects_of}

@@ -1,5 +1,5 @@
 -- The step of a block records something of each instruction that creates a function.
-use Rattle.std.specs.Prelude.{◌≡◌, ◌⊎◌, ℕ, Bool, true, false, if◌then◌else◌, List, [], ◌∷◌, ◌++◌, Option, Some, None, Result, Ok, Err, slice_get, refl}
+use Rattle.std.specs.Prelude.{◌≡◌, ◌⊎◌, Bool, true, false, if◌then◌else◌, List, [], ◌∷◌, ◌++◌, Option, Some, None, Result, Ok, Err, slice_get, refl}
 use Rattle.std.proofs.Common.{inl, inr, ⊎_elim, ap, sym, ◌∙◌, subst}
 use Rattle.std.specs.List.{AllByRecursion}
 use Rattle.alias_base.specs.declared.ids.BlockId.{BlockId}
@@ -18,28 +18,27 @@ use Rattle.alias_hir.specs.declared.place.Span.{Span}
 use Rattle.alias_hir.specs.declared.report.DiagnosticId.{DiagnosticId}
 use Rattle.alias_hir.specs.declared.value.InstructionValue.{InstructionValue}
 use Rattle.alias_hir.specs.declared.value.InstructionValue.TheVariants.{FunctionExpression, ObjectMethod}
-use Rattle.alias_lattice.specs.States.{State, sites_of}
+use Rattle.alias_lattice.specs.States.{State}
 use Rattle.alias_lattice.specs.declared.look.MissingLook.{MissingLook}
 use Rattle.alias_ranges.specs.Walks.{IsOneOf}
 use Rattle.alias_rules.specs.Fitting.{is_apply}
 use Rattle.alias_tables.specs.ReplayLaws.{first_is, not_given}
-use Rattle.alias_tables.specs.Steps.{◌>>=◌, and_then, gives, refuses, each}
-use Rattle.alias_tables.specs.Tables.{TableLists, Step, intern, noted}
-use Rattle.alias_tables.specs.declared.faults.Refusal.{Refusal}
+use Rattle.alias_tables.specs.Steps.{◌>>=◌, and_then, gives, each}
+use Rattle.alias_tables.specs.Tables.{TableLists, Step, noted}
 use Rattle.alias_freezing.specs.Contexts.{context_of}
 use Rattle.alias_signature.specs.Known.{Known, known}
 use Rattle.alias_signature.specs.Signatures.{signature_of_value}
-use Rattle.alias_apply.specs.Apply.{apply_simple, intern_and_apply_simple, is_read_capture, note_read_capture, is_mutable_function, function_value, capture_each, apply_create_function, apply_plain, intern_and_apply_plain}
+use Rattle.alias_apply.specs.Apply.{apply_simple, intern_and_apply_simple, is_read_capture, note_read_capture, apply_create_function, apply_plain, intern_and_apply_plain}
 use Rattle.alias_apply.specs.Contexts.{StepContext}
-use Rattle.alias_apply.specs.Progress.{record_of, with_state, is_made, made}
+use Rattle.alias_apply.specs.Progress.{record_of, made}
 use Rattle.alias_apply.specs.declared.progress.StepProgress.{StepProgress}
 use Rattle.alias_step.specs.Calls.{apply_effect, apply_effects}
-use Rattle.alias_step.specs.Instructions.{begun, check_created, with_result, apply_instruction, intern_told, context_with, apply_signature_with, apply_signature}
+use Rattle.alias_step.specs.Instructions.{begun, check_created, with_result, apply_instruction, context_with, apply_signature_with, apply_signature}
 use Rattle.alias_step_laws.specs.KeepingLaws as keeping
-use Rattle.alias_block.specs.Blocks.{step_start, after_instruction, infer_instruction, infer_instruction_at, apply_signatures, after_terminal, apply_terminal, block_start, finished_at, finished, infer_phis, infer_block}
+use Rattle.alias_block.specs.Blocks.{step_start, after_instruction, infer_instruction_at, apply_signatures, after_terminal, apply_terminal, block_start, finished_at, finished, infer_phis, infer_block}
 use Rattle.alias_block.specs.Actions.{terminal_action}
 use Rattle.alias_block.specs.Contexts.{BlockContext}
-use Rattle.alias_block.specs.Faults.{BlockStep, in_block}
+use Rattle.alias_block.specs.Faults.{in_block}
 use Rattle.alias_block.specs.Recorded.{recorded_as}
 use Rattle.alias_block.specs.ReplayLaws.{in_block_gives}
 use Rattle.alias_block.specs.declared.block.BlockProgress.{BlockProgress}

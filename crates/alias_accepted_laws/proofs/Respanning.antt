@@ -1,6 +1,6 @@
 -- Over other spans of identifiers each step but that of a block is the same.
-use Rattle.std.specs.Prelude.{◌≡◌, ℕ, ◌&&◌, ◌||◌, ◌==◌, not, nat_lt, ◌+◌, Bool, true, false, if◌then◌else◌, length, codes, List, [], ◌∷◌, ◌++◌, Option, Some, None, Result, Ok, Err, slice_get, refl}
-use Rattle.std.proofs.Common.{ap, sym, ◌∙◌}
+use Rattle.std.specs.Prelude.{◌≡◌, ℕ, ◌&&◌, ◌||◌, ◌==◌, not, nat_lt, ◌+◌, false, if◌then◌else◌, length, codes, List, [], ◌∷◌, ◌++◌, Option, Some, None, Ok, Err, slice_get, refl}
+use Rattle.std.proofs.Common.{ap, ◌∙◌}
 use Rattle.std.specs.List.{list_any}
 use Rattle.std.specs.Option.{is_some}
 use Rattle.alias_base.specs.declared.ids.FunctionId.{FunctionId}
@@ -16,7 +16,6 @@ use Rattle.alias_hir.specs.declared.env.Environment.{Environment}
 use Rattle.alias_hir.specs.declared.env.Identifier.{Identifier}
 use Rattle.alias_hir.specs.declared.error.Counter.TheVariants.{Identifiers}
 use Rattle.alias_hir.specs.declared.hir.HirFunction.{HirFunction}
-use Rattle.alias_hir.specs.declared.hir.ParamPattern.{ParamPattern}
 use Rattle.alias_hir.specs.declared.place.Effect.{Effect}
 use Rattle.alias_hir.specs.declared.place.Effect.TheVariants as use_of
 use Rattle.alias_hir.specs.declared.place.Place.{Place}
@@ -24,7 +23,6 @@ use Rattle.alias_hir.specs.declared.place.PlaceOrSpreadOrHole.{PlaceOrSpreadOrHo
 use Rattle.alias_hir.specs.declared.place.PlaceOrSpreadOrHole.TheVariants as arg
 use Rattle.alias_hir.specs.declared.place.Span.{Span}
 use Rattle.alias_hir.specs.declared.report.ErrorCategory.TheVariants.{Immutability}
-use Rattle.alias_hir.specs.declared.report.Report.{Report}
 use Rattle.alias_hir.specs.declared.signature.AliasingSignatureConfig.{AliasingSignatureConfig}
 use Rattle.alias_hir.specs.declared.signature.AliasingEffectConfig.{AliasingEffectConfig}
 use Rattle.alias_hir.specs.declared.signature.AliasingEffectConfig.TheVariants as config
@@ -41,34 +39,32 @@ use Rattle.alias_apply.specs.Contexts.{StepContext, access_to, hoisted_access, s
 use Rattle.alias_apply.specs.Kinds.{is_frozen, is_writable}
 use Rattle.alias_apply.specs.Mutation.{intern_and_apply_mutate_frozen, intern_and_apply_mutate_global, report_write, report_hoisted_write, record_mutation, apply_mutate, apply_mutate_conditionally}
 use Rattle.alias_apply.specs.Progress.{record_of, with_state, looked_with_span, kind_at, made, first_missing}
-use Rattle.alias_apply.specs.Reports.{labels_at, write_reason, write_report, access_labels, access_span, hoisting_report, incompatible_report}
+use Rattle.alias_apply.specs.Reports.{labels_at, write_reason, write_report, access_labels, access_span, hoisting_report}
 use Rattle.alias_apply.specs.declared.progress.StepProgress.{StepProgress}
 use Rattle.alias_calls.specs.Arguments.{is_bad_spread_of, first_bad, has_further}
 use Rattle.alias_calls.specs.Configs.{stands, with_config_effect, with_temporary, config_call, config_list}
 use Rattle.alias_calls.specs.Copies.{Collected, with_freezes_unless, with_freezes}
 use Rattle.alias_calls.specs.Immutable.{is_still, writes_param, is_writing_site, verdict, checked, answered_by, signature_at, verdict_of_place, verdict_by, verdict_of, unless_answered, immutables}
 use Rattle.alias_calls.specs.Legacy.{legacy, ended, return_reason, with_impure, with_receiver, visits_of, asked, with_still, visited, legacy_after, legacy_list}
-use Rattle.alias_calls.specs.Summaries.{last_spread, rest_or_temporary, names_with, summary_names, stands_for, copied, with_copied, with_copies, needs_rest, names_list, summary_call, summary_list}
+use Rattle.alias_calls.specs.Summaries.{last_spread, rest_or_temporary, names_with, summary_names, stands_for, copied, with_copied, needs_rest, names_list, summary_call, summary_list}
 use Rattle.alias_calls.specs.Calls.{ConfigCall, SummaryCall}
 use Rattle.alias_calls.specs.Visits.{iterated, visit, spread_effect, is_refused, or_effect, rest_use, with_refused, visit_argument, visit_arguments}
 use Rattle.alias_calls.specs.declared.call.CallSite.{CallSite}
 use Rattle.alias_calls.specs.declared.immutable.Checked.{Checked}
-use Rattle.alias_calls.specs.declared.immutable.Verdict.{Verdict}
-use Rattle.alias_calls.specs.declared.legacy.Legacy.{Legacy}
 use Rattle.alias_calls.specs.declared.summaries.SummaryEffect.{SummaryEffect}
 use Rattle.alias_calls.specs.declared.summaries.SummaryEffect.TheVariants.{OfPair, OfPlace, OfFreeze, Passed, GivenUp}
 use Rattle.alias_calls.specs.declared.visits.Visits.{Visits}
 use Rattle.alias_step.specs.Calls.{call_of, with_missing, apply_by_summary, apply_inner_call_by, apply_inner_call, apply_inner_effect, apply_inner_effects, apply_by_legacy, apply_by_config, incompatible, apply_compatible, apply_by_signature, apply_call_by, apply_call, apply_effect, apply_effects}
 use Rattle.alias_step.specs.Defaults.{mutate_operand, iterate_operand, capture_operand, apply_operand, apply_by_default}
-use Rattle.alias_step.specs.Instructions.{written_by, is_frozen_context, record_mutate_frozen, record_write, check_write, check_summary, check_created, begun, with_result, apply_instruction}
+use Rattle.alias_step.specs.Instructions.{written_by, is_frozen_context, record_mutate_frozen, check_write, check_summary, check_created, begun, with_result, apply_instruction}
 use Rattle.alias_step.specs.Lists.{called_function, list_of_summary, list_of_function, list_of_called, signature_of_type, list_of_config}
 use Rattle.alias_step.specs.Operands.{Call, same_place, operands}
 use Rattle.alias_step.specs.declared.call.Operand.{Operand}
 use Rattle.alias_freezing.specs.Contexts.{context_of}
-use Rattle.alias_tables.specs.Steps.{◌>>=◌, and_then, gives, refuses, each, collect}
-use Rattle.alias_tables.specs.Tables.{TableLists, Step, intern, has_room, new_place, temporary_after, temporary, intern_report}
+use Rattle.alias_tables.specs.Steps.{◌>>=◌, gives, each, collect}
+use Rattle.alias_tables.specs.Tables.{TableLists, intern, has_room, new_place, temporary_after, temporary}
 use Rattle.alias_tables.specs.Temporaries.{temp_like, temporary_of}
-use Rattle.alias_tables.specs.declared.faults.Refusal.TheVariants.{TooMany, IncompatibleLibrary}
+use Rattle.alias_tables.specs.declared.faults.Refusal.TheVariants.{TooMany}
 use Rattle.alias_tables.specs.declared.temp_key.TempKey.{TempKey}
 use Rattle.alias_tables.specs.declared.temp_key.TempKey.TheVariants.{Named, Rest}
 use Rattle.alias_tables.specs.declared.temporaries.Temporary.{Temporary}

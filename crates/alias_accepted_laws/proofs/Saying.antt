@@ -1,8 +1,7 @@
 -- The certificate of an inference says of each function, in the order in which they were analysed, what its passes ended with.
-use Rattle.std.specs.Prelude.{◌≡◌, ◌⊎◌, ℕ, nat_eq, Bool, true, false, cond, List, [], ◌∷◌, ◌++◌, length, map, ◌&&◌, Option, Some, None, Result, Ok, slice_get, refl}
-use Rattle.std.proofs.Common.{zero, suc, inl, inr, ⊎_elim, ap, sym, ◌∙◌, subst, arith, ◌+◌, ◌≤◌}
+use Rattle.std.specs.Prelude.{◌≡◌, ℕ, nat_eq, Bool, true, false, cond, List, [], ◌∷◌, ◌++◌, length, map, ◌&&◌, Option, Some, None, Result, Ok, slice_get, refl}
+use Rattle.std.proofs.Common.{inl, inr, ⊎_elim, ap, sym, ◌∙◌, subst, arith, ◌+◌, ◌≤◌}
 use Rattle.std.proofs.lemmas.Bool.{eqb-true}
-use Rattle.std.proofs.lemmas.List.{map-append}
 use Rattle.std.specs.List.{list_all}
 use Rattle.alias_base.specs.AnswerLaws.{both_true}
 use Rattle.alias_base.specs.declared.ids.BlockId.{BlockId}
@@ -15,7 +14,7 @@ use Rattle.alias_hir.specs.declared.hir.HirFunction.{HirFunction}
 use Rattle.alias_lattice.specs.States.{State}
 use Rattle.alias_flow.specs.Machine.{SolverState, VisitLog, End, Solved}
 use Rattle.alias_flow.specs.Machine as end
-use Rattle.alias_function_rules.specs.Rules.{own_places_are_uninferred, instruction_is_uninferred, terminal_is_uninferred, phi_is_uninferred, block_is_uninferred, function_is_uninferred, is_among}
+use Rattle.alias_function_rules.specs.Rules.{instruction_is_uninferred, terminal_is_uninferred, phi_is_uninferred, block_is_uninferred, function_is_uninferred}
 use Rattle.alias_rules.specs.Fitting.{function_fits}
 use Rattle.alias_rules.specs.Functions.{rules_hold}
 use Rattle.alias_rules.specs.Nesting.{times}
@@ -48,7 +47,7 @@ use Rattle.alias_text.specs.Lines.{effect_text, recorded}
 use Rattle.alias_text.specs.Summaries.{recorded_summary}
 use Rattle.alias_certificate.specs.declared.certificate.CertBlock.{CertBlock}
 use Rattle.alias_certificate.specs.declared.certificate.CertFunction.{CertFunction}
-use Rattle.alias_cert_text_laws.specs.Certifying.{cert_block, cert_blocks, cert_function, certificate_of}
+use Rattle.alias_cert_text_laws.specs.Certifying.{cert_blocks, cert_function, certificate_of}
 use Rattle.alias_accept_laws.specs.Saying.{said_temporary, said_function}
 use Rattle.alias_inferred_laws.specs.Solutions.{but_ranged}
 use Rattle.alias_inferred_laws.proofs.Explaining.{RootRanged}

@@ -31,7 +31,7 @@ use Rattle.alias_accept_laws.proofs.Calling.{same_length}
 use Rattle.alias_accept_laws.proofs.Likeness.{paired_self, paired_append, paired_get, alike_self}
 use Rattle.alias_accepted_laws.specs.Following.{but_seen, SeenAlike, SeenNearly, ReadsAreSetIn}
 use Rattle.alias_range_alike_laws.specs.Spans.{Respanned, respanned}
-use Rattle.alias_range_alike_laws.specs.Ranging.{CarriesAlike, NearlyAlike, near, context_in, SameContextAt, SetsContext}
+use Rattle.alias_range_alike_laws.specs.Ranging.{CarriesAlike, NearlyAlike, near, SameContextAt, SetsContext}
 
 -- ---- lists
 

@@ -1,8 +1,8 @@
 -- A function that carries what was recorded sets the context places of each function that an instruction with an entry creates.
-use Rattle.std.specs.Prelude.{◌≡◌, ℕ, nat_eq, Bool, true, false, List, [], ◌∷◌, ◌++◌, Option, Some, None, position, slice_get, slice_set, slice_index_or, refl}
+use Rattle.std.specs.Prelude.{◌≡◌, ℕ, nat_eq, true, false, List, [], ◌∷◌, Option, Some, None, position, slice_get, slice_set, slice_index_or, refl}
 use Rattle.std.proofs.Common.{zero, suc, ⊎_elim, ap, sym, ◌∙◌, subst}
 use Rattle.std.proofs.lemmas.Bool.{eqb-true}
-use Rattle.std.specs.List.{flat_map, AllByRecursion}
+use Rattle.std.specs.List.{flat_map}
 use Rattle.std.specs.Map.{keys_of}
 use Rattle.std.specs.Option.{option_map_or}
 use Rattle.indexmap.specs.IndexMap.{set_value_at}
@@ -20,7 +20,7 @@ use Rattle.alias_block.specs.declared.recorded.BlockEffects.{BlockEffects}
 use Rattle.alias_block.specs.declared.recorded.InstructionEffects.{InstructionEffects}
 use Rattle.alias_block.specs.declared.recorded.TerminalEffects.{TerminalEffects}
 use Rattle.alias_effects.specs.Inference.{instructions_recorded}
-use Rattle.alias_effects.specs.Recording.{with_recorded, recorded_instructions, block_with, with_terminal_at, with_terminal, recorded_terminals, with_effects_of}
+use Rattle.alias_effects.specs.Recording.{with_recorded, recorded_instructions, block_with, with_terminal_at, recorded_terminals, with_effects_of}
 use Rattle.alias_effects.specs.declared.solved.Solved.{Solved}
 use Rattle.alias_order_laws.proofs.Ordering.{differs}
 use Rattle.alias_ranges.specs.Walks.{IsOneOf}

@@ -1,5 +1,5 @@
 -- Over other spans of identifiers the visits of a function end the same.
-use Rattle.std.specs.Prelude.{◌≡◌, ℕ, Bool, length, List, [], ◌∷◌, Option, Some, None, replicate, slice_get, refl}
+use Rattle.std.specs.Prelude.{◌≡◌, Bool, length, List, Option, Some, None, replicate, slice_get, refl}
 use Rattle.std.proofs.Common.{ap, ◌∙◌}
 use Rattle.alias_base.specs.declared.ids.BlockId.{BlockId}
 use Rattle.alias_base.specs.declared.ids.InstructionId.{InstructionId}
@@ -16,7 +16,6 @@ use Rattle.alias_facts.specs.declared.facts.FunctionFacts.{FunctionFacts}
 use Rattle.alias_flow.specs.Machine.{solution}
 use Rattle.alias_tables.specs.Steps.{◌>>=◌, gives, each}
 use Rattle.alias_tables.specs.Tables.{TableLists}
-use Rattle.alias_signature.specs.Known.{known}
 use Rattle.alias_apply.specs.declared.progress.StepProgress.{StepProgress}
 use Rattle.alias_signature.specs.Globals.{told_of}
 use Rattle.alias_step.specs.Instructions.{apply_instruction, intern_told, context_with, apply_signature_with, apply_signature}

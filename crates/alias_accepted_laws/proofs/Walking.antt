@@ -1,31 +1,27 @@
 -- The check goes over the functions below a function as their analysis did, one after the other.
-use Rattle.std.specs.Prelude.{◌≡◌, ℕ, nat_eq, Bool, true, false, List, [], ◌∷◌, ◌++◌, length, option_map, Option, Some, None, Result, Ok, Err, slice_get, slice_set, refl}
+use Rattle.std.specs.Prelude.{◌≡◌, ℕ, nat_eq, true, false, List, [], ◌∷◌, ◌++◌, length, option_map, Option, Some, None, Result, Ok, slice_get, slice_set, refl}
 use Rattle.std.proofs.Common.{zero, suc, inl, inr, ap, sym, ◌∙◌, subst}
 use Rattle.std.proofs.lemmas.Bool.{eqb-true}
 use Rattle.std.proofs.lemmas.List.{append-nil, append_assoc}
-use Rattle.alias_base.specs.Answer.{◌>>=◌}
 use Rattle.alias_base.specs.declared.ids.FunctionId.{FunctionId}
-use Rattle.alias_hir.specs.declared.env.Environment.{Environment}
 use Rattle.alias_hir.specs.declared.error.InferError.{InferError}
 use Rattle.alias_hir.specs.declared.hir.HirFunction.{HirFunction}
 use Rattle.alias_nesting_laws.specs.SlotLaws.{set_other, set_there}
 use Rattle.alias_nesting_laws.specs.Slots.{with_function}
 use Rattle.alias_range_places.specs.Keeping.{but_context}
-use Rattle.alias_nested.specs.Analysis.{Analysed, Analysis, analysis, each as each_analysed, function_analysed, taken_analysed, put_back, found_analysed, slot_analysed, analysed}
+use Rattle.alias_nested.specs.Analysis.{Analysed, Analysis, each as each_analysed, function_analysed, taken_analysed, put_back, found_analysed, slot_analysed, analysed}
 use Rattle.alias_nested.specs.Created.{created_functions}
-use Rattle.alias_nested.specs.Order.{SameInSlot}
 use Rattle.alias_nested.specs.Slots.{emptied}
 use Rattle.alias_order_laws.proofs.Ordering.{went, differs}
 use Rattle.alias_inferred_laws.proofs.Listing.{Passed, function_passed}
 use Rattle.alias_certificate.specs.declared.certificate.CertFunction.{CertFunction}
-use Rattle.alias_certificate.specs.declared.fault.CheckFault.{CheckFault}
-use Rattle.alias_cert.specs.Functions.{Checking, checking, nested_checked}
+use Rattle.alias_cert.specs.Functions.{Checking, nested_checked}
 use Rattle.alias_cert.specs.Units.{each as each_checked, put_back as put_back_checked, taken_checked, found_checked, slot_checked, below_checked}
 use Rattle.alias_accept_laws.specs.Alike.{Maybe, nothing, just, AlikeFunction, seen}
 use Rattle.alias_accept_laws.proofs.Likeness.{paired_get}
 use Rattle.alias_handed_laws.specs.Handed.{IsNamed}
 use Rattle.alias_handed_laws.proofs.Preceding.{named_more}
-use Rattle.alias_accepted_laws.specs.Following.{SeenAlike, OrFull, done, full, PassesAreFollowed, ReadsAreSet, RangesAreFollowed, Follows}
+use Rattle.alias_accepted_laws.specs.Following.{OrFull, done, PassesAreFollowed, ReadsAreSet, RangesAreFollowed, Follows}
 use Rattle.alias_accepted_laws.proofs.One.{Joined, own, nested_follows}
 use Rattle.alias_accepted_laws.proofs.Seen.{function_self, seen_with}
 use Rattle.alias_accepted_laws.proofs.Telling.{IsSaidAt, or_full_then}
