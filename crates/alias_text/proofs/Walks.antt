@@ -1,7 +1,7 @@
 -- A list in the order of its keys is gone through from each entry to the next.
 use Rattle.std.proofs.Common.{◌≡◌, ◌<◌, ℕ, Bool, true, false, cond, List, [], ◌∷◌, ◌++◌, length, refl, ap, sym, ◌∙◌, subst, append_assoc, append-nil, arith}
 use Rattle.std.specs.Prelude.{Option, Some, None}
-use Rattle.std.specs.List.{flat_map}
+use Rattle.std.specs.List.{AllByRecursion, flat_map}
 use Rattle.std.proofs.Math.Dec.{T}
 use Rattle.std.specs.Ordering.{is_lt, ordering_reverse}
 use Rattle.std.specs.declared.cmp.Ordering.{Ordering}
@@ -88,6 +88,11 @@ module _ {K X : Type 0} (R : K → K → Ordering) where
     pub left_fewer : (after : Option K) (t : List (K × X)) (e : K × X) → next_entry R after t ≡ Some e → T (is_sorted R t) → length (left_after (Some e.0) t) < length (left_after after t)
     left_fewer after t e h s = let long = ap length (left-some after t e h s) in omega arith
 
+    -- all is so where what is left is so, also once the next entry is
+    pub still_all : (P : K × X → Type 0) (after : Option K) (t : List (K × X)) (e : K × X) → next_entry R after t ≡ Some e → T (is_sorted R t) → P e
+        → (AllByRecursion P (left_after after t) → AllByRecursion P t) → AllByRecursion P (left_after (Some e.0) t) → AllByRecursion P t
+    still_all P after t e h s p i l = i (subst (AllByRecursion P) (sym (left-some after t e h s)) (p, l))
+
     -- what is left completes the text, also once the next entry is appended
     pub still_complete : (f : K × X → List ℕ) (all out more : List ℕ) (after : Option K) (t : List (K × X)) (e : K × X) → next_entry R after t ≡ Some e → T (is_sorted R t) → more ≡ out ++ f e → out ++ flat_map f (left_after after t) ≡ all → more ++ flat_map f (left_after (Some e.0) t) ≡ all
     still_complete f all out more after t e h s g i =
@@ -103,6 +108,10 @@ module _ {K X : Type 0} (R : K → K → Ordering) where
   -- nothing is left where there is no next entry
   left-end : (after : Option K) (t : List (K × X)) → next_entry R after t ≡ None → left_after after t ≡ []
   left-end after t h = no_first (left_after after t) (sym (next-left after t) ∙ h)
+
+  -- all is so where there is no next entry
+  pub now_all : (P : K × X → Type 0) (after : Option K) (t : List (K × X)) → next_entry R after t ≡ None → (AllByRecursion P (left_after after t) → AllByRecursion P t) → AllByRecursion P t
+  now_all P after t h i = i (subst (AllByRecursion P) (sym (left-end after t h)) tt)
 
   -- the text is complete where there is no next entry
   pub now_complete : (f : K × X → List ℕ) (all out : List ℕ) (after : Option K) (t : List (K × X)) → next_entry R after t ≡ None → out ++ flat_map f (left_after after t) ≡ all → out ≡ all

@@ -1,5 +1,6 @@
 pub mod Certificates
 pub mod Counts
+pub mod Fitting
 pub mod Lines
 pub mod Ranges
 pub mod Refusals

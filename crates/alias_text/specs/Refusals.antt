@@ -61,7 +61,7 @@ counter_word counter.GraphPositions = codes "GraphPositions"
 abbrev pub pass_fault_text : Option FunctionId → Pass → List ℕ
 pass_fault_text f pass = refused_head (codes "PassFault") f ++ last_word (pass_word pass)
 
--- want of memory has no line
+-- out of memory has no line
 abbrev pub refused_text : InferError → List ℕ
 refused_text (infer.NotSettled f visits report) = at_number_text (codes "NotSettled") f visits
 refused_text (infer.Uninitialized f b i span report) = at_numbers_text (codes "Uninitialized") f b.0 i.0
@@ -116,7 +116,7 @@ abbrev pub unfit_line : UnitFault → Option ℕ → List ℕ
 unfit_line fault None = []
 unfit_line fault (Some rule) = codes "refused Unfit" ++ spaced rule ++ unfit_data fault ++ codes "\n"
 
--- the number of the rule, and where it is broken; want of memory has no line
+-- the number of the rule, and where it is broken; out of memory has no line
 abbrev pub unfit_text : UnitFault → List ℕ
 unfit_text fault = unfit_line fault (rule_number fault)
 

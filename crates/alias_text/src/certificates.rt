@@ -1,11 +1,12 @@
 //! Visits, entry states, first effects and temporaries, as lines.
 ghost use Rattle.std.specs.Prelude.{◌≡◌, ◌++◌, OnOk, codes};
-ghost use Rattle.std.specs.List.{flat_map};
+ghost use Rattle.std.specs.List.{AllByRecursion, flat_map};
 ghost use Rattle.std.specs.Fmt.{decimal};
 ghost use Rattle.json.specs.Print.{quoted};
-ghost use Rattle.alias_lattice.specs.Reasons.{reasons_in};
+ghost use Rattle.alias_lattice.specs.Reasons.{ReasonBits, reasons_in};
 ghost use Rattle.alias_text.specs.Lines.{kind_word, reason_word};
 ghost use Rattle.alias_text.specs.Certificates.{form_text, both_text, two_ids, site_text, reasons_text, value_line, spaced_site, sites_text, variable_line, state_lines, spaced_block, visits_line, first_line, key_text, temporary_line, table_lines};
+ghost use Rattle.alias_text.specs.Fitting.{Small, SmallSite, FittingValue, SmallEntry, SmallVariable, FittingState, SmallKey, SmallTemporary};
 
 use crate::effects::{kind_word, push_effect, push_spaced, reason_word};
 use crate::quoting::push_quoted;
@@ -18,7 +19,8 @@ use std::alloc::{AllocError, Global};
 
 /// Appends a form and the number that it names, as in `Function(0)`.
 fn push_form(out: &mut Text, form: &str, number: u32) -> Result<(), AllocError>
-    ensures { OnOk result (out.new ≡ out.old ++ form_text form.now (decimal number)) }
+    ensures text { OnOk result (out.new ≡ out.old ++ form_text form.now (decimal number)) }
+    ensures fits { Small number }
 {
     out.push_str(form)?;
     out.push_str("(")?;
@@ -33,7 +35,8 @@ fn push_form_of_two(
     from: IdentifierId,
     into: IdentifierId,
 ) -> Result<(), AllocError>
-    ensures { OnOk result (out.new ≡ out.old ++ form_text form.now (two_ids from into)) }
+    ensures text { OnOk result (out.new ≡ out.old ++ form_text form.now (two_ids from into)) }
+    ensures fits { Small from.0 × Small into.0 }
 {
     out.push_str(form)?;
     out.push_str("(")?;
@@ -50,7 +53,8 @@ fn push_created(
     kind: ValueKind,
     reason: ValueReason,
 ) -> Result<(), AllocError>
-    ensures { OnOk result (out.new ≡ out.old ++ form_text (codes "Created") (both_text (decimal into.0) (both_text (kind_word kind) (reason_word reason)))) }
+    ensures text { OnOk result (out.new ≡ out.old ++ form_text (codes "Created") (both_text (decimal into.0) (both_text (kind_word kind) (reason_word reason)))) }
+    ensures fits { Small into.0 }
 {
     out.push_str("Created(")?;
     out.push_number(u64::from(into.0))?;
@@ -62,7 +66,8 @@ fn push_created(
 }
 
 fn push_site(out: &mut Text, site: Site) -> Result<(), AllocError>
-    ensures { OnOk result (out.new ≡ out.old ++ site_text site) }
+    ensures text { OnOk result (out.new ≡ out.old ++ site_text site) }
+    ensures fits { SmallSite site }
 {
     match site {
         Site::Parameter(id) => push_form(out, "Parameter", id.0),
@@ -95,8 +100,11 @@ fn push_further_reasons(out: &mut Text, members: ReasonIter) -> Result<(), Alloc
 
 /// Appends the reasons, joined by `+`, or `-` where there is none.
 fn push_reasons(out: &mut Text, reasons: ReasonSet) -> Result<(), AllocError>
-    ensures { OnOk result (out.new ≡ out.old ++ reasons_text (reasons_in reasons)) }
+    ensures text { OnOk result (out.new ≡ out.old ++ reasons_text (reasons_in reasons)) }
+    ensures fits { ReasonBits reasons }
 {
+    // Does nothing: it tells the prover that this is a proper value.
+    reasons.known();
     let mut members = reasons.iter();
     match members.next() {
         Some(first) => {
@@ -108,7 +116,8 @@ fn push_reasons(out: &mut Text, reasons: ReasonSet) -> Result<(), AllocError>
 }
 
 fn push_value_line(out: &mut Text, site: Site, value: AbstractValue) -> Result<(), AllocError>
-    ensures { OnOk result (out.new ≡ out.old ++ value_line (site, value)) }
+    ensures text { OnOk result (out.new ≡ out.old ++ value_line (site, value)) }
+    ensures fits { OnOk result (FittingValue (site, value)) }
 {
     out.push_str("value ")?;
     push_site(out, site)?;
@@ -121,7 +130,8 @@ fn push_value_line(out: &mut Text, site: Site, value: AbstractValue) -> Result<(
 
 /// Appends the values of sites, in ascending order.
 fn push_values(out: &mut Text, state: &InferenceState) -> Result<(), AllocError>
-    ensures { OnOk result (out.new ≡ out.old ++ flat_map value_line state.now.values) }
+    ensures text { OnOk result (out.new ≡ out.old ++ flat_map value_line state.now.values) }
+    ensures fits { OnOk result (AllByRecursion FittingValue state.now.values) }
 {
     // Does nothing: it tells the prover that this is a proper value.
     state.known();
@@ -134,7 +144,8 @@ fn push_values(out: &mut Text, state: &InferenceState) -> Result<(), AllocError>
 }
 
 fn push_spaced_site(out: &mut Text, site: Site) -> Result<(), AllocError>
-    ensures { OnOk result (out.new ≡ out.old ++ spaced_site site) }
+    ensures text { OnOk result (out.new ≡ out.old ++ spaced_site site) }
+    ensures fits { OnOk result (SmallSite site) }
 {
     out.push_str(" ")?;
     push_site(out, site)
@@ -142,7 +153,8 @@ fn push_spaced_site(out: &mut Text, site: Site) -> Result<(), AllocError>
 
 /// Appends the sites of the set, in ascending order.
 fn push_sites(out: &mut Text, sites: &SiteSet) -> Result<(), AllocError>
-    ensures { OnOk result (out.new ≡ out.old ++ sites_text sites.now) }
+    ensures text { OnOk result (out.new ≡ out.old ++ sites_text sites.now) }
+    ensures fits { OnOk result (AllByRecursion SmallEntry sites.now) }
 {
     // Does nothing: it tells the prover that this is a proper value.
     sites.known();
@@ -155,7 +167,8 @@ fn push_sites(out: &mut Text, sites: &SiteSet) -> Result<(), AllocError>
 }
 
 fn push_variable_line(out: &mut Text, id: IdentifierId, sites: &SiteSet) -> Result<(), AllocError>
-    ensures { OnOk result (out.new ≡ out.old ++ variable_line (id, sites.now)) }
+    ensures text { OnOk result (out.new ≡ out.old ++ variable_line (id, sites.now)) }
+    ensures fits { OnOk result (SmallVariable (id, sites.now)) }
 {
     out.push_str("variable")?;
     push_spaced(out, u64::from(id.0))?;
@@ -165,7 +178,8 @@ fn push_variable_line(out: &mut Text, id: IdentifierId, sites: &SiteSet) -> Resu
 
 /// Appends the sets of identifiers, in ascending order.
 fn push_variables(out: &mut Text, state: &InferenceState) -> Result<(), AllocError>
-    ensures { OnOk result (out.new ≡ out.old ++ flat_map variable_line state.now.variables) }
+    ensures text { OnOk result (out.new ≡ out.old ++ flat_map variable_line state.now.variables) }
+    ensures fits { OnOk result (AllByRecursion SmallVariable state.now.variables) }
 {
     // Does nothing: it tells the prover that this is a proper value.
     state.known();
@@ -177,13 +191,17 @@ fn push_variables(out: &mut Text, state: &InferenceState) -> Result<(), AllocErr
     Ok(())
 }
 
-/// Appends a line for the value of each site and for the set of each identifier. An `Err` is want of memory:
+/// Appends a line for the value of each site and for the set of each identifier. An `Err` is out of memory:
 /// `out` may then hold a part of it.
 pub(crate) fn push_state(out: &mut Text, state: &InferenceState) -> Result<(), AllocError>
-    ensures { OnOk result (out.new ≡ out.old ++ state_lines state.now) }
+    ensures text { OnOk result (out.new ≡ out.old ++ state_lines state.now) }
+    ensures fits { OnOk result (FittingState state.now) }
 {
     push_values(out, state)?;
-    push_variables(out, state)
+    push_variables(out, state)?;
+    // Does nothing: it tells the prover that this is a proper value.
+    state.known();
+    Ok(())
 }
 
 fn push_blocks(out: &mut Text, blocks: &[BlockId]) -> Result<(), AllocError>
@@ -195,7 +213,7 @@ fn push_blocks(out: &mut Text, blocks: &[BlockId]) -> Result<(), AllocError>
     Ok(())
 }
 
-/// Appends the line of the blocks that were visited. An `Err` is want of memory: `out` may then hold a part of it.
+/// Appends the line of the blocks that were visited. An `Err` is out of memory: `out` may then hold a part of it.
 pub(crate) fn push_visits(out: &mut Text, visits: &[BlockId]) -> Result<(), AllocError>
     ensures { OnOk result (out.new ≡ out.old ++ visits_line visits.now) }
 {
@@ -228,7 +246,8 @@ fn push_named(
     into: IdentifierId,
     name: &str,
 ) -> Result<(), AllocError>
-    ensures { OnOk result (out.new ≡ out.old ++ form_text (codes "Named") (both_text (decimal into.0) (quoted name.now))) }
+    ensures text { OnOk result (out.new ≡ out.old ++ form_text (codes "Named") (both_text (decimal into.0) (quoted name.now))) }
+    ensures fits { OnOk result (Small into.0) }
 {
     out.push_str("Named(")?;
     out.push_number(u64::from(into.0))?;
@@ -238,7 +257,8 @@ fn push_named(
 }
 
 fn push_key(alloc: Global, out: &mut Text, key: &TempKey) -> Result<(), AllocError>
-    ensures { OnOk result (out.new ≡ out.old ++ key_text key.now) }
+    ensures text { OnOk result (out.new ≡ out.old ++ key_text key.now) }
+    ensures fits { OnOk result (SmallKey key.now) }
 {
     match key {
         TempKey::Named(into, name) => push_named(alloc, out, *into, name.text.as_str()),
@@ -251,7 +271,8 @@ fn push_temporary_line(
     out: &mut Text,
     temporary: &Temporary,
 ) -> Result<(), AllocError>
-    ensures { OnOk result (out.new ≡ out.old ++ temporary_line temporary.now) }
+    ensures text { OnOk result (out.new ≡ out.old ++ temporary_line temporary.now) }
+    ensures fits { OnOk result (SmallTemporary temporary.now) }
 {
     out.push_str("temporary")?;
     push_spaced(out, u64::from(temporary.place.identifier.0))?;
@@ -265,7 +286,8 @@ fn push_temporaries(
     out: &mut Text,
     temporaries: &[Temporary],
 ) -> Result<(), AllocError>
-    ensures { OnOk result (out.new ≡ out.old ++ flat_map temporary_line temporaries.now) }
+    ensures text { OnOk result (out.new ≡ out.old ++ flat_map temporary_line temporaries.now) }
+    ensures fits { OnOk result (AllByRecursion SmallTemporary temporaries.now) }
 {
     for temporary in temporaries {
         push_temporary_line(alloc, out, temporary)?;
@@ -273,10 +295,11 @@ fn push_temporaries(
     Ok(())
 }
 
-/// Appends a line for each first effect, and then for each temporary. An `Err` is want of memory: `out` may
+/// Appends a line for each first effect, and then for each temporary. An `Err` is out of memory: `out` may
 /// then hold a part of it.
 pub(crate) fn push_tables(alloc: Global, out: &mut Text, solved: &Solved) -> Result<(), AllocError>
-    ensures { OnOk result (out.new ≡ out.old ++ table_lines solved.now) }
+    ensures text { OnOk result (out.new ≡ out.old ++ table_lines solved.now) }
+    ensures fits { OnOk result (AllByRecursion SmallTemporary solved.now.temporaries) }
 {
     push_first_effects(out, solved.first.as_slice())?;
     push_temporaries(alloc, out, solved.temporaries.as_slice())

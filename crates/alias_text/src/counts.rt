@@ -103,7 +103,7 @@ fn push_solved(out: &mut Text, solved: &[Solved]) -> Result<(), AllocError>
 }
 
 /// Appends six counts, a line each: the root's blocks and instructions, the effects and visits of all functions, the
-/// mutable ranges, and the reports. An `Err` is want of memory: `out` may then hold a part of it.
+/// mutable ranges, and the reports. An `Err` is out of memory: `out` may then hold a part of it.
 pub(crate) fn push_counts(
     out: &mut Text,
     unit: &Unit,

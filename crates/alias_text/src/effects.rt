@@ -42,7 +42,7 @@ pub(crate) fn reason_word(reason: ValueReason) -> &'static str
 }
 
 /// Appends a space and a number.
-pub(crate) fn push_spaced(out: &mut Text, number: u64) -> Result<(), AllocError>
+pub fn push_spaced(out: &mut Text, number: u64) -> Result<(), AllocError>
     ensures { OnOk result (out.new ≡ out.old ++ spaced number) }
 {
     out.push_str(" ")?;
@@ -176,7 +176,7 @@ fn push_create_function(
     push_places(out, captures)
 }
 
-/// Appends the effect: its name, and then its fields in their order. An `Err` is want of memory: `out` may then
+/// Appends the effect: its name, and then its fields in their order. An `Err` is out of memory: `out` may then
 /// hold a part of it.
 pub fn push_effect(out: &mut Text, effect: &AliasingEffect) -> Result<(), AllocError>
     ensures { OnOk result (out.new ≡ out.old ++ effect_text effect.now) }
@@ -227,7 +227,7 @@ pub fn push_effect(out: &mut Text, effect: &AliasingEffect) -> Result<(), AllocE
     }
 }
 
-/// The effect as text: its name, and then its fields in their order. An `Err` is want of memory.
+/// The effect as text: its name, and then its fields in their order. An `Err` is out of memory.
 pub fn print_effect(alloc: Global, effect: &AliasingEffect) -> Result<Text, AllocError>
     ensures { IfOk result (λ text. text ≡ effect_text effect.now) }
 {

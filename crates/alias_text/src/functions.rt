@@ -1,7 +1,9 @@
 //! The effects of blocks and functions, as lines.
 ghost use Rattle.std.specs.Prelude.{◌≡◌, ◌++◌, OnOk};
+ghost use Rattle.std.specs.List.{AllByRecursion};
 ghost use Rattle.alias_base.specs.Find.{value_at};
 ghost use Rattle.alias_text.specs.Lines.{effect_line, effect_lines, end_line, end_lines, instruction_lines, terminal_lines, block_head, listed_lines, block_lines, function_name, function_head};
+ghost use Rattle.alias_text.specs.Fitting.{Small, SmallBlock, SmallInstruction, SmallName};
 
 use crate::effects::push_effect;
 use alias_base::{BlockId, FunctionId, InstructionId, Text};
@@ -56,7 +58,8 @@ fn push_instruction(
     instructions: &[Instruction],
     id: InstructionId,
 ) -> Result<(), AllocError>
-    ensures { OnOk result (out.new ≡ out.old ++ instruction_lines instructions.now id) }
+    ensures text { OnOk result (out.new ≡ out.old ++ instruction_lines instructions.now id) }
+    ensures fits { Small id.0 }
 {
     match instructions.get(id.0 as usize) {
         Some(instruction) => match &instruction.effects {
@@ -72,7 +75,8 @@ fn push_instructions(
     instructions: &[Instruction],
     ids: &[InstructionId],
 ) -> Result<(), AllocError>
-    ensures { OnOk result (out.new ≡ out.old ++ listed_lines instructions.now ids.now) }
+    ensures text { OnOk result (out.new ≡ out.old ++ listed_lines instructions.now ids.now) }
+    ensures fits { OnOk result (AllByRecursion SmallInstruction ids.now) }
 {
     for id in ids {
         push_instruction(out, instructions, *id)?;
@@ -89,9 +93,10 @@ fn push_terminal(out: &mut Text, terminal: &Terminal) -> Result<(), AllocError>
     }
 }
 
-/// Appends the line that stands over a block's lines. An `Err` is want of memory: `out` may then hold a part of it.
+/// Appends the line that stands over a block's lines. An `Err` is out of memory: `out` may then hold a part of it.
 pub fn push_block_head(out: &mut Text, block: BlockId) -> Result<(), AllocError>
-    ensures { OnOk result (out.new ≡ out.old ++ block_head block) }
+    ensures text { OnOk result (out.new ≡ out.old ++ block_head block) }
+    ensures fits { OnOk result (Small block.0) }
 {
     out.push_str("block ")?;
     out.push_number(block.0 as u64)?;
@@ -99,13 +104,14 @@ pub fn push_block_head(out: &mut Text, block: BlockId) -> Result<(), AllocError>
 }
 
 /// Appends the lines of the effects of the block's instructions in the block's order, and those of its terminal: none
-/// where the block isn't there. An `Err` is want of memory: `out` may then hold a part of it.
+/// where the block isn't there. An `Err` is out of memory: `out` may then hold a part of it.
 pub fn push_block_lines(
     out: &mut Text,
     func: &HirFunction,
     block: BlockId,
 ) -> Result<(), AllocError>
-    ensures { OnOk result (out.new ≡ out.old ++ block_lines func.now.instructions (value_at func.now.body.blocks block)) }
+    ensures text { OnOk result (out.new ≡ out.old ++ block_lines func.now.instructions (value_at func.now.body.blocks block)) }
+    ensures fits { OnOk result (SmallBlock (value_at func.now.body.blocks block)) }
 {
     match func.body.blocks.get(block) {
         Some(found) => {
@@ -120,9 +126,10 @@ pub fn push_block_lines(
     }
 }
 
-/// Appends `root`, or the number of a nested function. An `Err` is want of memory: `out` may then hold a part of it.
+/// Appends `root`, or the number of a nested function. An `Err` is out of memory: `out` may then hold a part of it.
 pub fn push_function_name(out: &mut Text, function: Option<FunctionId>) -> Result<(), AllocError>
-    ensures { OnOk result (out.new ≡ out.old ++ function_name function) }
+    ensures text { OnOk result (out.new ≡ out.old ++ function_name function) }
+    ensures fits { SmallName function }
 {
     match function {
         None => out.push_str("root"),
@@ -130,10 +137,11 @@ pub fn push_function_name(out: &mut Text, function: Option<FunctionId>) -> Resul
     }
 }
 
-/// Appends the line that stands over a function's blocks. An `Err` is want of memory: `out` may then hold a
+/// Appends the line that stands over a function's blocks. An `Err` is out of memory: `out` may then hold a
 /// part of it.
 pub fn push_function_head(out: &mut Text, function: Option<FunctionId>) -> Result<(), AllocError>
-    ensures { OnOk result (out.new ≡ out.old ++ function_head function) }
+    ensures text { OnOk result (out.new ≡ out.old ++ function_head function) }
+    ensures fits { OnOk result (SmallName function) }
 {
     out.push_str("function ")?;
     push_function_name(out, function)?;

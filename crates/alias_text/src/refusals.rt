@@ -80,7 +80,8 @@ fn pass_word(pass: Pass) -> &'static str
     }
 }
 
-fn counter_word(counter: Counter) -> &'static str
+/// The word of a counter.
+pub fn counter_word(counter: Counter) -> &'static str
     ensures { result.now ≡ counter_word counter }
 {
     match counter {
@@ -130,8 +131,8 @@ fn push_pass_fault(
     push_last(out, pass_word(pass))
 }
 
-/// Appends the line of a refusal by the inference: what was refused, and where. Want of memory has no line.
-/// An `Err` is want of memory: `out` may then hold a part of it.
+/// Appends the line of a refusal by the inference: what was refused, and where. Out of memory has no line.
+/// An `Err` is out of memory: `out` may then hold a part of it.
 pub fn push_refusal(out: &mut Text, error: &InferError) -> Result<(), AllocError>
     ensures { OnOk result (out.new ≡ out.old ++ refused_text error.now) }
 {
@@ -307,7 +308,7 @@ fn push_unfit_data(out: &mut Text, fault: UnitFault) -> Result<(), AllocError>
 }
 
 /// Appends the line of a unit that does not fit: the number of the rule that it breaks, and where. Want of
-/// memory has no line. An `Err` is want of memory: `out` may then hold a part of it.
+/// memory has no line. An `Err` is out of memory: `out` may then hold a part of it.
 pub fn push_unfit(out: &mut Text, fault: UnitFault) -> Result<(), AllocError>
     ensures { OnOk result (out.new ≡ out.old ++ unfit_text fault) }
 {
@@ -348,7 +349,7 @@ fn push_words(out: &mut Text, name: &str, first: &str, second: &str) -> Result<(
 }
 
 /// Appends the line of a text that is JSON and no unit: the pointer to the first value that breaks a rule of the
-/// format, as a JSON text, and the rule. An `Err` is want of memory: `out` may then hold a part of it.
+/// format, as a JSON text, and the rule. An `Err` is out of memory: `out` may then hold a part of it.
 pub fn push_not_unit(
     alloc: Global,
     out: &mut Text,

@@ -98,7 +98,7 @@ pub fn push_reports(alloc: Global, out: &mut Text, reports: &[Report]) -> Result
     push_report_lines(alloc, out, reports)
 }
 
-/// The report as text: its category, its message, its help and its labels. An `Err` is want of memory.
+/// The report as text: its category, its message, its help and its labels. An `Err` is out of memory.
 pub fn print_report(alloc: Global, report: &Report) -> Result<Text, AllocError>
     ensures { IfOk result (λ text. text ≡ report_text report.now) }
 {

@@ -1,7 +1,10 @@
 //! What was inferred of a unit, as lines.
 ghost use Rattle.std.specs.Prelude.{◌≡◌, ◌++◌, OnOk, map, option_map};
+ghost use Rattle.std.specs.List.{AllByRecursion};
 ghost use Rattle.std.specs.Option.{option_copied};
-ghost use Rattle.alias_text.specs.Results.{function_of, entry_text, blocks_text, found_text, function_text, functions_text, listing_text, result_text};
+ghost use Rattle.alias_text.specs.Certificates.{state_lines, table_lines};
+ghost use Rattle.alias_text.specs.Results.{function_of, certify_only, entry_text, blocks_text, found_text, function_text, functions_text, listing_text, result_text};
+ghost use Rattle.alias_text.specs.Fitting.{SmallTemporary, FittingState, FittingEntry, FittingEntries, FittingSolved, AreFitting, IfCertify};
 
 use crate::certificates::{push_state, push_tables, push_visits};
 use crate::counts::push_counts;
@@ -16,6 +19,7 @@ use alias_hir::effect::AliasingEffect;
 use alias_hir::env::Unit;
 use alias_hir::hir::HirFunction;
 use alias_hir::report::Report;
+use alias_lattice::InferenceState;
 use std::alloc::{AllocError, Global};
 
 /// The function of the unit with this number, which is the root at `None`.
@@ -28,19 +32,34 @@ fn function_of(unit: &Unit, function: Option<FunctionId>) -> Option<&HirFunction
     }
 }
 
+/// Appends an entry state where a certificate is printed.
+fn push_entry_state(
+    out: &mut Text,
+    detail: Detail,
+    state: &InferenceState,
+) -> Result<(), AllocError>
+    ensures text { OnOk result (out.new ≡ out.old ++ certify_only detail (state_lines state.now)) }
+    ensures fits { OnOk result (IfCertify detail (FittingState state.now)) }
+{
+    match detail {
+        Detail::Certify => push_state(out, state),
+        Detail::Infer | Detail::Counts => Ok(()),
+    }
+}
+
 fn push_entry(
     out: &mut Text,
     detail: Detail,
     func: &HirFunction,
     entry: &BlockEntry,
 ) -> Result<(), AllocError>
-    ensures { OnOk result (out.new ≡ out.old ++ entry_text detail func.now entry.now) }
+    ensures text { OnOk result (out.new ≡ out.old ++ entry_text detail func.now entry.now) }
+    ensures fits { OnOk result (IfCertify detail (FittingEntry func.now entry.now)) }
 {
     push_block_head(out, entry.block)?;
-    if detail == Detail::Certify {
-        push_state(out, &entry.state)?;
-    }
-    push_block_lines(out, func, entry.block)
+    push_entry_state(out, detail, &entry.state)?;
+    push_block_lines(out, func, entry.block)?;
+    Ok(())
 }
 
 fn push_entries(
@@ -49,7 +68,8 @@ fn push_entries(
     func: &HirFunction,
     entries: &[BlockEntry],
 ) -> Result<(), AllocError>
-    ensures { OnOk result (out.new ≡ out.old ++ blocks_text detail func.now entries.now) }
+    ensures text { OnOk result (out.new ≡ out.old ++ blocks_text detail func.now entries.now) }
+    ensures fits { OnOk result (IfCertify detail (AllByRecursion (FittingEntry func.now) entries.now)) }
 {
     for entry in entries {
         push_entry(out, detail, func, entry)?;
@@ -64,11 +84,28 @@ fn push_found(
     func: Option<&HirFunction>,
     entries: &[BlockEntry],
 ) -> Result<(), AllocError>
-    ensures { OnOk result (out.new ≡ out.old ++ found_text detail (option_map (λ f. f.now) func.entry) entries.now) }
+    ensures text { OnOk result (out.new ≡ out.old ++ found_text detail (option_map (λ f. f.now) func.entry) entries.now) }
+    ensures fits { OnOk result (IfCertify detail (FittingEntries (option_map (λ f. f.now) func.entry) entries.now)) }
 {
     match func {
         Some(func) => push_entries(out, detail, func, entries),
         None => Ok(()),
+    }
+}
+
+/// Appends the tables of a function's solution where a certificate is printed.
+fn push_tables_of(
+    alloc: Global,
+    out: &mut Text,
+    detail: Detail,
+    solved: &Solved,
+) -> Result<(), AllocError>
+    ensures text { OnOk result (out.new ≡ out.old ++ certify_only detail (table_lines solved.now)) }
+    ensures fits { OnOk result (IfCertify detail (AllByRecursion SmallTemporary solved.now.temporaries)) }
+{
+    match detail {
+        Detail::Certify => push_tables(alloc, out, solved),
+        Detail::Infer | Detail::Counts => Ok(()),
     }
 }
 
@@ -80,7 +117,8 @@ fn push_function(
     summary: &[AliasingEffect],
     solved: &Solved,
 ) -> Result<(), AllocError>
-    ensures { OnOk result (out.new ≡ out.old ++ function_text detail unit.now summary.now solved.now) }
+    ensures text { OnOk result (out.new ≡ out.old ++ function_text detail unit.now summary.now solved.now) }
+    ensures fits { OnOk result (IfCertify detail (FittingSolved unit.now solved.now)) }
 {
     push_function_head(out, solved.function)?;
     if detail == Detail::Certify {
@@ -92,10 +130,9 @@ fn push_function(
         function_of(unit, solved.function),
         solved.entries.as_slice(),
     )?;
-    if detail == Detail::Certify {
-        push_tables(alloc, out, solved)?;
-    }
-    push_summary(out, unit, summary, solved.function)
+    push_tables_of(alloc, out, detail, solved)?;
+    push_summary(out, unit, summary, solved.function)?;
+    Ok(())
 }
 
 fn push_functions(
@@ -106,7 +143,8 @@ fn push_functions(
     summary: &[AliasingEffect],
     solved: &[Solved],
 ) -> Result<(), AllocError>
-    ensures { OnOk result (out.new ≡ out.old ++ functions_text detail unit.now summary.now solved.now) }
+    ensures text { OnOk result (out.new ≡ out.old ++ functions_text detail unit.now summary.now solved.now) }
+    ensures fits { OnOk result (IfCertify detail (AreFitting unit.now solved.now)) }
 {
     for of_function in solved {
         push_function(alloc, out, detail, unit, summary, of_function)?;
@@ -124,7 +162,8 @@ fn push_listing(
     summary: &[AliasingEffect],
     reports: &[Report],
 ) -> Result<(), AllocError>
-    ensures { OnOk result (out.new ≡ out.old ++ listing_text detail unit.now solved.now summary.now reports.now) }
+    ensures text { OnOk result (out.new ≡ out.old ++ listing_text detail unit.now solved.now summary.now reports.now) }
+    ensures fits { OnOk result (IfCertify detail (AreFitting unit.now solved.now)) }
 {
     push_functions(alloc, out, detail, unit, summary, solved)?;
     push_ranges(out, unit.env.identifiers.as_slice())?;
@@ -135,7 +174,7 @@ fn push_listing(
 /// function, for each block that is reached a line and those of its effects, and those of the summary, of which
 /// `summary` is the root's; then the mutable ranges, and the reports. `Certify` has besides the visits, the entry
 /// states, the first effects and the temporaries, and `Counts` only how many there are. docs/FORMAT.md has the form of
-/// the lines. An `Err` is want of memory: `out` may then hold a part of it.
+/// the lines. An `Err` is out of memory: `out` may then hold a part of it.
 pub fn push_result(
     alloc: Global,
     out: &mut Text,
@@ -145,7 +184,8 @@ pub fn push_result(
     summary: &[AliasingEffect],
     reports: &[Report],
 ) -> Result<(), AllocError>
-    ensures { OnOk result (out.new ≡ out.old ++ result_text detail unit.now solved.now summary.now reports.now) }
+    ensures text { OnOk result (out.new ≡ out.old ++ result_text detail unit.now solved.now summary.now reports.now) }
+    ensures fits { OnOk result (IfCertify detail (AreFitting unit.now solved.now)) }
 {
     match detail {
         Detail::Infer | Detail::Certify => {

@@ -46,7 +46,7 @@ fn push_summary_lines(out: &mut Text, effects: &[AliasingEffect]) -> Result<(), 
 }
 
 /// Appends a line for each effect of the summary of the function of the unit with this number. `summary` is that of
-/// the root, which is the function at `None`. An `Err` is want of memory: `out` may then hold a part of it.
+/// the root, which is the function at `None`. An `Err` is out of memory: `out` may then hold a part of it.
 pub fn push_summary(
     out: &mut Text,
     unit: &Unit,
