@@ -66,7 +66,7 @@ fn walk_from_entry(alloc: Global, body: &Hir) -> Result<Walk, AllocError> {
     Ok(walk)
 }
 
-/// The blocks that control may come to from the entry, in stored order. The one error is want of memory.
+/// The blocks that control may come to from the entry, in stored order. The one error is out of memory.
 pub fn reached(alloc: Global, body: &Hir) -> Result<Vec<BlockId>, AllocError> {
     let walk = walk_from_entry(alloc, body)?;
     let mut names = Vec::new(alloc);

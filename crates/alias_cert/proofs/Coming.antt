@@ -76,7 +76,7 @@ module _ (id : Option FunctionId) (b : Bool) (f : HirFunction) (env : Environmen
 
 -- ---- summaries
 
--- a fault of the range pass that isn't want of memory is an error that isn't
+-- a fault of the range pass that isn't out of memory is an error that isn't
 pub no_want : (id : Option FunctionId) (e : InferError) → is_memory (range_fault id e) ≡ false → is_want e ≡ false
 no_want id (error.Memory m) h = cc
 no_want id (error.PassFault f p) h = refl

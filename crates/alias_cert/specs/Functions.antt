@@ -157,7 +157,7 @@ pub record Accounts (fs : List CheckedFunction) (solved : List Solved) : Type 0 
   pub same : map (λ (x : CheckedFunction). x.solved) fs ≡ solved
   pub solve : AllByRecursion SolvesItsFlow fs
 
--- a call comes to what is stated, or finds the fault that is stated. Want of memory is free: it can come in the place of any answer
+-- a call comes to what is stated, or finds the fault that is stated. Out of memory is free: it can come in the place of any answer
 abbrev pub Comes : Result Checking CheckFault → Result ⊤ CheckFault → Environment → List Solved → Type 0
 Comes stated (Ok u) env solved = (fs : List CheckedFunction) × (stated ≡ Ok (checking env fs)) × Accounts fs solved
 Comes stated (Err e) env solved = is_memory e ≡ false → stated ≡ Err e

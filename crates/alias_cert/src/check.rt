@@ -23,7 +23,7 @@ pub struct Accepted {
     pub solved: List<Solved>,
 }
 
-/// Checks a certificate against a unit that keeps the rules: whether its entry states solve each function, with the temporaries,
+/// Checks a certificate against a unit that is well formed: whether its entry states solve each function, with the temporaries,
 /// the effects and the summaries that it tells. The unit is dropped on `Err`.
 ///
 /// Each reached block of a function steps once, from the entry state that is said. On Ok there is a solution of each function,
@@ -33,7 +33,7 @@ pub struct Accepted {
 /// The faults, each exactly where it is the first, functions innermost first and the root last: `Functions`, where the function
 /// at a position of the certificate isn't the next one; `Blocks`, `State`, `Temporaries` and `Initial`; then, block by block in
 /// stored order, `Step`, `MissingTemporary`, `Effects` and `NotBelow`; then `NotJoin`, and `Summary`. `TooMany` comes where a
-/// number is wanting, and `Memory` is want of memory, which can come at any time.
+/// number is wanting, and `Memory` is out of memory, which can come at any time.
 pub fn check_certificate(
     alloc: Global,
     unit: Checked,

@@ -24,7 +24,7 @@ abbrev pub is_memory : CheckFault → Bool
 is_memory (fault.Memory e) = true
 is_memory e = false
 
--- what is made is what is stated, or the fault is the one stated. Want of memory is free: it can come in the place of any answer
+-- what is made is what is stated, or the fault is the one stated. Out of memory is free: it can come in the place of any answer
 abbrev pub StatesInto : {A : Type 0} → Result A CheckFault → Result ⊤ CheckFault → A → Type 0
 StatesInto stated (Ok u) t = stated ≡ Ok t
 StatesInto stated (Err e) t = is_memory e ≡ false → stated ≡ Err e

@@ -243,7 +243,7 @@ fn check_with(
 /// one's or names what isn't there; `Initial`, where the initial state isn't below the entry's; then, block by block, `Step`, where the step is
 /// refused, `MissingTemporary`, where it made a temporary that isn't said, `Effects`, where it recorded other effects than are told, and `NotBelow`, where
 /// its out state isn't below a successor's; and `NotJoin`, where all edges go forward and an entry state isn't the join of what
-/// arrives. `TooMany` comes where a number is wanting for a temporary or a report, and `Memory` is want of memory, which can come at any time.
+/// arrives. `TooMany` comes where a number is wanting for a temporary or a report, and `Memory` is out of memory, which can come at any time.
 /// docs/MODEL.md has the rules.
 pub fn check_function_certificate(
     alloc: Global,

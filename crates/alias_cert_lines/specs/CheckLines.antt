@@ -35,7 +35,7 @@ at_position_text n k = head_text n ++ spaced k ++ codes "\n"
 abbrev pub at_counter_text : ℕ → Counter → List ℕ
 at_counter_text n which = head_text n ++ last_word (counter_word which)
 
--- the number of the fault, and where it is, in the order of its fields; of a refused step the cause is left out, and want of memory has no line
+-- the number of the fault, and where it is, in the order of its fields; of a refused step the cause is left out, and out of memory has no line
 abbrev pub rejected_text : CheckFault → List ℕ
 rejected_text (Functions position) = at_position_text 1 position
 rejected_text (Blocks f) = in_function_text 2 f

@@ -1,22 +1,15 @@
 //! The line of an answer of `check`.
 ghost use Rattle.std.specs.Prelude.{◌≡◌, ◌++◌, OnOk, codes};
-ghost use Rattle.alias_text.specs.Lines.{spaced};
-ghost use Rattle.alias_text.specs.Refusals.{number_text, counter_word};
+ghost use Rattle.alias_text.specs.Refusals.{number_text};
 ghost use Rattle.alias_cert_lines.specs.CheckLines.{head_text, function_head_text, block_head_text, in_function_text, at_block_text, at_edge_text, at_position_text, at_counter_text, rejected_text, accepted_text};
 
 use alias_base::{BlockId, FunctionId, Text};
 use alias_certificate::CheckFault;
 use alias_hir::error::Counter;
+use alias_text::effects::push_spaced;
 use alias_text::functions::push_function_name;
+use alias_text::refusals::counter_word;
 use std::alloc::AllocError;
-
-/// Appends a blank and a number.
-fn push_spaced(out: &mut Text, number: u64) -> Result<(), AllocError>
-    ensures { OnOk result (out.new ≡ out.old ++ spaced number) }
-{
-    out.push_str(" ")?;
-    out.push_number(number)
-}
 
 /// Appends that a certificate is rejected, and the number of the fault.
 fn push_head(out: &mut Text, fault: u64) -> Result<(), AllocError>
@@ -101,16 +94,6 @@ fn push_at_position(out: &mut Text, fault: u64, position: usize) -> Result<(), A
     out.push_str("\n")
 }
 
-fn counter_word(counter: Counter) -> &'static str
-    ensures { result.now ≡ counter_word counter }
-{
-    match counter {
-        Counter::Identifiers => "Identifiers",
-        Counter::Diagnostics => "Diagnostics",
-        Counter::GraphPositions => "GraphPositions",
-    }
-}
-
 /// Appends the line of a fault for want of numbers.
 fn push_at_counter(out: &mut Text, fault: u64, which: Counter) -> Result<(), AllocError>
     ensures { OnOk result (out.new ≡ out.old ++ at_counter_text fault which) }
@@ -121,8 +104,8 @@ fn push_at_counter(out: &mut Text, fault: u64, which: Counter) -> Result<(), All
     out.push_str("\n")
 }
 
-/// Appends the line of a certificate that isn't accepted: the number of the fault, and where it is. Want of memory has no
-/// line. An `Err` is want of memory: `out` may then hold a part of it.
+/// Appends the line of a certificate that isn't accepted: the number of the fault, and where it is. Out of memory has no
+/// line. An `Err` is out of memory: `out` may then hold a part of it.
 pub fn push_rejected(out: &mut Text, fault: &CheckFault) -> Result<(), AllocError>
     ensures { OnOk result (out.new ≡ out.old ++ rejected_text fault.now) }
 {
@@ -154,7 +137,7 @@ pub fn push_rejected(out: &mut Text, fault: &CheckFault) -> Result<(), AllocErro
 }
 
 /// Appends the line of a text that is no certificate: the number of its first line, from 1, that isn't in the grammar. An
-/// `Err` is want of memory: `out` may then hold a part of it.
+/// `Err` is out of memory: `out` may then hold a part of it.
 pub fn push_bad_line(out: &mut Text, number: usize) -> Result<(), AllocError>
     ensures { OnOk result (out.new ≡ out.old ++ number_text (codes "BadLine") number) }
 {
@@ -163,7 +146,7 @@ pub fn push_bad_line(out: &mut Text, number: usize) -> Result<(), AllocError>
     out.push_str("\n")
 }
 
-/// Appends the line of a certificate of so many functions that is accepted. An `Err` is want of memory: `out` may then hold a
+/// Appends the line of a certificate of so many functions that is accepted. An `Err` is out of memory: `out` may then hold a
 /// part of it.
 pub fn push_accepted(out: &mut Text, functions: usize) -> Result<(), AllocError>
     ensures { OnOk result (out.new ≡ out.old ++ accepted_text functions) }

@@ -25,7 +25,7 @@ function_text name cause f = refused_head name cause ++ function_name f ++ codes
 abbrev pub counter_text : List ℕ → List ℕ → Counter → List ℕ
 counter_text name cause which = refused_head name cause ++ counter_word which ++ codes "\n"
 
--- want of memory has no line
+-- out of memory has no line
 abbrev pub plain_refusal_text : PlainFault → List ℕ
 plain_refusal_text (fault.NotSettled f) = function_text (codes "PlainRefused") (codes "NotSettled") f
 plain_refusal_text (fault.TooMany which) = counter_text (codes "PlainRefused") (codes "TooMany") which

@@ -1,25 +1,17 @@
 //! Whether a unit is plain, and why that isn't known, as lines.
 ghost use Rattle.std.specs.Prelude.{◌≡◌, ◌++◌, OnOk};
-ghost use Rattle.alias_text.specs.Lines.{spaced};
-ghost use Rattle.alias_text.specs.Refusals.{counter_word};
 ghost use Rattle.alias_plain_text.specs.Lines.{refused_head, function_text, counter_text, plainness_text, plain_refusal_text};
 
 use alias_base::{FunctionId, Text};
 use alias_hir::error::Counter;
 use alias_plain_laws::{PlainFault, Plainness};
+use alias_text::effects::push_spaced;
 use alias_text::functions::push_function_name;
+use alias_text::refusals::counter_word;
 use std::alloc::AllocError;
 
-/// Appends a blank and a number.
-fn push_spaced(out: &mut Text, number: u32) -> Result<(), AllocError>
-    ensures { OnOk result (out.new ≡ out.old ++ spaced number) }
-{
-    out.push_str(" ")?;
-    out.push_number(u64::from(number))
-}
-
 /// Appends one line: `plain`, or `not plain`, the function, the instruction, and the number of the first of the five
-/// conditions that it breaks. An `Err` is want of memory: `out` may then hold a part of it.
+/// conditions that it breaks. An `Err` is out of memory: `out` may then hold a part of it.
 pub fn push_plainness(out: &mut Text, plainness: Plainness) -> Result<(), AllocError>
     ensures { OnOk result (out.new ≡ out.old ++ plainness_text plainness) }
 {
@@ -32,20 +24,10 @@ pub fn push_plainness(out: &mut Text, plainness: Plainness) -> Result<(), AllocE
         } => {
             out.push_str("not plain ")?;
             push_function_name(out, function)?;
-            push_spaced(out, instruction.0)?;
-            push_spaced(out, rule)?;
+            push_spaced(out, u64::from(instruction.0))?;
+            push_spaced(out, u64::from(rule))?;
             out.push_str("\n")
         }
-    }
-}
-
-fn counter_word(counter: Counter) -> &'static str
-    ensures { result.now ≡ counter_word counter }
-{
-    match counter {
-        Counter::Identifiers => "Identifiers",
-        Counter::Diagnostics => "Diagnostics",
-        Counter::GraphPositions => "GraphPositions",
     }
 }
 
@@ -89,7 +71,7 @@ fn push_of_counter(
 }
 
 /// Appends the line of a unit of which it isn't known whether it is plain: the cause, and the function that isn't settled or
-/// the counter that is at its end. Want of memory has no line. An `Err` is want of memory: `out` may then hold a part of it.
+/// the counter that is at its end. Out of memory has no line. An `Err` is out of memory: `out` may then hold a part of it.
 pub fn push_plain_refusal(out: &mut Text, fault: &PlainFault) -> Result<(), AllocError>
     ensures { OnOk result (out.new ≡ out.old ++ plain_refusal_text fault.now) }
 {

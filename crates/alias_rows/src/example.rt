@@ -96,7 +96,7 @@ fn told(alloc: Global, words: &str, outcome: &Outcome) -> Result<Text, AllocErro
     }
 }
 
-/// Whether the run ends as it must, and writes what it must and nothing else, which is also the text of its outcome. An `Err` is want of memory outside the run.
+/// Whether the run ends as it must, and writes what it must and nothing else, which is also the text of its outcome. An `Err` is out of memory outside the run.
 pub fn ends(alloc: Global, example: &Example, run: &Run<'_>) -> Result<bool, AllocError> {
     let words = words_of(alloc, example.words.as_str())?;
     let piece = example.piece.max(1);
