@@ -45,7 +45,7 @@ use Rattle.alias_accept_laws.specs.AlikeBlocks.{AlikeRecorded}
 use Rattle.alias_accept_laws.specs.Certifying.{IsSolution, IsCertified, certified, full as full_certificate, IsAcceptedAsSaid}
 use Rattle.alias_accept_laws.specs.Saying.{NamesThere, AreCounted, said_block, said_each, those_there, said_temporary, said_function}
 use Rattle.alias_accept_laws.proofs.Calling.{same_length}
-use Rattle.alias_accept_laws.proofs.Counting.{counted_stated}
+use Rattle.alias_accept_laws.proofs.Counting.{AreStated, counted_stated}
 use Rattle.alias_accept_laws.proofs.Lining.{marks_of, count_is, mark_at, marks_long, same_marks, stands, no_number, said_at, said_nothing, said_long, are_lines_of}
 use Rattle.alias_accept_laws.proofs.Rebuilding.{state_rebuilt}
 use Rattle.alias_accept_laws.proofs.Solutions.{reached_there, reached_here, accepts_anyway}
@@ -55,7 +55,7 @@ true_or_false : (b : Bool) → (b ≡ true) ⊎ (b ≡ false)
 true_or_false true = inl refl
 true_or_false false = inr refl
 
-some_or_none : {A : Type 0} (o : Option A) → ((x : A) × (o ≡ Some x)) ⊎ (o ≡ None)
+pub some_or_none : {A : Type 0} (o : Option A) → ((x : A) × (o ≡ Some x)) ⊎ (o ≡ None)
 some_or_none None = inr refl
 some_or_none (Some x) = inl (x, refl)
 
@@ -82,16 +82,16 @@ numbers_long n (false ∷ ms) = ap suc (numbers_long n ms)
 
 module _ (env : Environment) (func : HirFunction) (e : Bool) (entered : is_some (value_at func.body.blocks func.body.entry) ≡ true) (tables : TableLists) (entries : List (Option State)) (recorded : List (Option BlockEffects))
     (s : IsSolution env func e tables entries recorded) (o : Elsewhere env) where
-  abbrev abroad : Environment
+  abbrev pub abroad : Environment
   abroad = elsewhere env o
 
-  laws : FlowLaws StateProper Extends (numbered (context_of (elsewhere env o) func e)) (replicate (length func.body.blocks) None)
+  pub laws : FlowLaws StateProper Extends (numbered (context_of (elsewhere env o) func e)) (replicate (length func.body.blocks) None)
   laws = pass_laws (context_of (elsewhere env o) func e) entered (replicate (length func.body.blocks) None) (length-replicate (length func.body.blocks) None)
 
   abbrev each_line : List (Option CertBlock)
   each_line = said_each func.body.blocks entries recorded
 
-  abbrev lines : List CertBlock
+  abbrev pub lines : List CertBlock
   lines = those_there each_line
 
   abbrev line_marks : List Bool
@@ -154,7 +154,7 @@ module _ (env : Environment) (func : HirFunction) (e : Bool) (entered : is_some 
       (c.0, c.1, subst (λ n. is_key_there (length env.identifiers + length done) n x.key ≡ true) (same_length env.functions o.functions o.alike) c.2, c.3, counted_elsewhere (done ++ x ∷ []) rest c.4)
 
   module _ (id : Option FunctionId) (summary : List (List ℕ)) where
-    abbrev c : CertFunction
+    abbrev pub c : CertFunction
     c = said_function id func entries recorded tables.temporaries summary
 
     numbers_are : numbers c abroad func e ≡ line_numbers 0 line_marks
@@ -205,30 +205,40 @@ module _ (env : Environment) (func : HirFunction) (e : Bool) (entered : is_some 
         ∙ ap (λ o. option_map_or (is_told q) o false) l.there
         ∙ block_told (block_at func.body.blocks i) x l.effects q (subst (λ z. AlikeRecorded z q) (sym effects) a)
 
-    told : AreToldAlike env func e tables entries (differs lines (numbers c abroad func e) (length (map said_temporary tables.temporaries)))
+    -- what is asked of the steps
+    abbrev pub asked : TableLists → ℕ → BlockEffects → Option Difference
+    asked = differs lines (numbers c abroad func e) (length (map said_temporary tables.temporaries))
+
+    told : AreToldAlike env func e tables entries asked
     told i x y k h step t q like a =
         let long : length (map said_temporary tables.temporaries) ≡ length t.temporaries = length-map tables.temporaries said_temporary ∙ same_length tables.temporaries t.temporaries like in
         ap (λ b. if b then Some MissingTemporary else (if is_told_at lines q (entry_at (numbers c abroad func e) i) then None else Some Effects)) (le-ltb (length (map said_temporary tables.temporaries)) (length t.temporaries) (omega arith))
         ∙ ap (λ b. let o : Option Difference = if b then None else Some Effects in o) (told_at i x y k q h step a)
 
-    abbrev begun : TableLists
-    begun = (counted_stated id abroad [] tables.temporaries (tables_of abroad) none (counted_elsewhere [] tables.temporaries s.names.temporaries)).tables
+    -- the tables that the check begins with
+    pub remade : AreStated id abroad tables.temporaries (temporaries_stated id abroad (map said_temporary tables.temporaries) (tables_of abroad))
+    remade = counted_stated id abroad [] tables.temporaries (tables_of abroad) none (counted_elsewhere [] tables.temporaries s.names.temporaries)
 
-    before : function_solved c abroad func e ≡ (steps_checked c abroad func e entries begun >>= (λ w. Ok (checked_end c abroad func e entries w)))
+    abbrev pub begun : TableLists
+    begun = remade.tables
+
+    pub before : function_solved c abroad func e ≡ (steps_checked c abroad func e entries begun >>= (λ w. Ok (checked_end c abroad func e entries w)))
     before =
         ap (λ r. r >>= (λ u. entries_checked c abroad func e >>= (λ xs. temporaries_stated id abroad (map said_temporary tables.temporaries) (tables_of abroad) >>= (λ t. steps_checked c abroad func e xs t >>= (λ w. Ok (checked_end c abroad func e xs w)))))) lines_ok
         ∙ ap (λ r. r >>= (λ xs. temporaries_stated id abroad (map said_temporary tables.temporaries) (tables_of abroad) >>= (λ t. steps_checked c abroad func e xs t >>= (λ w. Ok (checked_end c abroad func e xs w))))) entries_ok
-        ∙ ap (λ r. r >>= (λ t. steps_checked c abroad func e entries t >>= (λ w. Ok (checked_end c abroad func e entries w)))) (counted_stated id abroad [] tables.temporaries (tables_of abroad) none (counted_elsewhere [] tables.temporaries s.names.temporaries)).is
+        ∙ ap (λ r. r >>= (λ t. steps_checked c abroad func e entries t >>= (λ w. Ok (checked_end c abroad func e entries w)))) remade.is
 
-    finished : IsAcceptedOrFull env func e tables (solution_checked state_join state_below (rules_of (elsewhere env o) func e) (differs lines (numbers c abroad func e) (length (map said_temporary tables.temporaries))) entries begun (replicate (length func.body.blocks) None)) → IsCertified env func e (function_solved c abroad func e)
+    finished : IsAcceptedOrFull env func e tables (solution_checked state_join state_below (rules_of (elsewhere env o) func e) asked entries begun (replicate (length func.body.blocks) None)) → IsCertified env func e (function_solved c abroad func e)
     finished (accepted w is like) =
         certified (checked_end c abroad func e entries w) (before ∙ ap (λ r. faulted id abroad func.body.blocks r >>= (λ w. Ok (checked_end c abroad func e entries w))) is)
     finished (full b i is) = full_certificate (before ∙ ap (λ r. faulted id abroad func.body.blocks r >>= (λ w. Ok (checked_end c abroad func e entries w))) is)
 
+    -- the steps are accepted, or no number is left for a report
+    pub steps_accepted : IsAcceptedOrFull env func e tables (solution_checked state_join state_below (rules_of (elsewhere env o) func e) asked entries begun (replicate (length func.body.blocks) None))
+    steps_accepted = accepts_anyway env func e entered tables entries s.solved o asked told begun remade.alike
+
     certifies : IsCertified env func e (function_solved c abroad func e)
-    certifies =
-        finished (accepts_anyway env func e entered tables entries s.solved o (differs lines (numbers c abroad func e) (length (map said_temporary tables.temporaries))) told begun
-        (counted_stated id abroad [] tables.temporaries (tables_of abroad) none (counted_elsewhere [] tables.temporaries s.names.temporaries)).alike)
+    certifies = finished steps_accepted
 
 pub accepted_as_said : (env : Environment) (func : HirFunction) (e : Bool) → is_some (value_at func.body.blocks func.body.entry) ≡ true → (tables : TableLists) (entries : List (Option State)) (recorded : List (Option BlockEffects))
     → IsSolution env func e tables entries recorded → IsAcceptedAsSaid env func e tables entries recorded

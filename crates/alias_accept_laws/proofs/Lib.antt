@@ -18,5 +18,4 @@ pub mod Calling
 pub mod Legacies
 pub mod Stepping
 pub mod Blocking
-pub mod Keeping
 pub mod Passing

@@ -26,24 +26,25 @@ use Rattle.alias_effects.specs.PassLaws.{pass_laws}
 use Rattle.alias_accept_laws.specs.Accepting.{SolvesUnder}
 use Rattle.alias_accept_laws.specs.Certifying.{NamesItsOwn, IsAcceptedAsSaid}
 use Rattle.alias_accept_laws.proofs.Certifying.{accepted_as_said}
-use Rattle.alias_accept_laws.proofs.Keeping.{at_holds, solution_keeps}
+use Rattle.alias_entry_laws.proofs.Keeping.{at_holds, solution_keeps}
 
 module _ (env : Environment) (func : HirFunction) (e : Bool) (entered : is_some (value_at func.body.blocks func.body.entry) ≡ true) (w : SolverState (VisitLog State) TableLists BlockEffects)
     (ends : visits_end (context_of env func e) ≡ Solved w) where
-  laws : FlowLaws StateProper Extends (numbered (context_of env func e)) (replicate (length func.body.blocks) None)
+  pub laws : FlowLaws StateProper Extends (numbered (context_of env func e)) (replicate (length func.body.blocks) None)
   laws = pass_laws (context_of env func e) entered (replicate (length func.body.blocks) None) (length-replicate (length func.body.blocks) None)
 
   by_work_list : work_list_solution state_join state_below (numbered (context_of env func e)) (tables_of env) (replicate (length func.body.blocks) None) ≡ Solved (as_work_list_state state_below w)
   by_work_list = solution_work_list state_laws laws (tables_of env) ∙ ap (as_work_list_end state_below) ends
 
-  solves : Solves state_laws laws (tables_of env) (as_work_list_state state_below w)
+  pub solves : Solves state_laws laws (tables_of env) (as_work_list_state state_below w)
   solves = solution_solves state_laws laws (tables_of env) (as_work_list_state state_below w) by_work_list
 
   -- each entry state is proper, and so many blocks have a record
-  kept : Unit {0} × AllHold StateProper w.progress.joined_input × (length w.recorded ≡ length func.body.blocks)
+  pub kept : Unit {0} × AllHold StateProper w.progress.joined_input × (length w.recorded ≡ length func.body.blocks)
   kept =
       solution_keeps state_join state_below (numbered (context_of env func e)) (λ t. Unit {0}) (λ t x. StateProper x) (length func.body.blocks) (λ t x y p q. state_laws.closed x y p q)
-      (λ t b x y u k i p step. record { tables = tt; state = laws.step_proper t b x y u k p step; still = λ z q. q })
+      (λ b. Unit {0}) tt (λ b c r one. tt)
+      (λ t b x y u k r i p step. record { tables = tt; state = laws.step_proper t b x y u k p step; still = λ z q. q })
       (tables_of env) (replicate (length func.body.blocks) None) w tt laws.initial_proper (length-replicate (length func.body.blocks) None) ends
 
   proper_at : (b : ℕ) (s : State) → entry_at w.progress.joined_input b ≡ Some s → StateProper s

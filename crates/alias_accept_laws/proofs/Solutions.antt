@@ -64,7 +64,7 @@ some_state (Some s) h = (s, refl)
 parts_are : (r : (State × BlockEffects) × TableLists) (y : State) (k : BlockEffects) (u : TableLists) → r.0.0 ≡ y → r.0.1 ≡ k → r.1 ≡ u → r ≡ ((y, k), u)
 parts_are r y k u a b c = λ i. ((a i, b i), c i)
 
-stepped_is : (r : Result ((State × BlockEffects) × TableLists) BlockRefusal) (y : State) (k : BlockEffects) (u : TableLists) → outcome_of r ≡ Stepped y u k → r ≡ Ok ((y, k), u)
+pub stepped_is : (r : Result ((State × BlockEffects) × TableLists) BlockRefusal) (y : State) (k : BlockEffects) (u : TableLists) → outcome_of r ≡ Stepped y u k → r ≡ Ok ((y, k), u)
 stepped_is (Ok r) y k u h =
     let state : r.0.0 ≡ y = cc in
     let recorded : r.0.1 ≡ k = cc in

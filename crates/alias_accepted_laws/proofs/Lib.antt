@@ -18,3 +18,4 @@ pub mod Passing
 pub mod Knowing
 pub mod Respanning
 pub mod Unspanned
+pub mod Accepted

@@ -35,7 +35,7 @@ use Rattle.alias_entry_laws.specs.Named.{SiteNamed, SitesNamed, StateNamed, KeyN
 use Rattle.alias_entry_laws.proofs.Entries.{entries_named}
 use Rattle.alias_accept_laws.specs.Certifying.{NamesItsOwn, IsAcceptedAsSaid}
 use Rattle.alias_accept_laws.specs.Saying.{NamesThere, AreCounted}
-use Rattle.alias_accept_laws.proofs.Keeping.{at_holds}
+use Rattle.alias_entry_laws.proofs.Keeping.{at_holds}
 use Rattle.alias_accept_laws.proofs.Passing.{pass_accepted}
 
 -- ---- lists

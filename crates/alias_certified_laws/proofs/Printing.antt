@@ -3,7 +3,6 @@ use Rattle.std.specs.Prelude.{◌≡◌, ℕ, Bool, true, List, [], ◌∷◌, �
 use Rattle.std.specs.List.{flat_map, list_all}
 use Rattle.std.specs.Option.{is_some}
 use Rattle.std.proofs.Common.{zero, suc, subst, ap, sym, ◌∙◌, arith}
-use Rattle.std.proofs.lemmas.List.{length-replicate}
 use Rattle.alias_base.specs.AnswerLaws.{both_true}
 use Rattle.alias_base.specs.Find.{value_at}
 use Rattle.alias_base.specs.declared.ids.BlockId.{BlockId}
@@ -17,19 +16,15 @@ use Rattle.alias_hir.specs.declared.hir.HirFunction.{HirFunction}
 use Rattle.alias_hir.specs.declared.hir.Instruction.{Instruction}
 use Rattle.alias_lattice.specs.Flows.{Stepped}
 use Rattle.alias_lattice.specs.JoinLaws.{state_laws}
-use Rattle.alias_lattice.specs.ProperStates.{StateProper}
-use Rattle.alias_lattice.specs.States.{State, state_join, state_below}
-use Rattle.alias_flow.specs.Machine.{FlowLaws, SolverState, VisitLog, Solved}
-use Rattle.alias_flow.specs.RecordingLaws.{AllHold}
+use Rattle.alias_lattice.specs.States.{State, state_below}
+use Rattle.alias_flow.specs.Machine.{SolverState, VisitLog, Solved}
 use Rattle.alias_flow.specs.Solutions.{entry_at}
-use Rattle.alias_flow.specs.WorkLists.{work_list_solution}
-use Rattle.alias_flow.proofs.DirtyFlags.{as_work_list_state, as_work_list_end, solution_work_list}
-use Rattle.alias_flow.proofs.Solving.{Solves, solution_solves}
+use Rattle.alias_flow.proofs.DirtyFlags.{as_work_list_state}
+use Rattle.alias_flow.proofs.Solving.{Solves}
 use Rattle.alias_rules.specs.Fitting.{function_fits}
 use Rattle.alias_rules.specs.RuleLaws.{fitting_entry}
 use Rattle.alias_rules.specs.declared.rules.Rule.TheVariants.{ListedOnce}
 use Rattle.alias_nesting_laws.specs.FittingLaws.{fitted}
-use Rattle.alias_tables.specs.GrowingLaws.{Extends}
 use Rattle.alias_tables.specs.Tables.{TableLists}
 use Rattle.alias_block.specs.Blocks.{infer_block}
 use Rattle.alias_block.specs.Contexts.{context_of}
@@ -38,8 +33,8 @@ use Rattle.alias_block.specs.declared.recorded.BlockEffects.{BlockEffects}
 use Rattle.alias_block.specs.declared.recorded.InstructionEffects.{InstructionEffects}
 use Rattle.alias_write_back.specs.WriteBack.{tables_of}
 use Rattle.alias_effects.specs.Inference.{entries_of, instructions_recorded, terminal_recorded, solved_of}
-use Rattle.alias_effects.specs.Numbered.{Blocks, position_of, step_at, numbered, visits_end}
-use Rattle.alias_effects.specs.PassLaws.{outcome_is, pass_laws}
+use Rattle.alias_effects.specs.Numbered.{Blocks, position_of, step_at, visits_end}
+use Rattle.alias_effects.specs.PassLaws.{outcome_is}
 use Rattle.alias_effects.specs.Recording.{recorded_instructions, recorded_terminals, with_effects_of}
 use Rattle.alias_text.specs.Lines.{recorded_of}
 use Rattle.alias_cert_text_laws.specs.Certifying.{cert_effect, effects_of, effects_in, ends_in, cert_block}
@@ -47,7 +42,7 @@ use Rattle.alias_certificate.specs.declared.certificate.CertBlock.{CertBlock}
 use Rattle.alias_certificate.specs.declared.certificate.CertEffect.{CertEffect}
 use Rattle.alias_accept_laws.specs.Alike.{Paired, none as no_pair, more}
 use Rattle.alias_accept_laws.specs.Saying.{said_value, said_variable, said_effects, said_block, said_of, said_each, those_there}
-use Rattle.alias_accept_laws.proofs.Keeping.{solution_keeps}
+use Rattle.alias_accept_laws.proofs.Passing.{laws as pass_laws_of, solves as pass_ends, kept}
 use Rattle.alias_certified_laws.proofs.Aligning.{Aligned, none, skip, BlockSays, block_says}
 use Rattle.alias_certified_laws.proofs.Carrying.{effects_for, carried, not_carried, ends_for, named_end}
 use Rattle.alias_certified_laws.proofs.Ending.{NoneOf, none_of_other, ends_at, ends_instructions, terminal_lines}
@@ -140,20 +135,11 @@ module _ (env : Environment) (func : HirFunction) (e : Bool) (w : SolverState (V
   listed_once : first_again [] (listed_instructions func) ≡ None
   listed_once = not_again (first_again [] (listed_instructions func)) ((fitted func env fits).rule ListedOnce refl)
 
-  laws : FlowLaws StateProper Extends (numbered (context_of env func e)) (replicate (length func.body.blocks) None)
-  laws = pass_laws (context_of env func e) entered (replicate (length func.body.blocks) None) (length-replicate (length func.body.blocks) None)
+  solves : Solves state_laws (pass_laws_of env func e entered w ends) (tables_of env) (as_work_list_state state_below w)
+  solves = pass_ends env func e entered w ends
 
-  by_work_list : work_list_solution state_join state_below (numbered (context_of env func e)) (tables_of env) (replicate (length func.body.blocks) None) ≡ Solved (as_work_list_state state_below w)
-  by_work_list = solution_work_list state_laws laws (tables_of env) ∙ ap (as_work_list_end state_below) ends
-
-  solves : Solves state_laws laws (tables_of env) (as_work_list_state state_below w)
-  solves = solution_solves state_laws laws (tables_of env) (as_work_list_state state_below w) by_work_list
-
-  kept : Unit {0} × AllHold (λ s. Unit {0}) w.progress.joined_input × (length w.recorded ≡ length func.body.blocks)
-  kept =
-      solution_keeps state_join state_below (numbered (context_of env func e)) (λ t. Unit {0}) (λ t x. Unit {0}) (length func.body.blocks) (λ t x y p q. tt)
-      (λ t b x y u k i p step. record { tables = tt; state = tt; still = λ z q. q })
-      (tables_of env) (replicate (length func.body.blocks) None) w tt tt (length-replicate (length func.body.blocks) None) ends
+  recorded_long : length w.recorded ≡ length func.body.blocks
+  recorded_long = (kept env func e entered w ends).2
 
   -- ---- what is recorded of a block
 
@@ -197,7 +183,7 @@ module _ (env : Environment) (func : HirFunction) (e : Bool) (w : SolverState (V
   looks : Paired (BlockLooks func.instructions (flat_map instructions_recorded w.recorded)) func.body.blocks w.recorded
   looks =
       all_look func.instructions func.body.blocks w.recorded
-      (paired_from (BlockAligned func.instructions) func.body.blocks w.recorded kept.2 (λ n b there. aligned_at n b (entry_at w.progress.joined_input n) there refl))
+      (paired_from (BlockAligned func.instructions) func.body.blocks w.recorded recorded_long (λ n b there. aligned_at n b (entry_at w.progress.joined_input n) there refl))
       listed_once
 
   -- ---- terminals
@@ -255,5 +241,5 @@ module _ (env : Environment) (func : HirFunction) (e : Bool) (w : SolverState (V
 
     pub prints : map (cert_block (with_effects_of (solved_of func w) func)) (solved_of func w).entries ≡ those_there (said_each func.body.blocks w.progress.joined_input w.recorded)
     prints =
-        all_lines (with_effects_of (solved_of func w) func) func.body.blocks w.progress.joined_input w.recorded kept.2
+        all_lines (with_effects_of (solved_of func w) func) func.body.blocks w.progress.joined_input w.recorded recorded_long
         (λ n b there. line_is n b (entry_at w.progress.joined_input n) there refl)
