@@ -1,5 +1,5 @@
 -- From a run to its reply.
-use Rattle.std.proofs.Common.{ℕ, ◌≡◌, List, [], Option, Some, None, false, IsTrue, arith, refl, sym, subst, inl, inr, ⊎_elim}
+use Rattle.std.proofs.Common.{ℕ, ◌≡◌, List, [], Option, Some, None, false, IsTrue, arith, refl, sym, subst, inl, inr}
 use Rattle.alias_stream.specs.Streams.{HasFailed}
 use Rattle.alias_run.specs.declared.command.Command.{Command}
 use Rattle.alias_run.specs.declared.command.Command.TheVariants.{Infer, Certify, Check, Lint, Explain, Plain, Made, Help, Version}
@@ -8,10 +8,10 @@ use Rattle.alias_run.specs.declared.status.Status.TheVariants.{Done, Words, NotJ
 use Rattle.alias_run.specs.declared.answer.Answer.{Answer}
 use Rattle.alias_run.specs.declared.query.Query.{Query}
 use Rattle.alias_run.specs.declared.query.Query.TheVariants.{Inference, Acceptance, Lints, Explanation, Plainness}
-use Rattle.alias_run.specs.Findings.{parts_of, IsFound, IsRead, IsAnswered}
-use Rattle.alias_hir.specs.declared.env.Unit.{Unit as HirUnit}
+use Rattle.alias_run.specs.Findings.{IsFound, IsRead}
 use Rattle.alias_run.specs.Runs.{IsRun, IsHeadline}
 use Rattle.alias_run.specs.Statuses.{status_code}
+use Rattle.alias_run.proofs.Running.{no_write_fault}
 use Rattle.alias_host.specs.Hosts.{IsReply, text_kept}
 
 false_no : IsTrue false → ⊥
@@ -93,16 +93,6 @@ ran_out_replies asked input status text s t = subst (λ z. IsReply asked input z
 
 -- ---- no read and no write fails
 
-unanswered_fault : (q : Query) (certificate : List ℕ) (u : HirUnit) (i : Answer) → IsAnswered q certificate u WriteFault i → ⊥
-unanswered_fault Inference certificate u i h = h
-unanswered_fault Acceptance certificate u i h = h.2
-unanswered_fault Lints certificate u i h = ⊎_elim (λ x. x) (λ y. y.2) h
-unanswered_fault (Explanation function identifier) certificate u i h = ⊎_elim (λ x. x) (λ y. y.2) h
-unanswered_fault Plainness certificate u i h = h
-
-unread_fault : (q : Query) (known : Option (List ℕ)) (i : Answer) → IsRead q known ⊥ WriteFault i → ⊥
-unread_fault q known i r = unanswered_fault q (parts_of q r.0).1 r.3.0 i r.3.2.1
-
 never_read_fault : (known : Option (List ℕ)) (asked : Option Command) (i : Answer) → IsFound asked known ⊥ ReadFault i → ⊥
 unfolding IsFound
 never_read_fault known None i f = let e : ReadFault ≡ Words = f.0 in cc
@@ -115,19 +105,6 @@ never_read_fault known (Some Plain) i f = f.0
 never_read_fault known (Some (Made seed size)) i f = f.1
 never_read_fault known (Some Help) i f = let e : ReadFault ≡ Done = f.0 in cc
 never_read_fault known (Some Version) i f = let e : ReadFault ≡ Done = f.0 in cc
-
-never_write_fault : (known : Option (List ℕ)) (asked : Option Command) (i : Answer) → IsFound asked known ⊥ WriteFault i → ⊥
-unfolding IsFound
-never_write_fault known None i f = let e : WriteFault ≡ Words = f.0 in cc
-never_write_fault known (Some Infer) i f = unread_fault Inference known i f
-never_write_fault known (Some Certify) i f = unread_fault Inference known i f
-never_write_fault known (Some Check) i f = unread_fault Acceptance known i f
-never_write_fault known (Some Lint) i f = unread_fault Lints known i f
-never_write_fault known (Some (Explain function identifier)) i f = unread_fault (Explanation function identifier) known i f
-never_write_fault known (Some Plain) i f = unread_fault Plainness known i f
-never_write_fault known (Some (Made seed size)) i f = f.1
-never_write_fault known (Some Help) i f = let e : WriteFault ≡ Done = f.0 in cc
-never_write_fault known (Some Version) i f = let e : WriteFault ≡ Done = f.0 in cc
 
 module _ (asked : Option Command) (input text : List ℕ) where
   pub unfailing_code : (status : Status) → IsReply asked input status text → (status_code status ≡ 7 → ⊥) × (status_code status ≡ 8 → ⊥)
@@ -142,6 +119,6 @@ module _ (asked : Option Command) (input text : List ℕ) where
   unfailing_code (Refused error) a = (λ e. omega (arith, e), λ e. omega (arith, e))
   unfailing_code NotHere a = (λ e. omega (arith, e), λ e. omega (arith, e))
   unfailing_code ReadFault a = (λ e. never_read_fault (Some input) asked a.0 a.1, λ e. never_read_fault (Some input) asked a.0 a.1)
-  unfailing_code WriteFault a = (λ e. never_write_fault (Some input) asked a.0 a.1, λ e. never_write_fault (Some input) asked a.0 a.1)
+  unfailing_code WriteFault a = (λ e. no_write_fault (Some input) ⊥ asked a.0 a.1, λ e. no_write_fault (Some input) ⊥ asked a.0 a.1)
   unfailing_code TooLong a = (λ e. omega (arith, e), λ e. omega (arith, e))
   unfailing_code Memory a = (λ e. omega (arith, e), λ e. omega (arith, e))

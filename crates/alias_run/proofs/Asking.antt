@@ -34,7 +34,7 @@ use Rattle.alias_run.proofs.Running.{ended_as}
 
 -- ---- lints
 
--- of what is inferred of a unit that keeps the rules
+-- of what is inferred of a unit that is well formed
 pub inferred_lints : (u v : HirUnit) (i : UnitInference) → v ≡ u → rules_hold v ≡ Ok tt → InfersUnit (unit_analysed u) (Ok i) → LintsAreReports i
 inferred_lints u v i same rules h = unit_lints u (record { functions = h.0; inferred = i }) (subst (λ z. rules_hold z ≡ Ok tt) same rules) h.1
 

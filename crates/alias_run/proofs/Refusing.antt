@@ -63,7 +63,7 @@ explanation_refused : (f : Option FunctionId) (id : IdentifierId) (u : HirUnit) 
 explanation_refused f id u (infer.Memory x) h = h
 explanation_refused f id u e h = inl h
 
--- the outcome of such a call, of a unit of which it is known that it keeps the rules
+-- the outcome of such a call, of a unit of which it is known that it is well formed
 module _ (u v : HirUnit) (same : v ≡ u) (rules : rules_hold v ≡ Ok tt) (e : InferError) (failed : IsFault e → HasFailed 0 0 false) (h : InfersUnit (unit_analysed u) (Err e)) (status : Status) (o : Outcome) (is : o ≡ ended_as status)
     (told : status ≡ infer_status e) where
   as_told : o ≡ ended_as (infer_status e)
@@ -123,14 +123,14 @@ decided_fault u e status o is told h tells = subst (λ (z : Outcome). IsDecided 
 
 -- ---- the same bytes
 
-one_some : {A : Type 0} (o : Option A) (x y : A) → o ≡ Some x → o ≡ Some y → x ≡ y
+pub one_some : {A : Type 0} (o : Option A) (x y : A) → o ≡ Some x → o ≡ Some y → x ≡ y
 one_some o x y p q = cc
 
 one_ok : (o : Result HirUnit ValueFault) (u v : HirUnit) → o ≡ Ok u → o ≡ Ok v → u ≡ v
 one_ok o u v p q = cc
 
 -- bytes are the JSON of one unit at most
-one_unit : (bytes : List ℕ) (u v : HirUnit) → UnitReading bytes u → UnitReading bytes v → u ≡ v
+pub one_unit : (bytes : List ℕ) (u v : HirUnit) → UnitReading bytes u → UnitReading bytes v → u ≡ v
 one_unit bytes u v r s =
     let same : r.0 ≡ s.0 = one_some _ r.0 s.0 r.1.tree s.1.tree in
     one_ok (unit_of s.0) u v (subst (λ d. unit_of d ≡ Ok u) same r.2) s.2
@@ -159,7 +159,7 @@ module _ (bytes : List ℕ) (failed : Type 0) (no_read_fails : failed → ⊥) (
 -- ---- runs
 
 -- where what the words and the source lead to ends so, a run does
-run_ends : (Ends : Status → Type 0) → Ends Memory → (asked : Option Command) (known : Option (List ℕ)) (read_failed write_failed : Type 0) (held held' : Option (List ℕ)) → ((status : Status) (a : Answer) → IsFound asked known read_failed status a → Ends status)
+pub run_ends : (Ends : Status → Type 0) → Ends Memory → (asked : Option Command) (known : Option (List ℕ)) (read_failed write_failed : Type 0) (held held' : Option (List ℕ)) → ((status : Status) (a : Answer) → IsFound asked known read_failed status a → Ends status)
     → (write_failed → ⊥) → (status : Status) (a : Answer) → IsRun asked known read_failed write_failed held held' status a → Ends status
 run_ends Ends memory asked known read_failed write_failed held held' ends writes WriteFault a r = absurd (writes r.0)
 run_ends Ends memory asked known read_failed write_failed held held' ends writes Memory a r = memory

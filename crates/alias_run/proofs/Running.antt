@@ -43,7 +43,7 @@ ended_as status = record { status = status; answer = Nothing }
 
 -- ---- units
 
--- a unit that keeps the rules is refused by none, and not by the inference where that has a result
+-- a unit that is well formed is refused by none, and not by the inference where that has a result
 pub checked_fit : (certificate : List ℕ) (u : HirUnit) (status : Status) (i : Answer) → rules_hold u ≡ Ok tt → ((s : Status) (a : Answer) → IsInferred u s a → EndsInferred s) → IsChecked Inference certificate u status i → IsFit u status i
 checked_fit certificate u (Unfit fault) i k ends h = let no : Ok tt ≡ Err fault = sym k ∙ h.0 in absurd (cc)
 checked_fit certificate u Memory i k ends h = (k, h, tt)
@@ -64,7 +64,7 @@ accepted_of text u c (BadLine number) a is h = absurd h
 accepted_of text u c Memory a is h = h
 accepted_of text u c status a is h = (c, is, h)
 
--- what the query is answered of a unit that keeps the rules, the unit leads to
+-- what the query is answered of a unit that is well formed, the unit leads to
 not_unfit : (q : Query) (certificate : List ℕ) (u : HirUnit) (fault : UnitFault) (a : Answer) → IsAnswered q certificate u (Unfit fault) a → ⊥
 not_unfit Inference certificate u fault a h = h
 not_unfit Acceptance certificate u fault a h = h.2
@@ -218,7 +218,7 @@ module _ (known : Option (List ℕ)) (read_failed : Type 0) where
   not_written (Explanation f id) certificate u a h = ⊎_elim (λ x. x) (λ y. y.2) h
   not_written Plainness certificate u a h = h
 
-  no_write_fault : (asked : Option Command) (a : Answer) → IsFound asked known read_failed WriteFault a → ⊥
+  pub no_write_fault : (asked : Option Command) (a : Answer) → IsFound asked known read_failed WriteFault a → ⊥
   unfolding IsFound
   no_write_fault None a f = let e : WriteFault ≡ Words = f.0 in cc
   no_write_fault (Some Infer) a f = not_written Inference (parts_of Inference f.0).1 f.3.0 a f.3.2.1

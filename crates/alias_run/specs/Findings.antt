@@ -3,6 +3,7 @@ use Rattle.std.specs.Prelude.{◌≡◌, ◌≢◌, ℕ, ◌<◌, ◌≤◌, ◌
 use Rattle.std.specs.List.{AllByRecursion}
 use Rattle.alias_rules.specs.Functions.{rules_hold}
 use Rattle.alias_hir.specs.declared.env.Unit.{Unit as HirUnit}
+use Rattle.alias_hir.specs.declared.error.Counter.TheVariants.{Diagnostics}
 use Rattle.alias_hir.specs.declared.error.InferError.TheVariants as error
 use Rattle.alias_hir.specs.declared.report.Report.{Report}
 use Rattle.alias_made.specs.Units.{made_unit}
@@ -22,6 +23,7 @@ use Rattle.alias_cert_text.specs.Certificates.{certificate_of_text}
 use Rattle.alias_cert_text.specs.Input.{input_parts}
 use Rattle.alias_cert_text.specs.declared.fault.CertFault.TheVariants as text_fault
 use Rattle.alias_certificate.specs.declared.certificate.Certificate.{Certificate}
+use Rattle.alias_certificate.specs.declared.fault.CheckFault.TheVariants as check_fault
 use Rattle.alias_base.specs.declared.ids.FunctionId.{FunctionId}
 use Rattle.alias_base.specs.declared.ids.IdentifierId.{IdentifierId}
 use Rattle.alias_lint.specs.Lints.{lints_of}
@@ -43,7 +45,7 @@ use Rattle.alias_unit_completeness.specs.Refusals.{IsCaused, IsForwardUnit, IsTo
 abbrev pub greatest_input : ℕ
 greatest_input = 16777216
 
--- what a unit that keeps the rules leads to: what is handed out is what is inferred of it, and of each function, as its effects pass begins, the entry
+-- what a unit that is well formed leads to: what is handed out is what is inferred of it, and of each function, as its effects pass begins, the entry
 -- states solve the flow; or it is refused, with a cause in the unit
 abbrev pub IsInferred : HirUnit → Status → Answer → Type 0
 IsInferred u Done (Inferred i) = (fs : List Analysed) × (unit_analysed u ≡ Ok (record { functions = fs; inferred = i })) × AllByRecursion SolvesItsFlow fs
@@ -51,7 +53,7 @@ IsInferred u (Refused e) a = (unit_analysed u ≡ Err e) × IsCaused u e × (a �
 IsInferred u Memory a = a ≡ Nothing
 IsInferred u status a = ⊥
 
--- the inference refuses a unit that keeps the rules, with a cause in it
+-- the inference refuses a unit that is well formed, with a cause in it
 abbrev pub IsRefusedAs : HirUnit → Status → Answer → Type 0
 IsRefusedAs u (Refused e) a = (unit_analysed u ≡ Err e) × IsCaused u e × (a ≡ Nothing)
 IsRefusedAs u status a = ⊥
@@ -107,6 +109,13 @@ EndsUnblamed (Refused e) = IsTooMany e
 EndsUnblamed Memory = Unit {0}
 EndsUnblamed status = ⊥
 
+-- the certificate isn't rejected, unless no number is left for a report
+abbrev pub EndsAccepted : Status → Type 0
+EndsAccepted Done = Unit {0}
+EndsAccepted (Rejected fault) = fault ≡ check_fault.TooMany Diagnostics
+EndsAccepted Memory = Unit {0}
+EndsAccepted status = ⊥
+
 -- the inference isn't refused at all
 abbrev pub EndsInferred : Status → Type 0
 EndsInferred Done = Unit {0}
@@ -129,7 +138,7 @@ IsDecided u (PlainRefused fault) a = (answer_of (unit_end u) ≡ Err fault) × T
 IsDecided u Memory a = a ≡ Nothing
 IsDecided u status a = ⊥
 
--- what a unit that keeps the rules leads to, by what is asked about it, where this text is to be its certificate
+-- what a unit that is well formed leads to, by what is asked about it, where this text is to be its certificate
 abbrev pub IsAnswered : Query → List ℕ → HirUnit → Status → Answer → Type 0
 IsAnswered Inference certificate u status a = IsInferred u status a
 IsAnswered Acceptance certificate u status a = IsAccepted certificate u status a
@@ -143,7 +152,7 @@ IsChecked q certificate u (Unfit fault) a = (rules_hold u ≡ Err fault) × (a �
 IsChecked q certificate u Memory a = a ≡ Nothing
 IsChecked q certificate u status a = (rules_hold u ≡ Ok tt) × IsAnswered q certificate u status a
 
--- what a unit leads to that is known to be fit, which is to say that it keeps the rules, and its inference has a result
+-- what a unit leads to that is known to be fit, which is to say that it is well formed, and its inference has a result
 abbrev pub IsFit : HirUnit → Status → Answer → Type 0
 IsFit u status a = (rules_hold u ≡ Ok tt) × IsInferred u status a × EndsInferred status
 
@@ -167,7 +176,7 @@ IsRead q known failed TooLong a = IfKnown known (λ all. greatest_input < length
 IsRead q known failed Memory a = a ≡ Nothing
 IsRead q known failed status a = (bytes : List ℕ) × IsAllOf known bytes × (length bytes ≤ greatest_input) × IsJudged q (parts_of q bytes) status a
 
--- What the words and a source lead to, before anything is written: `asked` is the command of the words, where they are one. A made unit keeps the rules, so
+-- What the words and a source lead to, before anything is written: `asked` is the command of the words, where they are one. A made unit is well formed, so
 -- none of them refuses it, and nor does the inference.
 unfoldable pub IsFound : Option Command → Option (List ℕ) → Type 0 → Status → Answer → Type 0
 IsFound None known failed status a = (status ≡ Words) × (a ≡ Nothing)

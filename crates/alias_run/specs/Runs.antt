@@ -16,13 +16,14 @@ use Rattle.alias_run.specs.declared.answer.Answer.{Answer}
 use Rattle.alias_run.specs.declared.answer.Answer.TheVariants.{Nothing, Inferred}
 use Rattle.alias_nested.specs.Analysis.{Analysed, SolvesItsFlow}
 use Rattle.alias_nested.specs.Units.{unit_analysed}
+use Rattle.alias_nested.specs.declared.infer.Inferred.{Inferred as UnitInference}
 use Rattle.alias_inferred_laws.specs.Solutions.{SolutionsAreCarried}
 use Rattle.alias_run.specs.declared.query.Query.{Query}
 use Rattle.alias_run.specs.declared.query.Query.TheVariants.{Acceptance, Lints, Explanation, Plainness}
 use Rattle.alias_plainness.specs.Plainness.{IsPlainUnit}
-use Rattle.alias_run.specs.Findings.{greatest_input, parts_of, EndsUnblamed, EndsInferred, Settles, IsFound, IsAnswered}
+use Rattle.alias_run.specs.Findings.{greatest_input, parts_of, EndsUnblamed, EndsAccepted, EndsInferred, Settles, IsFound, Infers, IsAnswered}
 use Rattle.alias_run.specs.Inferences.{TellsItsWrites}
-use Rattle.alias_run.specs.Texts.{text_of, answer_text, inferred_text, help_text, version_text}
+use Rattle.alias_run.specs.Texts.{text_of, answer_text, inferred_text, help_text, version_text, IsCertificateOf}
 
 module _ (asked : Option Command) (known : Option (List ℕ)) (read_failed write_failed : Type 0) (held held' : Option (List ℕ)) where
   -- a front of the text of what the words and the source lead to was written
@@ -35,7 +36,7 @@ module _ (asked : Option Command) (known : Option (List ℕ)) (read_failed write
   IsRun Memory a = WroteFront × (a ≡ Nothing)
   IsRun status a = IsFound asked known read_failed status a × Adds held (text_of asked status a) held'
 
--- Where a unit was inferred: the unit is such a one; it keeps the rules; what is handed out is its inference, and of each of its functions, as its
+-- Where a unit was inferred: the unit is such a one; it is well formed; what is handed out is its inference, and of each of its functions, as its
 -- effects pass begins, the entry states solve the flow, and what is written for certain and isn't to be written stands as an error effect; each function that is
 -- handed out carries the effects of its solution; and the sink got the text of it, in this detail.
 abbrev pub IsInferredOf : (HirUnit → Type 0) → Detail → Option (List ℕ) → Option (List ℕ) → Answer → Type 0
@@ -52,7 +53,7 @@ IsUnitOf known u = IfKnown known (λ bytes. UnitReading bytes u)
 abbrev pub ArePartsOf : Query → Option (List ℕ) → HirUnit → List ℕ → Type 0
 ArePartsOf q known u certificate = IfKnown known (λ bytes. UnitReading (parts_of q bytes).0 u × ((parts_of q bytes).1 ≡ certificate))
 
--- Where something else was asked about a unit: the unit is the one that was read, and so is what is to be its certificate; it keeps the rules; the query is answered of
+-- Where something else was asked about a unit: the unit is the one that was read, and so is what is to be its certificate; it is well formed; the query is answered of
 -- it; and the sink got the text of the answer.
 abbrev pub IsAnsweredOf : Query → Option (List ℕ) → Option (List ℕ) → Option (List ℕ) → Answer → Type 0
 IsAnsweredOf q known held held' a =
@@ -75,7 +76,7 @@ unfoldable pub IsHeadline : Option Command → Option (List ℕ) → Option (Lis
 IsHeadline asked known held held' Done a = IsDone asked known held held' a
 IsHeadline asked known held held' status a = Unit {0}
 
--- Completeness. Where the source has bytes that aren't too many, and are the JSON of a unit that keeps the rules, is plain and settles: it is inferred, and refused
+-- Completeness. Where the source has bytes that aren't too many, and are the JSON of a unit that is well formed, is plain and settles: it is inferred, and refused
 -- only since a counter was at its last value, while the source and the sink don't fail.
 abbrev pub EndsOfPlain : Option (List ℕ) → Type 0 → Type 0 → Status → Type 0
 EndsOfPlain known read_failed write_failed status =
@@ -87,3 +88,15 @@ IsComplete (Some Infer) known read_failed write_failed status = EndsOfPlain know
 IsComplete (Some Certify) known read_failed write_failed status = EndsOfPlain known read_failed write_failed status
 IsComplete (Some (Made seed size)) known read_failed write_failed status = (write_failed → ⊥) → EndsInferred status
 IsComplete asked known read_failed write_failed status = Unit {0}
+
+-- Acceptance. Where the source has bytes that aren't too many; those before the first newline are the JSON of a unit that is well formed and is inferred; and those
+-- behind it read as the certificate of what is inferred of it: it is accepted, and rejected only since no number was left for a report, while the source and the sink don't fail.
+abbrev pub EndsOfCertified : Option (List ℕ) → Type 0 → Type 0 → Status → Type 0
+EndsOfCertified known read_failed write_failed status =
+    (bytes : List ℕ) (u : HirUnit) (i : UnitInference) → known ≡ Some bytes → length bytes ≤ greatest_input → UnitReading (parts_of Acceptance bytes).0 u
+    → rules_hold u ≡ Ok tt → Infers u i → IsCertificateOf i (parts_of Acceptance bytes).1 → (read_failed → ⊥) → (write_failed → ⊥) → EndsAccepted status
+
+-- so it is of `check`
+unfoldable pub IsAccepting : Option Command → Option (List ℕ) → Type 0 → Type 0 → Status → Type 0
+IsAccepting (Some Check) known read_failed write_failed status = EndsOfCertified known read_failed write_failed status
+IsAccepting asked known read_failed write_failed status = Unit {0}

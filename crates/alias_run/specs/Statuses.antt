@@ -24,7 +24,7 @@ use Rattle.alias_text.specs.Refusals.{number_text, refused_text, unfit_text, not
 use Rattle.alias_run.specs.declared.status.Status.{Status}
 use Rattle.alias_run.specs.declared.status.Status.TheVariants.{Done, Words, NotJson, NotUnit, Unfit, BadLine, Rejected, PlainRefused, Refused, NotHere, ReadFault, WriteFault, TooLong, Memory}
 
--- ---- faults. Want of memory has one status, wherever it comes
+-- ---- faults. Out of memory has one status, wherever it comes
 
 abbrev pub read_status : ReadStop → Status
 read_status read.Failed = ReadFault

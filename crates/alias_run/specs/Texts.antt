@@ -1,8 +1,9 @@
 -- The text that a run writes.
-use Rattle.std.specs.Prelude.{ℕ, List, ◌++◌, length, Option, Some, None, codes}
+use Rattle.std.specs.Prelude.{◌≡◌, ℕ, List, ◌++◌, length, Option, Some, None, Ok, codes}
 use Rattle.alias_text.specs.declared.detail.Detail.{Detail}
 use Rattle.alias_text.specs.declared.detail.Detail.TheVariants as detail
 use Rattle.alias_text.specs.Results.{result_text}
+use Rattle.alias_text.specs.Fitting.{IfCertify}
 use Rattle.alias_nested.specs.declared.infer.Inferred.{Inferred as UnitInference}
 use Rattle.alias_run.specs.declared.answer.Answer.{Answer}
 use Rattle.alias_run.specs.declared.answer.Answer.TheVariants.{Nothing, Inferred, Accepted, Linted, Explained, Decided}
@@ -11,6 +12,8 @@ use Rattle.alias_run.specs.declared.command.Command.TheVariants.{Infer, Certify,
 use Rattle.alias_run.specs.declared.status.Status.{Status}
 use Rattle.alias_cert.specs.declared.check.Accepted.{Accepted as AcceptedUnit}
 use Rattle.alias_cert_lines.specs.CheckLines.{accepted_text as functions_accepted}
+use Rattle.alias_cert_text.specs.Certificates.{certificate_of_text}
+use Rattle.alias_cert_text_laws.specs.Certifying.{certificate_of}
 use Rattle.alias_lint_text.specs.Lints.{lints_text}
 use Rattle.alias_lint_text.specs.Explanations.{explanation_text}
 use Rattle.alias_plain_text.specs.Lines.{plainness_text}
@@ -94,3 +97,17 @@ text_of (Some Plain) status a = answer_text detail.Infer status a
 text_of (Some (Made seed size)) status a = answer_text detail.Counts status a
 text_of (Some Help) status a = help_text
 text_of (Some Version) status a = version_text
+
+-- the text reads as the certificate of what was inferred
+abbrev pub IsCertificateOf : UnitInference → List ℕ → Type 0
+IsCertificateOf i text = certificate_of_text text ≡ Ok (certificate_of i.unit i.solved i.summary)
+
+-- so does a text that is printed as a certificate, where something was inferred
+abbrev pub IsReadBack : Answer → Detail → List ℕ → Type 0
+IsReadBack (Inferred i) printed text = IfCertify printed (IsCertificateOf i text)
+IsReadBack a printed text = Unit {0}
+
+-- what `certify` writes of a unit reads as the certificate of what was inferred of it
+abbrev pub IsCertifying : Option Command → Answer → List ℕ → Type 0
+IsCertifying (Some Certify) a text = IsReadBack a detail.Certify text
+IsCertifying asked a text = Unit {0}

@@ -30,7 +30,7 @@ use alias_rules::check::{Checked, check_unit};
 use alias_stream::{Source, read_whole};
 use std::alloc::Global;
 
-/// What a unit that keeps the rules leads to.
+/// What a unit that is well formed leads to.
 fn infer_checked(alloc: Global, unit: Checked) -> Outcome
     ensures { IsInferred unit result.status result.answer }
 {
@@ -134,7 +134,7 @@ fn decide_checked(alloc: Global, unit: Checked) -> Outcome
     }
 }
 
-/// What a unit that keeps the rules leads to, by what is asked about it, where the text is to be its certificate.
+/// What a unit that is well formed leads to, by what is asked about it, where the text is to be its certificate.
 fn answer(alloc: Global, query: Query, unit: Checked, certificate: &[u8]) -> Outcome
     ensures { IsAnswered query certificate.now unit result.status result.answer }
 {
@@ -200,7 +200,7 @@ fn ask_source<S: Source>(alloc: Global, query: Query, source: &mut S) -> Outcome
     }
 }
 
-/// What the unit of a seed and a size leads to. It keeps the rules, so that none of them refuses it, and its
+/// What the unit of a seed and a size leads to. It is well formed, so that none of them refuses it, and its
 /// inference has a result.
 fn infer_made(alloc: Global, seed: u64, size: u32) -> Outcome
     requires some { 1 ≤ size }

@@ -1,7 +1,7 @@
 //! What can be asked about a unit.
 use alias_base::{FunctionId, IdentifierId};
 
-/// What is asked about a unit that keeps the rules.
+/// What is asked about a unit that is well formed.
 #[derive(Clone, Copy, Debug, PartialEq, Eq)]
 pub enum Query {
     /// What is inferred of it.

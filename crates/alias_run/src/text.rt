@@ -4,7 +4,8 @@ ghost use Rattle.alias_lint_text.specs.Explanations.{explanation_text};
 ghost use Rattle.alias_lint_text.specs.Lints.{lints_text};
 ghost use Rattle.alias_plain_text.specs.Lines.{plainness_text};
 ghost use Rattle.alias_run.specs.Statuses.{refusal_line};
-ghost use Rattle.alias_run.specs.Texts.{inferred_text, accepted_text, answer_text, text_of};
+ghost use Rattle.alias_text.specs.Fitting.{AreFitting, IfCertify};
+ghost use Rattle.alias_run.specs.Texts.{inferred_text, accepted_text, answer_text, text_of, IsCertificateOf, IsReadBack, IsCertifying};
 
 use crate::answer::Answer;
 use crate::command::Command;
@@ -14,6 +15,7 @@ use crate::telling::{VERSION, help};
 use alias_base::Text;
 use alias_cert::Accepted;
 use alias_cert_lines::{push_accepted, push_bad_line, push_rejected};
+use alias_cert_text_laws::reads_back;
 use alias_explain::Explanation;
 use alias_lint::Lint;
 use alias_lint_text::{push_explanation, push_lints};
@@ -26,7 +28,7 @@ use alias_text::results::push_result;
 use std::alloc::{AllocError, Global};
 
 /// Appends the line that a run with this status writes, where nothing was inferred: none where the status writes
-/// none. An `Err` is want of memory, and leaves what was appended before it.
+/// none. An `Err` is out of memory, and leaves what was appended before it.
 pub fn push_refusal_line(alloc: Global, out: &mut Text, status: &Status) -> Result<(), AllocError>
     ensures { OnOk result (out.new ≡ out.old ++ refusal_line status.now) }
 {
@@ -56,13 +58,30 @@ pub fn print_refusal(alloc: Global, status: &Status) -> Result<Text, AllocError>
     Ok(out)
 }
 
-/// What is inferred of a unit, in this detail, as docs/FORMAT.md describes it.
+/// Does nothing: it tells the prover that a certificate that is printed reads as that.
+fn certificate_reads_back(text: &str, inferred: &Inferred, detail: Detail)
+    requires printed { text.now ≡ inferred_text detail inferred.now }
+    requires fits { IfCertify detail (AreFitting inferred.now.unit inferred.now.solved) }
+    ensures { IfCertify detail (IsCertificateOf inferred.now text.now) }
+{
+    let solved = inferred.solved.as_slice();
+    let summary = inferred.summary.as_slice();
+    let reports = inferred.reports.as_slice();
+    match detail {
+        Detail::Certify => reads_back(text, &inferred.unit, solved, summary, reports),
+        Detail::Infer | Detail::Counts => (),
+    }
+}
+
+/// What is inferred of a unit, in this detail, as docs/FORMAT.md describes it. What `Certify` gives reads as the
+/// certificate of what was inferred.
 pub fn print_inferred(
     alloc: Global,
     inferred: &Inferred,
     detail: Detail,
 ) -> Result<Text, AllocError>
-    ensures { IfOk result (λ t. t ≡ inferred_text detail inferred.now) }
+    ensures text { IfOk result (λ t. t ≡ inferred_text detail inferred.now) }
+    ensures reads_back { IfOk result (λ t. IfCertify detail (IsCertificateOf inferred.now t)) }
 {
     let mut out = Text::new(alloc);
     push_result(
@@ -74,6 +93,7 @@ pub fn print_inferred(
         inferred.summary.as_slice(),
         inferred.reports.as_slice(),
     )?;
+    certificate_reads_back(out.as_str(), inferred, detail);
     Ok(out)
 }
 
@@ -115,7 +135,8 @@ pub fn print_plainness(alloc: Global, plainness: Plainness) -> Result<Text, Allo
 
 /// The answer, where there is one, and else the line of the refusal.
 fn print_outcome(alloc: Global, outcome: &Outcome, detail: Detail) -> Result<Text, AllocError>
-    ensures { IfOk result (λ t. t ≡ answer_text detail outcome.now.status outcome.now.answer) }
+    ensures text { IfOk result (λ t. t ≡ answer_text detail outcome.now.status outcome.now.answer) }
+    ensures reads_back { IfOk result (λ t. IsReadBack outcome.now.answer detail t) }
 {
     match &outcome.answer {
         Answer::Nothing => print_refusal(alloc, &outcome.status),
@@ -133,7 +154,8 @@ pub(crate) fn text_of(
     asked: Option<Command>,
     outcome: &Outcome,
 ) -> Result<Text, AllocError>
-    ensures { IfOk result (λ t. t ≡ text_of asked outcome.now.status outcome.now.answer) }
+    ensures text { IfOk result (λ t. t ≡ text_of asked outcome.now.status outcome.now.answer) }
+    ensures certifies { IfOk result (λ t. IsCertifying asked outcome.now.answer t) }
 {
     match asked {
         None => print_refusal(alloc, &outcome.status),
