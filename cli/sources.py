@@ -37,21 +37,31 @@ def crates_in_order(top=PROGRAM):
     return order
 
 
-def digest(names):
-    """A digest of all that the proofs and the program are made of."""
-    total = hashlib.sha256()
-    paths = [os.path.join(HERE, 'crates.txt'), os.path.join(HERE, 'HANDLES')]
+def texts_of(names):
+    """The paths of all that the proofs of the crates are made of, in order."""
+    paths = []
     for name in names:
         for part in PARTS:
             for root, folders, files in os.walk(os.path.join(CRATES, name, part)):
                 folders.sort()
                 paths += [os.path.join(root, file) for file in sorted(files)]
+    return paths
+
+
+def digest_of(paths):
+    """A digest of the files, with their paths below the repository's top."""
+    total = hashlib.sha256()
     for path in paths:
         with open(path, 'rb') as source:
             content = source.read()
         total.update(b'%s\n%d\n' % (os.fsencode(os.path.relpath(path, HERE)), len(content)))
         total.update(content)
     return total.hexdigest()
+
+
+def digest(names):
+    """A digest of all that the proofs and the program are made of."""
+    return digest_of([os.path.join(HERE, 'crates.txt'), os.path.join(HERE, 'HANDLES'), *texts_of(names)])
 
 
 def is_built(wanted):
