@@ -6,12 +6,12 @@ use Rattle.std.specs.Option.{is_some, option_map_or}
 use Rattle.alias_base.specs.Find.{same_block}
 use Rattle.alias_base.specs.declared.ids.BlockId.{BlockId}
 use Rattle.alias_hir.specs.declared.hir.BasicBlock.{BasicBlock}
+use Rattle.alias_hir.specs.Positions.{Blocks}
 use Rattle.alias_lattice.specs.States.{State}
 use Rattle.alias_flow.specs.Machine.{up}
 use Rattle.alias_flow.specs.Solutions.{entry_at}
 use Rattle.alias_block.specs.declared.recorded.BlockEffects.{BlockEffects}
 use Rattle.alias_effects.specs.Inference.{block_at}
-use Rattle.alias_effects.specs.Numbered.{Blocks}
 use Rattle.alias_certificate.specs.declared.certificate.CertBlock.{CertBlock}
 use Rattle.alias_cert_function.specs.Blocks.{line_numbers, marked_count, line_is, are_lines}
 use Rattle.alias_accept_laws.specs.Saying.{said_block, said_of, said_each, those_there}

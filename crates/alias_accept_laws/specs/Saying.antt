@@ -11,13 +11,13 @@ use Rattle.alias_lattice.specs.States.{State, Sites}
 use Rattle.alias_lattice.specs.declared.site.Site.{Site}
 use Rattle.alias_lattice.specs.declared.value.AbstractValue.{AbstractValue}
 use Rattle.alias_hir.specs.declared.env.Environment.{Environment}
+use Rattle.alias_hir.specs.Positions.{Blocks}
 use Rattle.alias_tables.specs.Tables.{has_room}
 use Rattle.alias_tables.specs.Temporaries.{temp_like}
 use Rattle.alias_tables.specs.declared.temporaries.Temporary.{Temporary}
 use Rattle.alias_block.specs.declared.recorded.BlockEffects.{BlockEffects}
 use Rattle.alias_block.specs.declared.recorded.InstructionEffects.{InstructionEffects}
 use Rattle.alias_block.specs.declared.recorded.TerminalEffects.{TerminalEffects}
-use Rattle.alias_effects.specs.Numbered.{Blocks}
 use Rattle.alias_text.specs.Lines.{effect_text}
 use Rattle.alias_cert_states.specs.States.{is_site_there}
 use Rattle.alias_cert_function.specs.Temporaries.{is_key_there}

@@ -10,6 +10,7 @@ use Rattle.alias_hir.specs.declared.hir.BasicBlock.{BasicBlock}
 use Rattle.alias_hir.specs.declared.hir.HirFunction.{HirFunction}
 use Rattle.alias_hir.specs.declared.hir.Instruction.{Instruction}
 use Rattle.alias_hir.specs.declared.report.DiagnosticId.{DiagnosticId}
+use Rattle.alias_hir.specs.Positions.{edges_at, entry_position}
 use Rattle.alias_lattice.specs.States.{State, state_join, state_below}
 use Rattle.alias_facts.specs.Facts.{function_facts}
 use Rattle.alias_facts.specs.declared.facts.FunctionFacts.{FunctionFacts}
@@ -25,7 +26,7 @@ use Rattle.alias_block.specs.Faults.{in_block}
 use Rattle.alias_block.specs.Initial.{initial_state}
 use Rattle.alias_block.specs.declared.block.BlockProgress.{BlockProgress}
 use Rattle.alias_effects.specs.FunctionFlow.{outcome_of}
-use Rattle.alias_effects.specs.Numbered.{edges_at, step_at, entry_position, numbered, visits_end}
+use Rattle.alias_effects.specs.Numbered.{step_at, numbered, visits_end}
 use Rattle.alias_write_back.specs.WriteBack.{tables_of}
 use Rattle.alias_accept_laws.specs.Alike.{Paired}
 use Rattle.alias_range_alike_laws.specs.Spans.{Respanned}

@@ -30,7 +30,7 @@ use Rattle.alias_freezing.specs.Contexts.{context_of}
 use Rattle.alias_tables.specs.FirstEffects.{first_like, same_key}
 use Rattle.alias_tables.specs.Keys.{key_of, with_error_of}
 use Rattle.alias_tables.specs.ReplayLaws.{first_is, not_given}
-use Rattle.alias_tables.specs.Steps.{◌>>=◌, and_then, gives, refuses, each}
+use Rattle.alias_tables.specs.Steps.{gives, refuses, each}
 use Rattle.alias_tables.specs.Tables.{TableLists, Step, intern, intern_by, intern_after, intern_report}
 use Rattle.alias_tables.specs.declared.faults.Refusal.{Refusal}
 use Rattle.alias_tables.specs.declared.key.EffectKey.{EffectKey}
@@ -45,7 +45,7 @@ use Rattle.alias_block.specs.Actions.{interned_or, record_interned, catch_call, 
 use Rattle.alias_block.specs.Blocks.{infer_phis, step_start, after_instruction, infer_instruction, infer_instruction_at, apply_signatures, after_terminal, apply_terminal, block_start, finished_at, infer_block}
 use Rattle.alias_block.specs.Contexts.{BlockContext}
 use Rattle.alias_block.specs.Faults.{BlockStep}
-use Rattle.alias_block.specs.ProperLaws.{BlockSound}
+use Rattle.alias_block.specs.ProperLaws.{BlockSound, sound_then as block_then, sound_if as block_if}
 use Rattle.alias_block.specs.Recorded.{recorded_as, terminal_recorded_as}
 use Rattle.alias_block.specs.ReplayLaws.{in_block_gives}
 use Rattle.alias_block.specs.declared.block.BlockProgress.{BlockProgress}
@@ -165,18 +165,6 @@ block_gives P x p t u y e = subst P (first_is x y t u e) p
 
 block_refuses : {A : Type 0} (P : A → Type 0) (c : BlockRefusal) → BlockSound P (refuses c)
 block_refuses P c t u y e = not_given c y u e
-
-bound : {A B : Type 0} (P : A → Type 0) (Q : B → Type 0) (r : Result (A × TableLists) BlockRefusal) (g : A → BlockStep B) (y : B) (w : TableLists)
-    → ((x : A) (u : TableLists) → r ≡ Ok (x, u) → P x) → ((x : A) → P x → BlockSound Q (g x)) → and_then r g ≡ Ok (y, w) → Q y
-bound P Q (Ok p) g y w f h e = h p.0 (f p.0 p.1 refl) p.1 w y e
-bound P Q (Err c) g y w f h e = not_given c y w e
-
-block_then : {A B : Type 0} (P : A → Type 0) (Q : B → Type 0) (f : BlockStep A) (g : A → BlockStep B) → BlockSound P f → ((x : A) → P x → BlockSound Q (g x)) → BlockSound Q (f >>= g)
-block_then P Q f g hf hg t w y e = bound P Q (f t) g y w (λ x u. hf t u x) hg e
-
-block_if : {A : Type 0} (P : A → Type 0) (b : Bool) (f g : BlockStep A) → BlockSound P f → BlockSound P g → BlockSound P (if b then f else g)
-block_if P true f g hf hg = hf
-block_if P false f g hf hg = hg
 
 block_each : {X A : Type 0} (P : A → Type 0) (f : X → A → BlockStep A) → ((x : X) (a : A) → P a → BlockSound P (f x a)) → (xs : List X) (a : A) → P a → BlockSound P (each f xs a)
 block_each P f h [] a p = block_gives P a p

@@ -57,6 +57,7 @@ use Rattle.alias_nested.proofs.Evolving.{passed_contexts}
 use Rattle.alias_answer_laws.specs.Avoiding.{is_not_inferred, Answered, avoids_then, avoids_on, avoids_naming, named_alike, block_refused, listing_avoids, room_avoids}
 use Rattle.alias_answer_laws.specs.KnownFunctionLaws.{FunctionKnown, function_known, SameListing, listing_through, same_functions, placed_lists_same, effects_lists_same}
 use Rattle.alias_answer_laws.specs.KnownWalkLaws.{Comes, Passes, WalkKnown, validated_passes}
+use Rattle.alias_step_laws.specs.TableLaws.{all_mapped as all_on}
 
 -- ---- environments whose functions keep what they create, and operands with effects
 
@@ -102,10 +103,6 @@ slots_set (y ∷ ys) (suc n) f g e h (suc k) = slots_set ys n f g e h k
 -- another context
 context_keeps : (f : HirFunction) (ps : List Place) → SlotKeeps (Some f) (Some (record f { context = ps }))
 context_keeps f ps = (record { listed = refl; creates = λ k. refl }, λ h. h)
-
-all_on : {X : Type 0} (P Q : X → Type 0) → ((x : X) → P x → Q x) → (xs : List X) → AllByRecursion P xs → AllByRecursion Q xs
-all_on P Q f [] h = tt
-all_on P Q f (x ∷ xs) h = (f x h.0, all_on P Q f xs h.1)
 
 all_of : {X : Type 0} (P : X → Type 0) → ((x : X) → P x) → (xs : List X) → AllByRecursion P xs
 all_of P f [] = tt

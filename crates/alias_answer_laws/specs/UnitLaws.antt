@@ -41,7 +41,7 @@ Says {A} r = Leads (Answered {A = A}) r
 
 -- ---- the environment after the effects pass
 
-lacks_alike : (fs gs : List HirFunction) → map but_context gs ≡ map but_context fs → AllByRecursion InstructionsLackApply fs → AllByRecursion InstructionsLackApply gs
+pub lacks_alike : (fs gs : List HirFunction) → map but_context gs ≡ map but_context fs → AllByRecursion InstructionsLackApply fs → AllByRecursion InstructionsLackApply gs
 lacks_alike [] [] e h = tt
 lacks_alike [] (g ∷ gs) e h = cc
 lacks_alike (f ∷ fs) [] e h = cc

@@ -6,7 +6,7 @@ pub mod Reports
 pub mod Leaves
 pub mod Values
 pub mod Mutation
-pub mod MutationLaws
 pub mod Apply
+pub mod MutationLaws
 pub mod ReplayLaws
 pub mod ProperLaws

@@ -21,15 +21,15 @@ use Rattle.alias_hir.specs.declared.hir.Phi.{Phi}
 use Rattle.alias_hir.specs.declared.place.Place.{Place}
 use Rattle.alias_hir.specs.declared.terminal.Terminal.{Terminal}
 use Rattle.alias_visit.specs.Places.{identifiers_in}
-use Rattle.alias_function_rules.specs.Rules.{below, place_fits, created_fits, instruction_fits, phi_fits, block_fits, numbers_fit, is_block, entry_exists, handler_of, named_exists, leads_to_blocks, successors_exist, first_missing, missing, listed_instructions, instructions_listed, first_again, twice, none_listed_twice, shared, handlers_distinct, goes_to, has_edge, operand_fits, operands_fit, phis_fit, order_fits, orders_fit, repeated, places_distinct, tables_fit, types_fit, signatures_fit, argument_count, at_most, calls_fit, values_fit, context_values_fit}
+use Rattle.alias_function_rules.specs.Rules.{below, place_fits, created_fits, instruction_fits, phi_fits, block_fits, numbers_fit, is_block, entry_exists, handler_of, named_exists, leads_to_blocks, successors_exist, first_missing, missing, listed_instructions, instructions_listed, first_again, twice, none_listed_twice, shared, handlers_distinct, goes_to, has_edge, operand_fits, operands_fit, phis_fit, order_fits, orders_fit, repeated, places_distinct, argument_count, at_most, calls_fit, values_fit, context_values_fit}
 use Rattle.alias_function_rules.specs.declared.fault.Holder.TheVariants as holder
 use Rattle.alias_function_rules.specs.declared.fault.Table.TheVariants.{Identifiers, Instructions}
 use Rattle.alias_function_rules.specs.declared.fault.UnitFault.TheVariants as fault
 use Rattle.alias_range_places.specs.Keeping.{but_effect, but_context, but_value, but_instruction, but_terminal, but_operand, but_phi, but_block, but_entry}
-use Rattle.alias_rules.specs.Fitting.{recorded_within_tables, holds_no_call, effects_fit, effects_fit_at, reports_no_invariant, function_rules, function_fits_with, function_fits}
-use Rattle.alias_rules.specs.Functions.{rule_holds, at_function, each_function}
+use Rattle.alias_rules.specs.Fitting.{recorded_within_tables, holds_no_call, effects_fit, effects_fit_at, reports_no_invariant, family_rules, function_rules, function_fits_with, function_fits}
+use Rattle.alias_rules.specs.Functions.{rule_holds, at_function, each_function, FamilyRule, Tables, Types, Signatures, Apart, Each, family_holds}
 use Rattle.alias_rules.specs.Nesting.{number_of, created_in, tree_from, tree_below}
-use Rattle.alias_rules.specs.RecordedLaws.{without_instruction_effects, without_block_effects, without_effects, without_effects_again, rule_of_other_effects, identifiers_of_other_effects}
+use Rattle.alias_rules.specs.RecordedLaws.{all_pass_same, without_instruction_effects, without_block_effects, without_effects, without_effects_again, rule_of_other_effects, identifiers_of_other_effects, asked_mapped, then_same}
 use Rattle.alias_rules.specs.Sharing.{others, family, inside, context_at, first_shared, in_two, nested_is_apart, identifiers_apart, identifiers_at}
 use Rattle.alias_rules.specs.declared.rules.Rule.{Rule}
 use Rattle.alias_rules.specs.declared.rules.Rule.TheVariants.{Numbers, Entry, Successors, Listed, ListedOnce, Handlers, Phis, Orders, Distinct, Calls, ContextValues}
@@ -39,18 +39,10 @@ use Rattle.alias_bare_laws.specs.BareParts.{effects_ids, value_ids, value_create
 
 -- ---- steps and lists
 
--- equal steps, one after the other
-then_same : {E : Type 0} (p q r s : Result ⊤ E) → p ≡ q → r ≡ s → (p >>= (λ _. r)) ≡ (q >>= (λ _. s))
-then_same p q r s a b = ap (λ z. z >>= (λ _. r)) a ∙ ap (λ z. q >>= (λ _. z)) b
-
 -- what passes of changed items is what passes of the items
 pub all_pass_mapped : {A B E : Type 0} (f : B → Result ⊤ E) (g : A → B) (h : A → Result ⊤ E) → ((x : A) → f (g x) ≡ h x) → (xs : List A) → all_pass f (map g xs) ≡ all_pass h xs
 all_pass_mapped f g h e [] = refl
 all_pass_mapped f g h e (x ∷ xs) = then_same (f (g x)) (h x) (all_pass f (map g xs)) (all_pass h xs) (e x) (all_pass_mapped f g h e xs)
-
-all_pass_same : {A E : Type 0} (f g : A → Result ⊤ E) → ((x : A) → f x ≡ g x) → (xs : List A) → all_pass f xs ≡ all_pass g xs
-all_pass_same f g e [] = refl
-all_pass_same f g e (x ∷ xs) = then_same (f x) (g x) (all_pass f xs) (all_pass g xs) (e x) (all_pass_same f g e xs)
 
 all_mapped : {A B : Type 0} (p : B → Bool) (g : A → B) (q : A → Bool) → ((x : A) → p (g x) ≡ q x) → (xs : List A) → list_all p (map g xs) ≡ list_all q xs
 all_mapped p g q e [] = refl
@@ -72,11 +64,6 @@ value_found (e ∷ es) b = found_case (same_block b e.0) e.1 (value_at (map but_
 some_mapped : {A B : Type 0} (f : A → B) (o : Option A) → is_some (option_map f o) ≡ is_some o
 some_mapped f None = refl
 some_mapped f (Some x) = refl
-
--- what is asked of a changed item is asked of the item
-asked_mapped : {A B C : Type 0} (f : B → C) (g : A → B) (h : A → C) (d : C) → ((x : A) → f (g x) ≡ h x) → (o : Option A) → option_map_or f (option_map g o) d ≡ option_map_or h o d
-asked_mapped f g h d e None = refl
-asked_mapped f g h d e (Some x) = e x
 
 -- ---- no rule of one function looks at the effects of places
 
@@ -259,22 +246,16 @@ apart_of_bare env f g ks e =
     all_pass_same (nested_is_apart env g ks) (nested_is_apart env f ks)
     (λ k. ap (λ (xs : List ℕ). in_two k (first_shared (length env.identifiers) (inside env k) (xs ++ flat_map (identifiers_at env) (others (family env k) ks)) (context_at env k))) (identifiers_of_bare env f g e)) ks
 
+family_of_bare : (env : Environment) (f g : HirFunction) (ks : List ℕ) → bare f ≡ bare g → (rule : FamilyRule) → family_holds env g ks rule ≡ family_holds env f ks rule
+family_of_bare env f g ks e Tables = refl
+family_of_bare env f g ks e Types = refl
+family_of_bare env f g ks e Signatures = refl
+family_of_bare env f g ks e Apart = apart_of_bare env f g ks e
+family_of_bare env f g ks e (Each r) = each_of_bare r env f g ks e
+
 -- and so are the rules of all of them
 pub rules_of_bare : (env : Environment) (f g : HirFunction) (ks : List ℕ) → bare f ≡ bare g → function_rules env g ks ≡ function_rules env f ks
-rules_of_bare env f g ks e =
-    then_same (tables_fit env) _ _ _ refl
-    (then_same _ _ _ _ (each_of_bare Numbers env f g ks e)
-    (then_same _ _ _ _ (each_of_bare Entry env f g ks e)
-    (then_same _ _ _ _ (each_of_bare Successors env f g ks e)
-    (then_same (types_fit env) _ _ _ refl
-    (then_same _ _ _ _ (each_of_bare ListedOnce env f g ks e)
-    (then_same _ _ _ _ (each_of_bare Handlers env f g ks e)
-    (then_same _ _ _ _ (each_of_bare Phis env f g ks e)
-    (then_same _ _ _ _ (each_of_bare Orders env f g ks e)
-    (then_same _ _ _ _ (each_of_bare Distinct env f g ks e)
-    (then_same _ _ _ _ (apart_of_bare env f g ks e)
-    (then_same (signatures_fit env) _ _ _ refl
-    (then_same _ _ _ _ (each_of_bare Calls env f g ks e) (each_of_bare ContextValues env f g ks e)))))))))))))
+rules_of_bare env f g ks e = all_pass_same (family_holds env g ks) (family_holds env f ks) (family_of_bare env f g ks e) family_rules
 
 -- ---- functions that differ in the effects of places alone, or in what is recorded alone
 

@@ -1,24 +1,24 @@
 -- What analysing nested functions changes of an environment keeps the rules: a function that the inference takes is taken again.
-use Rattle.std.specs.Prelude.{◌≡◌, ℕ, ◌+◌, ◌-◌, ◌≤◌, true, false, ◌&&◌, List, [], ◌∷◌, ◌++◌, length, slice_get, Option, Some, None, option_map, Result, Ok, ⊤, is_ok, is_none, refl, if◌then◌else◌}
+use Rattle.std.specs.Prelude.{◌≡◌, ℕ, ◌+◌, ◌-◌, ◌≤◌, true, false, ◌&&◌, List, [], ◌∷◌, ◌++◌, length, slice_get, Option, Some, None, option_map, Ok, is_ok, is_none, refl, if◌then◌else◌}
 use Rattle.std.specs.List.{list_all}
 use Rattle.std.specs.Option.{option_map_or}
 use Rattle.std.proofs.Common.{zero, suc, ap, sym, ◌∙◌, subst, length-append, arith}
-use Rattle.alias_base.specs.Answer.{◌>>=◌, all_pass}
-use Rattle.alias_base.specs.AnswerLaws.{both_true, both_pass}
+use Rattle.alias_base.specs.Answer.{all_pass}
+use Rattle.alias_base.specs.AnswerLaws.{both_true}
 use Rattle.alias_base.specs.declared.ids.FunctionId.{FunctionId}
 use Rattle.alias_hir.specs.Tables.{fresh_identifier, with_identifier}
 use Rattle.alias_hir.specs.declared.env.Environment.{Environment}
 use Rattle.alias_hir.specs.declared.hir.HirFunction.{HirFunction}
 use Rattle.alias_function_rules.specs.Rules.{first_again, tables_fit, types_fit, signatures_fit}
-use Rattle.alias_rules.specs.Fitting.{effects_fit, effects_fit_at, reports_no_invariant, function_rules, function_fits_with, function_fits}
-use Rattle.alias_rules.specs.Functions.{rule_holds, of_function, at_function, each_function}
+use Rattle.alias_rules.specs.Fitting.{effects_fit, effects_fit_at, reports_no_invariant, family_rules, function_rules, function_fits_with, function_fits}
+use Rattle.alias_rules.specs.Functions.{rule_holds, of_function, at_function, each_function, FamilyRule, Tables, Types, Signatures, Apart, Each, family_holds}
 use Rattle.alias_rules.specs.Nesting.{created_in, created_of, created_at, next_level, tree_from, tree_below}
 use Rattle.alias_rules.specs.RuleLaws.{fitting_tree, fitting_rules}
 use Rattle.alias_rules.specs.Sharing.{identifiers_of, identifiers_at, context_of, context_at, inside, outside, first_shared, in_two, nested_is_apart, identifiers_apart}
 use Rattle.alias_rules.specs.declared.rules.Rule.{Rule}
-use Rattle.alias_rules.specs.declared.rules.Rule.TheVariants.{Numbers, Entry, Successors, ListedOnce, Handlers, Phis, Orders, Distinct, Calls, ContextValues}
-use Rattle.alias_nesting_laws.specs.FittingLaws.{then_pass, together}
-use Rattle.alias_nesting_laws.specs.RootLaws.{passes_on}
+use Rattle.alias_rules.specs.declared.rules.Rule.TheVariants.{Numbers}
+use Rattle.alias_nesting_laws.specs.FittingLaws.{together}
+use Rattle.alias_nesting_laws.specs.RootLaws.{passes_on, then_passes}
 use Rattle.alias_nesting_laws.specs.StandInLaws.{all_weaker}
 use Rattle.alias_tables.specs.GrowingLaws.{grows_self}
 use Rattle.alias_block_laws.specs.FitLaws.{Wider, rule_kept, fits_kept}
@@ -54,9 +54,6 @@ evolves_through a b c g h = record {
 }
 
 -- ---- steps
-
-then_passes : {E : Type 0} (r s r2 s2 : Result ⊤ E) → (r ≡ Ok tt → r2 ≡ Ok tt) → (s ≡ Ok tt → s2 ≡ Ok tt) → (r >>= (λ _. s)) ≡ Ok tt → (r2 >>= (λ _. s2)) ≡ Ok tt
-then_passes r s r2 s2 f g h = let b = both_pass r s h in then_pass r2 s2 (f b.0) (g b.1)
 
 -- ---- functions below, by what the functions create
 
@@ -131,21 +128,16 @@ module _ (env more : Environment) (as_many : length more.identifiers ≡ length 
   apart_same : (g : HirFunction) (ks : List ℕ) → identifiers_apart more g ks ≡ identifiers_apart env g ks
   apart_same g ks = all_same (nested_is_apart more g ks) (nested_is_apart env g ks) (nested_apart g ks) ks
 
+  family_there : tables_fit more ≡ Ok tt → types_fit more ≡ Ok tt → signatures_fit more ≡ Ok tt → (g : HirFunction) (ks : List ℕ) (rule : FamilyRule)
+      → family_holds env g ks rule ≡ Ok tt → family_holds more g ks rule ≡ Ok tt
+  family_there tables types signatures g ks Tables h = tables
+  family_there tables types signatures g ks Types h = types
+  family_there tables types signatures g ks Signatures h = signatures
+  family_there tables types signatures g ks Apart h = apart_same g ks ∙ h
+  family_there tables types signatures g ks (Each r) h = each_rule r g ks h
+
   rules_there : tables_fit more ≡ Ok tt → types_fit more ≡ Ok tt → signatures_fit more ≡ Ok tt → (g : HirFunction) (ks : List ℕ) → function_rules env g ks ≡ Ok tt → function_rules more g ks ≡ Ok tt
-  rules_there tables types signatures g ks h =
-      then_passes (tables_fit env) _ (tables_fit more) _ (λ _. tables)
-      (then_passes (each_function Numbers env g ks) _ (each_function Numbers more g ks) _ (each_rule Numbers g ks)
-      (then_passes (each_function Entry env g ks) _ (each_function Entry more g ks) _ (each_rule Entry g ks)
-      (then_passes (each_function Successors env g ks) _ (each_function Successors more g ks) _ (each_rule Successors g ks)
-      (then_passes (types_fit env) _ (types_fit more) _ (λ _. types)
-      (then_passes (each_function ListedOnce env g ks) _ (each_function ListedOnce more g ks) _ (each_rule ListedOnce g ks)
-      (then_passes (each_function Handlers env g ks) _ (each_function Handlers more g ks) _ (each_rule Handlers g ks)
-      (then_passes (each_function Phis env g ks) _ (each_function Phis more g ks) _ (each_rule Phis g ks)
-      (then_passes (each_function Orders env g ks) _ (each_function Orders more g ks) _ (each_rule Orders g ks)
-      (then_passes (each_function Distinct env g ks) _ (each_function Distinct more g ks) _ (each_rule Distinct g ks)
-      (then_passes (identifiers_apart env g ks) _ (identifiers_apart more g ks) _ (λ a. apart_same g ks ∙ a)
-      (then_passes (signatures_fit env) _ (signatures_fit more) _ (λ _. signatures)
-      (then_passes (each_function Calls env g ks) (each_function ContextValues env g ks) (each_function Calls more g ks) (each_function ContextValues more g ks) (each_rule Calls g ks) (each_rule ContextValues g ks))))))))))))) h
+  rules_there tables types signatures g ks = passes_on (family_holds env g ks) (family_holds more g ks) (family_there tables types signatures g ks) family_rules
 
 -- ---- further identifiers
 
@@ -158,14 +150,14 @@ grown_functions : (n : ℕ) (env : Environment) → (grown n env).functions ≡ 
 grown_functions zero env = refl
 grown_functions (suc n) env = grown_functions n (with_identifier None env)
 
-grown_length : (n : ℕ) (env : Environment) → length (grown n env).identifiers ≡ n + length env.identifiers
+pub grown_length : (n : ℕ) (env : Environment) → length (grown n env).identifiers ≡ n + length env.identifiers
 grown_length zero env = omega arith
 grown_length (suc n) env =
     let one = length-append env.identifiers (fresh_identifier None (length env.identifiers) (length env.types) ∷ []) in
     let rest = grown_length n (with_identifier None env) in
     omega arith
 
-grown_fits : (n : ℕ) (env : Environment) (g : HirFunction) → function_fits g env ≡ true → function_fits g (grown n env) ≡ true
+pub grown_fits : (n : ℕ) (env : Environment) (g : HirFunction) → function_fits g env ≡ true → function_fits g (grown n env) ≡ true
 grown_fits zero env g h = h
 grown_fits (suc n) env g h = grown_fits n (with_identifier None env) g (fits_kept env (with_identifier None env) (keeps_identifier None env) g h)
 

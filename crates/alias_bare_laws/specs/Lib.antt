@@ -1,6 +1,6 @@
 pub mod Bare
 pub mod BareIdentifiers
-pub mod BareLaws
 pub mod BareParts
+pub mod BareLaws
 pub mod EvolvedLaws
 pub mod RangedLaws

@@ -29,12 +29,12 @@ use Rattle.alias_lattice.specs.ProperLaws.{proper-single_reason, proper-mutable_
 use Rattle.alias_lattice.specs.ProperStates.{StateProper}
 use Rattle.alias_lattice.specs.ReasonLaws.{reason_laws}
 use Rattle.alias_lattice.specs.Reasons.{ReasonBits, single_reason}
-use Rattle.alias_lattice.specs.States.{State, empty_state, given, sites_of, appended, mutable_other}
+use Rattle.alias_lattice.specs.States.{State, empty_state, sites_of, appended, mutable_other}
 use Rattle.alias_tables.specs.ReplayLaws.{first_is, not_given}
 use Rattle.alias_tables.specs.Steps.{◌>>=◌, and_then, gives, refuses, each}
 use Rattle.alias_tables.specs.Tables.{TableLists, Step, intern}
 use Rattle.alias_apply.specs.declared.progress.StepProgress.{StepProgress}
-use Rattle.alias_apply.specs.Kinds.{is_writable, value_with}
+use Rattle.alias_apply.specs.Kinds.{is_writable}
 use Rattle.alias_apply.specs.Progress.{record_of, with_state, kind_at}
 use Rattle.alias_apply.specs.ProperLaws.{Sound, ProgressProper}
 use Rattle.alias_step.specs.Instructions.{apply_signature}
@@ -43,11 +43,11 @@ use Rattle.alias_block.specs.declared.faults.BlockRefusal.{BlockRefusal}
 use Rattle.alias_block.specs.declared.faults.BlockRefusal.TheVariants.{Uninitialized}
 use Rattle.alias_block.specs.declared.block.BlockProgress.{BlockProgress}
 use Rattle.alias_block.specs.declared.recorded.BlockEffects.{BlockEffects}
-use Rattle.alias_block.specs.Actions.{interned_or, record_interned, catch_call, is_call, catch_instruction, catch_calls, handler_binding, catch_into, return_value, terminal_action}
-use Rattle.alias_block.specs.Blocks.{infer_phis, step_start, after_instruction, infer_instruction, infer_instruction_at, apply_signatures, after_terminal, apply_terminal, block_start, finished_at, finished, infer_block}
+use Rattle.alias_block.specs.Actions.{interned_or, record_interned, catch_call, is_call, catch_instruction, handler_binding, catch_into, return_value, terminal_action}
+use Rattle.alias_block.specs.Blocks.{infer_phis, step_start, after_instruction, infer_instruction, infer_instruction_at, apply_signatures, after_terminal, apply_terminal, block_start, finished_at, infer_block}
 use Rattle.alias_block.specs.Contexts.{BlockContext}
-use Rattle.alias_block.specs.Faults.{BlockStep, in_block_at, in_block}
-use Rattle.alias_block.specs.Initial.{with_reason, reasons_of, context_value, with_context_place, with_context_from, with_context, param_value, with_param, with_param_at, with_component_params, with_params, initial_state}
+use Rattle.alias_block.specs.Faults.{BlockStep, in_block}
+use Rattle.alias_block.specs.Initial.{with_reason, context_value, with_context_place, with_context_from, with_context, param_value, with_param, with_param_at, with_params, initial_state}
 use Rattle.alias_block.specs.ReplayLaws.{in_block_gives}
 
 -- ---- the initial state
@@ -104,15 +104,15 @@ sound_gives P x p t u y e = subst P (first_is x y t u e) p
 sound_refuses : {A : Type 0} (P : A → Type 0) (c : BlockRefusal) → BlockSound P (refuses c)
 sound_refuses P c t u y e = not_given c y u e
 
-bound : {A B : Type 0} (P : A → Type 0) (Q : B → Type 0) (r : Result (A × TableLists) BlockRefusal) (g : A → BlockStep B) (y : B) (w : TableLists) → ((x : A) (u : TableLists) → r ≡ Ok (x, u) → P x) → ((x : A) → P x → BlockSound Q (g x)) → and_then r g ≡ Ok (y, w) → Q y
+pub bound : {A B : Type 0} (P : A → Type 0) (Q : B → Type 0) (r : Result (A × TableLists) BlockRefusal) (g : A → BlockStep B) (y : B) (w : TableLists) → ((x : A) (u : TableLists) → r ≡ Ok (x, u) → P x) → ((x : A) → P x → BlockSound Q (g x)) → and_then r g ≡ Ok (y, w) → Q y
 bound P Q (Ok p) g y w f h e = h p.0 (f p.0 p.1 refl) p.1 w y e
 bound P Q (Err c) g y w f h e = not_given c y w e
 
 -- one step after the other
-sound_then : {A B : Type 0} (P : A → Type 0) (Q : B → Type 0) (f : BlockStep A) (g : A → BlockStep B) → BlockSound P f → ((x : A) → P x → BlockSound Q (g x)) → BlockSound Q (f >>= g)
+pub sound_then : {A B : Type 0} (P : A → Type 0) (Q : B → Type 0) (f : BlockStep A) (g : A → BlockStep B) → BlockSound P f → ((x : A) → P x → BlockSound Q (g x)) → BlockSound Q (f >>= g)
 sound_then P Q f g hf hg t w y e = bound P Q (f t) g y w (λ x u. hf t u x) hg e
 
-sound_if : {A : Type 0} (P : A → Type 0) (b : Bool) (f g : BlockStep A) → BlockSound P f → BlockSound P g → BlockSound P (if b then f else g)
+pub sound_if : {A : Type 0} (P : A → Type 0) (b : Bool) (f g : BlockStep A) → BlockSound P f → BlockSound P g → BlockSound P (if b then f else g)
 sound_if P true f g hf hg = hf
 sound_if P false f g hf hg = hg
 

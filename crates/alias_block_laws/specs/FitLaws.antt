@@ -24,8 +24,8 @@ use Rattle.alias_hir.specs.declared.place.Place.{Place}
 use Rattle.alias_hir.specs.declared.report.DiagnosticId.{DiagnosticId}
 use Rattle.alias_function_rules.specs.Rules.{first_again, place_fits, created_fits, instruction_fits, phi_fits, block_fits, numbers_fit, tables_fit, types_fit, signatures_fit}
 use Rattle.alias_function_rules.specs.declared.fault.UnitFault.{UnitFault}
-use Rattle.alias_rules.specs.Fitting.{place_within_tables, error_within_tables, function_within_tables, type_within_tables, named_within_tables, summary_within_tables, effect_within_tables, recorded_within_tables, effects_within_tables, holds_no_call, effects_fit, effects_fit_at, reports_no_invariant, function_rules, function_fits_with, function_fits}
-use Rattle.alias_rules.specs.Functions.{rule_holds, at_function, each_function}
+use Rattle.alias_rules.specs.Fitting.{place_within_tables, error_within_tables, function_within_tables, type_within_tables, named_within_tables, summary_within_tables, effect_within_tables, recorded_within_tables, effects_within_tables, holds_no_call, effects_fit, effects_fit_at, reports_no_invariant, family_rules, function_rules, function_fits_with, function_fits}
+use Rattle.alias_rules.specs.Functions.{rule_holds, at_function, each_function, FamilyRule, Tables, Types, Signatures, Apart, Each, family_holds}
 use Rattle.alias_rules.specs.Nesting.{created_in, created_at, next_level, tree_from, tree_below}
 use Rattle.alias_rules.specs.RuleLaws.{fitting_tree, fitting_rules}
 use Rattle.alias_rules.specs.Sharing.{identifiers_apart}
@@ -193,21 +193,15 @@ module _ (env more : Environment) (k : Keeps env more) where
   each_kept r g ks h =
       then_passes (rule_holds r env None g) (all_pass (at_function r env) ks) (rule_holds r more None g) (all_pass (at_function r more) ks) (rule_kept env more k.wider r None g) (passes_on (at_function r env) (at_function r more) (k.nested r) ks) h
 
+  family_kept : (g : HirFunction) (ks : List ℕ) → (identifiers_apart env g ks ≡ Ok tt → identifiers_apart more g ks ≡ Ok tt) → (rule : FamilyRule) → family_holds env g ks rule ≡ Ok tt → family_holds more g ks rule ≡ Ok tt
+  family_kept g ks apart Tables = k.tables
+  family_kept g ks apart Types = k.types
+  family_kept g ks apart Signatures = k.signatures
+  family_kept g ks apart Apart = apart
+  family_kept g ks apart (Each r) = each_kept r g ks
+
   rules_kept : (g : HirFunction) (ks : List ℕ) → (identifiers_apart env g ks ≡ Ok tt → identifiers_apart more g ks ≡ Ok tt) → function_rules env g ks ≡ Ok tt → function_rules more g ks ≡ Ok tt
-  rules_kept g ks apart h =
-      then_passes (tables_fit env) _ (tables_fit more) _ k.tables
-      (then_passes (each_function Numbers env g ks) _ (each_function Numbers more g ks) _ (each_kept Numbers g ks)
-      (then_passes (each_function Entry env g ks) _ (each_function Entry more g ks) _ (each_kept Entry g ks)
-      (then_passes (each_function Successors env g ks) _ (each_function Successors more g ks) _ (each_kept Successors g ks)
-      (then_passes (types_fit env) _ (types_fit more) _ k.types
-      (then_passes (each_function ListedOnce env g ks) _ (each_function ListedOnce more g ks) _ (each_kept ListedOnce g ks)
-      (then_passes (each_function Handlers env g ks) _ (each_function Handlers more g ks) _ (each_kept Handlers g ks)
-      (then_passes (each_function Phis env g ks) _ (each_function Phis more g ks) _ (each_kept Phis g ks)
-      (then_passes (each_function Orders env g ks) _ (each_function Orders more g ks) _ (each_kept Orders g ks)
-      (then_passes (each_function Distinct env g ks) _ (each_function Distinct more g ks) _ (each_kept Distinct g ks)
-      (then_passes (identifiers_apart env g ks) _ (identifiers_apart more g ks) _ apart
-      (then_passes (signatures_fit env) _ (signatures_fit more) _ k.signatures
-      (then_passes (each_function Calls env g ks) (each_function ContextValues env g ks) (each_function Calls more g ks) (each_function ContextValues more g ks) (each_kept Calls g ks) (each_kept ContextValues g ks))))))))))))) h
+  rules_kept g ks apart = passes_on (family_holds env g ks) (family_holds more g ks) (family_kept g ks apart) family_rules
 
   ok : (r : Result ⊤ UnitFault) → r ≡ Ok tt → is_ok r ≡ true
   ok r e = ap is_ok e

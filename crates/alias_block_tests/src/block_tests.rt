@@ -1,6 +1,6 @@
 //! The step of a block: its terminal, and missing looks.
 
-use crate::making::{add_instruction, block_of, environment, function, place, value};
+use crate::making::value;
 use alias_base::{BlockId, EvaluationOrder, IdentifierId, List};
 use alias_block::{
     BlockContext, BlockEffects, BlockFault, BlockRefusal, TerminalEffects, infer_block,
@@ -14,6 +14,7 @@ use alias_hir::terminal::Terminal;
 use alias_hir::value::InstructionValue;
 use alias_lattice::{InferenceState, Site};
 use alias_tables::Tables;
+use alias_test_units::{add_instruction, block_of, environment, function, place};
 use std::alloc::{AllocError, Global};
 use std::test::Fail;
 
@@ -164,7 +165,7 @@ fn step(
     block: &BasicBlock,
     defined: &[u32],
 ) -> Result<Ending, AllocError> {
-    let env = environment(alloc)?;
+    let env = environment(alloc, 10)?;
     step_in(alloc, &env, func, is_function_expression, block, defined)
 }
 

@@ -1,11 +1,12 @@
 //! What a function's entry begins with.
 
-use crate::making::{Values, function, initial_values, place, value};
+use crate::making::{Values, initial_values, value};
 use alias_base::List;
 use alias_hir::effect::{ValueKind, ValueReason};
 use alias_hir::hir::{ContextValue, FunctionType, HirFunction, ParamPattern};
 use alias_hir::place::{Place, SpreadPattern};
 use alias_lattice::AbstractValue;
+use alias_test_units::{function, place};
 use std::alloc::{AllocError, Global};
 use std::test::Fail;
 

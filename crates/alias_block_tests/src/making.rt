@@ -1,115 +1,14 @@
-//! Small functions, what is known of them, and states.
+//! Values, and the states that functions begin with.
 
-use alias_base::{
-    BlockId, BlockMap, DeclarationId, EvaluationOrder, IdentifierId, InstructionId, List, TypeId,
-};
+use alias_base::IdentifierId;
 use alias_block::{BlockContext, initial_state};
 use alias_facts::function_facts;
 use alias_hir::effect::{ValueKind, ValueReason};
-use alias_hir::env::{Environment, Identifier, MutableRange};
-use alias_hir::hir::{BasicBlock, FunctionType, Hir, HirFunction, Instruction};
-use alias_hir::place::{Effect, Place};
-use alias_hir::terminal::Terminal;
-use alias_hir::types::Ty;
-use alias_hir::value::InstructionValue;
+use alias_hir::env::Environment;
+use alias_hir::hir::HirFunction;
 use alias_lattice::{AbstractValue, InferenceState, ReasonSet};
+use alias_test_units::environment;
 use std::alloc::{AllocError, Global};
-
-/// A place of the identifier.
-pub fn place(number: u32) -> Place {
-    Place {
-        identifier: IdentifierId(number),
-        effect: Effect::Unknown,
-        reactive: false,
-        span: None,
-    }
-}
-
-fn identifier(number: u32) -> Identifier {
-    Identifier {
-        declaration_id: DeclarationId(number),
-        name: None,
-        mutable_range: MutableRange {
-            start: EvaluationOrder::UNSET,
-            end: EvaluationOrder::UNSET,
-        },
-        scope: None,
-        type_: TypeId(0),
-        span: None,
-    }
-}
-
-fn add_ten_identifiers(env: &mut Environment) -> Result<(), AllocError> {
-    env.types.push(Ty::Var)?;
-    for number in 0..10u32 {
-        env.identifiers.push(identifier(number))?;
-    }
-    Ok(())
-}
-
-/// Ten identifiers of unknown types.
-pub fn environment(alloc: Global) -> Result<Environment, AllocError> {
-    let mut env = Environment::new(alloc);
-    add_ten_identifiers(&mut env)?;
-    Ok(env)
-}
-
-/// A function with no parameters and no blocks.
-pub fn function(alloc: Global, fn_type: FunctionType) -> HirFunction {
-    HirFunction {
-        fn_type,
-        params: List::new(alloc),
-        context: List::new(alloc),
-        context_values: List::new(alloc),
-        returns: place(0),
-        body: Hir {
-            entry: BlockId(0),
-            blocks: BlockMap::new(alloc),
-        },
-        instructions: List::new(alloc),
-        aliasing_effects: None,
-        is_async: false,
-        span: None,
-    }
-}
-
-/// Adds the instruction of the next number, with that result.
-pub fn add_instruction(
-    func: &mut HirFunction,
-    target: u32,
-    value: InstructionValue,
-) -> Result<(), AllocError> {
-    func.instructions.push(Instruction {
-        id: EvaluationOrder(1),
-        lvalue: place(target),
-        value,
-        span: None,
-        effects: None,
-    })?;
-    Ok(())
-}
-
-fn add_first(listed: &mut List<InstructionId>, count: u32) -> Result<(), AllocError> {
-    for number in 0..count {
-        listed.push(InstructionId(number))?;
-    }
-    Ok(())
-}
-
-/// A block of the first so many instructions.
-pub fn block_of(
-    alloc: Global,
-    instructions: u32,
-    terminal: Terminal,
-) -> Result<BasicBlock, AllocError> {
-    let mut block = BasicBlock {
-        phis: List::new(alloc),
-        instructions: List::new(alloc),
-        terminal,
-    };
-    add_first(&mut block.instructions, instructions)?;
-    Ok(block)
-}
 
 /// A kind with one reason.
 pub fn value(kind: ValueKind, reason: ValueReason) -> AbstractValue {
@@ -165,6 +64,6 @@ pub fn initial_values(
     func: &HirFunction,
     is_function_expression: bool,
 ) -> Result<Values, AllocError> {
-    let env = environment(alloc)?;
+    let env = environment(alloc, 10)?;
     initial_values_in(alloc, &env, func, is_function_expression)
 }

@@ -44,10 +44,10 @@ abbrev pub Answers : {A T : Type 0} → Result (A × T) SignatureError → Resul
 Answers stated (Ok x) t = stated ≡ Ok (x, t)
 Answers stated (Err e) t = is_memory e ≡ false → stated ≡ Err e
 
--- After Ok the list is the one stated, and so is what the call leaves. An error is the one stated. Memory may fail at any time.
-abbrev pub Extended : {A T : Type 0} → Result (List A × T) SignatureError → Result ⊤ SignatureError → List A → T → Type 0
-Extended stated (Ok u) xs t = stated ≡ Ok (xs, t)
-Extended stated (Err e) xs t = is_memory e ≡ false → stated ≡ Err e
+-- After Ok what grows is the one stated, and so is what the call leaves. An error is the one stated. Memory may fail at any time.
+abbrev pub Extended : {A T : Type 0} → Result (A × T) SignatureError → Result ⊤ SignatureError → A → T → Type 0
+Extended stated (Ok u) x t = stated ≡ Ok (x, t)
+Extended stated (Err e) x t = is_memory e ≡ false → stated ≡ Err e
 
 -- tables that have these reports, and nothing else
 abbrev pub tables_with : List Interned → TableLists

@@ -1,29 +1,13 @@
 -- What only grows, grows on from step to step.
-use Rattle.std.specs.Prelude.{◌≡◌, Bool, true, false, cond, ◌==◌, List, [], ◌∷◌, ◌++◌, length, Option, refl}
-use Rattle.std.proofs.Common.{ap, sym, ◌∙◌, append_assoc}
-use Rattle.alias_base.specs.declared.ids.IdentifierId.{IdentifierId}
+use Rattle.std.specs.Prelude.{List, [], ◌∷◌, ◌++◌, Option, refl}
+use Rattle.std.proofs.Common.{ap, ◌∙◌}
 use Rattle.alias_hir.specs.declared.env.Environment.{Environment}
 use Rattle.alias_hir.specs.declared.place.Span.{Span}
 use Rattle.alias_hir.specs.declared.report.Interned.{Interned}
-use Rattle.alias_hir.specs.declared.report.Report.{Report}
-use Rattle.alias_hir.specs.Diagnostics.{same_instance, number_of, interned, with_interned}
 use Rattle.alias_hir.specs.Tables.{with_identifier}
 use Rattle.alias_tables.specs.declared.temporaries.Temporary.{Temporary}
-use Rattle.alias_tables.specs.GrowingLaws.{Grows, grows_self, grows_by}
+use Rattle.alias_tables.specs.GrowingLaws.{Grows, grows_self, grows_by, grows_through}
 use Rattle.alias_call_effects.specs.Kept.{Kept, kept, HasGrown}
-
-grows_through : {A : Type 0} (xs ys zs : List A) → Grows xs ys → Grows ys zs → Grows xs zs
-grows_through xs ys zs g h = record {
-  more = g.more ++ h.more;
-  is = sym (append_assoc xs g.more h.more) ∙ ap (λ l. l ++ h.more) g.is ∙ h.is;
-}
-
-grown_if : (b : Bool) (es : List Interned) (e : Interned) → Grows es (cond b (es ++ e ∷ []) es)
-grown_if true es e = grows_by es (e ∷ [])
-grown_if false es e = grows_self es
-
-pub grown_by_report : (es : List Interned) (id : IdentifierId) (r : Report) → Grows es (with_interned es id r)
-grown_by_report es id r = grown_if (number_of (same_instance id r) es == length es) es (interned id r)
 
 pub grown_itself : (k : Kept) → HasGrown k k
 grown_itself k = record {

@@ -1,28 +1,23 @@
 //! The effects of a call by the aliasing part of its signature.
 
-ghost use Rattle.std.specs.Prelude.{◌≡◌, ◌++◌, [], List as Elements, option_map};
+ghost use Rattle.std.specs.Prelude.{◌≡◌, List as Elements, option_map};
 ghost use Rattle.alias_tables.specs.declared.temporaries.Temporary.{Temporary};
-ghost use Rattle.alias_tables.specs.GrowingLaws.{Grows};
-ghost use Rattle.alias_tables.specs.Tables.{Leaves};
-ghost use Rattle.alias_calls.specs.Configs.{with_config_effects};
-ghost use Rattle.alias_call_effects.specs.Answers.{Answers, site_of, tables_with};
+ghost use Rattle.alias_calls.specs.Calls.{held_config};
+ghost use Rattle.alias_call_effects.specs.Answers.{Answers, site_of};
 ghost use Rattle.alias_call_effects.specs.Configs.{effects_called, lacks_rest, config_called};
 ghost use Rattle.alias_call_effects.specs.Kept.{kept, HasGrown};
-ghost use Rattle.alias_call_effects.specs.Parts.{contexts_named, held_part};
+ghost use Rattle.alias_call_effects.specs.Parts.{both_named, contexts_named, part_call};
 
-use crate::effects::push_config_effects;
 use crate::error::SignatureError;
-use crate::named::{NamedPlace, push_contexts, push_temporaries};
-use crate::parts::PartCall;
-use alias_base::List;
-use alias_calls::CallSite;
+use crate::named::{NamedPlaces, push_contexts, push_temporaries};
 use alias_calls::arguments::has_further;
+use alias_calls::{CallSite, ConfigCall, config_effects};
 use alias_hir::effect::AliasingEffects;
 use alias_hir::env::Environment;
 use alias_hir::interned::InternedReports;
 use alias_hir::place::{Place, PlaceOrSpreadOrHole, Span};
 use alias_hir::signature::AliasingSignatureConfig;
-use alias_tables::{EffectFault, Temporaries};
+use alias_tables::{TableParts, Tables, Temporaries};
 use std::alloc::Global;
 use std::mem;
 
@@ -40,35 +35,21 @@ pub(crate) fn site_of(lvalue: &Place, receiver: &Place, span: Option<&Span>) -> 
     }
 }
 
-/// The list that the effects of the part give, if they give one.
-fn listed(
-    alloc: Global,
-    env: &Environment,
-    reports: &mut InternedReports,
-    call: &PartCall<'_>,
-) -> Result<Option<AliasingEffects>, EffectFault>
-    ensures answer { Leaves (with_config_effects env.now (held_part call.now) call.now.config.now.effects [] (tables_with reports.old)) result (tables_with reports.new) }
-    ensures grown { Grows reports.old reports.new }
-{
-    let mut out = List::new(alloc);
-    let effects = call.config.effects.as_slice();
-    if push_config_effects(alloc, env, reports, call, &mut out, effects)? {
-        return Ok(Some(out));
-    }
-    Ok(None)
-}
-
-/// The same over the environment, whose reports are taken out of it meanwhile.
+/// The list that the effects of the part give over the environment, if they give one. Its reports are those of tables
+/// meanwhile.
+#[tactic(auto, using(crate::specs::GrowthLaws::grown_by_reports))]
 fn effects_called(
     alloc: Global,
     env: &mut Environment,
-    call: &PartCall<'_>,
+    call: &ConfigCall<'_>,
 ) -> Result<Option<AliasingEffects>, SignatureError>
-    ensures answer { Answers (effects_called call.now.config.now call.now.site call.now.args.now call.now.named.now env.old) result env.new }
+    ensures answer { Answers (effects_called (held_config call.now) env.old) result env.new }
     ensures grown { (ts : Elements Temporary) → HasGrown (kept env.old ts) (kept env.new ts) }
 {
-    let mut reports = mem::replace(&mut env.interned, InternedReports::new(alloc));
-    let answer = listed(alloc, env, &mut reports, call);
+    let reports = mem::replace(&mut env.interned, InternedReports::new(alloc));
+    let mut tables = Tables::new(alloc, reports);
+    let answer = config_effects(env, &mut tables, call);
+    let TableParts { reports, .. } = tables.into_parts();
     env.interned = reports;
     Ok(answer?)
 }
@@ -81,18 +62,19 @@ fn list_called(
     site: CallSite,
     args: &[PlaceOrSpreadOrHole],
     context: &[Place],
-    before: List<NamedPlace>,
+    before: NamedPlaces,
 ) -> Result<Option<AliasingEffects>, SignatureError>
-    ensures answer { Answers (effects_called config.now site args.now (before ++ contexts_named env.old context.now) env.old) result env.new }
+    ensures answer { Answers (effects_called (part_call config.now site args.now (both_named before (contexts_named env.old context.now))) env.old) result env.new }
     ensures grown { (ts : Elements Temporary) → HasGrown (kept env.old ts) (kept env.new ts) }
 {
     let mut named = before;
     push_contexts(alloc, env, context, &mut named)?;
-    let call = PartCall {
+    let call = ConfigCall {
         config,
         site,
         args,
-        named: named.as_slice(),
+        names: named.names.as_slice(),
+        places: named.places.as_slice(),
     };
     effects_called(alloc, env, &call)
 }
@@ -132,7 +114,7 @@ pub fn compute_effects_for_aliasing_signature_config(
         return Ok(None);
     }
     let site = site_of(lvalue, receiver, span);
-    let mut named = List::new(alloc);
+    let mut named = NamedPlaces::new(alloc);
     let names = config.temporaries.as_slice();
     push_temporaries(alloc, env, temporaries, site, &mut named, names)?;
     list_called(alloc, env, config, site, args, context, named)

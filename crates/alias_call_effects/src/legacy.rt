@@ -4,13 +4,13 @@ ghost use Rattle.std.specs.Prelude.{◌≡◌, ◌<◌, true, length, slice_set,
 ghost use Rattle.alias_base.specs.Answer.{Gives};
 ghost use Rattle.alias_hir.specs.declared.effect.AliasingEffect.TheVariants.{Impure};
 ghost use Rattle.alias_apply.specs.Reports.{impure_report};
-ghost use Rattle.alias_call_effects.specs.Answers.{Answers, is_memory, site_of};
+ghost use Rattle.alias_call_effects.specs.Answers.{Answers, has_numbers, is_memory, site_of};
 ghost use Rattle.alias_call_effects.specs.Legacy.{is_told, legacy_called, list_without_reports};
 
 use crate::configs::site_of;
-use crate::effects::{has_numbers, intern};
 use crate::error::SignatureError;
 use alias_apply::reports::impure_report;
+use alias_base::IdentifierId;
 use alias_calls::{CallSite, Legacy, compute_effects_for_legacy_signature as list_of_signature};
 use alias_hir::effect::{AliasingEffect, AliasingEffects};
 use alias_hir::env::Environment;
@@ -20,7 +20,7 @@ use alias_hir::place::{Place, PlaceOrSpreadOrHole, Span};
 use alias_hir::report::{DiagnosticId, Report};
 use alias_hir::signature::FunctionSignature;
 use alias_lattice::InferenceState;
-use alias_tables::Tables;
+use alias_tables::{Tables, intern_report};
 use std::alloc::{AllocError, Global};
 
 /// Whether the call of an impure function is told of.
@@ -38,6 +38,14 @@ fn report_of(
     ensures { IfOk result (λ r. r ≡ impure_report signature.now.canonical_name site.span) }
 {
     impure_report(alloc, signature.canonical_name.as_ref(), site.span)
+}
+
+/// Whether there are numbers for the report: those of reports that are kept, or new ones.
+fn has_numbers(reports: &InternedReports, identifier: IdentifierId, report: &Report) -> bool
+    ensures { result ≡ has_numbers identifier report.now reports.now }
+{
+    let (identity, instance) = reports.numbers_of(identifier, report);
+    identity < 4294967295 && instance < 4294967295
 }
 
 /// The list as it is where no report is interned. Where the call is told of, its report has the numbers of the first one.
@@ -83,7 +91,7 @@ fn told_list(
         return Err(SignatureError::TooMany(Counter::Diagnostics));
     }
     let mut legacy = list_without_reports(alloc, env, state, signature, site, args)?;
-    let error = intern(&mut env.interned, identifier, report)?;
+    let error = intern_report(&mut env.interned, identifier, report)?;
     number_report(&mut legacy.effects, site.receiver, error);
     Ok(legacy)
 }

@@ -3,11 +3,9 @@
 #![tactic(auto)]
 
 mod configs;
-mod effects;
 pub mod error;
 mod legacy;
 pub mod named;
-pub mod parts;
 pub mod summaries;
 mod temporaries;
 mod texts;

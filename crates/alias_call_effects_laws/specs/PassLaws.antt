@@ -1,7 +1,6 @@
 -- What a host is given, call by call, is what a pass over the environment would be given.
 use Rattle.std.specs.Prelude.{◌≡◌, ℕ, ◌+◌, Bool, true, false, ◌&&◌, ◌||◌, ◌==◌, not, nat_lt, List, [], ◌∷◌, ◌++◌, length, Option, Some, None, Result, Ok, Err, refl, if◌then◌else◌}
 use Rattle.std.proofs.Common.{ap, sym, ◌∙◌, subst, append_assoc, append-nil, length-append, arith}
-use Rattle.std.proofs.lemmas.List.{map-append}
 use Rattle.alias_base.specs.declared.ids.FunctionId.{FunctionId}
 use Rattle.alias_base.specs.declared.ids.IdentifierId.{IdentifierId}
 use Rattle.alias_hir.specs.declared.effect.AliasingEffect.{AliasingEffect}
@@ -42,12 +41,13 @@ use Rattle.alias_calls.specs.Copies.{Collected, with_freezes_unless}
 use Rattle.alias_calls.specs.Summaries.{last_spread, summary_names, names_with}
 use Rattle.alias_calls.specs.Summaries.{rest_or_temporary as rest_in_pass}
 use Rattle.alias_call_effects.specs.declared.error.SignatureError.{SignatureError}
-use Rattle.alias_call_effects.specs.declared.named.NamedPlace.{NamedPlace}
+use Rattle.alias_call_effects.specs.declared.named.NamedPlaces.{NamedPlaces}
 use Rattle.alias_call_effects.specs.declared.summaries.AliasingSignature.{AliasingSignature}
 use Rattle.alias_call_effects.specs.Answers.{signature_error, tables_with, with_reports}
 use Rattle.alias_call_effects.specs.Configs.{with_temporary, beside, list_called, lacks_rest, config_called}
 use Rattle.alias_call_effects.specs.Kept.{Kept, kept, numbered, new_temporary, temporary_or, temporary_at}
-use Rattle.alias_call_effects.specs.Parts.{named, names_of, places_of, part_call}
+use Rattle.alias_call_effects.specs.Parts.{nothing_named, with_named, part_call}
+use Rattle.alias_call_effects.specs.PartLaws.{named_nothing}
 use Rattle.alias_call_effects.specs.Summaries.{rest_or_temporary, signature_with, signature_of}
 use Rattle.alias_call_effects.specs.Summaries.{names_of as names_alone}
 use Rattle.alias_call_effects_laws.specs.MoreLaws.{asks_with}
@@ -198,30 +198,30 @@ module _ (env : Environment) (c : ConfigCall) where
 -- ---- the list of an aliasing part
 
 module _ (env : Environment) (config : AliasingSignatureConfig) (site : CallSite) (args : List PlaceOrSpreadOrHole) where
-  abbrev host_names : List (List ℕ) → List NamedPlace → Kept → Result (List NamedPlace × Kept) SignatureError
+  abbrev host_names : List (List ℕ) → NamedPlaces → Kept → Result (NamedPlaces × Kept) SignatureError
   host_names = each (with_temporary site)
 
   abbrev pass_names : List (List ℕ) → List Place → Step (List Place)
   pass_names = each (with_place env site)
 
   -- the host makes temporaries for more names behind these, at these places
-  record HostHas (ns : List NamedPlace) (k : Kept) (more : List (List ℕ)) (ps : List Place) (l : Kept) : Type 0 where
-    every : List NamedPlace
+  record HostHas (ns : NamedPlaces) (k : Kept) (more : List (List ℕ)) (ps : List Place) (l : Kept) : Type 0 where
+    every : NamedPlaces
     made : host_names more ns k ≡ Ok (every, l)
-    names : names_of every ≡ names_of ns ++ more
-    places : places_of every ≡ ps
+    names : every.names ≡ ns.names ++ more
+    places : every.places ≡ ps
 
-  abbrev HostMakes : List NamedPlace → TableLists → List (List ℕ) → Result (List Place × TableLists) Refusal → Type 0
+  abbrev HostMakes : NamedPlaces → TableLists → List (List ℕ) → Result (List Place × TableLists) Refusal → Type 0
   HostMakes ns t more (Ok p) = HostHas ns (host_of env t) more p.0 (host_of env p.1)
   HostMakes ns t more (Err c) = host_names more ns (host_of env t) ≡ Err (signature_error c)
 
   -- where it makes the first of them, it makes them all
-  makes_more : (q : List ℕ) (more : List (List ℕ)) (ns after : List NamedPlace) (t u : TableLists) → host_names (q ∷ more) ns (host_of env t) ≡ host_names more after (host_of env u) → names_of after ≡ names_of ns ++ q ∷ []
+  makes_more : (q : List ℕ) (more : List (List ℕ)) (ns after : NamedPlaces) (t u : TableLists) → host_names (q ∷ more) ns (host_of env t) ≡ host_names more after (host_of env u) → after.names ≡ ns.names ++ q ∷ []
       → (r : Result (List Place × TableLists) Refusal) → HostMakes after u more r → HostMakes ns t (q ∷ more) r
   makes_more q more ns after t u is named_so (Ok p) h = record {
     every = h.every;
     made = is ∙ h.made;
-    names = h.names ∙ ap (λ l. l ++ more) named_so ∙ append_assoc (names_of ns) (q ∷ []) more;
+    names = h.names ∙ ap (λ l. l ++ more) named_so ∙ append_assoc ns.names (q ∷ []) more;
     places = h.places;
   }
   makes_more q more ns after t u is named_so (Err c) h = is ∙ h
@@ -229,22 +229,21 @@ module _ (env : Environment) (config : AliasingSignatureConfig) (site : CallSite
   abbrev first_key : List ℕ → TempKey
   first_key q = Named site.into.identifier (record { text = q })
 
-  abbrev host_next : List ℕ → List (List ℕ) → List NamedPlace → Result (Place × Kept) SignatureError → Result (List NamedPlace × Kept) SignatureError
-  host_next q more ns r = and_then (and_then r (λ p. gives (ns ++ named q p ∷ []))) (host_names more)
+  abbrev host_next : List ℕ → List (List ℕ) → NamedPlaces → Result (Place × Kept) SignatureError → Result (NamedPlaces × Kept) SignatureError
+  host_next q more ns r = and_then (and_then r (λ p. gives (with_named q p ns))) (host_names more)
 
   abbrev pass_next : List (List ℕ) → List Place → Result (Place × TableLists) Refusal → Result (List Place × TableLists) Refusal
   pass_next more ps r = and_then (and_then r (λ p. gives (ps ++ p ∷ []))) (pass_names more)
 
-  makes_from : (q : List ℕ) (more : List (List ℕ)) (ns : List NamedPlace) (t : TableLists) → ((l : List NamedPlace) (u : TableLists) → HostMakes l u more (pass_names more (places_of l) u))
-      → (r : Result (Place × TableLists) Refusal) → host_names (q ∷ more) ns (host_of env t) ≡ host_next q more ns (as_host env r) → HostMakes ns t (q ∷ more) (pass_next more (places_of ns) r)
+  makes_from : (q : List ℕ) (more : List (List ℕ)) (ns : NamedPlaces) (t : TableLists) → ((l : NamedPlaces) (u : TableLists) → HostMakes l u more (pass_names more l.places u))
+      → (r : Result (Place × TableLists) Refusal) → host_names (q ∷ more) ns (host_of env t) ≡ host_next q more ns (as_host env r) → HostMakes ns t (q ∷ more) (pass_next more ns.places r)
   makes_from q more ns t others (Ok p) is =
-      let after = ns ++ named q p.0 ∷ [] in
-      makes_more q more ns after t p.1 is (map-append (λ (n : NamedPlace). n.name) ns (named q p.0 ∷ [])) (pass_names more (places_of ns ++ p.0 ∷ []) p.1)
-      (subst (λ (ps : List Place). HostMakes after p.1 more (pass_names more ps p.1)) (map-append (λ (n : NamedPlace). n.place) ns (named q p.0 ∷ [])) (others after p.1))
+      let after = with_named q p.0 ns in
+      makes_more q more ns after t p.1 is refl (pass_names more after.places p.1) (others after p.1)
   makes_from q more ns t others (Err c) is = is
 
-  makes : (more : List (List ℕ)) (ns : List NamedPlace) (t : TableLists) → HostMakes ns t more (pass_names more (places_of ns) t)
-  makes [] ns t = record { every = ns; made = refl; names = sym (append-nil (names_of ns)); places = refl }
+  makes : (more : List (List ℕ)) (ns : NamedPlaces) (t : TableLists) → HostMakes ns t more (pass_names more ns.places t)
+  makes [] ns t = record { every = ns; made = refl; names = sym (append-nil ns.names); places = refl }
   makes (q ∷ more) ns t =
       makes_from q more ns t (makes more) (temporary env (first_key q) site.receiver.span t)
       (ap (host_next q more ns) (same_temporary env (first_key q) site.receiver.span t))
@@ -256,26 +255,26 @@ module _ (env : Environment) (config : AliasingSignatureConfig) (site : CallSite
   same_reported u (Ok p) = refl
   same_reported u (Err c) = refl
 
-  same_listed : (ns : List NamedPlace) (ps : List Place) (u : TableLists) → names_of ns ≡ config.temporaries → places_of ns ≡ ps → list_called config site args [] ns (host_of env u) ≡ as_host env (effects_in_pass ps u)
+  same_listed : (ns : NamedPlaces) (ps : List Place) (u : TableLists) → ns.names ≡ config.temporaries → ns.places ≡ ps → list_called config site args [] ns (host_of env u) ≡ as_host env (effects_in_pass ps u)
   same_listed ns ps u names places =
       let there = (host_of env u).env in
       let listed : ConfigCall → Result (Collected × Kept) SignatureError = λ c. beside u.temporaries (with_reports there (with_config_effects there c config.effects [] (tables_with u.reports))) in
-      ap (λ (l : List NamedPlace). listed (part_call config site args l)) (append-nil ns)
-      ∙ ap (λ (l : List (List ℕ)). listed (config_call (record config { temporaries = l }) site args (places_of ns))) names
+      ap (λ (l : NamedPlaces). listed (part_call config site args l)) (named_nothing ns)
+      ∙ ap (λ (l : List (List ℕ)). listed (config_call (record config { temporaries = l }) site args ns.places)) names
       ∙ ap (λ (l : List Place). listed (config_call config site args l)) places
       ∙ ap (λ (r : Result (Collected × TableLists) Refusal). beside u.temporaries (with_reports there r)) (same_effects there env (asks_with u.temporaries env).collections (config_call config site args ps) config.effects [] (tables_with u.reports))
       ∙ same_reported u (effects_in_pass ps (tables_with u.reports))
       ∙ ap (as_host env) (sym (reads_effects env (config_call config site args ps) config.effects [] u))
 
-  same_from : (t : TableLists) (r : Result (List Place × TableLists) Refusal) → HostMakes [] t config.temporaries r
-      → and_then (host_names config.temporaries [] (host_of env t)) (list_called config site args []) ≡ as_host env (and_then r effects_in_pass)
-  same_from t (Ok p) h = ap (λ (r : Result (List NamedPlace × Kept) SignatureError). and_then r (list_called config site args [])) h.made ∙ same_listed h.every p.0 p.1 h.names h.places
-  same_from t (Err c) h = ap (λ (r : Result (List NamedPlace × Kept) SignatureError). and_then r (list_called config site args [])) h
+  same_from : (t : TableLists) (r : Result (List Place × TableLists) Refusal) → HostMakes nothing_named t config.temporaries r
+      → and_then (host_names config.temporaries nothing_named (host_of env t)) (list_called config site args []) ≡ as_host env (and_then r effects_in_pass)
+  same_from t (Ok p) h = ap (λ (r : Result (NamedPlaces × Kept) SignatureError). and_then r (list_called config site args [])) h.made ∙ same_listed h.every p.0 p.1 h.names h.places
+  same_from t (Err c) h = ap (λ (r : Result (NamedPlaces × Kept) SignatureError). and_then r (list_called config site args [])) h
 
   same_if : (b : Bool) (t : TableLists)
-      → (if b then gives None else (host_names config.temporaries [] >>= list_called config site args [])) (host_of env t) ≡ as_host env ((if b then gives None else (pass_names config.temporaries [] >>= effects_in_pass)) t)
+      → (if b then gives None else (host_names config.temporaries nothing_named >>= list_called config site args [])) (host_of env t) ≡ as_host env ((if b then gives None else (pass_names config.temporaries [] >>= effects_in_pass)) t)
   same_if true t = refl
-  same_if false t = same_from t (pass_names config.temporaries [] t) (makes config.temporaries [] t)
+  same_if false t = same_from t (pass_names config.temporaries [] t) (makes config.temporaries nothing_named t)
 
   -- the list of a call by an aliasing part
   pub same_config_list : (t : TableLists) → config_called config site args [] (host_of env t) ≡ as_host env (config_list env config site args t)

@@ -1,6 +1,6 @@
 //! Calls by a signature without an aliasing part. Each calls 1 with the argument 2, and its result is 3.
 
-use crate::making::{SPAN, are_described, environment, is_spread_refused, place, spread_argument};
+use crate::making::{SPAN, are_described, environment, is_spread_refused, spread_argument};
 use alias_base::{IdentifierId, List, Text};
 use alias_call_effects::{
     Legacy, SignatureError, compute_effects_for_legacy_signature, format_type_for_print,
@@ -13,6 +13,7 @@ use alias_hir::report::{ErrorCategory, Report};
 use alias_hir::signature::FunctionSignature;
 use alias_hir::types::Ty;
 use alias_lattice::{AbstractValue, InferenceState, ReasonSet};
+use alias_test_units::place;
 use std::alloc::{AllocError, Global};
 use std::test::Fail;
 

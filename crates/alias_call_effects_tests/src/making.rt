@@ -1,43 +1,24 @@
 //! Small environments, and effects in a word and two numbers.
 
-use alias_base::{DeclarationId, EvaluationOrder, IdentifierId, Text, TypeId};
+use alias_base::Text;
 use alias_call_effects::SignatureError;
 use alias_hir::effect::{AliasingEffect, AliasingEffects};
-use alias_hir::env::{Environment, Identifier, IdentifierName, MutableRange};
-use alias_hir::place::{Effect, Place, PlaceOrSpreadOrHole, Span, SpreadPattern};
+use alias_hir::env::{Environment, Identifier, IdentifierName};
+use alias_hir::lookup::fresh_identifier;
+use alias_hir::place::{Place, PlaceOrSpreadOrHole, Span, SpreadPattern};
 use alias_hir::types::Ty;
+use alias_test_units::place;
 use std::alloc::{AllocError, Global};
 
 /// A span that no other place has.
 pub const SPAN: Span = Span { start: 7, end: 9 };
 
-/// A place of the identifier.
-pub fn place(number: u32) -> Place {
-    Place {
-        identifier: IdentifierId(number),
-        effect: Effect::Unknown,
-        reactive: false,
-        span: None,
-    }
-}
-
 fn identifier(alloc: Global, number: u32) -> Result<Identifier, AllocError> {
-    let name = if number == 2 {
-        Some(IdentifierName::Named(Text::from_str(alloc, "x")?))
-    } else {
-        None
-    };
-    Ok(Identifier {
-        declaration_id: DeclarationId(number),
-        name,
-        mutable_range: MutableRange {
-            start: EvaluationOrder::UNSET,
-            end: EvaluationOrder::UNSET,
-        },
-        scope: None,
-        type_: TypeId(0),
-        span: None,
-    })
+    let mut identifier = fresh_identifier(None, number, 0);
+    if number == 2 {
+        identifier.name = Some(IdentifierName::Named(Text::from_str(alloc, "x")?));
+    }
+    Ok(identifier)
 }
 
 fn add_four_identifiers(alloc: Global, env: &mut Environment) -> Result<(), AllocError> {

@@ -1,6 +1,6 @@
 //! Calls by an aliasing part. Each calls 1, and its result is 3.
 
-use crate::making::{SPAN, environment, gave, is_spread_refused, place, spread_argument};
+use crate::making::{SPAN, environment, gave, is_spread_refused, spread_argument};
 use alias_base::{List, Text};
 use alias_call_effects::{
     SignatureError, Temporaries, compute_effects_for_aliasing_signature_config,
@@ -9,6 +9,7 @@ use alias_hir::effect::{AliasingEffects, ValueKind, ValueReason};
 use alias_hir::env::Environment;
 use alias_hir::place::{Place, PlaceOrSpreadOrHole};
 use alias_hir::signature::{AliasingEffectConfig, AliasingSignatureConfig};
+use alias_test_units::place;
 use std::alloc::{AllocError, Global};
 use std::test::Fail;
 

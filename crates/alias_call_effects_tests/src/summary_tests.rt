@@ -2,16 +2,17 @@
 
 ghost use Rattle.std.specs.Prelude.{◌<◌, length, slice_get, IfOk, IfSome, IsSome};
 
-use crate::making::{environment, gave, place};
-use alias_base::{BlockId, BlockMap, FunctionId, IdentifierId, List};
+use crate::making::{environment, gave};
+use alias_base::{FunctionId, IdentifierId, List};
 use alias_call_effects::{
     AliasingSignature, SignatureError, Temporaries, build_signature_from_function_expression,
     compute_effects_for_aliasing_signature,
 };
 use alias_hir::effect::{AliasingEffect, AliasingEffects};
 use alias_hir::env::Environment;
-use alias_hir::hir::{FunctionType, Hir, HirFunction, ParamPattern};
+use alias_hir::hir::{FunctionType, HirFunction, ParamPattern};
 use alias_hir::place::{PlaceOrSpreadOrHole, SpreadPattern};
+use alias_test_units::place;
 use std::alloc::{AllocError, Global};
 use std::test::Fail;
 
@@ -42,21 +43,12 @@ fn function(alloc: Global, param: ParamPattern) -> Result<HirFunction, AllocErro
     let params = List::from_slice(alloc, &[param])?;
     let context = List::from_slice(alloc, &[place(1)])?;
     let effects = summary(alloc)?;
-    Ok(HirFunction {
-        fn_type: FunctionType::Other,
-        params,
-        context,
-        context_values: List::new(alloc),
-        returns: place(3),
-        body: Hir {
-            entry: BlockId(0),
-            blocks: BlockMap::new(alloc),
-        },
-        instructions: List::new(alloc),
-        is_async: false,
-        span: None,
-        aliasing_effects: Some(effects),
-    })
+    let mut function = alias_test_units::function(alloc, FunctionType::Other);
+    function.params = params;
+    function.context = context;
+    function.returns = place(3);
+    function.aliasing_effects = Some(effects);
+    Ok(function)
 }
 
 /// That function alone.

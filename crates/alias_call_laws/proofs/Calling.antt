@@ -1,5 +1,5 @@
 -- Over passes of the caller that change functions, no Apply comes to an instruction of a nested function, and so the range pass finds none left.
-use Rattle.std.specs.Prelude.{◌≡◌, ◌≢◌, ℕ, Bool, true, false, List, [], ◌∷◌, Option, Some, None, Result, Ok, Err, ⊤, Contains, is_none, map, slice_get, refl}
+use Rattle.std.specs.Prelude.{◌≡◌, ◌≢◌, ℕ, Bool, true, false, List, [], ◌∷◌, Option, Some, None, Result, Ok, Err, ⊤, Contains, is_none, slice_get, refl}
 use Rattle.std.specs.List.{AllByRecursion, list_any, list_all}
 use Rattle.std.proofs.Common.{zero, suc, sym, ◌∙◌, subst}
 use Rattle.std.proofs.lemmas.List.Folds.{Any-from_list_any, list_any-from_Any}
@@ -21,10 +21,8 @@ use Rattle.alias_rules.specs.Fitting.{is_apply}
 use Rattle.alias_rules.specs.Functions.{rules_hold}
 use Rattle.alias_rules.specs.RuleLaws.{parts_of_rules}
 use Rattle.alias_effects.specs.Inference.{pass_end, env_after}
-use Rattle.alias_effects.specs.declared.output.PassEnd.{PassEnd}
 use Rattle.alias_effects.specs.declared.solved.Solved.{Solved}
 use Rattle.alias_inner_passes.specs.Passes.{NoneAdded, effects_in, instruction_effects, Keeps}
-use Rattle.alias_range_places.specs.Keeping.{but_context}
 use Rattle.alias_range_pass.specs.Passes.{range_pass}
 use Rattle.alias_range_pass.specs.Refusals.{has_apply}
 use Rattle.alias_nesting_laws.specs.PartLaws.{absent, not_both}
@@ -41,6 +39,7 @@ use Rattle.alias_answer_laws.specs.Applies.{InstructionsLackApply, NestedLackApp
 use Rattle.alias_answer_laws.specs.Avoiding.{is_unreplaced, avoids_then, avoids_naming, named_alike}
 use Rattle.alias_answer_laws.specs.FunctionLaws.{set_all, got_all, instructions_without_apply, BothLackApply, RangesPlain, ranges_plain}
 use Rattle.alias_answer_laws.specs.PassLaws.{EndsPlain, pass_plain}
+use Rattle.alias_answer_laws.specs.UnitLaws.{lacks_alike}
 
 -- ---- answers that may come
 
@@ -92,15 +91,6 @@ passed_leads keeps_all id pass old h (Ok new) p = pass_lacks old new p.keeps h
 passed_leads keeps_all id pass old h (Err e) q = subst (λ (z : InferError). is_unreplaced z ≡ false) (sym q) refl
 
 -- ---- a nested function
-
-lacks_alike : (fs gs : List HirFunction) → map but_context gs ≡ map but_context fs → AllByRecursion InstructionsLackApply fs → AllByRecursion InstructionsLackApply gs
-lacks_alike [] [] e h = tt
-lacks_alike [] (g ∷ gs) e h = cc
-lacks_alike (f ∷ fs) [] e h = cc
-lacks_alike (f ∷ fs) (g ∷ gs) e h =
-    let one : but_context g ≡ but_context f = cc in
-    let rest : map but_context gs ≡ map but_context fs = cc in
-    (subst InstructionsLackApply (sym one) h.0, lacks_alike fs gs rest h.1)
 
 -- no instruction below carries Apply
 abbrev Nested : Analysis → Type 0

@@ -8,16 +8,16 @@ use Rattle.alias_calls.specs.declared.call.ConfigCall.{ConfigCall as HeldConfigC
 use Rattle.alias_calls.specs.declared.call.SummaryCall.{SummaryCall as HeldSummaryCall}
 use Rattle.alias_calls.specs.declared.call.SummaryNames.{SummaryNames}
 
--- a call by the aliasing part of a signature, with the places of the part's temporaries
+-- a call by the aliasing part of a signature, with the places of what the part lists as temporaries
 pub record ConfigCall : Type 0 where
   pub config : AliasingSignatureConfig
   pub site : CallSite
   pub args : List PlaceOrSpreadOrHole
   pub temporaries : List Place
 
--- what a call that holds references speaks of
+-- what a call that holds references speaks of: its names are listed as temporaries of the part
 abbrev pub held_config : HeldConfigCall → ConfigCall
-held_config c = record { config = c.config.now; site = c.site; args = c.args.now; temporaries = c.temporaries.now }
+held_config c = record { config = record c.config.now { temporaries = c.names.now }; site = c.site; args = c.args.now; temporaries = c.places.now }
 
 -- a call by the summary of a function, and the context places of the function
 pub record SummaryCall : Type 0 where

@@ -1,5 +1,4 @@
 pub mod Arguments
-pub mod ArgumentLaws
 pub mod Calls
 pub mod Copies
 pub mod Configs
@@ -7,4 +6,5 @@ pub mod Summaries
 pub mod Immutable
 pub mod Visits
 pub mod Legacy
+pub mod ArgumentLaws
 pub mod ReplayLaws

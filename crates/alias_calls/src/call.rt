@@ -1,6 +1,6 @@
 //! Where a call stands.
 
-use alias_base::{IdentifierId, List};
+use alias_base::{IdentifierId, List, Text};
 use alias_hir::place::{Place, PlaceOrSpreadOrHole, Span};
 use alias_hir::signature::AliasingSignatureConfig;
 
@@ -12,13 +12,16 @@ pub struct CallSite {
     pub span: Option<Span>,
 }
 
-/// A call by the aliasing part of a signature, with the places of the part's temporaries.
+/// A call by the aliasing part of a signature, with names that have places of their own in it: those of the part's
+/// temporaries, and for a host those of context places. The place of a name stands where the name does; of two with one
+/// name the first is meant.
 #[derive(Clone, Copy)]
 pub struct ConfigCall<'a> {
     pub config: &'a AliasingSignatureConfig,
     pub site: CallSite,
     pub args: &'a [PlaceOrSpreadOrHole],
-    pub temporaries: &'a [Place],
+    pub names: &'a [Text],
+    pub places: &'a [Place],
 }
 
 /// What stands for the names of a function's summary in a call: `into` for what it returns, arguments for

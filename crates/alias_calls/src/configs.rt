@@ -1,7 +1,8 @@
 //! The effects of a call by the aliasing part of its signature.
 
-ghost use Rattle.std.specs.Prelude.{◌≡◌, ◌++◌, slice_get, option_map, IfOk, OnOk};
+ghost use Rattle.std.specs.Prelude.{◌≡◌, ◌++◌, [], slice_get, option_map, IfOk, OnOk};
 ghost use Rattle.alias_hir.specs.Diagnostics.{same_text};
+ghost use Rattle.alias_tables.specs.GrowingLaws.{Grows};
 ghost use Rattle.alias_tables.specs.Steps.{each};
 ghost use Rattle.alias_tables.specs.Tables.{Leaves};
 ghost use Rattle.alias_calls.specs.Arguments.{first_of};
@@ -44,7 +45,7 @@ fn name_index(name: &Text, names: &[Text]) -> usize
 
 /// What a name of an aliasing part stands for before the arguments: the target, or else the receiver, where it is their
 /// name. The one error is want of memory.
-pub fn stands_first(
+fn stands_first(
     alloc: Global,
     config: &AliasingSignatureConfig,
     site: CallSite,
@@ -62,7 +63,7 @@ pub fn stands_first(
 }
 
 /// The one place, or else the others. The one error is want of memory.
-pub fn or_places(
+fn or_places(
     alloc: Global,
     place: Option<Place>,
     others: List<Place>,
@@ -88,7 +89,7 @@ fn place_at(places: &[Place], index: usize) -> Option<Place>
     }
 }
 
-/// What a name stands for: a temporary, or else what the arguments say.
+/// What a name stands for: a place of its own, or else what the arguments say.
 fn stands(alloc: Global, call: &ConfigCall<'_>, name: &Text) -> Result<List<Place>, AllocError>
     ensures { IfOk result (λ l. l ≡ stands (held_config call.now) name.now) }
 {
@@ -102,12 +103,12 @@ fn stands(alloc: Global, call: &ConfigCall<'_>, name: &Text) -> Result<List<Plac
         call.args,
         &mut places,
     )?;
-    let index = name_index(name, config.temporaries.as_slice());
-    or_places(alloc, place_at(call.temporaries, index), places)
+    let index = name_index(name, call.names);
+    or_places(alloc, place_at(call.places, index), places)
 }
 
 /// The first of the places.
-pub fn first_of(places: &[Place]) -> Option<Place>
+fn first_of(places: &[Place]) -> Option<Place>
     ensures { result ≡ first_of places.now }
 {
     match places {
@@ -173,7 +174,8 @@ fn push_impure(
     out: &mut AliasingEffects,
     place: Place,
 ) -> Result<(), EffectFault>
-    ensures { Extended (impure_step place out.old tables.old) result out.new tables.new }
+    ensures answer { Extended (impure_step place out.old tables.old) result out.new tables.new }
+    ensures grown { Grows tables.old.reports tables.new.reports }
 {
     let report = impure_part_report(tables.alloc())?;
     let error = tables.intern_report(place.identifier, report)?;
@@ -186,7 +188,8 @@ fn push_impures(
     out: &mut AliasingEffects,
     places: &[Place],
 ) -> Result<(), EffectFault>
-    ensures { Extended (each impure_step places.now out.old tables.old) result out.new tables.new }
+    ensures answer { Extended (each impure_step places.now out.old tables.old) result out.new tables.new }
+    ensures grown { Grows tables.old.reports tables.new.reports }
 {
     for place in places {
         push_impure(tables, out, *place)?;
@@ -201,7 +204,8 @@ fn push_impures_of(
     out: &mut AliasingEffects,
     name: &Text,
 ) -> Result<bool, EffectFault>
-    ensures { Collects (with_impures (stands (held_config call.now) name.now) out.old tables.old) result out.new tables.new }
+    ensures answer { Collects (with_impures (stands (held_config call.now) name.now) out.old tables.old) result out.new tables.new }
+    ensures grown { Grows tables.old.reports tables.new.reports }
 {
     let places = stands(tables.alloc(), call, name)?;
     push_impures(tables, out, places.as_slice())?;
@@ -305,7 +309,8 @@ fn push_config_effect(
     out: &mut AliasingEffects,
     effect: &AliasingEffectConfig,
 ) -> Result<bool, EffectFault>
-    ensures { Collects (with_config_effect env.now (held_config call.now) effect.now out.old tables.old) result out.new tables.new }
+    ensures answer { Collects (with_config_effect env.now (held_config call.now) effect.now out.old tables.old) result out.new tables.new }
+    ensures grown { Grows tables.old.reports tables.new.reports }
 {
     match effect {
         AliasingEffectConfig::Freeze { value, reason } => {
@@ -374,7 +379,8 @@ fn push_config_effects(
     out: &mut AliasingEffects,
     effects: &[AliasingEffectConfig],
 ) -> Result<bool, EffectFault>
-    ensures { Collects (with_config_effects env.now (held_config call.now) effects.now out.old tables.old) result out.new tables.new }
+    ensures answer { Collects (with_config_effects env.now (held_config call.now) effects.now out.old tables.old) result out.new tables.new }
+    ensures grown { Grows tables.old.reports tables.new.reports }
 {
     for effect in effects {
         if !push_config_effect(env, tables, call, out, effect)? {
@@ -382,6 +388,24 @@ fn push_config_effects(
         }
     }
     Ok(true)
+}
+
+/// The list that the effects of the part give, if they give one. On every answer the reports have at most grown at their
+/// end.
+pub fn config_effects(
+    env: &Environment,
+    tables: &mut Tables,
+    call: &ConfigCall<'_>,
+) -> Result<Option<AliasingEffects>, EffectFault>
+    ensures answer { Leaves (with_config_effects env.now (held_config call.now) call.now.config.now.effects [] tables.old) result tables.new }
+    ensures grown { Grows tables.old.reports tables.new.reports }
+{
+    let mut out = List::new(tables.alloc());
+    let effects = call.config.effects.as_slice();
+    if push_config_effects(env, tables, call, &mut out, effects)? {
+        return Ok(Some(out));
+    }
+    Ok(None)
 }
 
 /// Appends the temporary of the name, made or found.
@@ -436,11 +460,8 @@ pub fn compute_effects_for_aliasing_signature_config(
         config,
         site,
         args,
-        temporaries: temporaries.as_slice(),
+        names,
+        places: temporaries.as_slice(),
     };
-    let mut out = List::new(tables.alloc());
-    if push_config_effects(env, tables, &call, &mut out, config.effects.as_slice())? {
-        return Ok(Some(out));
-    }
-    Ok(None)
+    config_effects(env, tables, &call)
 }

@@ -11,8 +11,8 @@ pub mod legacy;
 pub mod summaries;
 pub mod visits;
 
-pub use call::{CallSite, SummaryCall, SummaryNames};
-pub use configs::compute_effects_for_aliasing_signature_config;
+pub use call::{CallSite, ConfigCall, SummaryCall, SummaryNames};
+pub use configs::{compute_effects_for_aliasing_signature_config, config_effects};
 pub use legacy::{Legacy, compute_effects_for_legacy_signature};
 pub use summaries::{
     build_signature_from_function_expression, compute_effects_for_aliasing_signature,

@@ -9,7 +9,6 @@ use Rattle.alias_base.specs.declared.ids.BlockId.{BlockId}
 use Rattle.alias_base.specs.declared.ids.IdentifierId.{IdentifierId}
 use Rattle.alias_block.specs.declared.recorded.InstructionEffects.{InstructionEffects}
 use Rattle.alias_block.specs.declared.recorded.TerminalEffects.{TerminalEffects}
-use Rattle.alias_effects.specs.Numbered.{position_of}
 use Rattle.alias_effects.specs.Recording.{block_with, with_terminal_at, recorded_instructions, recorded_terminals, with_effects_of}
 use Rattle.alias_effects.specs.declared.solved.Solved.{Solved}
 use Rattle.alias_events.specs.Fitting.{AllOf}
@@ -32,6 +31,7 @@ use Rattle.alias_naming_laws.specs.PassLaws.{SolvedNames, all_on}
 use Rattle.alias_range_places.specs.Causes.{numbers_of}
 use Rattle.alias_rules.specs.Fitting.{place_within_tables, function_within_tables, type_within_tables, error_within_tables, named_within_tables, summary_within_tables, effect_within_tables, recorded_within_tables, effects_within_tables, holds_no_call, effects_fit}
 use Rattle.alias_hir.specs.Effects.{function_of, signature_of, error_of}
+use Rattle.alias_hir.specs.Positions.{position_in}
 use Rattle.alias_ends_laws.specs.Making.{EffectMakes, EffectsMake}
 use Rattle.alias_ends_laws.specs.Owned.{AllOwned, numbers_owned, one_there}
 use Rattle.alias_cause_laws.proofs.Alike.{has_among, effects_name}
@@ -160,7 +160,7 @@ module _ (P : ℕ → Type 0) where
   terminals_put [] bs h a = a
   terminals_put (e ∷ es) bs h a =
       let cs = recorded_terminals es bs in
-      terminal_at e.effects cs (position_of cs e.block) h.0 (terminals_put es bs h.1 a)
+      terminal_at e.effects cs (position_in cs e.block) h.0 (terminals_put es bs h.1 a)
 
   effects_of : (env : Environment) (es : List AliasingEffect) → EffectsOwn env P es → AllByRecursion EffectOwned es
   effects_of env es h = all_on (EffectOwns env P) EffectOwned (λ e a. a.0) es h

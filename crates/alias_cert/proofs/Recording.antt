@@ -6,6 +6,7 @@ use Rattle.alias_base.specs.declared.ids.FunctionId.{FunctionId}
 use Rattle.alias_hir.specs.declared.env.Environment.{Environment}
 use Rattle.alias_hir.specs.declared.hir.HirFunction.{HirFunction}
 use Rattle.alias_hir.specs.declared.place.Place.{Place}
+use Rattle.alias_hir.specs.Positions.{Blocks}
 use Rattle.alias_rules.specs.Fitting.{function_fits}
 use Rattle.alias_bare_laws.specs.BareLaws.{bare_of_effects}
 use Rattle.alias_bare_laws.specs.RangedLaws.{evolves_with_contexts}
@@ -25,7 +26,6 @@ use Rattle.alias_block_laws.specs.BlockLaws.{BlockEffectsWithin, StateWithin}
 use Rattle.alias_block_laws.specs.WrittenLaws.{tables_extended}
 use Rattle.alias_write_back.specs.WriteBack.{tables_of}
 use Rattle.alias_effects.specs.Inference.{entries_of, end_tables, env_after}
-use Rattle.alias_effects.specs.Numbered.{Blocks}
 use Rattle.alias_effects.specs.Recording.{with_effects_of}
 use Rattle.alias_effects.specs.declared.output.PassEnd.{PassEnd}
 use Rattle.alias_effects.specs.declared.solved.BlockEntry.{BlockEntry}

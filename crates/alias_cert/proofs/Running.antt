@@ -1,13 +1,13 @@
 -- What a check of entry states keeps, where steps keep it.
 use Rattle.std.specs.Prelude.{slice_set}
-use Rattle.std.proofs.Common.{◌≡◌, ℕ, ◌+◌, ◌<◌, ◌≤◌, zero, suc, Bool, true, false, if◌then◌else◌, List, [], ◌∷◌, Option, Some, None, Result, Ok, Err, refl, subst, arith}
+use Rattle.std.proofs.Common.{◌≡◌, ℕ, ◌+◌, ◌<◌, ◌≤◌, zero, suc, Bool, true, false, if◌then◌else◌, List, Option, Some, None, Result, Ok, Err, refl, subst, arith}
 use Rattle.alias_base.specs.Answer.{◌>>=◌}
 use Rattle.alias_lattice.specs.Flows.{Outcome, Stepped, Refused}
 use Rattle.alias_flow.specs.Machine.{Rules, up}
 use Rattle.alias_flow.specs.RecordingLaws.{HoldsOf, AllHold}
 use Rattle.alias_flow.specs.Solutions.{entry_at}
 use Rattle.alias_flow_check.specs.Checks.{Arriving, first_not_above, passed, outcome_checked, state_checked, block_checked, blocks_checked, joined_unless, joins_checked, begun_with, begins, first_arriving, is_below_entry, not_joined, solution_checked}
-use Rattle.alias_block_laws.specs.SolutionLaws.{StepKeeps}
+use Rattle.alias_block_laws.specs.SolutionLaws.{StepKeeps, set_holds, all_held_on}
 
 -- what comes after an answer
 pub record After {A B E : Type 0} (r : Result A E) (f : A → Result B E) (z : B) : Type 0 where
@@ -19,18 +19,9 @@ pub after : {A B E : Type 0} (r : Result A E) (f : A → Result B E) (z : B) →
 after (Ok x) f z h = record { was = x; first = refl; then_is = h }
 after (Err e) f z h = cc
 
-set_holds : {X : Type 0} (q : X → Type 0) (xs : List (Option X)) (n : ℕ) (x : X) → q x → AllHold q xs → AllHold q (slice_set xs n (Some x))
-set_holds q [] n x h a = tt
-set_holds q (y ∷ ys) zero x h a = (h, a.1)
-set_holds q (y ∷ ys) (suc n) x h a = (a.0, set_holds q ys n x h a.1)
-
 held_on : {X : Type 0} (p q : X → Type 0) → ((x : X) → p x → q x) → (o : Option X) → HoldsOf p o → HoldsOf q o
 held_on p q f None h = tt
 held_on p q f (Some x) h = f x h
-
-all_held_on : {X : Type 0} (p q : X → Type 0) → ((x : X) → p x → q x) → (xs : List (Option X)) → AllHold p xs → AllHold q xs
-all_held_on p q f [] a = tt
-all_held_on p q f (x ∷ xs) a = (held_on p q f x a.0, all_held_on p q f xs a.1)
 
 module _ {P T K C D : Type 0} (join : P → P → P) (below : P → P → Bool) (rules : Rules P T K C) (differs : T → ℕ → K → Option D) (entries : List (Option P)) (inv : T → Type 0) (good : P → Type 0) (q : T → K → Type 0)
     (entered : (b : ℕ) (s : P) → b < rules.blocks → entry_at entries b ≡ Some s → good s)

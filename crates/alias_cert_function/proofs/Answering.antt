@@ -1,10 +1,11 @@
 -- The check of a function from its parts, in order.
-use Rattle.std.proofs.Common.{◌≡◌, ℕ, ◌+◌, Bool, true, false, if◌then◌else◌, List, [], length, replicate, Option, None, Result, Ok, Err, ap, sym, ◌∙◌, subst}
+use Rattle.std.proofs.Common.{◌≡◌, ℕ, Bool, true, false, if◌then◌else◌, List, length, replicate, Option, None, Result, Ok, Err, ap, sym, ◌∙◌, subst}
 use Rattle.std.specs.Prelude.{⊤}
 use Rattle.alias_base.specs.Answer.{◌>>=◌, Gives}
 use Rattle.alias_base.specs.declared.ids.FunctionId.{FunctionId}
 use Rattle.alias_hir.specs.declared.env.Environment.{Environment}
 use Rattle.alias_hir.specs.declared.hir.HirFunction.{HirFunction}
+use Rattle.alias_hir.specs.Positions.{Blocks}
 use Rattle.alias_lattice.specs.States.{State, state_join, state_below}
 use Rattle.alias_flow.specs.Machine.{Rules}
 use Rattle.alias_flow_check.specs.declared.fault.Unsolved.{Unsolved}
@@ -14,7 +15,6 @@ use Rattle.alias_block.specs.declared.faults.BlockRefusal.{BlockRefusal}
 use Rattle.alias_block.specs.declared.recorded.BlockEffects.{BlockEffects}
 use Rattle.alias_tables.specs.Tables.{TableLists}
 use Rattle.alias_write_back.specs.WriteBack.{tables_of}
-use Rattle.alias_effects.specs.Numbered.{Blocks}
 use Rattle.alias_effects.specs.declared.output.PassEnd.{PassEnd}
 use Rattle.alias_certificate.specs.declared.certificate.CertFunction.{CertFunction}
 use Rattle.alias_certificate.specs.declared.fault.CheckFault.{CheckFault}

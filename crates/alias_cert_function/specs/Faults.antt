@@ -3,16 +3,14 @@ use Rattle.std.specs.Prelude.{◌≡◌, Bool, true, false, Option, Result, Ok, 
 use Rattle.alias_base.specs.declared.ids.BlockId.{BlockId}
 use Rattle.alias_base.specs.declared.ids.FunctionId.{FunctionId}
 use Rattle.alias_hir.specs.declared.env.Environment.{Environment}
-use Rattle.alias_hir.specs.declared.error.InferError.{InferError}
+use Rattle.alias_hir.specs.Positions.{Blocks}
 use Rattle.alias_block.specs.declared.faults.BlockRefusal.{BlockRefusal}
 use Rattle.alias_block.specs.declared.faults.BlockRefusal.TheVariants as block
 use Rattle.alias_effects.specs.Inference.{refusal, block_at}
-use Rattle.alias_effects.specs.Numbered.{Blocks}
 use Rattle.alias_flow_check.specs.declared.fault.Unsolved.{Unsolved}
 use Rattle.alias_flow_check.specs.declared.fault.Unsolved.TheVariants as unsolved
 use Rattle.alias_tables.specs.declared.faults.EffectFault.{EffectFault}
 use Rattle.alias_tables.specs.declared.faults.EffectFault.TheVariants as effect
-use Rattle.alias_tables.specs.declared.faults.Refusal.{Refusal}
 use Rattle.alias_tables.specs.declared.faults.Refusal.TheVariants as refused
 use Rattle.alias_cert_function.specs.declared.claims.Difference.{Difference}
 use Rattle.alias_cert_function.specs.declared.claims.Difference.TheVariants as difference

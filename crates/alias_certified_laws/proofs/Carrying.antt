@@ -16,8 +16,8 @@ use Rattle.alias_hir.specs.declared.hir.BasicBlock.{BasicBlock}
 use Rattle.alias_hir.specs.declared.hir.Instruction.{Instruction}
 use Rattle.alias_block.specs.declared.recorded.InstructionEffects.{InstructionEffects}
 use Rattle.alias_block.specs.declared.recorded.TerminalEffects.{TerminalEffects}
-use Rattle.alias_effects.specs.Numbered.{Blocks, position_of}
-use Rattle.alias_effects.specs.PositionLaws.{position_step}
+use Rattle.alias_hir.specs.PositionLaws.{position_step}
+use Rattle.alias_hir.specs.Positions.{Blocks, position_in}
 use Rattle.alias_effects.specs.Recording.{recorded_instructions, block_with, with_terminal_at, recorded_terminals}
 use Rattle.alias_text.specs.Lines.{recorded}
 
@@ -123,14 +123,14 @@ keys_put xs es (Some n) = keys_at xs n es (slice_get xs n)
 
 keys_kept : (es : List TerminalEffects) (xs : Blocks) → keys_of (recorded_terminals es xs) ≡ keys_of xs
 keys_kept [] xs = refl
-keys_kept (e ∷ es) xs = let ys = recorded_terminals es xs in keys_put ys e.effects (position_of ys e.block) ∙ keys_kept es xs
+keys_kept (e ∷ es) xs = let ys = recorded_terminals es xs in keys_put ys e.effects (position_in ys e.block) ∙ keys_kept es xs
 
-position_kept : (es : List TerminalEffects) (xs : Blocks) (b : BlockId) → position_of (recorded_terminals es xs) b ≡ position_of xs b
+position_kept : (es : List TerminalEffects) (xs : Blocks) (b : BlockId) → position_in (recorded_terminals es xs) b ≡ position_in xs b
 position_kept es xs b = ap (position (same_block b)) (keys_kept es xs)
 
 -- the entry is of the block at the position
 abbrev pub is_of : Blocks → ℕ → TerminalEffects → Bool
-is_of bs n e = option_map_or (λ m. m == n) (position_of bs e.block) false
+is_of bs n e = option_map_or (λ m. m == n) (position_in bs e.block) false
 
 -- the block with what is recorded of its terminal: by the first entry of its position
 abbrev pub ends_for : Blocks → ℕ → List TerminalEffects → BasicBlock → BasicBlock
@@ -164,7 +164,7 @@ pub end_carried : (es : List TerminalEffects) (bs : Blocks) (n : ℕ) (k : Block
 end_carried [] bs n k b h = h
 end_carried (e ∷ es) bs n k b h =
     let ys = recorded_terminals es bs in
-    end_put ys n e.effects k (ends_for bs n es b) (position_of ys e.block) (end_carried es bs n k b h)
+    end_put ys n e.effects k (ends_for bs n es b) (position_in ys e.block) (end_carried es bs n k b h)
     ∙ ap (λ (o : Option ℕ). Some (k, if option_map_or (λ m. m == n) o false then block_with (ends_for bs n es b) e.effects else ends_for bs n es b)) (position_kept es bs e.block)
 
 -- ---- the value of a name
@@ -182,12 +182,12 @@ value_step b e es n x false (Some m) at h f =
     let is : suc m ≡ n = cc in
     f m refl (subst (λ k. slice_get (e ∷ es) k ≡ Some x) (sym is) h)
 
-value_by_position : (es : Blocks) (b : BlockId) (n : ℕ) (x : BlockId × BasicBlock) → position_of es b ≡ Some n → slice_get es n ≡ Some x → value_at es b ≡ Some x.1
+value_by_position : (es : Blocks) (b : BlockId) (n : ℕ) (x : BlockId × BasicBlock) → position_in es b ≡ Some n → slice_get es n ≡ Some x → value_at es b ≡ Some x.1
 value_by_position [] b n x at h = cc
 value_by_position (e ∷ es) b n x at h =
-    value_step b e es n x (same_block b e.0) (position_of es b) (sym (position_step (same_block b) e.0 (keys_of es)) ∙ at) h (λ m p g. value_by_position es b m x p g)
+    value_step b e es n x (same_block b e.0) (position_in es b) (sym (position_step (same_block b) e.0 (keys_of es)) ∙ at) h (λ m p g. value_by_position es b m x p g)
 
 -- the block of a name whose position it is carries what is recorded of it
-pub named_end : (es : List TerminalEffects) (bs : Blocks) (n : ℕ) (b : BlockId × BasicBlock) → slice_get bs n ≡ Some b → position_of bs b.0 ≡ Some n
+pub named_end : (es : List TerminalEffects) (bs : Blocks) (n : ℕ) (b : BlockId × BasicBlock) → slice_get bs n ≡ Some b → position_in bs b.0 ≡ Some n
     → value_at (recorded_terminals es bs) b.0 ≡ Some (ends_for bs n es b.1)
 named_end es bs n b h at = value_by_position (recorded_terminals es bs) b.0 n (b.0, ends_for bs n es b.1) (position_kept es bs b.0 ∙ at) (end_carried es bs n b.0 b.1 h)

@@ -9,11 +9,11 @@ use Rattle.alias_hir.specs.Terminals.{terminal_effects}
 use Rattle.alias_hir.specs.declared.effect.AliasingEffect.{AliasingEffect}
 use Rattle.alias_hir.specs.declared.hir.BasicBlock.{BasicBlock}
 use Rattle.alias_hir.specs.declared.terminal.Terminal.{Terminal}
+use Rattle.alias_hir.specs.Positions.{Blocks, position_in}
 use Rattle.alias_block.specs.Recorded.{terminal_recorded_as}
 use Rattle.alias_block.specs.declared.recorded.BlockEffects.{BlockEffects}
 use Rattle.alias_block.specs.declared.recorded.TerminalEffects.{TerminalEffects}
 use Rattle.alias_effects.specs.Inference.{terminal_recorded}
-use Rattle.alias_effects.specs.Numbered.{Blocks, position_of}
 use Rattle.alias_effects.specs.Recording.{block_with}
 use Rattle.alias_text.specs.Lines.{effect_text, recorded}
 use Rattle.alias_accept_laws.specs.Saying.{said_ends}
@@ -38,7 +38,7 @@ module _ (bs : Blocks) (n : ℕ) where
   NoneOf es = AllByRecursion (λ (e : TerminalEffects). is_of bs n e ≡ false) es
 
   -- the entries of a block at another position aren't
-  pub none_of_other : (m : ℕ) (k : BlockId) (es : List AliasingEffect) → position_of bs k ≡ Some m → (m ≡ n → ⊥) → NoneOf (terminal_recorded_as k es)
+  pub none_of_other : (m : ℕ) (k : BlockId) (es : List AliasingEffect) → position_in bs k ≡ Some m → (m ≡ n → ⊥) → NoneOf (terminal_recorded_as k es)
   none_of_other m k [] at f = tt
   none_of_other m k (e ∷ es) at f = (ap (λ (o : Option ℕ). option_map_or (λ i. i == n) o false) at ∙ unlike m n (m == n) refl f, tt)
 
@@ -74,7 +74,7 @@ module _ (bs : Blocks) (n : ℕ) where
   ends_instructions [] b = refl
   ends_instructions (e ∷ es) b = kept_instructions (is_of bs n e) e.effects (ends_for bs n es b) ∙ ends_instructions es b
 
-  module _ (k : BlockId) (b : BasicBlock) (at : position_of bs k ≡ Some n) where
+  module _ (k : BlockId) (b : BasicBlock) (at : position_in bs k ≡ Some n) where
     own_carried : (e : AliasingEffect) (es : List AliasingEffect) → ends_for bs n (terminal_recorded_as k (e ∷ es)) b ≡ block_with b (e ∷ es)
     own_carried e es =
         ap (λ (o : Option ℕ). if option_map_or (λ i. i == n) o false then block_with b (e ∷ es) else b) at

@@ -10,10 +10,10 @@ use Rattle.alias_function_rules.specs.Rules.{is_among, first_again}
 use Rattle.alias_hir.specs.declared.effect.AliasingEffect.{AliasingEffect}
 use Rattle.alias_hir.specs.declared.hir.BasicBlock.{BasicBlock}
 use Rattle.alias_hir.specs.declared.hir.Instruction.{Instruction}
+use Rattle.alias_hir.specs.Positions.{Blocks}
 use Rattle.alias_block.specs.declared.recorded.BlockEffects.{BlockEffects}
 use Rattle.alias_block.specs.declared.recorded.InstructionEffects.{InstructionEffects}
 use Rattle.alias_effects.specs.Inference.{instructions_recorded}
-use Rattle.alias_effects.specs.Numbered.{Blocks}
 use Rattle.alias_accept_laws.specs.Alike.{Paired, none as no_pair, more}
 use Rattle.alias_certified_laws.proofs.Aligning.{Aligned, none, skip, take}
 use Rattle.alias_certified_laws.proofs.Carrying.{effects_for}

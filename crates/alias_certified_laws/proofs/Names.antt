@@ -37,12 +37,9 @@ use Rattle.alias_accept_laws.specs.Certifying.{NamesItsOwn, IsAcceptedAsSaid}
 use Rattle.alias_accept_laws.specs.Saying.{NamesThere, AreCounted}
 use Rattle.alias_entry_laws.proofs.Keeping.{at_holds}
 use Rattle.alias_accept_laws.proofs.Passing.{pass_accepted}
+use Rattle.alias_step_laws.specs.TableLaws.{all_mapped as all_on}
 
 -- ---- lists
-
-all_on : {X : Type 0} (P Q : X → Type 0) → ((x : X) → P x → Q x) → (xs : List X) → AllByRecursion P xs → AllByRecursion Q xs
-all_on P Q f [] h = tt
-all_on P Q f (x ∷ xs) h = (f x h.0, all_on P Q f xs h.1)
 
 parts_of : {X : Type 0} (Q : X → Type 0) (xs ys : List X) → AllByRecursion Q (xs ++ ys) → AllByRecursion Q xs × AllByRecursion Q ys
 parts_of Q [] ys h = (tt, h)

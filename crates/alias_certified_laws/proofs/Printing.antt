@@ -14,6 +14,7 @@ use Rattle.alias_hir.specs.declared.env.Environment.{Environment}
 use Rattle.alias_hir.specs.declared.hir.BasicBlock.{BasicBlock}
 use Rattle.alias_hir.specs.declared.hir.HirFunction.{HirFunction}
 use Rattle.alias_hir.specs.declared.hir.Instruction.{Instruction}
+use Rattle.alias_hir.specs.Positions.{Blocks, position_in}
 use Rattle.alias_lattice.specs.Flows.{Stepped}
 use Rattle.alias_lattice.specs.JoinLaws.{state_laws}
 use Rattle.alias_lattice.specs.States.{State, state_below}
@@ -33,7 +34,7 @@ use Rattle.alias_block.specs.declared.recorded.BlockEffects.{BlockEffects}
 use Rattle.alias_block.specs.declared.recorded.InstructionEffects.{InstructionEffects}
 use Rattle.alias_write_back.specs.WriteBack.{tables_of}
 use Rattle.alias_effects.specs.Inference.{entries_of, instructions_recorded, terminal_recorded, solved_of}
-use Rattle.alias_effects.specs.Numbered.{Blocks, position_of, step_at, visits_end}
+use Rattle.alias_effects.specs.Numbered.{step_at, visits_end}
 use Rattle.alias_effects.specs.PassLaws.{outcome_is}
 use Rattle.alias_effects.specs.Recording.{recorded_instructions, recorded_terminals, with_effects_of}
 use Rattle.alias_text.specs.Lines.{recorded_of}
@@ -152,7 +153,7 @@ module _ (env : Environment) (func : HirFunction) (e : Bool) (w : SolverState (V
     effects : BlockEffects
     is : slice_index_or w.recorded n None ≡ Some effects
     says : BlockSays (context_of env func e) b.0 b.1 effects
-    at : position_of func.body.blocks b.0 ≡ Some n
+    at : position_in func.body.blocks b.0 ≡ Some n
 
   recorded_there : (n : ℕ) (b : BlockId × BasicBlock) (s : State) → slice_get func.body.blocks n ≡ Some b → entry_at w.progress.joined_input n ≡ Some s → Recorded n b
   recorded_there n b s there h =

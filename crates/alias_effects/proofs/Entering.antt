@@ -9,11 +9,11 @@ use Rattle.alias_hir.specs.declared.hir.BasicBlock.{BasicBlock}
 use Rattle.alias_lattice.specs.States.{State}
 use Rattle.alias_effects.specs.declared.solved.BlockEntry.{BlockEntry}
 use Rattle.alias_block.specs.declared.recorded.BlockEffects.{BlockEffects}
-use Rattle.alias_effects.specs.Numbered.{Blocks}
 use Rattle.alias_effects.specs.Inference.{entries_of}
 use Rattle.alias_flow.specs.Solutions.{entry_at}
 use Rattle.alias_effects.specs.Solutions.{entry_state, IsSubsequence}
-use Rattle.alias_effects.specs.PositionLaws.{same_is, same_self, apart_at, other_way}
+use Rattle.alias_hir.specs.PositionLaws.{same_is, same_self, apart_at, other_way}
+use Rattle.alias_hir.specs.Positions.{Blocks}
 
 -- a block that isn't there has no entry state
 absent : (es : Blocks) (xs : List (Option State)) (k : BlockId) → AllByRecursion (λ y. same_block k y ≡ false) (keys_of es) → entry_state (entries_of es xs) k ≡ None

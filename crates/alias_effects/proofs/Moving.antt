@@ -1,14 +1,13 @@
 -- Lists that are made of what is left of others.
-use Rattle.std.proofs.Common.{◌≡◌, ℕ, ◌+◌, ◌<◌, zero, suc, List, [], ◌∷◌, ◌++◌, length, drop, Option, Some, None, refl, ap, sym, ◌∙◌, arith, append_assoc, add-one, drop-set-lt, get_or}
+use Rattle.std.proofs.Common.{◌≡◌, ℕ, ◌+◌, zero, suc, List, [], ◌∷◌, ◌++◌, length, drop, Option, Some, None, refl, ap, sym, ◌∙◌, arith, append_assoc, add-one, drop-set-lt}
 use Rattle.std.specs.Prelude.{slice_get, slice_set}
 use Rattle.std.specs.List.{flat_map}
-use Rattle.alias_base.specs.declared.ids.BlockId.{BlockId}
+use Rattle.alias_hir.specs.Positions.{Blocks}
 use Rattle.alias_lattice.specs.States.{State}
 use Rattle.alias_block.specs.declared.recorded.BlockEffects.{BlockEffects}
 use Rattle.alias_effects.specs.declared.solved.BlockEntry.{BlockEntry}
 use Rattle.alias_effects.specs.Inference.{block_at, entries_of}
 use Rattle.alias_effects.specs.Output.{entry_as}
-use Rattle.alias_effects.specs.Numbered.{Blocks, position_of, with_position, positions_of}
 
 step_entries : (es : Blocks) (xs : List (Option State)) (i : ℕ) (x : Option State) → length xs ≡ length es → slice_get xs i ≡ Some x
     → entries_of (drop i es) (drop i xs) ≡ entry_as (block_at es i) x ++ entries_of (drop (suc i) es) (drop (suc i) xs)
@@ -46,21 +45,3 @@ recorded_left f xs ys i x old new h e n =
     ∙ ap (λ z. z ++ flat_map f (drop (i + 1) xs)) n
     ∙ append_assoc old (f x) (flat_map f (drop (i + 1) xs))
     ∙ ap (λ z. old ++ z) (sym (rw (add-one i) (step_recorded f xs i x h)))
-
-first_position : (o : Option ℕ) (ns : List ℕ) → with_position o ns ≡ with_position o [] ++ ns
-first_position None ns = refl
-first_position (Some n) ns = refl
-
-step_positions : (es : Blocks) (bs : List BlockId) (i : ℕ) (d : BlockId) → i < length bs → positions_of es (drop i bs) ≡ with_position (position_of es (get_or bs i d)) [] ++ positions_of es (drop (suc i) bs)
-step_positions es [] i d h = let no : ⊥ = omega arith in absurd no
-step_positions es (b ∷ bs) zero d h = first_position (position_of es b) (positions_of es bs)
-step_positions es (b ∷ bs) (suc i) d h = step_positions es bs i d (omega arith)
-
--- one more position is found of what is left
-pub positions_left : (es : Blocks) (bs : List BlockId) (i : ℕ) (d : BlockId) (o : Option ℕ) (old new : List ℕ) → i < length bs → o ≡ position_of es (get_or bs i d) → new ≡ old ++ with_position o []
-    → new ++ positions_of es (drop (i + 1) bs) ≡ old ++ positions_of es (drop i bs)
-positions_left es bs i d o old new h e n =
-    let rest = positions_of es (drop (i + 1) bs) in
-    ap (λ z. z ++ rest) n
-    ∙ append_assoc old (with_position o []) rest
-    ∙ ap (λ z. old ++ z) (ap (λ z. with_position z [] ++ rest) e ∙ sym (rw (add-one i) (step_positions es bs i d h)))

@@ -23,11 +23,11 @@ use Rattle.alias_flow.specs.Machine.{SolverState, VisitLog}
 use Rattle.alias_flow.specs.Solutions.{entry_at, RecordsSteps, KeepsOthers, IsForward}
 use Rattle.alias_effects.specs.FunctionFlow.{flow_of, successors_at, outcome_at}
 use Rattle.alias_block.specs.Contexts.{context_of}
-use Rattle.alias_effects.specs.Numbered.{Blocks, numbered, position_of, with_position, positions_of, edges_at, entry_position, step_at}
+use Rattle.alias_effects.specs.Numbered.{numbered, step_at}
 use Rattle.alias_effects.specs.Inference.{entries_of, solved_of, instructions_recorded, terminal_recorded}
 use Rattle.alias_effects.specs.Solutions.{entry_state, IsSolvedUnder, effects_recorded, recorded_under, IsForwardFrom}
-use Rattle.alias_effects.specs.Positions.{IsAt}
-use Rattle.alias_effects.specs.PositionLaws.{found_has_position, some_is, position_is_at, at_position, at_value}
+use Rattle.alias_hir.specs.PositionLaws.{found_has_position, some_is, position_is_at, at_position, at_value}
+use Rattle.alias_hir.specs.Positions.{Blocks, position_in, with_position, positions_of, edges_at, entry_position, IsAt}
 use Rattle.alias_effects.proofs.Entering.{entered, has_entered, entries_in_order, KeepsRecorded, recorded_over}
 
 -- what the pass asks of a function: no two blocks have one name, and the entry and all successors are blocks
@@ -42,41 +42,41 @@ pub record Numbers (func : HirFunction) : Type 0 where
 pub record Among (es : Blocks) (m : ℕ) (cs : List BlockId) : Type 0 where
   pub block : BlockId
   pub one : IsOneOf block cs
-  pub at : position_of es block ≡ Some m
+  pub at : position_in es block ≡ Some m
 
 more_among : (es : Blocks) (m : ℕ) (c : BlockId) (cs : List BlockId) → Among es m cs → Among es m (c ∷ cs)
 more_among es m c cs a = record { block = a.block; one = inr a.one; at = a.at }
 
-among_case : (es : Blocks) (m : ℕ) (c : BlockId) (cs : List BlockId) (o : Option ℕ) → position_of es c ≡ o → IsOneOf m (with_position o (positions_of es cs)) → (IsOneOf m (positions_of es cs) → Among es m cs) → Among es m (c ∷ cs)
+among_case : (es : Blocks) (m : ℕ) (c : BlockId) (cs : List BlockId) (o : Option ℕ) → position_in es c ≡ o → IsOneOf m (with_position o (positions_of es cs)) → (IsOneOf m (positions_of es cs) → Among es m cs) → Among es m (c ∷ cs)
 among_case es m c cs None q h f = more_among es m c cs (f h)
 among_case es m c cs (Some n) q (inl e) f = record { block = c; one = inl refl; at = q ∙ ap Some (sym e) }
 among_case es m c cs (Some n) q (inr h) f = more_among es m c cs (f h)
 
 pub position_among : (es : Blocks) (m : ℕ) (cs : List BlockId) → IsOneOf m (positions_of es cs) → Among es m cs
 position_among es m [] h = absurd h
-position_among es m (c ∷ cs) h = among_case es m c cs (position_of es c) refl h (position_among es m cs)
+position_among es m (c ∷ cs) h = among_case es m c cs (position_in es c) refl h (position_among es m cs)
 
 recorded_with : (m : ℕ) (o : Option ℕ) (ns : List ℕ) → IsOneOf m ns → IsOneOf m (with_position o ns)
 recorded_with m None ns h = h
 recorded_with m (Some n) ns h = inr h
 
-pub among_positions : (es : Blocks) (m : ℕ) (c : BlockId) (cs : List BlockId) → IsOneOf c cs → position_of es c ≡ Some m → IsOneOf m (positions_of es cs)
+pub among_positions : (es : Blocks) (m : ℕ) (c : BlockId) (cs : List BlockId) → IsOneOf c cs → position_in es c ≡ Some m → IsOneOf m (positions_of es cs)
 among_positions es m c [] h e = absurd h
-among_positions es m c (d ∷ ds) (inl s) e = subst (λ o. IsOneOf m (with_position o (positions_of es ds))) (sym (ap (position_of es) (sym s) ∙ e)) (inl refl)
-among_positions es m c (d ∷ ds) (inr h) e = recorded_with m (position_of es d) (positions_of es ds) (among_positions es m c ds h e)
+among_positions es m c (d ∷ ds) (inl s) e = subst (λ o. IsOneOf m (with_position o (positions_of es ds))) (sym (ap (position_in es) (sym s) ∙ e)) (inl refl)
+among_positions es m c (d ∷ ds) (inr h) e = recorded_with m (position_in es d) (positions_of es ds) (among_positions es m c ds h e)
 
 first_of : (A : ℕ → Type 0) (m : ℕ) (o : Option ℕ) (ns : List ℕ) → o ≡ Some m → AllByRecursion A (with_position o ns) → A m × AllByRecursion A ns
 first_of A m None ns e a = cc
 first_of A m (Some n) ns e a = let same : n ≡ m = cc in (subst A same a.0, a.1)
 
 -- what holds of the positions holds of the blocks there
-pub all_at_positions : (A : ℕ → Type 0) (B : BlockId → Type 0) (es : Blocks) (cs : List BlockId) → ((c : BlockId) (m : ℕ) → position_of es c ≡ Some m → A m → B c)
+pub all_at_positions : (A : ℕ → Type 0) (B : BlockId → Type 0) (es : Blocks) (cs : List BlockId) → ((c : BlockId) (m : ℕ) → position_in es c ≡ Some m → A m → B c)
     → list_all (λ c. is_some (value_at es c)) cs ≡ true → AllByRecursion A (positions_of es cs) → AllByRecursion B cs
 all_at_positions A B es [] f h a = tt
 all_at_positions A B es (c ∷ cs) f h a =
     let both : (is_some (value_at es c) ≡ true) × (list_all (λ c. is_some (value_at es c)) cs ≡ true) = both_true _ _ h in
-    let p = some_is (position_of es c) (found_has_position es c both.0) in
-    let r = first_of A p.0 (position_of es c) (positions_of es cs) p.1 a in
+    let p = some_is (position_in es c) (found_has_position es c both.0) in
+    let r = first_of A p.0 (position_in es c) (positions_of es cs) p.1 a in
     (f c p.0 p.1 r.0, all_at_positions A B es cs f both.1 r.1)
 
 with_first : (A : ℕ → Type 0) (o : Option ℕ) (ns : List ℕ) → ((m : ℕ) → o ≡ Some m → A m) → AllByRecursion A ns → AllByRecursion A (with_position o ns)
@@ -84,10 +84,10 @@ with_first A None ns f a = a
 with_first A (Some n) ns f a = (f n refl, a)
 
 -- what holds of blocks holds of their positions
-pub all_of_blocks : (A : ℕ → Type 0) (B : BlockId → Type 0) (es : Blocks) (cs : List BlockId) → ((c : BlockId) (m : ℕ) → position_of es c ≡ Some m → B c → A m)
+pub all_of_blocks : (A : ℕ → Type 0) (B : BlockId → Type 0) (es : Blocks) (cs : List BlockId) → ((c : BlockId) (m : ℕ) → position_in es c ≡ Some m → B c → A m)
     → AllByRecursion B cs → AllByRecursion A (positions_of es cs)
 all_of_blocks A B es [] f b = tt
-all_of_blocks A B es (c ∷ cs) f b = with_first A (position_of es c) (positions_of es cs) (λ m e. f c m e b.0) (all_of_blocks A B es cs f b.1)
+all_of_blocks A B es (c ∷ cs) f b = with_first A (position_in es c) (positions_of es cs) (λ m e. f c m e b.0) (all_of_blocks A B es cs f b.1)
 
 -- one of a list that are all blocks is a block
 one_is_block : (es : Blocks) (c : BlockId) (cs : List BlockId) → list_all (λ c. is_some (value_at es c)) cs ≡ true → IsOneOf c cs → is_some (value_at es c) ≡ true
@@ -173,8 +173,8 @@ module _ (env : Environment) (func : HirFunction) (is_function_expression : Bool
   entry_is None h = cc
   entry_is (Some n) h = refl
 
-  entry_at_position : position_of es func.body.entry ≡ Some (entry_position func)
-  entry_at_position = entry_is (position_of es func.body.entry) (found_has_position es func.body.entry fits.entry)
+  entry_at_position : position_in es func.body.entry ≡ Some (entry_position func)
+  entry_at_position = entry_is (position_in es func.body.entry) (found_has_position es func.body.entry fits.entry)
 
   entry_block : IsAt es (entry_position func) func.body.entry
   entry_block = position_is_at es func.body.entry (entry_position func) entry_at_position
@@ -191,7 +191,7 @@ module _ (env : Environment) (func : HirFunction) (is_function_expression : Bool
   reached_at b (by_edge a c r o) =
       let u = reached_at a r in
       let one : IsOneOf c (successors u.block.terminal) = subst (IsOneOf c) (edges_over u.at a u.block u.at_index) o in
-      let p = some_is (position_of es c) (found_has_position es c (one_is_block es c (successors u.block.terminal) (fits.successors u.at a u.block u.at_index) one)) in
+      let p = some_is (position_in es c) (found_has_position es c (one_is_block es c (successors u.block.terminal) (fits.successors u.at a u.block u.at_index) one)) in
       let q = position_is_at es c p.0 p.1 in
       record {
         at = p.0;
@@ -227,7 +227,7 @@ module _ (env : Environment) (func : HirFunction) (is_function_expression : Bool
     abbrev state_over : BlockId → Option State
     state_over = entry_state (entries_of es xs)
 
-    above_over : (y : State) (c : BlockId) (m : ℕ) → position_of es c ≡ Some m → IsAbove state_below under (entry_at xs) y m → IsAbove state_below over state_over y c
+    above_over : (y : State) (c : BlockId) (m : ℕ) → position_in es c ≡ Some m → IsAbove state_below under (entry_at xs) y m → IsAbove state_below over state_over y c
     above_over y c m p a =
         let q = position_is_at es c m p in
         (a.0, entered es xs m c q.0 fits.distinct q.1 ∙ a.1, a.2)
@@ -269,11 +269,11 @@ module _ (env : Environment) (func : HirFunction) (is_function_expression : Bool
     pub joins_over : length xs ≡ length es → AreJoins state_below under StateProper left (entry_at xs) → AreJoins state_below over StateProper left state_over
     joins_over long js b s h =
         let a = has_entered es xs b s h in
-        let at : position_of es b ≡ Some a.at = at_position es a.at b a.block fits.distinct a.at_index in
+        let at : position_in es b ≡ Some a.at = at_position es a.at b a.block fits.distinct a.at_index in
         let j = js a.at s a.state in
         record {
           above = record {
-            initial = λ e. j.above.initial (same_number a.at (entry_position func) (sym at ∙ ap (position_of es) e ∙ entry_at_position));
+            initial = λ e. j.above.initial (same_number a.at (entry_position func) (sym at ∙ ap (position_in es) e ∙ entry_at_position));
             stepped = λ c x y r i t o.
                 let w = has_entered es xs c x i in
                 j.above.stepped w.at x y r w.state (sym (steps_same w.at c w.block x w.at_index) ∙ t)

@@ -16,6 +16,7 @@ use Rattle.alias_hir.specs.declared.hir.HirFunction.{HirFunction}
 use Rattle.alias_hir.specs.declared.hir.Instruction.{Instruction}
 use Rattle.alias_hir.specs.declared.terminal.Terminal.{Terminal}
 use Rattle.alias_hir.specs.declared.terminal.Terminal.TheVariants as terminal
+use Rattle.alias_hir.specs.Positions.{Blocks, position_in}
 use Rattle.alias_lattice.specs.Flows.{Stepped}
 use Rattle.alias_lattice.specs.JoinLaws.{state_laws}
 use Rattle.alias_lattice.specs.States.{State, state_join, state_below}
@@ -49,7 +50,7 @@ use Rattle.alias_effects.specs.declared.output.LastVisits.{LastVisits}
 use Rattle.alias_effects.specs.declared.output.PassEnd.{PassEnd}
 use Rattle.alias_effects.specs.declared.solved.Solved.{Solved}
 use Rattle.alias_effects.specs.Inference.{instructions_recorded, terminal_recorded, end_of, end_tables, answer_of, pass_end, env_after, env_inferred, effects_inferred}
-use Rattle.alias_effects.specs.Numbered.{Blocks, position_of, step_at, numbered, visits_end}
+use Rattle.alias_effects.specs.Numbered.{step_at, numbered, visits_end}
 use Rattle.alias_effects.specs.Output.{last_of, last_visits}
 use Rattle.alias_effects.specs.PassLaws.{outcome_is}
 use Rattle.alias_effects.specs.Recording.{recorded_instructions, block_with, with_terminal_at, recorded_terminals, with_effects_of}
@@ -144,7 +145,7 @@ terminals_put env [] bs h a = a
 terminals_put env (e ∷ es) bs h a =
     let b : (list_all (effect_within_tables env) e.effects ≡ true) × OfTerminals env es = both_true _ _ h in
     let cs = recorded_terminals es bs in
-    terminal_at env e.effects cs (position_of cs e.block) b.0 (terminals_put env es bs b.1 a)
+    terminal_at env e.effects cs (position_in cs e.block) b.0 (terminals_put env es bs b.1 a)
 
 -- ---- what is recorded is within the tables
 

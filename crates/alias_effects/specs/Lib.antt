@@ -1,11 +1,9 @@
 pub mod FunctionFlow
 pub mod Faults
 pub mod Solutions
-pub mod Positions
-pub mod PositionLaws
 pub mod Numbered
-pub mod PassLaws
 pub mod Recording
 pub mod Inference
 pub mod Output
 pub mod Settling
+pub mod PassLaws

@@ -1,12 +1,8 @@
 -- A function as a flow over the positions of its blocks, which the solver works with.
-use Rattle.std.specs.Prelude.{ℕ, List, [], ◌∷◌, length, Option, Some, None, position, replicate, slice_get}
-use Rattle.std.specs.Option.{option_map_or}
-use Rattle.std.specs.Map.{keys_of}
-use Rattle.alias_base.specs.Find.{same_block}
+use Rattle.std.specs.Prelude.{length, Option, Some, None, replicate, slice_get}
 use Rattle.alias_base.specs.declared.ids.BlockId.{BlockId}
-use Rattle.alias_hir.specs.Terminals.{successors}
+use Rattle.alias_hir.specs.Positions.{edges_at, entry_position}
 use Rattle.alias_hir.specs.declared.hir.BasicBlock.{BasicBlock}
-use Rattle.alias_hir.specs.declared.hir.HirFunction.{HirFunction}
 use Rattle.alias_lattice.specs.Flows.{Outcome, Stepped}
 use Rattle.alias_lattice.specs.States.{State, state_below, state_join}
 use Rattle.alias_flow.specs.Machine.{Rules, VisitLog, End, solution}
@@ -21,36 +17,10 @@ use Rattle.alias_block.specs.declared.recorded.BlockEffects.{BlockEffects}
 use Rattle.alias_tables.specs.Tables.{TableLists}
 use Rattle.alias_block.specs.declared.faults.BlockRefusal.{BlockRefusal}
 
--- the blocks of a function in stored order, with their names
-abbrev pub Blocks : Type 0
-Blocks = List (BlockId × BasicBlock)
-
--- the position of the block in stored order, if it is one
-abbrev pub position_of : Blocks → BlockId → Option ℕ
-position_of blocks b = position (same_block b) (keys_of blocks)
-
-abbrev pub with_position : Option ℕ → List ℕ → List ℕ
-with_position None ns = ns
-with_position (Some n) ns = n ∷ ns
-
--- the positions of those of the list that are blocks
-abbrev pub positions_of : Blocks → List BlockId → List ℕ
-positions_of blocks [] = []
-positions_of blocks (b ∷ bs) = with_position (position_of blocks b) (positions_of blocks bs)
-
--- the positions of the successors of a block
-abbrev pub edges_at : Blocks → Option (BlockId × BasicBlock) → List ℕ
-edges_at blocks None = []
-edges_at blocks (Some b) = positions_of blocks (successors b.1.terminal)
-
 -- a position past the end does nothing
 abbrev pub step_at : BlockContext → Option (BlockId × BasicBlock) → TableLists → State → Outcome State TableLists BlockEffects BlockRefusal
 step_at c None tables x = Stepped x tables no_effects
 step_at c (Some b) tables x = outcome_of (infer_block c b.0 b.1 x tables)
-
--- the position of the entry; a function that keeps the rules has one
-abbrev pub entry_position : HirFunction → ℕ
-entry_position func = option_map_or (λ n. n) (position_of func.body.blocks func.body.entry) 0
 
 -- a function as a flow over the positions of its blocks
 abbrev pub numbered : BlockContext → Rules State TableLists BlockEffects BlockRefusal

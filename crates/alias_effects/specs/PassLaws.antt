@@ -23,11 +23,12 @@ use Rattle.alias_block.specs.ReplayLaws.{again_infer_block}
 use Rattle.alias_tables.specs.GrowingLaws.{Extends, extends_self, extends_through}
 use Rattle.alias_tables.specs.Tables.{TableLists}
 use Rattle.alias_effects.specs.FunctionFlow.{outcome_of}
-use Rattle.alias_effects.specs.PositionLaws.{found_has_position}
-use Rattle.alias_effects.specs.Numbered.{Blocks, position_of, with_position, positions_of, edges_at, step_at, numbered}
+use Rattle.alias_hir.specs.PositionLaws.{found_has_position}
+use Rattle.alias_hir.specs.Positions.{Blocks, position_in, with_position, positions_of, edges_at}
+use Rattle.alias_effects.specs.Numbered.{step_at, numbered}
 
 -- a position is below the number of blocks
-pub position_below : (blocks : Blocks) (b : BlockId) (n : ℕ) → position_of blocks b ≡ Some n → n < length blocks
+pub position_below : (blocks : Blocks) (b : BlockId) (n : ℕ) → position_in blocks b ≡ Some n → n < length blocks
 position_below blocks b n e = subst (λ k. n < k) (length-keys_of blocks) (position-Some (same_block b) (keys_of blocks) n b e).0
 
 more_below : (o : Option ℕ) (m : ℕ) (ns : List ℕ) → ((n : ℕ) → o ≡ Some n → n < m) → AllByRecursion (λ n. n < m) ns → AllByRecursion (λ n. n < m) (with_position o ns)
@@ -36,7 +37,7 @@ more_below (Some n) m ns h a = (h n refl, a)
 
 positions_below : (blocks : Blocks) (bs : List BlockId) → AllByRecursion (λ n. n < length blocks) (positions_of blocks bs)
 positions_below blocks [] = tt
-positions_below blocks (b ∷ bs) = more_below (position_of blocks b) (length blocks) (positions_of blocks bs) (position_below blocks b) (positions_below blocks bs)
+positions_below blocks (b ∷ bs) = more_below (position_in blocks b) (length blocks) (positions_of blocks bs) (position_below blocks b) (positions_below blocks bs)
 
 edges_below : (blocks : Blocks) (o : Option (BlockId × BasicBlock)) → AllByRecursion (λ n. n < length blocks) (edges_at blocks o)
 edges_below blocks None = tt
@@ -73,7 +74,7 @@ pass_laws c at_index recorded long =
       recorded_length = long;
       initial_proper = proper_initial_state c;
       step_proper = λ t n x y u k p e. step_proper c (slice_get blocks n) t u x y k p e;
-      entry_below = entry_below (position_of blocks entry) (length blocks) (found_has_position blocks entry at_index) (position_below blocks entry);
+      entry_below = entry_below (position_in blocks entry) (length blocks) (found_has_position blocks entry at_index) (position_below blocks entry);
       edges_below = λ n h. edges_below blocks (slice_get blocks n);
       reflexive = extends_self;
       transitive = extends_through;

@@ -1,12 +1,13 @@
 //! The effects pass as a flow over the positions of blocks.
 ghost use Rattle.std.specs.List.{IsDistinct};
 ghost use Rattle.std.specs.Map.{keys_of};
-ghost use Rattle.std.specs.Prelude.{◌≡◌, ◌<◌, ◌^◌, true, ℕ, None, IfOk, length, is_some, List, Option, option_map, replicate, slice_index_or, vec_len};
+ghost use Rattle.std.specs.Prelude.{◌≡◌, ◌<◌, ◌^◌, true, None, IfOk, length, is_some, List, Option, option_map, replicate, slice_index_or, vec_len};
 ghost use Rattle.std.proofs.Common.{sym, ◌∙◌};
 ghost use Rattle.std.specs.Borrow.{Bor};
 ghost use Rattle.alias_base.specs.Find.{same_block, value_at};
 ghost use Rattle.alias_hir.specs.declared.env.Environment.{Environment};
 ghost use Rattle.alias_hir.specs.declared.hir.HirFunction.{HirFunction};
+ghost use Rattle.alias_hir.specs.Positions.{positions_of, entry_position};
 ghost use Rattle.alias_facts.specs.declared.facts.FunctionFacts.{FunctionFacts};
 ghost use Rattle.alias_facts.specs.Facts.{function_facts as facts_of};
 ghost use Rattle.alias_rules.specs.Fitting.{function_fits};
@@ -16,14 +17,14 @@ ghost use Rattle.alias_write_back.specs.WriteBack.{tables_of as tables_begun};
 ghost use Rattle.alias_block.specs.declared.faults.BlockRefusal.{BlockRefusal};
 ghost use Rattle.alias_block.specs.declared.recorded.BlockEffects.{BlockEffects};
 ghost use Rattle.alias_block.specs.Contexts.{context_of, held};
-ghost use Rattle.alias_effects.specs.Numbered.{positions_of, entry_position, numbered};
+ghost use Rattle.alias_effects.specs.Numbered.{numbered};
 ghost use Rattle.alias_effects.specs.Faults.{step_fault};
 ghost use Rattle.alias_effects.specs.Inference.{end_of};
 ghost use Rattle.alias_effects.specs.Output.{solver_state_with};
 ghost use Rattle.alias_effects.specs.PassLaws.{pass_laws};
 
 use crate::output::{PassEnd, end_of};
-use alias_base::{BlockId, BlockMap, List};
+use alias_base::List;
 use alias_block::{
     BlockContext, BlockEffects, BlockFault, BlockRefusal, infer_block, initial_state,
 };
@@ -31,9 +32,10 @@ use alias_facts::FunctionFacts;
 use alias_flow::{Flow, Solution, StepFault, nothing_yet};
 use alias_hir::effect::{AliasingEffect, AliasingEffects};
 use alias_hir::env::Environment;
-use alias_hir::hir::{BasicBlock, HirFunction};
+use alias_hir::hir::HirFunction;
 use alias_hir::interned::InternedReports;
 use alias_hir::place::Place;
+use alias_hir::positions::{entry_position, positions_of};
 use alias_hir::successors::terminal_successors;
 use alias_lattice::InferenceState;
 use alias_tables::{ContextRead, EffectFault, TableParts, Tables, TempKey, Temporaries, Temporary};
@@ -53,35 +55,6 @@ pub struct EffectsFlow<'a> {
     ghost entry_exists: { is_some (value_at context.func.now.body.blocks context.func.now.body.entry) ≡ true },
     ghost few: { length context.func.now.body.blocks < 2 ^ 32 },
     ghost recorded_long: { vec_len recorded ≡ length context.func.now.body.blocks },
-}
-
-/// The position of the entry.
-fn entry_position(func: &HirFunction) -> usize
-    ensures { result ≡ entry_position func.now }
-{
-    match func.body.blocks.position(func.body.entry) {
-        Some(position) => position,
-        // Never so: the entry of a function that fits is a block.
-        None => 0,
-    }
-}
-
-/// The positions of those of the list that are blocks.
-fn positions_of(
-    alloc: Global,
-    blocks: &BlockMap<BasicBlock>,
-    names: &[BlockId],
-) -> Result<SmallVec<u32, 2, Global>, AllocError>
-    requires { length blocks.now < 2 ^ 32 }
-    ensures { IfOk result (λ positions. positions.items ≡ positions_of blocks.now names.now) }
-{
-    let mut positions = SmallVec::new(alloc);
-    for name in names {
-        if let Some(position) = blocks.position(*name) {
-            positions.push(position as u32)?;
-        }
-    }
-    Ok(positions)
 }
 
 fn step_fault(fault: BlockFault) -> StepFault<BlockRefusal>

@@ -41,20 +41,13 @@ use Rattle.alias_events.specs.declared.listing.Listing.{Listing}
 use Rattle.alias_events.specs.BlockListings.{pending_at, pending_more, added_or_pending, link_of, slot_of_block, operand_listed, phi_listed, returns_listed, alias_listed, aliases_in, with_pending, end_listed, block_listed, blocks_listed, object_of, first_listing, listed}
 use Rattle.alias_events.specs.Each.{each}
 use Rattle.alias_events.specs.Fitting.{AllOf, effect_makes}
-use Rattle.alias_events.specs.FitLaws.{all_append, all_push, all_at, all_set, went_on}
+use Rattle.alias_events.specs.FitLaws.{all_append, all_push, all_at, all_set, went_on, each_keeps}
 use Rattle.alias_events.specs.IdSets.{made_id, has_made}
 use Rattle.alias_events.specs.Listings.{position_after, with_event, made, made_once, positioned, linked, mutated, summarized, rendered, effect_listed, effects_in, recorded_in, instruction_listed}
 use Rattle.alias_events.specs.Recording.{graph_listed}
 use Rattle.alias_range_pass.specs.Laws.{Causes}
 use Rattle.alias_range_places.specs.Causes.{written}
 use Rattle.alias_range_summary.specs.Walking.{mutation_entry}
-
--- what each step keeps all of them keep
-each_keeps : {A S E : Type 0} (P : S → Type 0) (Q : A → Type 0) (f : A → S → Result S E) → ((x : A) (s t : S) → Q x → P s → f x s ≡ Ok t → P t) → (xs : List A) (s t : S) → AllOf Q xs → P s → each f xs s ≡ Ok t → P t
-each_keeps P Q f step [] s t q p h = let e : s ≡ t = cc in subst P e p
-each_keeps P Q f step (x ∷ xs) s t q p h =
-    let w = went_on (f x s) (λ z. each f xs z) t h in
-    each_keeps P Q f step xs w.0 t q.1 (step x s w.0 q.0 p w.1) w.2
 
 module _ (Q : ℕ → Type 0) where
   abbrev pub IdHas : Option IdentifierId → Type 0

@@ -11,7 +11,7 @@ use Rattle.alias_base.specs.declared.ids.BlockId.{BlockId}
 use Rattle.alias_base.specs.declared.ids.FunctionId.{FunctionId}
 use Rattle.alias_base.specs.declared.ids.InstructionId.{InstructionId}
 use Rattle.alias_facts.specs.Handlers.{binding_at}
-use Rattle.alias_function_rules.specs.Rules.{place_fits, phi_fits, block_fits, numbers_fit}
+use Rattle.alias_function_rules.specs.Rules.{place_fits, phi_fits, block_fits}
 use Rattle.alias_function_rules.specs.declared.fault.UnitFault.{UnitFault}
 use Rattle.alias_hir.specs.Parts.{param_place}
 use Rattle.alias_hir.specs.Values.{places_of, created}
@@ -26,7 +26,6 @@ use Rattle.alias_hir.specs.declared.place.Place.{Place}
 use Rattle.alias_visit.specs.Places.{created_places}
 use Rattle.alias_lattice.specs.Flows.{Stepped, IsReached, at_entry, by_edge}
 use Rattle.alias_lattice.specs.JoinLaws.{state_laws}
-use Rattle.alias_lattice.specs.ProperStates.{StateProper}
 use Rattle.alias_lattice.specs.States.{State, state_join, state_below}
 use Rattle.alias_flow.specs.Machine.{SolverState, VisitLog}
 use Rattle.alias_flow.specs.Machine as end
@@ -52,18 +51,15 @@ use Rattle.alias_block_laws.specs.EntryLaws.{context_within, has_initial_state}
 use Rattle.alias_effects.specs.Numbered.{step_at, numbered, visits_end}
 use Rattle.alias_effects.specs.PassLaws.{outcome_is}
 use Rattle.alias_effects.proofs.StillFits.{begun_within, position_within}
-use Rattle.alias_entry_laws.specs.Named.{StateNamed, AreNumbered, CreatesHas, CreatesAt, BlocksCreate, EntriesNamed}
+use Rattle.alias_entry_laws.specs.Named.{StateNamed, CreatesHas, CreatesAt, BlocksCreate, EntriesNamed}
 use Rattle.alias_entry_laws.proofs.Blocks.{named_initial_state, PhisNamed, OptionKnown, AreKnown, block_inferred}
 use Rattle.alias_entry_laws.proofs.Keeping.{Kept, solution_keeps}
 use Rattle.alias_entry_laws.proofs.Leading.{Placed, Counted}
 use Rattle.alias_entry_laws.proofs.States.{Stating, named_join, stating_on, state_named}
 use Rattle.alias_entry_laws.proofs.Stepping.{InTable, InstructionKnown}
+use Rattle.alias_step_laws.specs.TableLaws.{all_mapped as all_on}
 
 -- ---- lists
-
-all_on : {X : Type 0} (P Q : X → Type 0) → ((x : X) → P x → Q x) → (xs : List X) → AllByRecursion P xs → AllByRecursion Q xs
-all_on P Q f [] h = tt
-all_on P Q f (x ∷ xs) h = (f x h.0, all_on P Q f xs h.1)
 
 each_passes : {X : Type 0} (f : X → Result ⊤ UnitFault) (Q : X → Type 0) → ((x : X) → f x ≡ Ok tt → Q x) → (xs : List X) → all_pass f xs ≡ Ok tt → AllByRecursion Q xs
 each_passes f Q g [] h = tt

@@ -5,15 +5,11 @@ use Rattle.std.proofs.lemmas.List.{length-set}
 use Rattle.alias_lattice.specs.Flows.{Outcome, Stepped, Refused, IsOneOf}
 use Rattle.alias_flow.specs.Machine.{Rules, VisitLog, SolverState, Run, Going, Stopped, End, Solved, NotSettled, after, ending, up, joined, send, send_all, visited, dirty, outcome_after, visit_at, visit, turn, round, any_dirty, rounds, start, solution}
 use Rattle.alias_flow.specs.RecordingLaws.{HoldsOf, AllHold}
+use Rattle.alias_block_laws.specs.SolutionLaws.{set_holds, all_held_on}
 
 none_hold : {X : Type 0} (q : X → Type 0) (n : ℕ) → AllHold q (replicate n None)
 none_hold q zero = tt
 none_hold q (suc n) = (tt, none_hold q n)
-
-set_holds : {X : Type 0} (q : X → Type 0) (xs : List (Option X)) (n : ℕ) (x : X) → q x → AllHold q xs → AllHold q (slice_set xs n (Some x))
-set_holds q [] n x h a = tt
-set_holds q (y ∷ ys) zero x h a = (h, a.1)
-set_holds q (y ∷ ys) (suc n) x h a = (a.0, set_holds q ys n x h a.1)
 
 pub at_holds : {X : Type 0} (q : X → Type 0) (xs : List (Option X)) (n : ℕ) → AllHold q xs → HoldsOf q (slice_index_or xs n None)
 at_holds q [] n a = tt
@@ -23,10 +19,6 @@ at_holds q (y ∷ ys) (suc n) a = at_holds q ys n a.1
 held_on : {X : Type 0} (p q : X → Type 0) → ((x : X) → p x → q x) → (o : Option X) → HoldsOf p o → HoldsOf q o
 held_on p q f None h = tt
 held_on p q f (Some x) h = f x h
-
-all_held_on : {X : Type 0} (p q : X → Type 0) → ((x : X) → p x → q x) → (xs : List (Option X)) → AllHold p xs → AllHold q xs
-all_held_on p q f [] a = tt
-all_held_on p q f (x ∷ xs) a = (held_on p q f x a.0, all_held_on p q f xs a.1)
 
 -- where all that have a state have R, and the one that gets one, all have it then
 set_reach : {X : Type 0} (R : ℕ → Type 0) (xs : List (Option X)) (n : ℕ) (v : Option X) → ((b : ℕ) (x : X) → slice_index_or xs b None ≡ Some x → R b) → R n → (b : ℕ) (x : X) → slice_index_or (slice_set xs n v) b None ≡ Some x → R b

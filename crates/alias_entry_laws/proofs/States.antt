@@ -31,6 +31,7 @@ use Rattle.alias_lattice.proofs.Belows.{joined_is}
 use Rattle.alias_freezing.specs.Going.{at_sites, where_frozen, at_place, at_places, at_site, live, levels_into, gone_into, gone_into_place}
 use Rattle.alias_freezing.specs.Sites.{sites_at}
 use Rattle.alias_entry_laws.specs.Named.{SiteNamed, SitesNamed, StateNamed}
+use Rattle.alias_step_laws.specs.TableLaws.{all_mapped as all_on}
 
 -- ---- lists of entries
 
@@ -69,10 +70,6 @@ module _ {K X : Type 0} (R : K → K → Ordering) (E : K × X → Type 0) (mix 
     -- lists that ascend, joined
     all_joined : (xs es : List (K × X)) → T (is_sorted R xs) → T (is_sorted R es) → AllByRecursion E xs → AllByRecursion E es → AllByRecursion E (list_join R j xs es)
     all_joined xs es s t h g = subst (AllByRecursion E) (joined_is R o j xs es s t) (each_joined xs es h g)
-
-all_on : {X : Type 0} (P Q : X → Type 0) → ((x : X) → P x → Q x) → (xs : List X) → AllByRecursion P xs → AllByRecursion Q xs
-all_on P Q f [] h = tt
-all_on P Q f (x ∷ xs) h = (f x h.0, all_on P Q f xs h.1)
 
 module _ (N : ℕ → Type 0) (F : FunctionId → Type 0) where
   -- ---- sets

@@ -66,7 +66,7 @@ went_on (Ok x) k m h = (x, refl, h)
 went_on (Err e) k m h = cc
 
 -- what each step keeps all of them keep
-each_keeps : {A S E : Type 0} (P : S → Type 0) (Q : A → Type 0) (f : A → S → Result S E) → ((x : A) (s t : S) → Q x → P s → f x s ≡ Ok t → P t) → (xs : List A) (s t : S) → AllOf Q xs → P s → each f xs s ≡ Ok t → P t
+pub each_keeps : {A S E : Type 0} (P : S → Type 0) (Q : A → Type 0) (f : A → S → Result S E) → ((x : A) (s t : S) → Q x → P s → f x s ≡ Ok t → P t) → (xs : List A) (s t : S) → AllOf Q xs → P s → each f xs s ≡ Ok t → P t
 each_keeps P Q f step [] s t q p h = let e : s ≡ t = cc in subst P e p
 each_keeps P Q f step (x ∷ xs) s t q p h =
     let w = went_on (f x s) (λ z. each f xs z) t h in

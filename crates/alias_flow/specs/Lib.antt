@@ -1,8 +1,8 @@
 pub mod Machine
 pub mod WorkLists
-pub mod RecordingLaws
 pub mod ForwardPasses
 pub mod Solutions
 pub mod Steps
 pub mod Runs
 pub mod WorkListViews
+pub mod RecordingLaws

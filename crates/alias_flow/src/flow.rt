@@ -65,6 +65,15 @@ pub struct Solution<S> {
 
 /// A flow of states over blocks, which are known by their positions in stored order. It has tables, which
 /// its steps append to, and records something of the last visit of each block.
+///
+/// # Convergence
+///
+/// What is sent to a block is joined, so that the input of its visits only rises. But a step needn't be monotone, as an
+/// effect on a greater value may be another effect, and it may make new sites. So nothing bounds the rounds of a flow with
+/// loops, and solving ends after 100 of them, as the React Compiler's pass does. That is met where news moves on by one
+/// place a round: in a loop whose n phis hand on the value of the next one, the first phi learns of the last one's after n
+/// rounds. Where all edges go to later blocks, all that arrives at a block has arrived when its turn comes, and one round
+/// is enough.
 pub trait Flow {
     /// What flows.
     type State: Lattice + Drop;

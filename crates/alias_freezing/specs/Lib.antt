@@ -1,8 +1,8 @@
 pub mod Contexts
 pub mod Sites
-pub mod SiteLaws
 pub mod Going
-pub mod GoingLaws
 pub mod Tasks
+pub mod SiteLaws
+pub mod GoingLaws
 pub mod TaskLaws
 pub mod ProperLaws

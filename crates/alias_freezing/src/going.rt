@@ -45,6 +45,7 @@ fn next_freezing(
 {
     // The clause speaks of the reason; the body doesn't need it.
     let _reason = reason;
+    // The last first: what a frozen place leads to is frozen before the places beside it, as a call of itself would do.
     'tasks: while let Some(task) = stack.pop() {
         match task {
             Task::AtPlace(place) => {

@@ -2,16 +2,17 @@
 ghost use Rattle.std.specs.Prelude.{◌≡◌, ◌<◌, length, IfOk, OnOk};
 ghost use Rattle.alias_ranges.specs.Nodes.{Within};
 
-use crate::walks::{environment, graph, place};
-use alias_base::{BlockId, BlockMap, FunctionId, IdentifierId, List, Text};
+use crate::walks::{environment, graph};
+use alias_base::{FunctionId, IdentifierId, List, Text};
 use alias_hir::effect::{AliasingEffect, AliasingEffects};
 use alias_hir::env::Environment;
 use alias_hir::error::HirError;
-use alias_hir::hir::{FunctionType, Hir, HirFunction};
+use alias_hir::hir::{FunctionType, HirFunction};
 use alias_hir::report::{DiagnosticId, ErrorCategory, Report};
 use alias_ranges::graph::AliasGraph;
 use alias_ranges::steps::Steps;
 use alias_ranges::types::{EdgeKind, MutationKind, NodeValue};
+use alias_test_units::place;
 use std::alloc::{AllocError, Global};
 use std::marker::Brand;
 use std::sync::ledger::{Blank, Ledger};
@@ -32,21 +33,9 @@ fn report(alloc: Global) -> Result<Report, AllocError> {
 
 /// A function with this summary, and no block.
 fn function(alloc: Global, summary: AliasingEffects) -> HirFunction {
-    HirFunction {
-        fn_type: FunctionType::Other,
-        params: List::new(alloc),
-        context: List::new(alloc),
-        context_values: List::new(alloc),
-        returns: place(0),
-        body: Hir {
-            entry: BlockId(0),
-            blocks: BlockMap::new(alloc),
-        },
-        instructions: List::new(alloc),
-        is_async: false,
-        span: None,
-        aliasing_effects: Some(summary),
-    }
+    let mut func = alias_test_units::function(alloc, FunctionType::Other);
+    func.aliasing_effects = Some(summary);
+    func
 }
 
 /// The report on identifier 0, interned.

@@ -2,11 +2,12 @@
 ghost use Rattle.std.specs.Prelude.{◌≡◌, length, IfOk, OnOk};
 ghost use Rattle.alias_ranges.specs.Nodes.{Within};
 
-use crate::walks::{environment, graph, place};
+use crate::walks::{environment, graph};
 use alias_base::{EvaluationOrder, IdentifierId};
 use alias_hir::env::Environment;
 use alias_ranges::graph::AliasGraph;
 use alias_ranges::types::{EdgeKind, LinkList, MutationKind, NodeValue, RangeWalk};
+use alias_test_units::place;
 use std::alloc::{AllocError, Global};
 use std::test::Fail;
 

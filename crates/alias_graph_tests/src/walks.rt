@@ -1,14 +1,15 @@
 ghost use Rattle.std.specs.Prelude.{◌≡◌, ◌+◌, ◌<◌, length, IfOk, OnOk, ◌≤◌};
 ghost use Rattle.alias_ranges.specs.Nodes.{Within};
 
-use alias_base::{DeclarationId, EvaluationOrder, FunctionId, IdentifierId, List, TypeId};
+use alias_base::{EvaluationOrder, FunctionId, IdentifierId, List};
 use alias_hir::effect::MutationReason;
-use alias_hir::env::{Environment, Identifier, MutableRange};
-use alias_hir::place::{Effect, Place, Span};
+use alias_hir::env::Environment;
+use alias_hir::place::Span;
 use alias_ranges::events::{GraphEvent, build};
 use alias_ranges::graph::AliasGraph;
 use alias_ranges::steps::Steps;
 use alias_ranges::types::{EdgeKind, Link, LinkList, MutationInfo, MutationKind, NodeValue};
+use alias_test_units::place;
 use std::alloc::{AllocError, Global};
 use std::marker::Brand;
 use std::process::Abort;
@@ -35,48 +36,11 @@ struct Mutation {
     kind: MutationKind,
 }
 
-pub(crate) fn place(number: u32) -> Place
-    ensures { result.identifier.0 ≡ number }
-{
-    Place {
-        identifier: IdentifierId(number),
-        effect: Effect::Unknown,
-        reactive: false,
-        span: None,
-    }
-}
-
-fn identifier() -> Identifier {
-    Identifier {
-        declaration_id: DeclarationId(0),
-        name: None,
-        mutable_range: MutableRange {
-            start: EvaluationOrder::UNSET,
-            end: EvaluationOrder::UNSET,
-        },
-        scope: None,
-        type_: TypeId(0),
-        span: None,
-    }
-}
-
-fn add_four_identifiers(env: &mut Environment) -> Result<(), AllocError>
-    ensures { OnOk result (length env.new.identifiers ≡ length env.old.identifiers + 4) }
-{
-    env.identifiers.push(identifier())?;
-    env.identifiers.push(identifier())?;
-    env.identifiers.push(identifier())?;
-    env.identifiers.push(identifier())?;
-    Ok(())
-}
-
 /// Four identifiers with no range.
 pub(crate) fn environment(alloc: Global) -> Result<Environment, AllocError>
     ensures { IfOk result (λ env. length env.identifiers ≡ 4) }
 {
-    let mut env = Environment::new(alloc);
-    add_four_identifiers(&mut env)?;
-    Ok(env)
+    alias_test_units::environment(alloc, 4)
 }
 
 /// Adds the nodes 0 to 3 with these values.

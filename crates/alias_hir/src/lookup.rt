@@ -44,7 +44,8 @@ fn next_number(env: &Environment) -> Result<IdentifierId, HirError>
     }
 }
 
-fn fresh_identifier(span: Option<Span>, number: u32, type_: u32) -> Identifier
+/// An identifier of a declaration of its own, which has its number: it has no name, no range and no scope.
+pub fn fresh_identifier(span: Option<Span>, number: u32, type_: u32) -> Identifier
     ensures { result ≡ fresh_identifier span number type_ }
 {
     Identifier {

@@ -1,10 +1,11 @@
 use alias_base::{
-    BlockId, Boxed, DeclarationId, EvaluationOrder, IdentifierId, List, Text, TryClone, TypeId,
+    BlockId, Boxed, DeclarationId, EvaluationOrder, IdentifierId, List, Text, TryClone,
 };
 use alias_hir::effect::{AliasingEffect, ValueKind, ValueReason, error_of};
-use alias_hir::env::{Environment, Identifier, IdentifierName, MutableRange};
+use alias_hir::env::{Environment, Identifier, IdentifierName};
 use alias_hir::error::{Counter, HirError};
-use alias_hir::place::{Effect, Place, Span};
+use alias_hir::lookup::fresh_identifier;
+use alias_hir::place::{Effect, Span};
 use alias_hir::printed::push_type;
 use alias_hir::report::{
     DiagnosticId, ErrorCategory, Label, Report, not_settled_report, uninitialized_report,
@@ -16,32 +17,17 @@ use alias_hir::types::{
     Ty, is_builtin_collection_type, is_jsx_type, is_primitive_at, is_primitive_type, is_ref_at,
     is_ref_or_ref_value, is_untyped_at, is_within, returns_jsx, type_of,
 };
+use alias_test_units::place;
 use std::alloc::{AllocError, Global};
 use std::test::Fail;
 
 const NO_SPAN: Option<Span> = None;
 
-fn place(number: u32) -> Place {
-    Place {
-        identifier: IdentifierId(number),
-        effect: Effect::Unknown,
-        reactive: false,
-        span: NO_SPAN,
-    }
-}
-
 fn identifier(number: u32, type_: u32, name: Option<IdentifierName>) -> Identifier {
-    Identifier {
-        declaration_id: DeclarationId(number),
-        name,
-        mutable_range: MutableRange {
-            start: EvaluationOrder::UNSET,
-            end: EvaluationOrder::UNSET,
-        },
-        scope: None,
-        type_: TypeId(type_),
-        span: Some(Span { start: 4, end: 5 }),
-    }
+    let span = Some(Span { start: 4, end: 5 });
+    let mut identifier = fresh_identifier(span, number, type_);
+    identifier.name = name;
+    identifier
 }
 
 fn environment(alloc: Global, type_: u32) -> Result<Environment, AllocError> {

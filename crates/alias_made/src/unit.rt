@@ -7,9 +7,10 @@ ghost use Rattle.alias_hir.specs.Tables.{fresh_identifier};
 use crate::blocks::made_blocks;
 use crate::draws::Draws;
 use crate::instructions::{push_instructions, use_of};
-use alias_base::{BlockId, DeclarationId, EvaluationOrder, List, TypeId};
-use alias_hir::env::{Config, Environment, Identifier, MutableRange, Unit};
+use alias_base::{BlockId, List};
+use alias_hir::env::{Config, Environment, Identifier, Unit};
 use alias_hir::hir::{FunctionType, Hir, HirFunction, Instruction};
+use alias_hir::lookup::fresh_identifier;
 use alias_hir::types::Ty;
 use std::alloc::{AllocError, Global};
 
@@ -26,29 +27,13 @@ fn made_instructions(alloc: Global, seed: u64, size: u32) -> Result<List<Instruc
     Ok(instructions)
 }
 
-fn made_identifier(number: u32) -> Identifier
-    ensures { result ≡ fresh_identifier None number 0 }
-{
-    Identifier {
-        declaration_id: DeclarationId(number),
-        name: None,
-        mutable_range: MutableRange {
-            start: EvaluationOrder::UNSET,
-            end: EvaluationOrder::UNSET,
-        },
-        scope: None,
-        type_: TypeId(0),
-        span: None,
-    }
-}
-
 fn made_identifiers(alloc: Global, size: u32) -> Result<List<Identifier>, AllocError>
     requires { size ≤ 1000 }
     ensures { IfOk result (λ is. is ≡ made_identifiers size) }
 {
     let mut identifiers = List::new(alloc);
     for number in 0..3 * size + 1 {
-        identifiers.push(made_identifier(number))?;
+        identifiers.push(fresh_identifier(None, number, 0))?;
     }
     Ok(identifiers)
 }

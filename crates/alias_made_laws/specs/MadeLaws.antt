@@ -6,7 +6,8 @@ use Rattle.std.proofs.lemmas.List.FromFn.{length-map-range_with_len}
 use Rattle.alias_base.specs.Answer.{all_pass}
 use Rattle.alias_hir.specs.Tables.{fresh_identifier}
 use Rattle.alias_function_rules.specs.Rules.{below, too_deep, types_fit, tables_fit, identifier_fits, instruction_is_uninferred, handler_of, identifier_is_uninferred, numbers_fit, block_fits, place_fits, entry_exists, is_block, successors_exist, leads_to_blocks, instructions_listed, missing, none_listed_twice, first_again, twice, is_among, handlers_distinct, shared, phis_fit, operands_fit, orders_fit, order_fits, nothing_inferred, function_is_uninferred, environment_is_uninferred, block_is_uninferred}
-use Rattle.alias_rules.specs.Functions.{in_unit, rule_holds, rules_hold}
+use Rattle.alias_rules.specs.Functions.{in_unit, rule_holds, Tables, Types, Signatures, Apart, Each, UnitRule, Family, Tree, Depth, Uninferred, unit_holds, rules_hold}
+use Rattle.alias_rules.specs.RuleLaws.{all_hold_of_unit}
 use Rattle.alias_rules.specs.declared.rules.Rule.{Rule}
 use Rattle.alias_function_rules.specs.declared.fault.Table.TheVariants.{Instructions}
 use Rattle.alias_base.specs.declared.ids.BlockId.{BlockId}
@@ -96,20 +97,31 @@ nothing_inferred_yet seed size =
 alone : (rule : Rule) (seed size : ℕ) → rule_holds rule (made_environment size) None (made_function seed size) ≡ Ok tt → in_unit rule (made_unit seed size) ≡ Ok tt
 alone rule seed size h = then_passes (rule_holds rule (made_environment size) None (made_function seed size)) (Ok tt) h refl
 
+-- the rule of one function holds of the root
+made_keeps : (seed size : ℕ) → 1 ≤ size → size ≤ 1000 → (rule : Rule) → rule_holds rule (made_environment size) None (made_function seed size) ≡ Ok tt
+made_keeps seed size some limit Numbers = numbers_kept seed size some
+made_keeps seed size some limit Entry = entry_kept seed size
+made_keeps seed size some limit Successors = successors_kept seed size
+made_keeps seed size some limit Listed = listed_kept seed size
+made_keeps seed size some limit ListedOnce = once_kept seed size
+made_keeps seed size some limit Handlers = handlers_kept seed size
+made_keeps seed size some limit Phis = phis_kept seed size
+made_keeps seed size some limit Orders = orders_kept seed size limit
+made_keeps seed size some limit Distinct = refl
+made_keeps seed size some limit Calls = instructions_call_nothing seed size
+made_keeps seed size some limit ContextValues = refl
+
+-- and so does each rule of the unit
+unit_keeps : (seed size : ℕ) → 1 ≤ size → size ≤ 1000 → (rule : UnitRule) → unit_holds (made_unit seed size) rule ≡ Ok tt
+unit_keeps seed size some limit (Family Tables) = tables_kept size
+unit_keeps seed size some limit (Family Types) = types_kept size
+unit_keeps seed size some limit (Family Signatures) = refl
+unit_keeps seed size some limit (Family Apart) = refl
+unit_keeps seed size some limit (Family (Each r)) = alone r seed size (made_keeps seed size some limit r)
+unit_keeps seed size some limit Tree = refl
+unit_keeps seed size some limit Depth = refl
+unit_keeps seed size some limit Uninferred = nothing_inferred_yet seed size
+
 -- all rules hold of the unit that is made from a seed
 pub made_unit_keeps_rules : (seed size : ℕ) → 1 ≤ size → size ≤ 1000 → rules_hold (made_unit seed size) ≡ Ok tt
-made_unit_keeps_rules seed size some limit =
-    then_passes _ _ (tables_kept size)
-    (then_passes _ _ (alone Numbers seed size (numbers_kept seed size some))
-    (then_passes _ _ (alone Entry seed size (entry_kept seed size))
-    (then_passes _ _ (alone Successors seed size (successors_kept seed size))
-    (then_passes _ _ (types_kept size)
-    (then_passes _ _ (alone Listed seed size (listed_kept seed size))
-    (then_passes _ _ (alone ListedOnce seed size (once_kept seed size))
-    (then_passes _ _ (alone Handlers seed size (handlers_kept seed size))
-    (then_passes _ _ (alone Phis seed size (phis_kept seed size))
-    (then_passes _ _ (alone Orders seed size (orders_kept seed size limit))
-    (then_passes _ _ (nothing_inferred_yet seed size)
-    (then_passes _ _ (alone Distinct seed size refl)
-    (then_passes _ _ (alone Calls seed size (instructions_call_nothing seed size))
-    (alone ContextValues seed size refl)))))))))))))
+made_unit_keeps_rules seed size some limit = all_hold_of_unit (made_unit seed size) (unit_keeps seed size some limit)

@@ -5,8 +5,8 @@ use Rattle.std.proofs.Common.{ap, sym, ◌∙◌, subst, arith}
 use Rattle.alias_base.specs.declared.ids.BlockId.{BlockId}
 use Rattle.alias_hir.specs.declared.hir.BasicBlock.{BasicBlock}
 use Rattle.alias_hir.specs.declared.hir.HirFunction.{HirFunction}
-use Rattle.alias_effects.specs.Numbered.{position_of, with_position, edges_at}
-use Rattle.alias_effects.specs.PositionLaws.{position_is_at}
+use Rattle.alias_hir.specs.PositionLaws.{position_is_at}
+use Rattle.alias_hir.specs.Positions.{position_in, with_position, edges_at}
 use Rattle.alias_completeness.specs.Forward.{GoesForward}
 use Rattle.alias_unit_completeness.specs.Refusals.{IsForwardUnit}
 use Rattle.alias_made.specs.Blocks.{made_blocks}
@@ -19,7 +19,7 @@ number_is size n k x (as_block e) = ap (λ (f : BlockId × BasicBlock). f.0.0) e
 number_is size n k x (as_last is e) = ap (λ (f : BlockId × BasicBlock). f.0.0) e ∙ sym is
 
 -- the position of the next block is later
-next_later : (size m : ℕ) (o : Option ℕ) → position_of (made_blocks size) (record { 0 = m + 1 }) ≡ o → AllByRecursion (λ n. m < n) (with_position o [])
+next_later : (size m : ℕ) (o : Option ℕ) → position_in (made_blocks size) (record { 0 = m + 1 }) ≡ o → AllByRecursion (λ n. m < n) (with_position o [])
 next_later size m None h = tt
 next_later size m (Some n) h =
     let at = position_is_at (made_blocks size) (record { 0 = m + 1 }) n h in
@@ -27,7 +27,7 @@ next_later size m (Some n) h =
     (omega (arith, same), tt)
 
 edges_later : (size m : ℕ) (e : BlockId × BasicBlock) → Stood size m e → AllByRecursion (λ n. m < n) (edges_at (made_blocks size) (Some e))
-edges_later size m e (as_block is) = subst (λ (f : BlockId × BasicBlock). AllByRecursion (λ n. m < n) (edges_at (made_blocks size) (Some f))) (sym is) (next_later size m (position_of (made_blocks size) (record { 0 = m + 1 })) refl)
+edges_later size m e (as_block is) = subst (λ (f : BlockId × BasicBlock). AllByRecursion (λ n. m < n) (edges_at (made_blocks size) (Some f))) (sym is) (next_later size m (position_in (made_blocks size) (record { 0 = m + 1 })) refl)
 edges_later size m e (as_last at is) = subst (λ (f : BlockId × BasicBlock). AllByRecursion (λ n. m < n) (edges_at (made_blocks size) (Some f))) (sym is) tt
 
 found_later : (size m : ℕ) (o : Option (BlockId × BasicBlock)) → slice_get (made_blocks size) m ≡ o → AllByRecursion (λ n. m < n) (edges_at (made_blocks size) o)

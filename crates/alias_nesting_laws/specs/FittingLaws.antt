@@ -1,5 +1,5 @@
 -- What is asked of a function that the inference takes, part by part.
-use Rattle.std.specs.Prelude.{◌≡◌, ℕ, Bool, true, false, ◌&&◌, ◌||◌, nat_eq, List, [], ◌∷◌, Option, Some, None, Result, Ok, Err, ⊤, is_ok, refl}
+use Rattle.std.specs.Prelude.{◌≡◌, ℕ, Bool, true, false, ◌&&◌, ◌||◌, nat_eq, List, [], ◌∷◌, Option, Some, None, Result, Ok, Err, ⊤, is_ok, slice_get, refl}
 use Rattle.std.specs.List.{list_all}
 use Rattle.std.specs.Option.{option_map_or}
 use Rattle.std.proofs.Common.{ap, ◌∙◌, eq-eqb}
@@ -9,10 +9,10 @@ use Rattle.alias_base.specs.AnswerLaws.{both_true, both_pass}
 use Rattle.alias_hir.specs.declared.env.Environment.{Environment}
 use Rattle.alias_hir.specs.declared.hir.HirFunction.{HirFunction}
 use Rattle.alias_function_rules.specs.Rules.{is_among, tables_fit, types_fit, signatures_fit}
-use Rattle.alias_rules.specs.Fitting.{effects_fit, effects_fit_at, reports_no_invariant, function_rules, function_fits_with, function_fits}
-use Rattle.alias_rules.specs.Functions.{rule_holds, at_function, each_function}
+use Rattle.alias_rules.specs.Fitting.{effects_fit, effects_fit_at, reports_no_invariant, family_rules, function_rules, function_fits_with, function_fits}
+use Rattle.alias_rules.specs.Functions.{rule_holds, at_function, each_function, FamilyRule, Tables, Types, Signatures, Apart, Each, family_holds}
 use Rattle.alias_rules.specs.Nesting.{tree_below}
-use Rattle.alias_rules.specs.RuleLaws.{fitting_tree, fitting_rules}
+use Rattle.alias_rules.specs.RuleLaws.{fitting_tree, fitting_rules, passes_at}
 use Rattle.alias_rules.specs.Sharing.{identifiers_apart}
 use Rattle.alias_rules.specs.declared.rules.Rule.{Rule}
 use Rattle.alias_nesting_laws.specs.ClosureLaws.{left_true, right_true}
@@ -97,67 +97,64 @@ pub record Fitted (func : HirFunction) (env : Environment) : Type 0 where
   pub effects : effects_fit env func ≡ true
   pub effects_below : (k : ℕ) → is_among below k ≡ true → effects_fit_at env k ≡ true
 
--- the rules, of a function with those below it
-record Asked (func : HirFunction) (env : Environment) (ks : List ℕ) : Type 0 where
-  tables : tables_fit env ≡ Ok tt
-  types : types_fit env ≡ Ok tt
-  signatures : signatures_fit env ≡ Ok tt
-  apart : identifiers_apart env func ks ≡ Ok tt
-  each : (r : Rule) → is_asked r ≡ true → each_function r env func ks ≡ Ok tt
+-- so is the rule of functions together
+abbrev family_is_asked : FamilyRule → Bool
+family_is_asked (Each r) = is_asked r
+family_is_asked Tables = true
+family_is_asked Types = true
+family_is_asked Signatures = true
+family_is_asked Apart = true
 
-asked_of : (func : HirFunction) (env : Environment) (ks : List ℕ) → function_rules env func ks ≡ Ok tt → Asked func env ks
-asked_of func env ks rules =
-    let a : (tables_fit env ≡ Ok tt) × _ = both_pass (tables_fit env) _ rules in
-    let b : (each_function Numbers env func ks ≡ Ok tt) × _ = both_pass (each_function Numbers env func ks) _ a.1 in
-    let c : (each_function Entry env func ks ≡ Ok tt) × _ = both_pass (each_function Entry env func ks) _ b.1 in
-    let d : (each_function Successors env func ks ≡ Ok tt) × _ = both_pass (each_function Successors env func ks) _ c.1 in
-    let t : (types_fit env ≡ Ok tt) × _ = both_pass (types_fit env) _ d.1 in
-    let e : (each_function ListedOnce env func ks ≡ Ok tt) × _ = both_pass (each_function ListedOnce env func ks) _ t.1 in
-    let f : (each_function Handlers env func ks ≡ Ok tt) × _ = both_pass (each_function Handlers env func ks) _ e.1 in
-    let g : (each_function Phis env func ks ≡ Ok tt) × _ = both_pass (each_function Phis env func ks) _ f.1 in
-    let h : (each_function Orders env func ks ≡ Ok tt) × _ = both_pass (each_function Orders env func ks) _ g.1 in
-    let i : (each_function Distinct env func ks ≡ Ok tt) × _ = both_pass (each_function Distinct env func ks) _ h.1 in
-    let j : (identifiers_apart env func ks ≡ Ok tt) × _ = both_pass (identifiers_apart env func ks) _ i.1 in
-    let k : (signatures_fit env ≡ Ok tt) × _ = both_pass (signatures_fit env) _ j.1 in
-    let l : (each_function Calls env func ks ≡ Ok tt) × (each_function ContextValues env func ks ≡ Ok tt) = both_pass (each_function Calls env func ks) (each_function ContextValues env func ks) k.1 in record {
-      tables = a.0;
-      types = t.0;
-      signatures = k.0;
-      apart = j.0;
-      each = λ r.
-          elim r as (λ r. is_asked r ≡ true → each_function r env func ks ≡ Ok tt) [
-            | Numbers ↦ λ _. b.0
-            | Entry ↦ λ _. c.0
-            | Successors ↦ λ _. d.0
-            | Listed ↦ λ no. cc
-            | ListedOnce ↦ λ _. e.0
-            | Handlers ↦ λ _. f.0
-            | Phis ↦ λ _. g.0
-            | Orders ↦ λ _. h.0
-            | Distinct ↦ λ _. i.0
-            | Calls ↦ λ _. l.0
-            | ContextValues ↦ λ _. l.1
-          ];
-    }
+-- where a rule that is asked stands in their order
+place_of : (rule : Rule) → is_asked rule ≡ true → (i : ℕ) × (slice_get family_rules i ≡ Some (Each rule))
+place_of Numbers e = (1, refl)
+place_of Entry e = (2, refl)
+place_of Successors e = (3, refl)
+place_of Listed e = cc
+place_of ListedOnce e = (5, refl)
+place_of Handlers e = (6, refl)
+place_of Phis e = (7, refl)
+place_of Orders e = (8, refl)
+place_of Distinct e = (9, refl)
+place_of Calls e = (12, refl)
+place_of ContextValues e = (13, refl)
+
+family_place : (rule : FamilyRule) → family_is_asked rule ≡ true → (i : ℕ) × (slice_get family_rules i ≡ Some rule)
+family_place Tables e = (0, refl)
+family_place Types e = (4, refl)
+family_place Apart e = (10, refl)
+family_place Signatures e = (11, refl)
+family_place (Each r) e = place_of r e
+
+-- each that is asked holds
+asked_of : (func : HirFunction) (env : Environment) (ks : List ℕ) → function_rules env func ks ≡ Ok tt → (rule : FamilyRule) → family_is_asked rule ≡ true → family_holds env func ks rule ≡ Ok tt
+asked_of func env ks h rule e = let p = family_place rule e in passes_at (family_holds env func ks) family_rules p.0 rule h p.1
+
+-- items of which each that passes a test passes
+pass_where : {A E : Type 0} (p : A → Bool) (f : A → Result ⊤ E) → ((x : A) → p x ≡ true → f x ≡ Ok tt) → (xs : List A) → list_all p xs ≡ true → all_pass f xs ≡ Ok tt
+pass_where p f h [] t = refl
+pass_where p f h (x ∷ xs) t =
+    let b : (p x ≡ true) × (list_all p xs ≡ true) = both_true (p x) (list_all p xs) t in
+    then_pass (f x) (all_pass f xs) (h x b.0) (pass_where p f h xs b.1)
 
 -- a function that the inference takes has the parts
 pub fitted : (func : HirFunction) (env : Environment) → function_fits func env ≡ true → Fitted func env
 fitted func env h =
     let t = fitting_tree func env h in
     let ks : List ℕ = t.0 in
-    let asked : Asked func env ks = asked_of func env ks (fitting_rules func env ks t.2) in
+    let asked = asked_of func env ks (fitting_rules func env ks t.2) in
     let a : _ × (reports_no_invariant env ≡ true) = both_true _ (reports_no_invariant env) t.2 in
     let b : _ × (list_all (effects_fit_at env) ks ≡ true) = both_true _ (list_all (effects_fit_at env) ks) a.0 in
     let c : (is_ok (function_rules env func ks) ≡ true) × (effects_fit env func ≡ true) = both_true _ _ b.0 in record {
       below = ks;
       tree = t.1;
-      tables = asked.tables;
-      types = asked.types;
-      signatures = asked.signatures;
+      tables = asked Tables refl;
+      types = asked Types refl;
+      signatures = asked Signatures refl;
       reports = a.1;
-      rule = λ r i. (both_pass (rule_holds r env None func) (all_pass (at_function r env) ks) (asked.each r i)).0;
-      rule_below = λ r i k. pass_among (at_function r env) ks k (both_pass (rule_holds r env None func) (all_pass (at_function r env) ks) (asked.each r i)).1;
-      apart = asked.apart;
+      rule = λ r i. (both_pass (rule_holds r env None func) (all_pass (at_function r env) ks) (asked (Each r) i)).0;
+      rule_below = λ r i k. pass_among (at_function r env) ks k (both_pass (rule_holds r env None func) (all_pass (at_function r env) ks) (asked (Each r) i)).1;
+      apart = asked Apart refl;
       effects = c.1;
       effects_below = λ k. true_among (effects_fit_at env) ks k b.1;
     }
@@ -166,21 +163,15 @@ module _ (func : HirFunction) (env : Environment) (f : Fitted func env) where
   each_of : (r : Rule) → is_asked r ≡ true → each_function r env func f.below ≡ Ok tt
   each_of r i = then_pass (rule_holds r env None func) (all_pass (at_function r env) f.below) (f.rule r i) (pass_each (at_function r env) f.below (f.rule_below r i))
 
+  family_of : (rule : FamilyRule) → family_is_asked rule ≡ true → family_holds env func f.below rule ≡ Ok tt
+  family_of Tables e = f.tables
+  family_of Types e = f.types
+  family_of Signatures e = f.signatures
+  family_of Apart e = f.apart
+  family_of (Each r) e = each_of r e
+
   rules_of : function_rules env func f.below ≡ Ok tt
-  rules_of =
-      then_pass (tables_fit env) _ f.tables
-      (then_pass (each_function Numbers env func f.below) _ (each_of Numbers refl)
-      (then_pass (each_function Entry env func f.below) _ (each_of Entry refl)
-      (then_pass (each_function Successors env func f.below) _ (each_of Successors refl)
-      (then_pass (types_fit env) _ f.types
-      (then_pass (each_function ListedOnce env func f.below) _ (each_of ListedOnce refl)
-      (then_pass (each_function Handlers env func f.below) _ (each_of Handlers refl)
-      (then_pass (each_function Phis env func f.below) _ (each_of Phis refl)
-      (then_pass (each_function Orders env func f.below) _ (each_of Orders refl)
-      (then_pass (each_function Distinct env func f.below) _ (each_of Distinct refl)
-      (then_pass (identifiers_apart env func f.below) _ f.apart
-      (then_pass (signatures_fit env) _ f.signatures
-      (then_pass (each_function Calls env func f.below) (each_function ContextValues env func f.below) (each_of Calls refl) (each_of ContextValues refl)))))))))))))
+  rules_of = pass_where family_is_asked (family_holds env func f.below) family_of family_rules refl
 
   -- the inference takes a function that has the parts
   pub fits_of_parts : function_fits func env ≡ true

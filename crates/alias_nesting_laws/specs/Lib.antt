@@ -1,3 +1,4 @@
+pub mod Slots
 pub mod ClosureLaws
 pub mod FittingLaws
 pub mod NestingLaws
@@ -5,6 +6,5 @@ pub mod PartLaws
 pub mod RootLaws
 pub mod SeparateLaws
 pub mod SlotLaws
-pub mod Slots
 pub mod StandInLaws
 pub mod SubtreeLaws

@@ -32,11 +32,11 @@ passes_on f g h [] e = refl
 passes_on f g h (x ∷ xs) e = then_passes (f x) (all_pass f xs) (g x) (all_pass g xs) (h x) (passes_on f g h xs) e
 
 -- a test passes whatever its fault names
-passes_with : (b : Bool) (f g : UnitFault) → ◌≡◌ {A = Result ⊤ UnitFault} (if b then Ok tt else Err f) (Ok tt) → ◌≡◌ {A = Result ⊤ UnitFault} (if b then Ok tt else Err g) (Ok tt)
+pub passes_with : (b : Bool) (f g : UnitFault) → ◌≡◌ {A = Result ⊤ UnitFault} (if b then Ok tt else Err f) (Ok tt) → ◌≡◌ {A = Result ⊤ UnitFault} (if b then Ok tt else Err g) (Ok tt)
 passes_with true f g h = refl
 passes_with false f g h = cc
 
-passes_unless : (b : Bool) (f g : UnitFault) → ◌≡◌ {A = Result ⊤ UnitFault} (if b then Err f else Ok tt) (Ok tt) → ◌≡◌ {A = Result ⊤ UnitFault} (if b then Err g else Ok tt) (Ok tt)
+pub passes_unless : (b : Bool) (f g : UnitFault) → ◌≡◌ {A = Result ⊤ UnitFault} (if b then Err f else Ok tt) (Ok tt) → ◌≡◌ {A = Result ⊤ UnitFault} (if b then Err g else Ok tt) (Ok tt)
 passes_unless true f g h = cc
 passes_unless false f g h = refl
 

@@ -2,8 +2,7 @@
 use Rattle.std.specs.Prelude.{◌≡◌, ℕ, zero, suc, Bool, true, false, cond, not, ◌&&◌, ◌||◌, nat_eq, find, List, [], ◌∷◌, ◌++◌, length, map, slice_get, Option, Some, None, Ok, refl, if◌then◌else◌}
 use Rattle.std.specs.List.{flat_map, list_any, range_with_len}
 use Rattle.std.specs.Option.{option_map_or}
-use Rattle.std.proofs.Common.{ap, sym, ◌∙◌, subst, arith}
-use Rattle.std.proofs.lemmas.Grind.{common_steps}
+use Rattle.std.proofs.Common.{ap, sym, ◌∙◌, subst}
 use Rattle.std.proofs.lemmas.List.Folds.{list_any-append}
 use Rattle.alias_base.specs.declared.ids.BlockId.{BlockId}
 use Rattle.alias_base.specs.declared.ids.FunctionId.{FunctionId}
@@ -16,7 +15,7 @@ use Rattle.alias_hir.specs.declared.hir.Instruction.{Instruction}
 use Rattle.alias_hir.specs.declared.place.Place.{Place}
 use Rattle.alias_visit.specs.Places.{created_places, instruction_places, block_places, identifiers_in}
 use Rattle.alias_function_rules.specs.Rules.{is_among}
-use Rattle.alias_rules.specs.ApartLaws.{is_among_each}
+use Rattle.alias_rules.specs.ApartLaws.{is_among_each, any_other}
 use Rattle.alias_rules.specs.Nesting.{number_of, created_in, created_of, created_at, next_level, fresh, reached_from}
 use Rattle.alias_rules.specs.Sharing.{identifiers_of, identifiers_at, context_of, context_at, family, inside, others, outside, is_shared, first_shared, first_in_two, in_two, nested_is_apart, identifiers_apart}
 use Rattle.alias_nesting_laws.specs.ClosureLaws.{Among, among_front, among_rest, among_neither}
@@ -50,20 +49,17 @@ fewer_shared true false b2 c h e = ap (λ (z : Bool). z && not c) (h refl)
 fewer_shared true true b2 true h e = and_false b2
 fewer_shared true true b2 false h e = cc
 
-next_none : (b b2 : Bool) (x : ℕ) (r r2 : Option ℕ) → (b ≡ false → b2 ≡ false) → (r ≡ None → r2 ≡ None) → cond b (Some x) r ≡ None → cond b2 (Some x) r2 ≡ None
+pub next_none : (b b2 : Bool) (x : ℕ) (r r2 : Option ℕ) → (b ≡ false → b2 ≡ false) → (r ≡ None → r2 ≡ None) → cond b (Some x) r ≡ None → cond b2 (Some x) r2 ≡ None
 next_none true b2 x r r2 h g e = cc
 next_none false b2 x r r2 h g e = ap (λ (z : Bool). cond z (Some x) r2) (h refl) ∙ g e
 
-none_found : (p q : ℕ → Bool) (xs : List ℕ) → ((x : ℕ) → p x ≡ false → q x ≡ false) → find p xs ≡ None → find q xs ≡ None
+pub none_found : (p q : ℕ → Bool) (xs : List ℕ) → ((x : ℕ) → p x ≡ false → q x ≡ false) → find p xs ≡ None → find q xs ≡ None
 none_found p q [] h e = refl
 none_found p q (x ∷ xs) h e = next_none (p x) (q x) x (find p xs) (find q xs) (h x) (none_found p q xs h) e
 
 no_fault : (k : ℕ) (o : Option ℕ) → in_two k o ≡ Ok tt → o ≡ None
 no_fault k None e = refl
 no_fault k (Some x) e = cc
-
-any_other : (q : ℕ → Bool) (those ks : List ℕ) (k : ℕ) → list_any q (others those (k ∷ ks)) ≡ ((not (is_among those k) && q k) || list_any q (others those ks))
-any_other q those ks k = grind (arith, common_steps)
 
 -- where it holds of none of the others, it doesn't hold of one of them
 none_at : (q : ℕ → Bool) (those ks : List ℕ) (k : ℕ) → list_any q (others those ks) ≡ false → is_among ks k ≡ true → is_among those k ≡ false → q k ≡ false
@@ -85,7 +81,7 @@ same_each f g (x ∷ xs) h = ap (λ l. l ++ flat_map f xs) (h x (first_among x x
 
 -- ---- what is fresh
 
-fresh_among : (found level : List ℕ) → Among level (fresh found level)
+pub fresh_among : (found level : List ℕ) → Among level (fresh found level)
 fresh_among found [] k h = h
 fresh_among found (x ∷ xs) k h =
     elim (is_among found x) as (λ b. is_among (if b then fresh found xs else x ∷ fresh (found ++ x ∷ []) xs) k ≡ true → is_among (x ∷ xs) k ≡ true) [

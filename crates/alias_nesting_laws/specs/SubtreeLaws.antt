@@ -12,21 +12,18 @@ use Rattle.alias_nesting_laws.specs.ClosureLaws.{Among, among_front, among_neith
 use Rattle.alias_nesting_laws.specs.FittingLaws.{first_among, later_among}
 use Rattle.alias_nesting_laws.specs.PartLaws.{Part, part_nothing, part_both, part_of_nothing, part_each, part_among, part_at, absent, not_both, part_distinct, front_apart}
 use Rattle.alias_nesting_laws.specs.StandInLaws.{standing, creates_same}
+use Rattle.alias_rules.specs.TreeLaws.{tree_step}
 
 -- ---- the steps of a tree
 
 -- nothing is twice, and the rest goes on
-taken_both : (o : Option ℕ) (r : Option (List ℕ)) (ks : List ℕ) → (if is_none o then r else None) ≡ Some ks → (o ≡ None) × (r ≡ Some ks)
+pub taken_both : (o : Option ℕ) (r : Option (List ℕ)) (ks : List ℕ) → (if is_none o then r else None) ≡ Some ks → (o ≡ None) × (r ≡ Some ks)
 taken_both None r ks h = (refl, h)
 taken_both (Some x) r ks h = cc
 
 pub tree_parts : (n : ℕ) (env : Environment) (found level ks : List ℕ) → tree_from (suc n) env found level ≡ Some ks → (first_again [] (found ++ level) ≡ None) × (tree_from n env (found ++ level) (next_level env level) ≡ Some ks)
 unfolding tree_from
 tree_parts n env found level ks h = taken_both (first_again [] (found ++ level)) (tree_from n env (found ++ level) (next_level env level)) ks h
-
-tree_step : (n : ℕ) (env : Environment) (found level : List ℕ) → first_again [] (found ++ level) ≡ None → tree_from (suc n) env found level ≡ tree_from n env (found ++ level) (next_level env level)
-unfolding tree_from
-tree_step n env found level e = ap (λ (o : Option ℕ). if is_none o then tree_from n env (found ++ level) (next_level env level) else None) e
 
 pub tree_end : (env : Environment) (found level : List ℕ) → tree_from zero env found level ≡ ended found level
 unfolding tree_from

@@ -1,6 +1,6 @@
 //! Units that are checked, and the reports that effects name.
 
-use crate::functions::{environment, place, returns_at_once, returns_function};
+use crate::functions::{returns_at_once, returns_function};
 use alias_base::{BlockId, FunctionId, IdentifierId, List, Text};
 use alias_hir::effect::ValueKind;
 use alias_hir::env::{Environment, Unit};
@@ -9,6 +9,7 @@ use alias_hir::place::Place;
 use alias_hir::report::{DiagnosticId, ErrorCategory, Report};
 use alias_rules::check::{Checked, check_unit};
 use alias_rules::fault::{Table, UnitFault};
+use alias_test_units::{environment, place};
 use std::alloc::{AllocError, Global};
 use std::test::Fail;
 

@@ -1,11 +1,12 @@
 //! The passes of the caller that keep everything, with and without planned failures.
 
-use crate::functions::{environment, returns_at_once};
+use crate::functions::returns_at_once;
 use alias_base::List;
 use alias_hir::env::Environment;
 use alias_hir::hir::HirFunction;
 use alias_inner_passes::{FailingPasses, InnerPasses, KeepAll, PassStop};
 use alias_rules::function::check_function;
+use alias_test_units::environment;
 use std::alloc::{AllocError, Global};
 use std::process::Abort;
 use std::test::Fail;

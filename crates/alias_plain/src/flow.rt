@@ -1,21 +1,21 @@
 //! What isn't sure, as a flow over the positions of blocks.
-ghost use Rattle.std.specs.Prelude.{◌≡◌, ◌<◌, ◌+◌, ◌^◌, [], ◌∷◌, true, ℕ, IfOk, length, is_some, List, Option, vec_len};
+ghost use Rattle.std.specs.Prelude.{◌≡◌, ◌<◌, ◌+◌, ◌^◌, [], ◌∷◌, true, IfOk, length, is_some, Option, vec_len};
 ghost use Rattle.std.proofs.Common.{sym, ◌∙◌};
 ghost use Rattle.std.specs.Borrow.{Bor};
 ghost use Rattle.alias_base.specs.Find.{value_at};
 ghost use Rattle.alias_hir.specs.declared.env.Environment.{Environment};
 ghost use Rattle.alias_hir.specs.declared.hir.HirFunction.{HirFunction};
+ghost use Rattle.alias_hir.specs.Positions.{positions_of, entry_position};
 ghost use Rattle.alias_facts.specs.declared.facts.FunctionFacts.{FunctionFacts};
-ghost use Rattle.alias_plain_laws.specs.Positions.{positions_of, entry_position};
 ghost use Rattle.alias_plain.specs.Held.{held};
 ghost use Rattle.alias_plain_laws.specs.UnsureFlow.{unsure_flow, out_set};
 ghost use Rattle.alias_plain_laws.specs.FlowLaws.{unsure_laws};
 
 use crate::scope::Scope;
 use crate::sure::{out_set, unsure_at_first};
-use alias_base::{BlockId, BlockMap};
 use alias_flow::{Flow, StepFault};
-use alias_hir::hir::{BasicBlock, HirFunction};
+use alias_hir::hir::BasicBlock;
+use alias_hir::positions::{entry_position, positions_of};
 use alias_hir::successors::terminal_successors;
 use alias_plain_laws::Stop;
 use alias_unsure::UnsureWays;
@@ -31,35 +31,6 @@ pub(crate) struct UnsureFlow<'a> {
     ghost entry_exists: { is_some (value_at scope.func.now.body.blocks scope.func.now.body.entry) ≡ true },
     ghost few: { length scope.func.now.body.blocks < 2 ^ 32 },
     ghost recorded_long: { vec_len recorded ≡ length scope.func.now.body.blocks },
-}
-
-/// The position of the entry.
-fn entry_position(func: &HirFunction) -> usize
-    ensures { result ≡ entry_position func.now }
-{
-    match func.body.blocks.position(func.body.entry) {
-        Some(position) => position,
-        // Never so: the entry of a function that fits is a block.
-        None => 0,
-    }
-}
-
-/// The positions of those of the list that are blocks.
-fn positions_of(
-    alloc: Global,
-    blocks: &BlockMap<BasicBlock>,
-    names: &[BlockId],
-) -> Result<SmallVec<u32, 2, Global>, AllocError>
-    requires { length blocks.now < 2 ^ 32 }
-    ensures { IfOk result (λ positions. positions.items ≡ positions_of blocks.now names.now) }
-{
-    let mut positions = SmallVec::new(alloc);
-    for name in names {
-        if let Some(position) = blocks.position(*name) {
-            positions.push(position as u32)?;
-        }
-    }
-    Ok(positions)
 }
 
 impl<'a> Flow for UnsureFlow<'a> {

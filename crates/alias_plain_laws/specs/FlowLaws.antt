@@ -29,8 +29,8 @@ use Rattle.alias_flow.specs.Machine.{FlowLaws, joined}
 use Rattle.alias_plainness.specs.Making.{number}
 use Rattle.alias_unsure.specs.Sets.{Rows, RowsProper, union, with_member, without_member}
 use Rattle.alias_unsure.specs.SetLaws.{set_laws, proper_none, proper_with, proper_without}
-use Rattle.alias_plain_laws.specs.Positions.{Blocks, position_in, with_position, positions_of, edges_at}
-use Rattle.alias_plain_laws.specs.PositionLaws.{found_has_position}
+use Rattle.alias_hir.specs.PositionLaws.{found_has_position}
+use Rattle.alias_hir.specs.Positions.{Blocks, position_in, with_position, positions_of, edges_at}
 use Rattle.alias_plain_laws.specs.Scopes.{Scope}
 use Rattle.alias_unsure.specs.Ways.{UnsureState, StateProper}
 use Rattle.alias_plain_laws.specs.UnsureFlow.{with_members, without_members, sure_numbers, unsure_at_first, source_of, operand_is_unsure, with_phi, with_phis, entered_from, entered, rows_or_none, adds_in, through_at, through, through_all, out_set, step_at, unsure_flow}

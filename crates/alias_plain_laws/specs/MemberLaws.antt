@@ -12,12 +12,12 @@ use Rattle.alias_function_rules.specs.Rules.{is_among}
 use Rattle.alias_hir.specs.declared.hir.Instruction.{Instruction}
 use Rattle.alias_hir.specs.declared.hir.Phi.{Phi}
 use Rattle.alias_hir.specs.declared.place.Place.{Place}
+use Rattle.alias_hir.specs.Positions.{Blocks}
 use Rattle.alias_lattice.specs.Flows.{IsOneOf}
 use Rattle.alias_flow.specs.Machine.{joined}
 use Rattle.alias_plainness.specs.Making.{number}
 use Rattle.alias_unsure.specs.Sets.{Rows, RowsProper, has, with_member, without_member, union}
 use Rattle.alias_unsure.specs.SetLaws.{has-none, has-union, has-with_same, has-with_other, has-without_same, has-without_other}
-use Rattle.alias_plain_laws.specs.Positions.{Blocks}
 use Rattle.alias_plain_laws.specs.FlowLaws.{phis_proper, ProperIfThere, joined_proper, first_proper, rest_proper}
 use Rattle.alias_plain_laws.specs.Scopes.{Scope}
 use Rattle.alias_unsure.specs.Ways.{UnsureState, StateProper}

@@ -1,5 +1,5 @@
 -- What the solution says isn't sure where a block is entered, isn't sure on some path to the block, and the other way round.
-use Rattle.std.specs.Prelude.{◌≡◌, ◌⊎◌, ℕ, ◌+◌, ◌-◌, ◌<◌, ◌==◌, Bool, true, false, IsTrue, List, [], ◌∷◌, length, Option, Some, None, is_some, option_map, slice_get, replicate, refl, cond, if◌then◌else◌}
+use Rattle.std.specs.Prelude.{◌≡◌, ℕ, ◌+◌, ◌-◌, ◌==◌, Bool, true, false, IsTrue, List, [], ◌∷◌, length, Option, Some, None, is_some, option_map, slice_get, replicate, refl, cond, if◌then◌else◌}
 use Rattle.std.proofs.Common.{ap, sym, ◌∙◌, subst, inl, inr, arith}
 use Rattle.std.proofs.Math.Dec.{T}
 use Rattle.std.proofs.lemmas.Bool.{false≢true}
@@ -19,7 +19,7 @@ use Rattle.alias_hir.specs.declared.env.Environment.{Environment}
 use Rattle.alias_hir.specs.declared.hir.BasicBlock.{BasicBlock}
 use Rattle.alias_hir.specs.declared.hir.HirFunction.{HirFunction}
 use Rattle.alias_hir.specs.declared.hir.Phi.{Phi}
-use Rattle.alias_lattice.specs.Flows.{Stepped, IsOneOf, IsAbove, StepsBelow, IsSolution}
+use Rattle.alias_lattice.specs.Flows.{IsOneOf, IsAbove, IsSolution}
 use Rattle.alias_lattice.specs.ListMaps.{list_map}
 use Rattle.alias_lattice.specs.ListMapLaws.{list_laws}
 use Rattle.alias_lattice.specs.MapLaws.{map_below-at, equal}
@@ -30,10 +30,10 @@ use Rattle.alias_flow.specs.Solutions.{entry_at}
 use Rattle.alias_unsure.specs.Sets.{Rows, RowsProper, has, union, is_within}
 use Rattle.alias_unsure.specs.SetLaws.{set_laws, has-union, within-has}
 use Rattle.alias_plainness.specs.Paths.{Path, begins, goes_on, edges_of, phis_of, instructions_of}
-use Rattle.alias_plain_laws.specs.Positions.{Blocks, position_in, IsAt, with_position, positions_of, edges_at, entry_position}
-use Rattle.alias_plain_laws.specs.PositionLaws.{found_has_position, some_is, position_is_at, at_position, at_value}
+use Rattle.alias_hir.specs.PositionLaws.{found_has_position, some_is, position_is_at, at_position, at_value}
+use Rattle.alias_hir.specs.Positions.{Blocks, position_in, IsAt, with_position, positions_of, edges_at, entry_position}
 use Rattle.alias_plain_laws.specs.FlowLaws.{one_proper, unsure_at_first_proper, step_proper, stepped_is, first_found, find_behind, first_proper, rest_proper}
-use Rattle.alias_plain_laws.specs.MemberLaws.{Reads, Always, Never, From, reads_phis, reads_through, grows, or_which, other_way, Comes, entry_enters, entered_comes}
+use Rattle.alias_plain_laws.specs.MemberLaws.{Reads, Always, Never, From, reads_phis, reads_through, grows, or_which, other_way, entry_enters, entered_comes}
 use Rattle.alias_plain_laws.specs.Scopes.{Scope, scope_of}
 use Rattle.alias_plain_laws.specs.SendingLaws.{solution_sends}
 use Rattle.alias_unsure.specs.Ways.{UnsureState, StateProper, state_join, state_below}

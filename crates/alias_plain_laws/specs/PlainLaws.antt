@@ -19,18 +19,18 @@ use Rattle.alias_plainness.specs.Making.{all_made}
 use Rattle.alias_plainness.specs.Sureness.{list_of}
 use Rattle.alias_plainness.specs.Paths.{Path, instructions_of, sure_on, sure_before}
 use Rattle.alias_plainness.specs.Conditions.{needs, are_distinct, makes_well, is_compatible, freezes_no_spread, first_broken, first_failing}
-use Rattle.alias_plainness.specs.Plainness.{Passes, AllPass, IsPlain, Breaks, BreaksFirst}
+use Rattle.alias_plainness.specs.Plainness.{AllPass, IsPlain, Breaks, BreaksFirst}
 use Rattle.alias_unsure.specs.Sets.{Rows, has}
 use Rattle.alias_plain_laws.specs.declared.stop.Stop.TheVariants.{Broken}
-use Rattle.alias_plain_laws.specs.Positions.{Blocks, position_in, IsAt}
-use Rattle.alias_plain_laws.specs.PositionLaws.{found_has_position, some_is, position_is_at, at_value}
+use Rattle.alias_hir.specs.PositionLaws.{found_has_position, some_is, position_is_at, at_value}
+use Rattle.alias_hir.specs.Positions.{Blocks, position_in}
 use Rattle.alias_plain_laws.specs.Scopes.{Scope, scope_of}
 use Rattle.alias_unsure.specs.Ways.{UnsureState, state_below}
 use Rattle.alias_plain_laws.specs.UnsureFlow.{unsure_flow, unsure_end, entered, through_all}
 use Rattle.alias_plain_laws.specs.MemberLaws.{Reads, Always, Never, From, reads_through, grows}
 use Rattle.alias_plain_laws.specs.PathLaws.{rows_on, IsBlockAt, all_sent, entered_unsure, path_covered}
-use Rattle.alias_plain_laws.specs.Scans.{sure_in, failing_of, scan_from}
-use Rattle.alias_plain_laws.specs.ScanLaws.{AllPassFrom, PassesFrom, BlockPasses, BlocksPass, BlocksBreak, blocks_pass, blocks_break, pass_at}
+use Rattle.alias_plain_laws.specs.Scans.{sure_in, scan_from}
+use Rattle.alias_plain_laws.specs.ScanLaws.{AllPassFrom, BlockPasses, BlocksPass, blocks_pass, blocks_break, pass_at}
 use Rattle.alias_plain_laws.specs.SureLaws.{PhisWithin, path_agrees, all_agree, all_sure}
 
 -- ---- lists that are sure

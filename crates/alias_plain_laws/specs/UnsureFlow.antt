@@ -1,6 +1,6 @@
 -- Which identifiers aren't sure, as a flow over the positions of blocks. The state of a block has a set for each block that was gone on
 -- from, known by one more than its position, and one, known by 0, for the beginning of a path.
-use Rattle.std.specs.Prelude.{ℕ, ◌+◌, ◌-◌, ◌==◌, Bool, true, false, not, List, [], ◌∷◌, ◌++◌, length, map, Option, Some, None, option_map, slice_get, replicate, if◌then◌else◌}
+use Rattle.std.specs.Prelude.{ℕ, ◌+◌, ◌-◌, ◌==◌, Bool, true, List, [], ◌∷◌, ◌++◌, length, map, Option, Some, None, option_map, slice_get, replicate, if◌then◌else◌}
 use Rattle.std.specs.Option.{option_map_or}
 use Rattle.std.specs.List.{fold, range_with_len}
 use Rattle.alias_base.specs.Find.{value_at}
@@ -12,7 +12,8 @@ use Rattle.alias_hir.specs.declared.hir.HirFunction.{HirFunction}
 use Rattle.alias_hir.specs.declared.hir.Instruction.{Instruction}
 use Rattle.alias_hir.specs.declared.hir.Phi.{Phi}
 use Rattle.alias_hir.specs.declared.place.Place.{Place}
-use Rattle.alias_lattice.specs.Flows.{Outcome, Stepped}
+use Rattle.alias_hir.specs.Positions.{Blocks, edges_at, entry_position}
+use Rattle.alias_lattice.specs.Flows.{Stepped}
 use Rattle.alias_flow.specs.Machine.{Rules, VisitLog, End, joined, solution}
 use Rattle.alias_signature.specs.Known.{known}
 use Rattle.alias_signature.specs.Signatures.{signature_of}
@@ -20,7 +21,6 @@ use Rattle.alias_plainness.specs.Making.{number, all_made}
 use Rattle.alias_plainness.specs.Sureness.{defined_params}
 use Rattle.alias_unsure.specs.Sets.{Rows, has, with_member, without_member, union}
 use Rattle.alias_unsure.specs.Ways.{UnsureState, state_join, state_below}
-use Rattle.alias_plain_laws.specs.Positions.{Blocks, edges_at, entry_position}
 use Rattle.alias_plain_laws.specs.Scopes.{Scope}
 
 -- ---- sets

@@ -1,8 +1,7 @@
 -- The functions below a function, where some of them create fewer: they are some of those that were below it, and each is created by the one that created it.
-use Rattle.std.specs.Prelude.{◌≡◌, ℕ, Bool, true, false, ◌==◌, List, [], ◌∷◌, ◌++◌, length, Option, Some, None, is_none, refl, if◌then◌else◌}
+use Rattle.std.specs.Prelude.{◌≡◌, ℕ, true, List, [], ◌∷◌, ◌++◌, Some, None, refl}
 use Rattle.std.specs.List.{flat_map}
-use Rattle.std.proofs.Common.{zero, suc, ap, sym, ◌∙◌, subst, arith}
-use Rattle.std.proofs.lemmas.Bool.{eqb-true}
+use Rattle.std.proofs.Common.{zero, suc, ap, sym, ◌∙◌, subst}
 use Rattle.std.proofs.lemmas.Grind.{flat_map-append}
 use Rattle.std.proofs.lemmas.List.{append-nil, append_assoc}
 use Rattle.alias_hir.specs.declared.env.Environment.{Environment}
@@ -11,6 +10,8 @@ use Rattle.alias_function_rules.specs.Rules.{is_among, first_again}
 use Rattle.alias_rules.specs.Nesting.{created_in, created_at, next_level, ended, tree_from, tree_below}
 use Rattle.alias_nesting_laws.specs.FittingLaws.{first_among}
 use Rattle.alias_nesting_laws.specs.PartLaws.{Part, nothing, left_out, kept, part_nothing, part_all, part_rest, part_both, part_of_nothing, part_at, part_among, among_cases, append_cases, not_both, part_distinct, front_apart}
+use Rattle.alias_nesting_laws.specs.SubtreeLaws.{ended_parts, tree_parts}
+use Rattle.alias_rules.specs.TreeLaws.{tree_step}
 
 -- ---- lists of what is taken of numbers
 
@@ -49,29 +50,9 @@ one_source g (k ∷ ks) x a b d ha ta hb tb =
 
 -- ---- the steps of a tree
 
-taken_both : (o : Option ℕ) (r : Option (List ℕ)) (ks : List ℕ) → (if is_none o then r else None) ≡ Some ks → (o ≡ None) × (r ≡ Some ks)
-taken_both None r ks h = (refl, h)
-taken_both (Some x) r ks h = cc
-
-tree_parts : (n : ℕ) (env : Environment) (found level ks : List ℕ) → tree_from (suc n) env found level ≡ Some ks → (first_again [] (found ++ level) ≡ None) × (tree_from n env (found ++ level) (next_level env level) ≡ Some ks)
-unfolding tree_from
-tree_parts n env found level ks h = taken_both (first_again [] (found ++ level)) (tree_from n env (found ++ level) (next_level env level)) ks h
-
-tree_step : (n : ℕ) (env : Environment) (found level : List ℕ) → first_again [] (found ++ level) ≡ None → tree_from (suc n) env found level ≡ tree_from n env (found ++ level) (next_level env level)
-unfolding tree_from
-tree_step n env found level e = ap (λ (o : Option ℕ). if is_none o then tree_from n env (found ++ level) (next_level env level) else None) e
-
 tree_end : (env : Environment) (found level : List ℕ) → tree_from zero env found level ≡ ended found level
 unfolding tree_from
 tree_end env found level = refl
-
-ended_parts : (found level ks : List ℕ) → ended found level ≡ Some ks → (level ≡ []) × (found ≡ ks)
-ended_parts found [] ks h = let same : found ≡ ks = cc in (refl, same)
-ended_parts found (x ∷ xs) ks h = none_left (length (x ∷ xs) == 0) refl h
-  where
-    none_left : (b : Bool) → (length (x ∷ xs) == 0) ≡ b → ◌≡◌ {A = Option (List ℕ)} (if b then Some found else None) (Some ks) → ((x ∷ xs) ≡ []) × (found ≡ ks)
-    none_left true e g = let z : length (x ∷ xs) ≡ 0 = eqb-true (length (x ∷ xs)) 0 e in absurd (omega arith)
-    none_left false e g = cc
 
 -- ---- those below are the ones that a level creates, and those that they create
 

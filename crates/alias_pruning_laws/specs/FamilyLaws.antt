@@ -8,19 +8,12 @@ use Rattle.alias_function_rules.specs.Rules.{is_among}
 use Rattle.alias_rules.specs.Nesting.{created_in, created_at, next_level, fresh, reached_from, tree_below}
 use Rattle.alias_rules.specs.Sharing.{family}
 use Rattle.alias_nesting_laws.specs.ClosureLaws.{Among, among_front, among_rest, tree_closed}
-use Rattle.alias_nesting_laws.specs.FittingLaws.{first_among, later_among}
+use Rattle.alias_nesting_laws.specs.FittingLaws.{first_among}
 use Rattle.alias_nesting_laws.specs.PartLaws.{Part, part_among, among_cases, append_cases}
 use Rattle.alias_pruning_laws.specs.BelowLaws.{Source, source_of, among_flat, creator_stays}
+use Rattle.alias_nesting_laws.specs.SeparateLaws.{fresh_among}
 
 -- ---- what is fresh
-
-fresh_among : (found level : List ℕ) → Among level (fresh found level)
-fresh_among found [] k h = h
-fresh_among found (x ∷ xs) k h =
-    elim (is_among found x) as (λ b. is_among (if b then fresh found xs else x ∷ fresh (found ++ x ∷ []) xs) k ≡ true → is_among (x ∷ xs) k ≡ true) [
-      | true ↦ λ i. later_among x xs k (fresh_among found xs k i)
-      | false ↦ λ i. among_cases x (fresh (found ++ x ∷ []) xs) k (is_among (x ∷ xs) k ≡ true) i (λ e. subst (λ z. is_among (x ∷ xs) z ≡ true) (sym e) (first_among x xs)) (λ l. later_among x xs k (fresh_among (found ++ x ∷ []) xs k l))
-    ] h
 
 -- a level is found, or fresh
 fresh_has : (found level : List ℕ) → Among (found ++ fresh found level) level

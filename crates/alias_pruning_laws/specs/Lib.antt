@@ -1,9 +1,9 @@
+pub mod Pruning
 pub mod BelowLaws
 pub mod FamilyLaws
 pub mod NumberedLaws
 pub mod PassLaws
 pub mod PlaceLaws
-pub mod Pruning
 pub mod PruningLaws
 pub mod PutBackLaws
 pub mod SharingLaws

@@ -1,5 +1,5 @@
 -- The rules name a function in their faults alone: what keeps a rule under one number keeps it under another.
-use Rattle.std.specs.Prelude.{◌≡◌, ℕ, Bool, true, false, ◌||◌, ◌==◌, nat_le, [], length, Option, Some, None, Result, Ok, Err, ⊤, refl, if◌then◌else◌}
+use Rattle.std.specs.Prelude.{◌≡◌, ℕ, Bool, true, false, ◌||◌, ◌==◌, nat_le, [], length, Option, Some, None, Ok, refl}
 use Rattle.alias_base.specs.Answer.{all_pass}
 use Rattle.alias_base.specs.declared.ids.BlockId.{BlockId}
 use Rattle.alias_base.specs.declared.ids.EvaluationOrder.{EvaluationOrder}
@@ -13,20 +13,10 @@ use Rattle.alias_hir.specs.declared.hir.Phi.{Phi}
 use Rattle.alias_hir.specs.declared.place.Place.{Place}
 use Rattle.alias_function_rules.specs.Rules.{is_block, named_exists, leads_to_blocks, handler_of, missing, first_missing, listed_instructions, twice, first_again, shared, handlers, has_edge, operand_fits, operands_fit, order_fits, repeated, own_identifiers, at_most, argument_count}
 use Rattle.alias_function_rules.specs.declared.fault.Holder.TheVariants as holder
-use Rattle.alias_function_rules.specs.declared.fault.UnitFault.{UnitFault}
 use Rattle.alias_rules.specs.Functions.{rule_holds}
 use Rattle.alias_rules.specs.declared.rules.Rule.{Rule}
 use Rattle.alias_rules.specs.declared.rules.Rule.TheVariants.{Numbers, Entry, Successors, Listed, ListedOnce, Handlers, Phis, Orders, Distinct, Calls, ContextValues}
-use Rattle.alias_nesting_laws.specs.RootLaws.{then_passes, passes_on}
-
--- a test passes whatever its fault names
-passes_with : (b : Bool) (f g : UnitFault) → ◌≡◌ {A = Result ⊤ UnitFault} (if b then Ok tt else Err f) (Ok tt) → ◌≡◌ {A = Result ⊤ UnitFault} (if b then Ok tt else Err g) (Ok tt)
-passes_with true f g h = refl
-passes_with false f g h = cc
-
-passes_unless : (b : Bool) (f g : UnitFault) → ◌≡◌ {A = Result ⊤ UnitFault} (if b then Err f else Ok tt) (Ok tt) → ◌≡◌ {A = Result ⊤ UnitFault} (if b then Err g else Ok tt) (Ok tt)
-passes_unless true f g h = cc
-passes_unless false f g h = refl
+use Rattle.alias_nesting_laws.specs.RootLaws.{then_passes, passes_on, passes_with, passes_unless}
 
 -- the rule looks at nothing but the function: not at what the context places are, of which nested functions say nothing
 abbrev pub is_own : Rule → Bool

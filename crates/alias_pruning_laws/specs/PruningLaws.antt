@@ -1,18 +1,17 @@
 -- A function that the inference takes is taken again over what analysing nested functions leaves of its environment.
-use Rattle.std.specs.Prelude.{◌≡◌, ℕ, ◌+◌, ◌-◌, ◌≤◌, true, List, [], ◌∷◌, ◌++◌, length, slice_get, Option, Some, None, Ok, is_none, refl, if◌then◌else◌}
+use Rattle.std.specs.Prelude.{◌≡◌, ℕ, ◌+◌, ◌-◌, ◌≤◌, true, List, [], ◌++◌, length, slice_get, Option, Some, None, Ok, is_none, refl, if◌then◌else◌}
 use Rattle.std.specs.Option.{option_map}
-use Rattle.std.proofs.Common.{zero, suc, ap, sym, ◌∙◌, subst, length-append, arith}
+use Rattle.std.proofs.Common.{zero, suc, ap, sym, ◌∙◌, subst, arith}
 use Rattle.alias_base.specs.declared.ids.FunctionId.{FunctionId}
 use Rattle.alias_bare_laws.specs.Bare.{ids, bare, TablesFit}
 use Rattle.alias_bare_laws.specs.BareIdentifiers.{flat_same, identifiers_across}
 use Rattle.alias_bare_laws.specs.BareLaws.{created_of_bare, identifiers_of_bare, rule_of_bare}
 use Rattle.alias_bare_laws.specs.BareParts.{effects_ids}
-use Rattle.alias_bare_laws.specs.EvolvedLaws.{Evolves}
-use Rattle.alias_block_laws.specs.FitLaws.{Wider, rule_kept, fits_kept}
-use Rattle.alias_block_laws.specs.IdentifierLaws.{keeps_identifier}
+use Rattle.alias_bare_laws.specs.EvolvedLaws.{Evolves, grown_length, grown_fits}
+use Rattle.alias_block_laws.specs.FitLaws.{Wider, rule_kept}
 use Rattle.alias_block_laws.specs.WiderLaws.{shared_same}
 use Rattle.alias_function_rules.specs.Rules.{is_among, first_again}
-use Rattle.alias_hir.specs.Tables.{fresh_identifier, with_identifier}
+use Rattle.alias_hir.specs.Tables.{with_identifier}
 use Rattle.alias_hir.specs.declared.env.Environment.{Environment}
 use Rattle.alias_hir.specs.declared.hir.HirFunction.{HirFunction}
 use Rattle.alias_nesting_laws.specs.ClosureLaws.{Among}
@@ -183,17 +182,6 @@ grown (suc n) env = grown n (with_identifier None env)
 grown_functions : (n : ℕ) (env : Environment) → (grown n env).functions ≡ env.functions
 grown_functions zero env = refl
 grown_functions (suc n) env = grown_functions n (with_identifier None env)
-
-grown_length : (n : ℕ) (env : Environment) → length (grown n env).identifiers ≡ n + length env.identifiers
-grown_length zero env = omega arith
-grown_length (suc n) env =
-    let one = length-append env.identifiers (fresh_identifier None (length env.identifiers) (length env.types) ∷ []) in
-    let rest = grown_length n (with_identifier None env) in
-    omega arith
-
-grown_fits : (n : ℕ) (env : Environment) (g : HirFunction) → function_fits g env ≡ true → function_fits g (grown n env) ≡ true
-grown_fits zero env g h = h
-grown_fits (suc n) env g h = grown_fits n (with_identifier None env) g (fits_kept env (with_identifier None env) (keeps_identifier None env) g h)
 
 -- the functions below one are the same, where the functions are
 module _ (env more : Environment) (same : more.functions ≡ env.functions) where

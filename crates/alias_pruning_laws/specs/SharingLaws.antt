@@ -1,8 +1,7 @@
 -- Identifiers that are apart stay apart, where functions create fewer and no identifier comes to stand in one.
-use Rattle.std.specs.Prelude.{◌≡◌, ℕ, Bool, true, false, cond, not, ◌&&◌, ◌||◌, nat_eq, find, List, [], ◌∷◌, length, Option, Some, None, Ok, refl}
-use Rattle.std.specs.List.{flat_map, list_any, range_with_len}
-use Rattle.std.proofs.Common.{ap, sym, ◌∙◌, subst, arith}
-use Rattle.std.proofs.lemmas.Grind.{common_steps}
+use Rattle.std.specs.Prelude.{◌≡◌, ℕ, Bool, true, false, not, ◌&&◌, ◌||◌, nat_eq, List, [], ◌∷◌, length, Some, None, Ok, refl}
+use Rattle.std.specs.List.{flat_map, range_with_len}
+use Rattle.std.proofs.Common.{ap, sym, ◌∙◌, subst}
 use Rattle.alias_hir.specs.declared.env.Environment.{Environment}
 use Rattle.alias_hir.specs.declared.hir.HirFunction.{HirFunction}
 use Rattle.alias_function_rules.specs.Rules.{is_among}
@@ -15,6 +14,8 @@ use Rattle.alias_nesting_laws.specs.FittingLaws.{pass_each, itself, later_among}
 use Rattle.alias_nesting_laws.specs.PartLaws.{Part, part_among, among_cases, append_cases, absent, not_both}
 use Rattle.alias_pruning_laws.specs.BelowLaws.{Source, source_of, among_flat}
 use Rattle.alias_pruning_laws.specs.FamilyLaws.{family_fewer, family_stays}
+use Rattle.alias_nesting_laws.specs.SeparateLaws.{none_found}
+use Rattle.alias_rules.specs.ApartLaws.{any_other}
 
 -- ---- tests and lists
 
@@ -29,9 +30,6 @@ not_true false h = refl
 with_both : (a b : Bool) → a ≡ false → b ≡ true → (not a && b) ≡ true
 with_both true b h i = cc
 with_both false b h i = i
-
-any_other : (q : ℕ → Bool) (those ks : List ℕ) (k : ℕ) → list_any q (others those (k ∷ ks)) ≡ ((not (is_among those k) && q k) || list_any q (others those ks))
-any_other q those ks k = grind (arith, common_steps)
 
 -- what is among the others is one of the numbers, and none of those
 others_are : (those ks : List ℕ) (j : ℕ) → is_among (others those ks) j ≡ true → (is_among ks j ≡ true) × (is_among those j ≡ false)
@@ -57,14 +55,6 @@ fewer_shared : (a b c a2 b2 : Bool) → (a2 ≡ true → a ≡ true) → (b2 ≡
 fewer_shared a b c false b2 f g h = refl
 fewer_shared a b c true false f g h = refl
 fewer_shared a b c true true f g h = ap (λ (x : Bool). x && not c) (sym (g refl)) ∙ ap (λ (x : Bool). x && b && not c) (sym (f refl)) ∙ h
-
-next_none : (b b2 : Bool) (x : ℕ) (r r2 : Option ℕ) → (b ≡ false → b2 ≡ false) → (r ≡ None → r2 ≡ None) → cond b (Some x) r ≡ None → cond b2 (Some x) r2 ≡ None
-next_none true b2 x r r2 h g e = cc
-next_none false b2 x r r2 h g e = ap (λ (z : Bool). cond z (Some x) r2) (h refl) ∙ g e
-
-none_found : (p q : ℕ → Bool) (xs : List ℕ) → ((x : ℕ) → p x ≡ false → q x ≡ false) → find p xs ≡ None → find q xs ≡ None
-none_found p q [] h e = refl
-none_found p q (x ∷ xs) h e = next_none (p x) (q x) x (find p xs) (find q xs) (h x) (none_found p q xs h) e
 
 -- ---- the identifiers of functions
 

@@ -82,7 +82,7 @@ module _ (env more : Environment) (kept : PassKeeps env more) where
 
 -- ---- the function
 
-tables_of : (f : HirFunction) (env : Environment) → function_fits f env ≡ true → TablesFit env
+pub tables_of : (f : HirFunction) (env : Environment) → function_fits f env ≡ true → TablesFit env
 tables_of f env h = let p = fitted f env h in record { identifiers = p.tables; types = p.types; signatures = p.signatures; reports = p.reports }
 
 -- a function that fits, and of which nothing but effects of places has changed, fits after the pass where no report says that an invariant was broken

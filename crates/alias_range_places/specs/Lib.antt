@@ -1,12 +1,12 @@
 pub mod Blocks
-pub mod CauseLaws
 pub mod Causes
 pub mod Instructions
-pub mod KeepLaws
 pub mod Keeping
 pub mod Mapped
+pub mod Ranges
+pub mod Tables
+pub mod CauseLaws
+pub mod KeepLaws
 pub mod MappedLaws
 pub mod OrderLaws
-pub mod Ranges
 pub mod StayLaws
-pub mod Tables

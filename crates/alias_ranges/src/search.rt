@@ -170,6 +170,7 @@ pub(crate) fn next_new<L: Ledger>(
     ensures len { vec_len stack.new ≤ vec_len stack.old }
     ensures capacity { vec_capacity stack.old ≤ vec_capacity stack.new }
 {
+    // The last first, as the walks of the rules have it: which way comes to a node first decides what is said of it.
     'search: while let Some(pending) = stack.pop() {
         let (left, found) = search_pending(nodes, links, seen, index, pending, steps);
         if let Some(found) = found {

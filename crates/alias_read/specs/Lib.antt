@@ -4,7 +4,6 @@ pub mod Entries
 pub mod Fault
 pub mod Functions
 pub mod Json
-pub mod NameLaws
 pub mod Names
 pub mod Objects
 pub mod Operations
@@ -17,7 +16,8 @@ pub mod Tables
 pub mod TerminalKinds
 pub mod Terminals
 pub mod Types
-pub mod UnitLaws
 pub mod Units
 pub mod ValueKinds
 pub mod Values
+pub mod NameLaws
+pub mod UnitLaws

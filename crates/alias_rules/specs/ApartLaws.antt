@@ -49,7 +49,7 @@ pub is_among_each : (g : ℕ → List ℕ) (ks : List ℕ) (x : ℕ) → is_amon
 is_among_each g [] x = refl
 is_among_each g (k ∷ ks) x = list_any-append (nat_eq x) (g k) (flat_map g ks) ∙ ap (λ (b : Bool). is_among (g k) x || b) (is_among_each g ks x)
 
-any_other : (q : ℕ → Bool) (those ks : List ℕ) (k : ℕ) → list_any q (others those (k ∷ ks)) ≡ ((not (is_among those k) && q k) || list_any q (others those ks))
+pub any_other : (q : ℕ → Bool) (those ks : List ℕ) (k : ℕ) → list_any q (others those (k ∷ ks)) ≡ ((not (is_among those k) && q k) || list_any q (others those ks))
 any_other q those ks k = grind (arith, common_steps)
 
 none_at : (q : ℕ → Bool) (those ks : List ℕ) (i k : ℕ) → list_any q (others those ks) ≡ false → slice_get ks i ≡ Some k → is_among those k ≡ false → q k ≡ false

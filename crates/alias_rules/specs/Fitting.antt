@@ -1,24 +1,22 @@
 -- What the inference asks of a function that may be inferred already.
-use Rattle.std.specs.Prelude.{ℕ, Bool, true, false, not, ◌&&◌, List, Option, Some, None, Result, is_ok, ⊤, length, map, slice_get, nat_lt}
+use Rattle.std.specs.Prelude.{ℕ, Bool, true, false, not, ◌&&◌, List, [], ◌∷◌, Option, Some, None, Result, is_ok, ⊤, length, map, slice_get, nat_lt}
 use Rattle.std.specs.List.{list_all, list_any}
 use Rattle.std.specs.Option.{option_map_or}
-use Rattle.alias_base.specs.Answer.{◌>>=◌}
+use Rattle.alias_base.specs.Answer.{all_pass}
 use Rattle.alias_base.specs.declared.ids.FunctionId.{FunctionId}
 use Rattle.alias_base.specs.declared.ids.TypeId.{TypeId}
 use Rattle.alias_hir.specs.Diagnostics.{is_interned, reports_invariant, summary}
 use Rattle.alias_hir.specs.Effects.{effect_places, error_of, function_of, signature_of}
 use Rattle.alias_hir.specs.Terminals.{terminal_effects}
 use Rattle.alias_hir.specs.declared.effect.AliasingEffect.{AliasingEffect}
-use Rattle.alias_hir.specs.declared.effect.AliasingEffect.TheVariants.{Apply, CreateFunction}
+use Rattle.alias_hir.specs.declared.effect.AliasingEffect.TheVariants.{Apply}
 use Rattle.alias_hir.specs.declared.env.Environment.{Environment}
 use Rattle.alias_hir.specs.declared.hir.HirFunction.{HirFunction}
 use Rattle.alias_hir.specs.declared.place.Place.{Place}
 use Rattle.alias_hir.specs.declared.report.DiagnosticId.{DiagnosticId}
 use Rattle.alias_hir.specs.declared.report.Interned.{Interned}
-use Rattle.alias_rules.specs.Functions.{each_function}
+use Rattle.alias_rules.specs.Functions.{FamilyRule, Tables, Types, Signatures, Apart, Each, family_holds}
 use Rattle.alias_rules.specs.Nesting.{tree_below}
-use Rattle.alias_function_rules.specs.Rules.{tables_fit, types_fit, signatures_fit}
-use Rattle.alias_rules.specs.Sharing.{identifiers_apart}
 use Rattle.alias_function_rules.specs.declared.fault.UnitFault.{UnitFault}
 use Rattle.alias_rules.specs.declared.rules.Rule.TheVariants.{Numbers, Entry, Successors, ListedOnce, Handlers, Phis, Orders, Distinct, Calls, ContextValues}
 
@@ -88,23 +86,28 @@ effects_fit_at env k = option_map_or (effects_fit env) (slice_get env.functions 
 abbrev pub reports_no_invariant : Environment → Bool
 reports_no_invariant env = not (reports_invariant env.errors) && not (reports_invariant (map (λ (e : Interned). e.report) env.interned))
 
--- the rules that a function and those below it keep, whether they are inferred or not
+-- the rules that a function and those below it keep, whether they are inferred or not, in their order
+abbrev pub family_rules : List FamilyRule
+family_rules =
+    Tables
+    ∷ Each Numbers
+    ∷ Each Entry
+    ∷ Each Successors
+    ∷ Types
+    ∷ Each ListedOnce
+    ∷ Each Handlers
+    ∷ Each Phis
+    ∷ Each Orders
+    ∷ Each Distinct
+    ∷ Apart
+    ∷ Signatures
+    ∷ Each Calls
+    ∷ Each ContextValues
+    ∷ []
+
+-- the first of them that is broken
 abbrev pub function_rules : Environment → HirFunction → List ℕ → Result ⊤ UnitFault
-function_rules env func nested = do
-  _ ← tables_fit env
-  _ ← each_function Numbers env func nested
-  _ ← each_function Entry env func nested
-  _ ← each_function Successors env func nested
-  _ ← types_fit env
-  _ ← each_function ListedOnce env func nested
-  _ ← each_function Handlers env func nested
-  _ ← each_function Phis env func nested
-  _ ← each_function Orders env func nested
-  _ ← each_function Distinct env func nested
-  _ ← identifiers_apart env func nested
-  _ ← signatures_fit env
-  _ ← each_function Calls env func nested
-  each_function ContextValues env func nested
+function_rules env func nested = all_pass (family_holds env func nested) family_rules
 
 -- with the functions below it
 abbrev pub function_fits_with : Environment → HirFunction → List ℕ → Bool

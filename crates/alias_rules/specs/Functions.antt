@@ -1,5 +1,5 @@
 -- The rules of functions, and those of a whole unit, in their order.
-use Rattle.std.specs.Prelude.{ℕ, List, Option, Some, None, Result, Ok, ⊤, length, slice_get}
+use Rattle.std.specs.Prelude.{ℕ, List, [], ◌∷◌, Option, Some, None, Result, Ok, ⊤, length, slice_get}
 use Rattle.std.specs.List.{range_with_len}
 use Rattle.alias_base.specs.Answer.{◌>>=◌, all_pass}
 use Rattle.alias_base.specs.declared.ids.FunctionId.{FunctionId}
@@ -49,27 +49,64 @@ nested_in u = range_with_len 0 (length u.env.functions)
 abbrev pub in_unit : Rule → HirUnit → Result ⊤ UnitFault
 in_unit rule u = each_function rule u.env u.function (nested_in u)
 
+-- ---- what is asked of a function and nested ones together
+
+-- a rule of tables, a rule of each of the functions, or that their identifiers are apart
+pub data FamilyRule : Type 0 where
+  Tables : FamilyRule
+  Types : FamilyRule
+  Signatures : FamilyRule
+  Apart : FamilyRule
+  Each : Rule → FamilyRule
+
+abbrev pub family_holds : Environment → HirFunction → List ℕ → FamilyRule → Result ⊤ UnitFault
+family_holds env func nested Tables = tables_fit env
+family_holds env func nested Types = types_fit env
+family_holds env func nested Signatures = signatures_fit env
+family_holds env func nested Apart = identifiers_apart env func nested
+family_holds env func nested (Each rule) = each_function rule env func nested
+
+-- ---- what is asked of a unit
+
+-- a rule of its functions together, that these are a tree of few levels, or that nothing is inferred
+pub data UnitRule : Type 0 where
+  Family : FamilyRule → UnitRule
+  Tree : UnitRule
+  Depth : UnitRule
+  Uninferred : UnitRule
+
+abbrev pub unit_holds : HirUnit → UnitRule → Result ⊤ UnitFault
+unit_holds u (Family rule) = family_holds u.env u.function (nested_in u) rule
+unit_holds u Tree = nesting_is_tree u (nested_in u)
+unit_holds u Depth = nesting_not_deep u (nested_in u)
+unit_holds u Uninferred = nothing_inferred u.env u.function
+
+-- the rules of a unit, in their order
+abbrev pub unit_rules : List UnitRule
+unit_rules =
+    Family Tables
+    ∷ Family (Each Numbers)
+    ∷ Family (Each Entry)
+    ∷ Family (Each Successors)
+    ∷ Tree
+    ∷ Depth
+    ∷ Family Types
+    ∷ Family (Each Listed)
+    ∷ Family (Each ListedOnce)
+    ∷ Family (Each Handlers)
+    ∷ Family (Each Phis)
+    ∷ Family (Each Orders)
+    ∷ Uninferred
+    ∷ Family (Each Distinct)
+    ∷ Family Apart
+    ∷ Family Signatures
+    ∷ Family (Each Calls)
+    ∷ Family (Each ContextValues)
+    ∷ []
+
 -- the first of the rules that is broken
 abbrev pub rules_hold : HirUnit → Result ⊤ UnitFault
-rules_hold u = do
-  _ ← tables_fit u.env
-  _ ← in_unit Numbers u
-  _ ← in_unit Entry u
-  _ ← in_unit Successors u
-  _ ← nesting_is_tree u (nested_in u)
-  _ ← nesting_not_deep u (nested_in u)
-  _ ← types_fit u.env
-  _ ← in_unit Listed u
-  _ ← in_unit ListedOnce u
-  _ ← in_unit Handlers u
-  _ ← in_unit Phis u
-  _ ← in_unit Orders u
-  _ ← nothing_inferred u.env u.function
-  _ ← in_unit Distinct u
-  _ ← identifiers_apart u.env u.function (nested_in u)
-  _ ← signatures_fit u.env
-  _ ← in_unit Calls u
-  in_unit ContextValues u
+rules_hold u = all_pass (unit_holds u) unit_rules
 
 -- the unit itself, where all rules hold
 abbrev pub checks : HirUnit → Result HirUnit UnitFault

@@ -1,5 +1,5 @@
 -- No rule looks at effects: functions that differ in effects alone keep the same rules.
-use Rattle.std.specs.Prelude.{◌≡◌, ℕ, Bool, true, false, cond, length, ◌++◌, List, [], ◌∷◌, map, Option, Some, None, option_map, is_some, is_ok, Result, Ok, Err, ⊤, if◌then◌else◌, refl}
+use Rattle.std.specs.Prelude.{◌≡◌, ℕ, Bool, true, false, cond, length, ◌++◌, List, [], ◌∷◌, map, Option, Some, None, option_map, is_some, Result, Ok, Err, ⊤, if◌then◌else◌, refl}
 use Rattle.std.specs.List.{flat_map, list_all}
 use Rattle.std.specs.Option.{option_map_or}
 use Rattle.std.proofs.Common.{sym, ◌∙◌, ap}
@@ -23,15 +23,15 @@ use Rattle.alias_hir.specs.declared.place.Place.{Place}
 use Rattle.alias_hir.specs.declared.terminal.Terminal.{Terminal}
 use Rattle.alias_hir.specs.declared.terminal.Terminal.TheVariants.{Goto, If, Branch, Switch, For, ForOf, ForIn, DoWhile, While, Logical, Ternary, Optional, Return, Throw, Unreachable, Try, MaybeThrow, Label, Sequence, Scope, PrunedScope}
 use Rattle.alias_visit.specs.Places.{instruction_places, phi_places, block_places, places_in, identifiers_in}
-use Rattle.alias_function_rules.specs.Rules.{below, place_fits, instruction_fits, phi_fits, block_fits, numbers_fit, is_block, entry_exists, handler_of, named_exists, leads_to_blocks, successors_exist, first_missing, missing, listed_instructions, instructions_listed, first_again, twice, none_listed_twice, shared, handlers, handlers_distinct, goes_to, has_edge, operand_fits, operands_fit, phis_fit, order_fits, orders_fit, tables_fit, types_fit, signatures_fit, argument_count, at_most, calls_fit}
+use Rattle.alias_function_rules.specs.Rules.{below, place_fits, instruction_fits, phi_fits, block_fits, numbers_fit, is_block, entry_exists, handler_of, named_exists, leads_to_blocks, successors_exist, first_missing, missing, listed_instructions, instructions_listed, first_again, twice, none_listed_twice, shared, handlers_distinct, goes_to, has_edge, operand_fits, operands_fit, phis_fit, order_fits, orders_fit, argument_count, at_most, calls_fit}
 use Rattle.alias_function_rules.specs.declared.fault.Holder.TheVariants as holder
 use Rattle.alias_function_rules.specs.declared.fault.Table.TheVariants.{Instructions}
 use Rattle.alias_function_rules.specs.declared.fault.UnitFault.TheVariants.{EntryMissing, SuccessorMissing, PhiNoPredecessor}
-use Rattle.alias_rules.specs.Fitting.{effects_fit, effects_fit_at, reports_no_invariant, function_rules, function_fits_with, function_fits}
-use Rattle.alias_rules.specs.Functions.{rule_holds, at_function, each_function}
+use Rattle.alias_rules.specs.Fitting.{effects_fit, effects_fit_at, reports_no_invariant, family_rules, function_rules, function_fits_with, function_fits}
+use Rattle.alias_rules.specs.Functions.{rule_holds, at_function, each_function, FamilyRule, Tables, Types, Signatures, Apart, Each, family_holds}
 use Rattle.alias_rules.specs.Nesting.{number_of, created_in, tree_from, tree_below}
 use Rattle.alias_rules.specs.RuleLaws.{fitting_tree, fitting_rules}
-use Rattle.alias_rules.specs.Sharing.{identifiers_of, outside, others, family, inside, context_at, is_shared, first_shared, first_in_two, in_two, nested_is_apart, identifiers_apart, identifiers_at}
+use Rattle.alias_rules.specs.Sharing.{others, family, inside, context_at, first_shared, in_two, nested_is_apart, identifiers_apart, identifiers_at}
 use Rattle.alias_rules.specs.declared.rules.Rule.{Rule}
 use Rattle.alias_rules.specs.declared.rules.Rule.TheVariants.{Numbers, Entry, Successors, Listed, ListedOnce, Handlers, Phis, Orders, Distinct, Calls, ContextValues}
 
@@ -94,18 +94,18 @@ pub without_effects_again : (es : List AliasingEffect) (t : Terminal) → with_t
 without_effects_again es t = same_of_terminal (λ u. with_terminal_effects u []) es (λ id v o. refl) (λ id b h o. refl) t
 
 -- equal steps, one after the other
-then_same : {E : Type 0} (p q r s : Result ⊤ E) → p ≡ q → r ≡ s → (p >>= (λ _. r)) ≡ (q >>= (λ _. s))
+pub then_same : {E : Type 0} (p q r s : Result ⊤ E) → p ≡ q → r ≡ s → (p >>= (λ _. r)) ≡ (q >>= (λ _. s))
 then_same p q r s a b = ap (λ z. z >>= (λ _. r)) a ∙ ap (λ z. q >>= (λ _. z)) b
 
-all_pass_same : {A E : Type 0} (f g : A → Result ⊤ E) → ((x : A) → f x ≡ g x) → (xs : List A) → all_pass f xs ≡ all_pass g xs
+pub all_pass_same : {A E : Type 0} (f g : A → Result ⊤ E) → ((x : A) → f x ≡ g x) → (xs : List A) → all_pass f xs ≡ all_pass g xs
 all_pass_same f g e [] = refl
 all_pass_same f g e (x ∷ xs) = then_same (f x) (g x) (all_pass f xs) (all_pass g xs) (e x) (all_pass_same f g e xs)
 
-all_pass_mapped : {A B E : Type 0} (f : B → Result ⊤ E) (g : A → B) (h : A → Result ⊤ E) → ((x : A) → f (g x) ≡ h x) → (xs : List A) → all_pass f (map g xs) ≡ all_pass h xs
+pub all_pass_mapped : {A B E : Type 0} (f : B → Result ⊤ E) (g : A → B) (h : A → Result ⊤ E) → ((x : A) → f (g x) ≡ h x) → (xs : List A) → all_pass f (map g xs) ≡ all_pass h xs
 all_pass_mapped f g h e [] = refl
 all_pass_mapped f g h e (x ∷ xs) = then_same (f (g x)) (h x) (all_pass f (map g xs)) (all_pass h xs) (e x) (all_pass_mapped f g h e xs)
 
-flat_mapped : {A B C : Type 0} (f : B → List C) (g : A → B) (h : A → List C) → ((x : A) → f (g x) ≡ h x) → (xs : List A) → flat_map f (map g xs) ≡ flat_map h xs
+pub flat_mapped : {A B C : Type 0} (f : B → List C) (g : A → B) (h : A → List C) → ((x : A) → f (g x) ≡ h x) → (xs : List A) → flat_map f (map g xs) ≡ flat_map h xs
 flat_mapped f g h e [] = refl
 flat_mapped f g h e (x ∷ xs) = ap (λ z. z ++ flat_map f (map g xs)) (e x) ∙ ap (λ z. h x ++ z) (flat_mapped f g h e xs)
 
@@ -124,7 +124,7 @@ some_mapped f None = refl
 some_mapped f (Some x) = refl
 
 -- what is asked of a changed item is asked of the item
-asked_mapped : {A B C : Type 0} (f : B → C) (g : A → B) (h : A → C) (d : C) → ((x : A) → f (g x) ≡ h x) → (o : Option A) → option_map_or f (option_map g o) d ≡ option_map_or h o d
+pub asked_mapped : {A B C : Type 0} (f : B → C) (g : A → B) (h : A → C) (d : C) → ((x : A) → f (g x) ≡ h x) → (o : Option A) → option_map_or f (option_map g o) d ≡ option_map_or h o d
 asked_mapped f g h d e None = refl
 asked_mapped f g h d e (Some x) = e x
 
@@ -265,21 +265,15 @@ created_alike func =
 same_tree : (env : Environment) (func : HirFunction) → tree_below env (without_effects func) ≡ tree_below env func
 same_tree env func = ap (tree_from 63 env []) (created_alike func)
 
+family_alike : (env : Environment) (func : HirFunction) (ks : List ℕ) (rule : FamilyRule) → family_holds env (without_effects func) ks rule ≡ family_holds env func ks rule
+family_alike env func ks Tables = refl
+family_alike env func ks Types = refl
+family_alike env func ks Signatures = refl
+family_alike env func ks Apart = apart_by_identifiers env (without_effects func) func ks (identifiers_alike env func)
+family_alike env func ks (Each r) = each_alike r env func ks
+
 same_rules : (env : Environment) (func : HirFunction) (ks : List ℕ) → function_rules env (without_effects func) ks ≡ function_rules env func ks
-same_rules env func ks =
-    then_same (tables_fit env) _ _ _ refl
-    (then_same _ _ _ _ (each_alike Numbers env func ks)
-    (then_same _ _ _ _ (each_alike Entry env func ks)
-    (then_same _ _ _ _ (each_alike Successors env func ks)
-    (then_same (types_fit env) _ _ _ refl
-    (then_same _ _ _ _ (each_alike ListedOnce env func ks)
-    (then_same _ _ _ _ (each_alike Handlers env func ks)
-    (then_same _ _ _ _ (each_alike Phis env func ks)
-    (then_same _ _ _ _ (each_alike Orders env func ks)
-    (then_same _ _ _ _ (each_alike Distinct env func ks)
-    (then_same _ _ _ _ (apart_by_identifiers env (without_effects func) func ks (identifiers_alike env func))
-    (then_same (signatures_fit env) _ _ _ refl
-    (then_same _ _ _ _ (each_alike Calls env func ks) (each_alike ContextValues env func ks)))))))))))))
+same_rules env func ks = all_pass_same (family_holds env (without_effects func) ks) (family_holds env func ks) (family_alike env func ks) family_rules
 
 -- the functions below are the same
 pub tree_of_other_effects : (env : Environment) (f g : HirFunction) → DiffersInEffects f g → tree_below env g ≡ tree_below env f

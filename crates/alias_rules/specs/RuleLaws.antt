@@ -12,8 +12,8 @@ use Rattle.alias_base.specs.AnswerLaws.{both_true, both_pass}
 use Rattle.alias_base.specs.declared.ids.BlockId.{BlockId}
 use Rattle.alias_hir.specs.Diagnostics.{reports_invariant}
 use Rattle.alias_hir.specs.declared.report.Interned.{Interned}
-use Rattle.alias_rules.specs.Fitting.{recorded_within_tables, effects_within_tables, holds_no_call, effects_fit, effects_fit_at, function_rules, function_fits_with, function_fits, reports_no_invariant}
-use Rattle.alias_rules.specs.Functions.{rule_holds, of_function, at_function, each_function, nested_in, in_unit, rules_hold}
+use Rattle.alias_rules.specs.Fitting.{family_rules, recorded_within_tables, effects_within_tables, holds_no_call, effects_fit, effects_fit_at, function_rules, function_fits_with, function_fits, reports_no_invariant}
+use Rattle.alias_rules.specs.Functions.{rule_holds, of_function, at_function, each_function, nested_in, in_unit, FamilyRule, Tables, Types, Signatures, Apart, Each, family_holds, UnitRule, Family, Tree, Depth, Uninferred, unit_holds, unit_rules, rules_hold}
 use Rattle.alias_rules.specs.ApartLaws.{apart_among}
 use Rattle.alias_rules.specs.Nesting.{number_of, created_in, tree_below, naming, reached, times, named_and_reached, nesting_is_tree, within_depth, nesting_not_deep}
 use Rattle.alias_rules.specs.Sharing.{nested_is_apart, identifiers_apart}
@@ -21,7 +21,7 @@ use Rattle.alias_rules.specs.TreeLaws.{either, times_cons, times_both, counted, 
 use Rattle.alias_base.specs.declared.ids.FunctionId.{FunctionId}
 use Rattle.alias_hir.specs.Parts.{param_place}
 use Rattle.alias_hir.specs.Values.{created}
-use Rattle.alias_function_rules.specs.Rules.{identifier_is_uninferred, instruction_is_uninferred, terminal_is_uninferred, block_is_uninferred, place_fits, created_fits, instruction_fits, numbers_fit, is_among, tables_fit, types_fit, signatures_fit, is_block, entry_exists, named_exists, leads_to_blocks, successors_exist, environment_is_uninferred, function_is_uninferred, nothing_inferred}
+use Rattle.alias_function_rules.specs.Rules.{identifier_is_uninferred, instruction_is_uninferred, terminal_is_uninferred, block_is_uninferred, place_fits, created_fits, instruction_fits, numbers_fit, is_among, tables_fit, types_fit, signatures_fit, is_block, entry_exists, named_exists, leads_to_blocks, successors_exist, environment_is_uninferred, function_is_uninferred}
 use Rattle.alias_hir.specs.Terminals.{terminal_effects, successors}
 use Rattle.alias_hir.specs.declared.effect.AliasingEffect.{AliasingEffect}
 use Rattle.alias_hir.specs.declared.env.Environment.{Environment}
@@ -61,6 +61,11 @@ passes_at f [] i x h e = cc
 passes_at f (y ∷ ys) zero x h e = let p : y ≡ x = cc in let q : f y ≡ Ok tt = (both_pass (f y) (all_pass f ys) h).0 in cc
 passes_at f (y ∷ ys) (suc i) x h e = passes_at f ys i x (both_pass (f y) (all_pass f ys) h).1 e
 
+-- a list of which each item passes
+pub pass_all : {A E : Type 0} (f : A → Result ⊤ E) → ((x : A) → f x ≡ Ok tt) → (xs : List A) → all_pass f xs ≡ Ok tt
+pass_all f h [] = refl
+pass_all f h (x ∷ xs) = rw (h x) (pass_all f h xs)
+
 -- ---- what a unit that keeps the rules has
 
 pub record Parts (u : HirUnit) : Type 0 where
@@ -84,27 +89,59 @@ pub record Parts (u : HirUnit) : Type 0 where
   pub calls : in_unit Calls u ≡ Ok tt
   pub values : in_unit ContextValues u ≡ Ok tt
 
+-- where the rule stands in the order of the rules
+place_of : (rule : UnitRule) → (i : ℕ) × (slice_get unit_rules i ≡ Some rule)
+place_of (Family Tables) = (0, refl)
+place_of (Family (Each Numbers)) = (1, refl)
+place_of (Family (Each Entry)) = (2, refl)
+place_of (Family (Each Successors)) = (3, refl)
+place_of Tree = (4, refl)
+place_of Depth = (5, refl)
+place_of (Family Types) = (6, refl)
+place_of (Family (Each Listed)) = (7, refl)
+place_of (Family (Each ListedOnce)) = (8, refl)
+place_of (Family (Each Handlers)) = (9, refl)
+place_of (Family (Each Phis)) = (10, refl)
+place_of (Family (Each Orders)) = (11, refl)
+place_of Uninferred = (12, refl)
+place_of (Family (Each Distinct)) = (13, refl)
+place_of (Family Apart) = (14, refl)
+place_of (Family Signatures) = (15, refl)
+place_of (Family (Each Calls)) = (16, refl)
+place_of (Family (Each ContextValues)) = (17, refl)
+
+-- each rule holds of a unit that is well formed
+pub rule_of_unit : (u : HirUnit) → rules_hold u ≡ Ok tt → (rule : UnitRule) → unit_holds u rule ≡ Ok tt
+rule_of_unit u h rule = let p = place_of rule in passes_at (unit_holds u) unit_rules p.0 rule h p.1
+
+-- and a unit is well formed of which each holds
+pub all_hold_of_unit : (u : HirUnit) → ((rule : UnitRule) → unit_holds u rule ≡ Ok tt) → rules_hold u ≡ Ok tt
+all_hold_of_unit u h = pass_all (unit_holds u) h unit_rules
+
 pub parts_of_rules : (u : HirUnit) → rules_hold u ≡ Ok tt → Parts u
-parts_of_rules u rules =
-    let a : (tables_fit u.env ≡ Ok tt) × _ = both_pass (tables_fit u.env) _ rules in
-    let b : (in_unit Numbers u ≡ Ok tt) × _ = both_pass (in_unit Numbers u) _ a.1 in
-    let c : (in_unit Entry u ≡ Ok tt) × _ = both_pass (in_unit Entry u) _ b.1 in
-    let d : (in_unit Successors u ≡ Ok tt) × _ = both_pass (in_unit Successors u) _ c.1 in
-    let v : (nesting_is_tree u (nested_in u) ≡ Ok tt) × _ = both_pass (nesting_is_tree u (nested_in u)) _ d.1 in
-    let w : (nesting_not_deep u (nested_in u) ≡ Ok tt) × _ = both_pass (nesting_not_deep u (nested_in u)) _ v.1 in
-    let t : (types_fit u.env ≡ Ok tt) × _ = both_pass (types_fit u.env) _ w.1 in
-    let e : (in_unit Listed u ≡ Ok tt) × _ = both_pass (in_unit Listed u) _ t.1 in
-    let f : (in_unit ListedOnce u ≡ Ok tt) × _ = both_pass (in_unit ListedOnce u) _ e.1 in
-    let g : (in_unit Handlers u ≡ Ok tt) × _ = both_pass (in_unit Handlers u) _ f.1 in
-    let h : (in_unit Phis u ≡ Ok tt) × _ = both_pass (in_unit Phis u) _ g.1 in
-    let i : (in_unit Orders u ≡ Ok tt) × _ = both_pass (in_unit Orders u) _ h.1 in
-    let n : (nothing_inferred u.env u.function ≡ Ok tt) × _ = both_pass (nothing_inferred u.env u.function) _ i.1 in
-    let j : (environment_is_uninferred u.env ≡ true) × (function_is_uninferred u.function ≡ true) = both_true _ _ (asked _ _ (Ok tt) refl n.0) in
-    let k : (in_unit Distinct u ≡ Ok tt) × _ = both_pass (in_unit Distinct u) _ n.1 in
-    let o : (identifiers_apart u.env u.function (nested_in u) ≡ Ok tt) × _ = both_pass (identifiers_apart u.env u.function (nested_in u)) _ k.1 in
-    let l : (signatures_fit u.env ≡ Ok tt) × _ = both_pass (signatures_fit u.env) _ o.1 in
-    let m : (in_unit Calls u ≡ Ok tt) × _ = both_pass (in_unit Calls u) _ l.1 in
-    record { tables = a.0; numbers = b.0; entry = c.0; successors = d.0; tree = v.0; depth = w.0; types = t.0; listed = e.0; once = f.0; handlers = g.0; phis = h.0; orders = i.0; environment = j.0; function = j.1; distinct = k.0; apart = o.0; signatures = l.0; calls = m.0; values = m.1 }
+parts_of_rules u h =
+    let rule = rule_of_unit u h in
+    let none : (environment_is_uninferred u.env ≡ true) × (function_is_uninferred u.function ≡ true) = both_true _ _ (asked _ _ (Ok tt) refl (rule Uninferred)) in record {
+      tables = rule (Family Tables);
+      numbers = rule (Family (Each Numbers));
+      entry = rule (Family (Each Entry));
+      successors = rule (Family (Each Successors));
+      tree = rule Tree;
+      depth = rule Depth;
+      types = rule (Family Types);
+      listed = rule (Family (Each Listed));
+      once = rule (Family (Each ListedOnce));
+      handlers = rule (Family (Each Handlers));
+      phis = rule (Family (Each Phis));
+      orders = rule (Family (Each Orders));
+      environment = none.0;
+      function = none.1;
+      distinct = rule (Family (Each Distinct));
+      apart = rule (Family Apart);
+      signatures = rule (Family Signatures);
+      calls = rule (Family (Each Calls));
+      values = rule (Family (Each ContextValues));
+    }
 
 -- a number at its place
 pub range_at : (a n k : ℕ) → k < n → slice_get (range_with_len a n) k ≡ Some (a + k)
@@ -260,12 +297,12 @@ uninferred_terminals_within_tables env (x ∷ xs) h =
     let b : (block_is_uninferred x.1 ≡ true) × (list_all (λ (e : BlockId × BasicBlock). block_is_uninferred e.1) xs ≡ true) = both_true _ _ h in
     rw (none_within_tables env (terminal_effects x.1.terminal) (terminal_uninferred x.1 b.0)) (uninferred_terminals_within_tables env xs b.1)
 
-record Uninferred (func : HirFunction) : Type 0 where
+record HasNothing (func : HirFunction) : Type 0 where
   summary : is_none func.aliasing_effects ≡ true
   instructions : list_all instruction_is_uninferred func.instructions ≡ true
   blocks : list_all (λ (e : BlockId × BasicBlock). block_is_uninferred e.1) func.body.blocks ≡ true
 
-uninferred : (func : HirFunction) → function_is_uninferred func ≡ true → Uninferred func
+uninferred : (func : HirFunction) → function_is_uninferred func ≡ true → HasNothing func
 uninferred func h =
     let a = both_true _ _ h in
     let b = both_true _ _ a.0 in
@@ -273,7 +310,7 @@ uninferred func h =
 
 uninferred_effects_within_tables : (env : Environment) (func : HirFunction) → function_is_uninferred func ≡ true → effects_within_tables env func ≡ true
 uninferred_effects_within_tables env func h =
-    let b : Uninferred func = uninferred func h in
+    let b : HasNothing func = uninferred func h in
     rw (uninferred_instructions_within_tables env func.instructions b.instructions, uninferred_terminals_within_tables env func.body.blocks b.blocks) (none_within_tables env func.aliasing_effects b.summary)
 
 no_call : (o : Option (List AliasingEffect)) → is_none o ≡ true → holds_no_call o ≡ true
@@ -292,6 +329,14 @@ all_uninferred_effects_fit env [] h = refl
 all_uninferred_effects_fit env (k ∷ ks) h =
     rw (uninferred_effects_fit_at env (slice_get env.functions k) (λ f e. all_at function_is_uninferred env.functions k f h e)) (all_uninferred_effects_fit env ks h)
 
+-- the rules of functions together hold of the root with those below it
+family_of_rules : (u : HirUnit) (h : rules_hold u ≡ Ok tt) (rule : FamilyRule) → family_holds u.env u.function (below_of_rules u (parts_of_rules u h)).functions rule ≡ Ok tt
+family_of_rules u h Tables = rule_of_unit u h (Family Tables)
+family_of_rules u h Types = rule_of_unit u h (Family Types)
+family_of_rules u h Signatures = rule_of_unit u h (Family Signatures)
+family_of_rules u h Apart = apart_of_rules u (parts_of_rules u h)
+family_of_rules u h (Each r) = each_function_of_rules r u (below_of_rules u (parts_of_rules u h)).functions (rule_of_unit u h (Family (Each r)))
+
 -- the inference takes the function of a unit that keeps the rules, with the functions below it
 pub rules_make_function_fit : (u : HirUnit) → rules_hold u ≡ Ok tt → function_fits u.function u.env ≡ true
 rules_make_function_fit u h =
@@ -303,8 +348,7 @@ rules_make_function_fit u h =
     let nested : list_all (effects_fit_at u.env) ks ≡ true = all_uninferred_effects_fit u.env ks uninferred_tables.1 in
     let r : reports_invariant u.env.errors ≡ false = no_reports u.env.errors none.0 in
     let i : reports_invariant (map (λ (e : Interned). e.report) u.env.interned) ≡ false = none_interned u.env.interned none.1 in
-    let rules : function_rules u.env u.function ks ≡ Ok tt =
-    rw (k.tables, each_function_of_rules Numbers u ks k.numbers, each_function_of_rules Entry u ks k.entry, each_function_of_rules Successors u ks k.successors, k.types, each_function_of_rules ListedOnce u ks k.once, each_function_of_rules Handlers u ks k.handlers, each_function_of_rules Phis u ks k.phis, each_function_of_rules Orders u ks k.orders, each_function_of_rules Distinct u ks k.distinct, apart_of_rules u k, k.signatures, each_function_of_rules Calls u ks k.calls) (each_function_of_rules ContextValues u ks k.values) in
+    let rules : function_rules u.env u.function ks ≡ Ok tt = pass_all (family_holds u.env u.function ks) (family_of_rules u h) family_rules in
     let with_them : function_fits_with u.env u.function ks ≡ true = rw (rules, root, nested, r, i) refl in
     ap (λ (o : Option (List ℕ)). option_map_or (function_fits_with u.env u.function) o false) (below_of_rules u k).tree ∙ with_them
 

@@ -157,7 +157,7 @@ next_levelled env first found level l =
     ap (λ (zs : List ℕ). zs ++ flat_map (created_at env) level) l ∙ append_assoc first (flat_map (created_at env) found) (flat_map (created_at env) level)
     ∙ ap (λ (zs : List ℕ). first ++ zs) (sym (flat_map-append (created_at env) found level))
 
-tree_step : (n : ℕ) (env : Environment) (found level : List ℕ) → first_again [] (found ++ level) ≡ None → tree_from (suc n) env found level ≡ tree_from n env (found ++ level) (next_level env level)
+pub tree_step : (n : ℕ) (env : Environment) (found level : List ℕ) → first_again [] (found ++ level) ≡ None → tree_from (suc n) env found level ≡ tree_from n env (found ++ level) (next_level env level)
 unfolding tree_from
 tree_step n env found level e = ap (λ (o : Option ℕ). if is_none o then tree_from n env (found ++ level) (next_level env level) else None) e
 

@@ -85,7 +85,8 @@ fn rules_hold(alloc: Global, unit: &Unit) -> Result<(), UnitFault>
     identifiers_apart(alloc, env, root, &nested)?;
     signatures_fit(env)?;
     each_function(alloc, Rule::Calls, env, root, &nested)?;
-    each_function(alloc, Rule::ContextValues, env, root, &nested)
+    each_function(alloc, Rule::ContextValues, env, root, &nested)?;
+    Ok(())
 }
 
 /// The unit itself where it keeps all rules, else the first rule that it breaks, over the root and then the

@@ -86,7 +86,8 @@ fn function_rules(
     identifiers_apart(alloc, env, func, nested)?;
     signatures_fit(env)?;
     each_function(alloc, Rule::Calls, env, func, nested)?;
-    each_function(alloc, Rule::ContextValues, env, func, nested)
+    each_function(alloc, Rule::ContextValues, env, func, nested)?;
+    Ok(())
 }
 
 fn function_fits_with(

@@ -1,8 +1,7 @@
 //! Hoisted declarations, spreads that nothing writes, and handlers.
 
 use crate::making::{
-    add_block, add_declaration, add_identifier, add_taken_apart, environment, facts_of, function,
-    hook_type, instruction, place, place_at, returning,
+    add_declaration, add_identifier, add_taken_apart, environment, facts_of, hook_type, instruction,
 };
 use alias_base::{BlockId, DeclarationId, EvaluationOrder, InstructionId, List};
 use alias_facts::{
@@ -13,6 +12,7 @@ use alias_hir::hir::{FunctionType, HirFunction, Instruction, ParamPattern};
 use alias_hir::place::{Place, PlaceOrSpread};
 use alias_hir::terminal::Terminal;
 use alias_hir::value::{InstructionKind, InstructionValue};
+use alias_test_units::{add_block, function, place, place_at, returning};
 use std::alloc::{AllocError, Global};
 use std::test::Fail;
 
@@ -45,13 +45,13 @@ fn hoist_and_read(alloc: Global, func: &mut HirFunction) -> Result<(), AllocErro
     add_read(func, 4, 30)?;
     add_declaration(func, 5, InstructionKind::Let)?;
     let listed = [FIRST, SECOND, THIRD, FOURTH, FIFTH];
-    add_block(alloc, func, 0, &listed, returning(4))
+    add_block(alloc, func, 0, &listed, returning(4, 9))
 }
 
 /// Adds a block that hoists 1.
 fn hoist_again(alloc: Global, func: &mut HirFunction) -> Result<(), AllocError> {
     add_declaration(func, 1, InstructionKind::HoistedFunction)?;
-    add_block(alloc, func, 1, &[SIXTH], returning(2))
+    add_block(alloc, func, 1, &[SIXTH], returning(2, 9))
 }
 
 fn add_hoisting(alloc: Global, func: &mut HirFunction, again: bool) -> Result<(), AllocError> {
@@ -116,7 +116,7 @@ fn add_component(
 ) -> Result<(), AllocError> {
     add_taken_apart(alloc, func, 3, 1, 2, 0)?;
     func.instructions.push(then)?;
-    add_block(alloc, func, 0, &[FIRST, SECOND], returning(4))
+    add_block(alloc, func, 0, &[FIRST, SECOND], returning(4, 9))
 }
 
 /// A component whose props, 0, are taken apart into 1 and the rest 2, and which then has the given instruction.
@@ -190,7 +190,7 @@ fn spreads(rt: HostRuntime) -> Result<(), Fail> {
 fn give_away(alloc: Global, func: &mut HirFunction) -> Result<(), AllocError> {
     let call = call_with(alloc, 5, 4)?;
     func.instructions.push(instruction(6, call))?;
-    add_block(alloc, func, 1, &[THIRD], returning(6))
+    add_block(alloc, func, 1, &[THIRD], returning(6, 9))
 }
 
 /// What is read of the rest goes to a function.
@@ -211,7 +211,7 @@ fn spread_under_another_name(rt: HostRuntime) -> Result<(), Fail> {
 fn add_two_parameters(alloc: Global, func: &mut HirFunction) -> Result<(), AllocError> {
     func.params.push(ParamPattern::Place(place(5)))?;
     add_taken_apart(alloc, func, 3, 1, 2, 0)?;
-    add_block(alloc, func, 0, &[FIRST], returning(3))
+    add_block(alloc, func, 0, &[FIRST], returning(3, 9))
 }
 
 /// The second parameter is taken apart.

@@ -1,38 +1,19 @@
 //! Small functions and their tables.
 
-use alias_base::{
-    BlockId, BlockMap, Boxed, DeclarationId, EvaluationOrder, IdentifierId, InstructionId, List,
-    Text, TypeId,
-};
+use alias_base::{Boxed, List, Text};
 use alias_facts::{FunctionFacts, Handlers, Hoisted, Spreads, function_facts};
-use alias_hir::env::{Environment, Identifier, MutableRange};
-use alias_hir::hir::{BasicBlock, FunctionType, Hir, HirFunction, Instruction, ParamPattern};
-use alias_hir::place::{Effect, Place, Span, SpreadPattern};
+use alias_hir::env::Environment;
+use alias_hir::hir::{HirFunction, Instruction, ParamPattern};
+use alias_hir::lookup::fresh_identifier;
+use alias_hir::place::{Span, SpreadPattern};
 use alias_hir::signature::Shape;
-use alias_hir::terminal::Terminal;
 use alias_hir::types::Ty;
 use alias_hir::value::{
     InstructionKind, InstructionValue, LValue, LValuePattern, ObjectPattern, ObjectProperty,
     ObjectPropertyOrSpread, Pattern,
 };
+use alias_test_units::place;
 use std::alloc::{AllocError, Global};
-
-/// A place of the identifier.
-pub fn place(number: u32) -> Place {
-    Place {
-        identifier: IdentifierId(number),
-        effect: Effect::Unknown,
-        reactive: false,
-        span: None,
-    }
-}
-
-/// A place of the identifier at a point of the source text.
-pub fn place_at(number: u32, start: u32) -> Place {
-    let mut place = place(number);
-    place.span = Some(Span { start, end: start });
-    place
-}
 
 /// The variable of a declaration or a store.
 pub fn variable(number: u32, kind: InstructionKind) -> LValue {
@@ -73,17 +54,8 @@ pub fn hook_type(alloc: Global, env: &mut Environment) -> Result<Ty, AllocError>
 /// Adds the identifier of the next number, of that type and of a declaration of its own.
 pub fn add_identifier(env: &mut Environment, number: u32, ty: Ty) -> Result<(), AllocError> {
     env.types.push(ty)?;
-    env.identifiers.push(Identifier {
-        declaration_id: DeclarationId(number),
-        name: None,
-        mutable_range: MutableRange {
-            start: EvaluationOrder::UNSET,
-            end: EvaluationOrder::UNSET,
-        },
-        scope: None,
-        type_: TypeId(number),
-        span: None,
-    })?;
+    env.identifiers
+        .push(fresh_identifier(None, number, number))?;
     Ok(())
 }
 
@@ -103,60 +75,11 @@ pub fn environment(alloc: Global) -> Result<Environment, AllocError> {
     Ok(env)
 }
 
-/// An instruction with that result.
+/// An instruction with that result, at a point of the source text.
 pub fn instruction(target: u32, value: InstructionValue) -> Instruction {
-    Instruction {
-        id: EvaluationOrder(1),
-        lvalue: place(target),
-        value,
-        span: Some(Span { start: 5, end: 6 }),
-        effects: None,
-    }
-}
-
-/// A function with no parameters and no blocks.
-pub fn function(alloc: Global, fn_type: FunctionType) -> HirFunction {
-    HirFunction {
-        fn_type,
-        params: List::new(alloc),
-        context: List::new(alloc),
-        context_values: List::new(alloc),
-        returns: place(0),
-        body: Hir {
-            entry: BlockId(0),
-            blocks: BlockMap::new(alloc),
-        },
-        instructions: List::new(alloc),
-        aliasing_effects: None,
-        is_async: false,
-        span: None,
-    }
-}
-
-/// Adds a block with the instructions of these numbers.
-pub fn add_block(
-    alloc: Global,
-    func: &mut HirFunction,
-    number: u32,
-    instructions: &[InstructionId],
-    terminal: Terminal,
-) -> Result<(), AllocError> {
-    let block = BasicBlock {
-        phis: List::new(alloc),
-        instructions: List::from_slice(alloc, instructions)?,
-        terminal,
-    };
-    let _ = func.body.blocks.insert(BlockId(number), block)?;
-    Ok(())
-}
-
-/// `return place`.
-pub fn returning(number: u32) -> Terminal {
-    Terminal::Return {
-        id: EvaluationOrder(9),
-        value: place(number),
-        effects: None,
-    }
+    let mut instruction = alias_test_units::instruction(target, value);
+    instruction.span = Some(Span { start: 5, end: 6 });
+    instruction
 }
 
 /// `[key]: part, ...rest`.

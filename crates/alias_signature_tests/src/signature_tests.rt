@@ -3,9 +3,8 @@
 use crate::described::Described;
 use crate::giving::{gives, gives_in, gives_under};
 use crate::making::{
-    add_block, add_declaration, add_identifier, add_taken_apart, declaration, environment,
-    facts_of, function, instruction, no_facts, object_type, place, properties, returning,
-    taken_apart, variable,
+    add_declaration, add_identifier, add_taken_apart, declaration, environment, facts_of,
+    instruction, no_facts, object_type, properties, taken_apart, variable,
 };
 use alias_base::{FunctionId, InstructionId, List, Text};
 use alias_facts::FunctionFacts;
@@ -17,6 +16,7 @@ use alias_hir::value::{
     PropertyLiteral,
 };
 use alias_signature::compute_signature_for_instruction;
+use alias_test_units::{add_block, function, place, returning};
 use std::alloc::{AllocError, Global};
 use std::test::Fail;
 
@@ -272,7 +272,7 @@ fn elements(rt: HostRuntime) -> Result<(), Fail> {
 
 fn take_props_apart(alloc: Global, func: &mut HirFunction) -> Result<(), AllocError> {
     add_taken_apart(alloc, func, 0, 3, 2, 1)?;
-    add_block(alloc, func, 0, &[InstructionId(0)], returning(3))
+    add_block(alloc, func, 0, &[InstructionId(0)], returning(3, 9))
 }
 
 /// A component that takes its props, 1, apart into 3 and the rest 2.
@@ -344,7 +344,7 @@ fn context_variables(rt: HostRuntime) -> Result<(), Fail> {
 
 fn hoist(alloc: Global, func: &mut HirFunction) -> Result<(), AllocError> {
     add_declaration(func, 1, InstructionKind::HoistedLet)?;
-    add_block(alloc, func, 0, &[InstructionId(0)], returning(3))
+    add_block(alloc, func, 0, &[InstructionId(0)], returning(3, 9))
 }
 
 /// A function that hoists 1.

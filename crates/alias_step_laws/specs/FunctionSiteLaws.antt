@@ -29,24 +29,12 @@ use Rattle.alias_lattice.specs.declared.site.Site.{Site}
 use Rattle.alias_lattice.specs.declared.site.Site.TheVariants.{Function, Default}
 use Rattle.alias_lattice.specs.declared.value.AbstractValue.{AbstractValue}
 use Rattle.alias_step_laws.specs.FunctionSites.{SiteHas, SetHas, StateHas}
+use Rattle.alias_lattice.specs.JoinLaws.{join_cases, some_either}
+use Rattle.alias_lattice.specs.StateLaws.{put_cases}
 
 one_is : {X : Type 0} (x : X) (b : Bool) (P : Type 0) → IsTrue (is_some (cond b (Some x) None)) → (b ≡ true → P) → P
 one_is x true P h f = f refl
 one_is x false P h f = cc
-
-put_cases : {X : Type 0} (P : X → Type 0) (b : Bool) (v t : X) (o : Option X) → cond b (Some v) o ≡ Some t → P v → (o ≡ Some t → P t) → P t
-put_cases P true v t o e p f = let same : v ≡ t = cc in subst P same p
-put_cases P false v t o e p f = f e
-
-some_either : {X : Type 0} (P : Type 0) (j : X → X → X) (o p : Option X) → IsTrue (is_some (join_option j o p)) → (IsTrue (is_some o) → P) → (IsTrue (is_some p) → P) → P
-some_either P j None p h f g = g h
-some_either P j (Some x) p h f g = f refl
-
-join_cases : {X : Type 0} (j : X → X → X) (P : X → Type 0) (o p : Option X) (t : X) → join_option j o p ≡ Some t
-    → ((u : X) → o ≡ Some u → P u) → ((w : X) → p ≡ Some w → P w) → ((u w : X) → o ≡ Some u → p ≡ Some w → P (j u w)) → P t
-join_cases j P None p t e f g h = g t e
-join_cases j P (Some x) None t e f g h = f t e
-join_cases j P (Some x) (Some y) t e f g h = let same : j x y ≡ t = cc in subst P same (h x y refl refl)
 
 abbrev sites_laws : LatticeLaws SitesProper (list_join site_cmp unit_join) (list_below site_cmp unit_below)
 sites_laws = list_laws site_cmp sites_total sites_apart (λ (u : Unit {0}). Unit {0}) unit_join unit_below unit_laws

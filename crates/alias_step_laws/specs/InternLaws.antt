@@ -13,37 +13,12 @@ use Rattle.alias_hir.specs.declared.report.ErrorCategory.TheVariants.{Invariant,
 use Rattle.alias_hir.specs.declared.report.Interned.{Interned}
 use Rattle.alias_hir.specs.declared.report.Report.{Report}
 use Rattle.alias_hir.specs.Diagnostics.{same_category, same_text, same_words, same_label, same_identity, same_instance, number_of, interned, with_interned, identity_of, is_interned, is_invariant, reports_invariant}
+use Rattle.alias_tables.specs.ReportLaws.{and_true, words_itself, number_still, passes}
 
 -- ---- reports that say the same
 
-and_true : (a b : Bool) → a ≡ true → b ≡ true → (a && b) ≡ true
-and_true true b p q = q
-and_true false b p q = cc
-
 equal_numbers : (m n : ℕ) → (m == n) ≡ true → m ≡ n
 equal_numbers m n h = grind (arith, nat_tests)
-
-text_itself : (t : List ℕ) → same_text t t ≡ true
-text_itself [] = refl
-text_itself (n ∷ t) = and_true (n == n) (same_text t t) (eq-eqb n n refl) (text_itself t)
-
-help_itself : (o : Option (List ℕ)) → option_eq same_text o o ≡ true
-help_itself None = refl
-help_itself (Some t) = text_itself t
-
-category_itself : (c : ErrorCategory) → same_category c c ≡ true
-category_itself Invariant = refl
-category_itself Todo = refl
-category_itself Immutability = refl
-category_itself Globals = refl
-category_itself Purity = refl
-category_itself IncompatibleLibrary = refl
-
-words_itself : (r : Report) → same_words r r ≡ true
-words_itself r =
-    and_true (same_category r.category r.category && same_text r.message r.message) (option_eq same_text r.help r.help)
-    (and_true (same_category r.category r.category) (same_text r.message r.message) (category_itself r.category) (text_itself r.message))
-    (help_itself r.help)
 
 identity_itself : (e : Interned) → same_identity e.identifier e.report e ≡ true
 identity_itself e = and_true (e.identifier.0 == e.identifier.0) (same_words e.report e.report) (eq-eqb e.identifier.0 e.identifier.0 refl) (words_itself e.report)
@@ -98,29 +73,6 @@ module _ (f : Interned → Bool) where
   number_here : (l : List Interned) (x : Interned) → f x ≡ true → number_of f (l ++ x ∷ []) ≡ number_of f l
   number_here [] x h = ap (λ b. cond b 0 (0 + 1)) h
   number_here (y ∷ l) x h = ap (λ n. cond (f y) 0 (n + 1)) (number_here l x h)
-
-  number_still : (l more : List Interned) → list_any f l ≡ true → number_of f (l ++ more) ≡ number_of f l
-  number_still [] more h = cc
-  number_still (y ∷ l) more h =
-      elim (f y) as (λ b. (b || list_any f l) ≡ true → cond b 0 (number_of f (l ++ more) + 1) ≡ cond b 0 (number_of f l + 1)) [
-        | true ↦ λ g. refl
-        | false ↦ λ g. ap (λ n. n + 1) (number_still l more g)
-      ] h
-
-  number_past : (l : List Interned) → list_any f l ≡ false → number_of f l ≡ length l
-  number_past [] h = refl
-  number_past (y ∷ l) h =
-      elim (f y) as (λ b. (b || list_any f l) ≡ false → cond b 0 (number_of f l + 1) ≡ length (y ∷ l)) [
-        | true ↦ λ g. cc
-        | false ↦ λ g. let w = number_past l g in omega arith
-      ] h
-
-  passes : (l : List Interned) → (number_of f l == length l) ≡ false → list_any f l ≡ true
-  passes l h =
-      elim (list_any f l) as (λ b. list_any f l ≡ b → b ≡ true) [
-        | true ↦ λ e. refl
-        | false ↦ λ e. let same : (number_of f l == length l) ≡ true = eq-eqb (number_of f l) (length l) (number_past l e) in cc
-      ] refl
 
   -- an entry that passes, at the number of the first that does
   found : (l : List Interned) → list_any f l ≡ true → (e : Interned) × (slice_get l (number_of f l) ≡ Some e) × (f e ≡ true)

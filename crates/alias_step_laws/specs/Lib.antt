@@ -1,8 +1,8 @@
-pub mod InternLaws
 pub mod FunctionSites
+pub mod Within
+pub mod InternLaws
 pub mod FunctionSiteLaws
 pub mod FreezingLaws
-pub mod Within
 pub mod TableLaws
 pub mod EffectLaws
 pub mod StandingLaws

@@ -2,8 +2,7 @@
 
 use crate::described::{Described, are_described};
 use crate::making::{
-    add_signature, begun, begun_with_context, call, environment, known, place, signature, tables,
-    unknown,
+    add_signature, begun, begun_with_context, call, environment, known, signature, tables, unknown,
 };
 use alias_apply::{StepContext, StepProgress};
 use alias_base::{IdentifierId, List, Text, TypeId};
@@ -15,6 +14,7 @@ use alias_hir::signature::{AliasingEffectConfig, AliasingSignatureConfig, ApplyA
 use alias_lattice::Site;
 use alias_step::apply_effect;
 use alias_tables::{EffectFault, Refusal};
+use alias_test_units::place;
 use std::alloc::{AllocError, Global};
 use std::test::Fail;
 

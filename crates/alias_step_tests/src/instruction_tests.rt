@@ -1,7 +1,7 @@
 //! Whole instructions. Their result is 3.
 
 use crate::described::{Described, are_described};
-use crate::making::{begun, begun_with_context, environment, place, tables, unknown};
+use crate::making::{begun, begun_with_context, environment, tables, unknown};
 use alias_apply::StepProgress;
 use alias_base::{EvaluationOrder, FunctionId, List, Text};
 use alias_facts::{FunctionFacts, Handlers, Hoisted, Spreads};
@@ -10,6 +10,7 @@ use alias_hir::env::Environment;
 use alias_hir::hir::Instruction;
 use alias_hir::value::{InstructionValue, LoweredFunction};
 use alias_step::apply_signature;
+use alias_test_units::place;
 use std::alloc::{AllocError, Global};
 use std::test::Fail;
 

@@ -1,44 +1,18 @@
 //! Small environments, and how far steps have come in them.
 
 use alias_apply::{MadeIdentifiers, StepProgress};
-use alias_base::{
-    BlockId, BlockMap, Boxed, DeclarationId, EvaluationOrder, FunctionId, IdentifierId, List, Text,
-    TypeId,
-};
+use alias_base::{Boxed, FunctionId, IdentifierId, List, Text, TypeId};
 use alias_hir::effect::{AliasingEffect, AliasingEffects, ValueKind, ValueReason};
-use alias_hir::env::{Environment, Identifier, MutableRange};
-use alias_hir::hir::{FunctionType, Hir, HirFunction, ParamPattern};
+use alias_hir::env::Environment;
+use alias_hir::hir::{FunctionType, HirFunction, ParamPattern};
 use alias_hir::interned::InternedReports;
 use alias_hir::place::{Effect, Place, PlaceOrSpreadOrHole};
 use alias_hir::signature::{AliasingSignatureConfig, FunctionSignature, Shape};
 use alias_hir::types::Ty;
 use alias_lattice::{AbstractValue, InferenceState, ReasonSet, Site};
 use alias_tables::Tables;
+use alias_test_units::{add_identifiers, place};
 use std::alloc::{AllocError, Global};
-
-/// A place of the identifier.
-pub fn place(number: u32) -> Place {
-    Place {
-        identifier: IdentifierId(number),
-        effect: Effect::Unknown,
-        reactive: false,
-        span: None,
-    }
-}
-
-fn identifier(number: u32) -> Identifier {
-    Identifier {
-        declaration_id: DeclarationId(number),
-        name: None,
-        mutable_range: MutableRange {
-            start: EvaluationOrder::UNSET,
-            end: EvaluationOrder::UNSET,
-        },
-        scope: None,
-        type_: TypeId(0),
-        span: None,
-    }
-}
 
 fn write_of(number: u32) -> AliasingEffect {
     AliasingEffect::Mutate {
@@ -62,21 +36,10 @@ fn writes(alloc: Global) -> Result<AliasingEffects, AllocError> {
 
 /// A function without places, that returns 9.
 fn summarized(alloc: Global, summary: AliasingEffects) -> HirFunction {
-    HirFunction {
-        fn_type: FunctionType::Other,
-        params: List::new(alloc),
-        context: List::new(alloc),
-        context_values: List::new(alloc),
-        returns: place(9),
-        body: Hir {
-            entry: BlockId(0),
-            blocks: BlockMap::new(alloc),
-        },
-        instructions: List::new(alloc),
-        is_async: false,
-        span: None,
-        aliasing_effects: Some(summary),
-    }
+    let mut func = alias_test_units::function(alloc, FunctionType::Other);
+    func.returns = place(9);
+    func.aliasing_effects = Some(summary);
+    func
 }
 
 /// Adds the parameter 8, and the context place 6, which is captured.
@@ -99,10 +62,7 @@ fn function(alloc: Global) -> Result<HirFunction, AllocError> {
 }
 
 fn fill(alloc: Global, env: &mut Environment) -> Result<(), AllocError> {
-    env.types.push(Ty::Var)?;
-    for number in 0..10u32 {
-        env.identifiers.push(identifier(number))?;
-    }
+    add_identifiers(env, 10)?;
     env.functions.push(function(alloc)?)?;
     Ok(())
 }

@@ -31,7 +31,7 @@ grows_self xs = record { more = []; is = append-nil xs }
 pub grows_by : {A : Type 0} (xs more : List A) → Grows xs (xs ++ more)
 grows_by xs more = record { more = more; is = refl }
 
-grows_through : {A : Type 0} (xs ys zs : List A) → Grows xs ys → Grows ys zs → Grows xs zs
+pub grows_through : {A : Type 0} (xs ys zs : List A) → Grows xs ys → Grows ys zs → Grows xs zs
 grows_through xs ys zs g h = record {
   more = g.more ++ h.more;
   is = sym (append_assoc xs g.more h.more) ∙ ap (λ l. l ++ h.more) g.is ∙ h.is;

@@ -23,7 +23,7 @@ use Rattle.alias_tables.specs.GrowingLaws.{Grows, Extends, Again, grows_self, gr
 
 -- ---- equal reports
 
-and_true : (a b : Bool) → a ≡ true → b ≡ true → (a && b) ≡ true
+pub and_true : (a b : Bool) → a ≡ true → b ≡ true → (a && b) ≡ true
 and_true true b p q = q
 and_true false b p q = cc
 
@@ -55,7 +55,7 @@ label_itself l =
     (and_true (l.span.start == l.span.start) (l.span.end == l.span.end) (same_itself l.span.start) (same_itself l.span.end))
     (option_itself l.text)
 
-words_itself : (r : Report) → same_words r r ≡ true
+pub words_itself : (r : Report) → same_words r r ≡ true
 words_itself r =
     and_true (same_category r.category r.category && same_text r.message r.message) (option_eq same_text r.help r.help)
     (and_true (same_category r.category r.category) (same_text r.message r.message) (category_itself r.category) (text_itself r.message))
@@ -86,7 +86,7 @@ module _ (f : Interned → Bool) where
   number_here [] more x h = ap (λ b. cond b 0 (number_of f more + 1)) h
   number_here (y ∷ l) more x h = ap (λ n. cond (f y) 0 (n + 1)) (number_here l more x h)
 
-  number_still : (l more : List Interned) → list_any f l ≡ true → number_of f (l ++ more) ≡ number_of f l
+  pub number_still : (l more : List Interned) → list_any f l ≡ true → number_of f (l ++ more) ≡ number_of f l
   number_still [] more h = cc
   number_still (y ∷ l) more h =
       elim (f y) as (λ b. (b || list_any f l) ≡ true → cond b 0 (number_of f (l ++ more) + 1) ≡ cond b 0 (number_of f l + 1)) [
@@ -125,7 +125,7 @@ module _ (f : Interned → Bool) where
   not_next : (l : List Interned) → list_any f l ≡ true → (number_of f l == length l) ≡ false
   not_next l h = apart (number_of f l) (length l) (number_within l h)
 
-  passes : (l : List Interned) → (number_of f l == length l) ≡ false → list_any f l ≡ true
+  pub passes : (l : List Interned) → (number_of f l == length l) ≡ false → list_any f l ≡ true
   passes l h =
       elim (list_any f l) as (λ b. list_any f l ≡ b → b ≡ true) [
         | true ↦ λ e. refl
@@ -181,6 +181,9 @@ module _ (id : IdentifierId) (r : Report) where
   grows_if true l = grows_by l (interned id r ∷ [])
   grows_if false l = grows_self l
 
+  pub grows_by_report : (l : List Interned) → Grows l (with_interned l id r)
+  grows_by_report l = grows_if (number_of inst l == length l) l
+
   abbrev answer_if : Bool → ℕ → ℕ → List Interned → Step DiagnosticId
   answer_if b i j reports t = if b then Ok (record { identity = i; instance = j }, with_reports t reports) else Err (TooMany Diagnostics)
 
@@ -188,7 +191,7 @@ module _ (id : IdentifierId) (r : Report) where
   few i j = nat_lt i 4294967295 && nat_lt j 4294967295
 
   added : (t : TableLists) → Extends t (with_reports t (with_interned t.reports id r))
-  added t = record { first = grows_self t.first; temporaries = grows_self t.temporaries; reports = grows_if (number_of inst t.reports == length t.reports) t.reports; reads = grows_self t.reads }
+  added t = record { first = grows_self t.first; temporaries = grows_self t.temporaries; reports = grows_by_report t.reports; reads = grows_self t.reads }
 
   module _ (t u : TableLists) (y : DiagnosticId) where
     abbrev d : DiagnosticId

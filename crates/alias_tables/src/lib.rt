@@ -15,6 +15,7 @@ pub use faults::{EffectFault, Refusal};
 pub use first_effects::FirstEffects;
 pub use key::{EffectKey, effect_key};
 pub use reads::{ContextRead, ContextReads};
+pub use reports::intern_report;
 pub use tables::{TableParts, Tables};
 pub use temp_key::TempKey;
 pub use temporaries::{Temporaries, Temporary};

@@ -1,13 +1,14 @@
 //! The tables of a pass.
 
 ghost use Rattle.std.specs.Prelude.{◌≡◌, ◌&&◌, nat_lt, ◌+◌, [], IfOk, OnOk};
+ghost use Rattle.alias_tables.specs.GrowingLaws.{Grows};
 ghost use Rattle.alias_tables.specs.Tables.{TableLists, Leaves, has_room, new_place, intern, temporary, intern_report, note_read};
 
 use crate::faults::{EffectFault, Refusal};
 use crate::first_effects::FirstEffects;
 use crate::key::{effect_key, with_error_of};
 use crate::reads::{ContextRead, ContextReads};
-use crate::reports::keep_report;
+use crate::reports::intern_report;
 use crate::temp_key::TempKey;
 use crate::temporaries::{Temporaries, Temporary};
 use alias_base::{IdentifierId, List};
@@ -171,24 +172,17 @@ impl Tables {
         Ok(place)
     }
 
-    /// The numbers of a report. A new one is kept, and takes the next number.
+    /// The numbers of a report. A new one is kept, and takes the next number. On every answer the reports have at most
+    /// grown at their end.
     pub fn intern_report(
         &mut self,
         identifier: IdentifierId,
         report: Report,
     ) -> Result<DiagnosticId, EffectFault>
-        ensures { Leaves (intern_report identifier report self.old) result self.new }
+        ensures answer { Leaves (intern_report identifier report self.old) result self.new }
+        ensures grown { Grows self.old.reports self.new.reports }
     {
-        let (identity, instance) = self.reports.numbers_of(identifier, &report);
-        if identity < 4294967295 && instance < 4294967295 {
-            keep_report(&mut self.reports, instance, identifier, report)?;
-            Ok(DiagnosticId {
-                identity: identity as u32,
-                instance: instance as u32,
-            })
-        } else {
-            Err(EffectFault::Refused(Refusal::TooMany(Counter::Diagnostics)))
-        }
+        intern_report(&mut self.reports, identifier, report)
     }
 
     /// Notes that the function only reads its context place.

@@ -1,30 +1,19 @@
 use alias_apply::{MadeIdentifiers, StepContext, StepProgress, intern_and_apply_plain};
-use alias_base::{
-    BlockId, BlockMap, DeclarationId, EvaluationOrder, FunctionId, IdentifierId, List, Text, TypeId,
-};
+use alias_base::{FunctionId, IdentifierId, List, Text};
 use alias_facts::Hoisted;
 use alias_hir::effect::{AliasingEffect, ValueKind, ValueReason};
-use alias_hir::env::{Environment, Identifier, MutableRange};
-use alias_hir::hir::{FunctionType, Hir, HirFunction};
+use alias_hir::env::Environment;
+use alias_hir::hir::{FunctionType, HirFunction};
 use alias_hir::interned::InternedReports;
-use alias_hir::place::{Effect, Place, Span};
+use alias_hir::place::{Place, Span};
 use alias_hir::report::{DiagnosticId, ErrorCategory, Report};
-use alias_hir::types::Ty;
 use alias_lattice::{AbstractValue, InferenceState, ReasonSet, Site};
 use alias_tables::{ContextRead, EffectKey, Tables, TempKey, effect_key};
+use alias_test_units::{add_identifiers, place};
 use std::alloc::{AllocError, Global};
 use std::test::Fail;
 
 const NO_SPAN: Option<Span> = None;
-
-fn place(number: u32) -> Place {
-    Place {
-        identifier: IdentifierId(number),
-        effect: Effect::Unknown,
-        reactive: false,
-        span: NO_SPAN,
-    }
-}
 
 fn render(number: u32, span: Option<Span>) -> AliasingEffect {
     let there = place(number);
@@ -214,43 +203,14 @@ fn temporaries_are_found_again(rt: HostRuntime) -> Result<(), Fail> {
 
 fn function(alloc: Global) -> Result<HirFunction, AllocError> {
     let context = List::from_slice(alloc, &[place(0)])?;
-    Ok(HirFunction {
-        fn_type: FunctionType::Other,
-        params: List::new(alloc),
-        context,
-        context_values: List::new(alloc),
-        returns: place(3),
-        body: Hir {
-            entry: BlockId(0),
-            blocks: BlockMap::new(alloc),
-        },
-        instructions: List::new(alloc),
-        is_async: false,
-        span: NO_SPAN,
-        aliasing_effects: None,
-    })
-}
-
-fn add_four_identifiers(env: &mut Environment) -> Result<(), AllocError> {
-    env.types.push(Ty::Var)?;
-    for number in 0..4 {
-        env.identifiers.push(Identifier {
-            declaration_id: DeclarationId(number),
-            name: None,
-            mutable_range: MutableRange {
-                start: EvaluationOrder::UNSET,
-                end: EvaluationOrder::UNSET,
-            },
-            scope: None,
-            type_: TypeId(0),
-            span: NO_SPAN,
-        })?;
-    }
-    Ok(())
+    let mut func = alias_test_units::function(alloc, FunctionType::Other);
+    func.context = context;
+    func.returns = place(3);
+    Ok(func)
 }
 
 fn fill(alloc: Global, env: &mut Environment) -> Result<(), AllocError> {
-    add_four_identifiers(env)?;
+    add_identifiers(env, 4)?;
     env.functions.push(function(alloc)?)?;
     Ok(())
 }

@@ -1,6 +1,5 @@
 //! Solutions that are made by hand.
 
-use crate::units::place;
 use alias_base::{BlockId, FunctionId, IdentifierId, InstructionId, List, Text};
 use alias_block::{InstructionEffects, TerminalEffects};
 use alias_effects::{BlockEntry, Solved};
@@ -8,6 +7,7 @@ use alias_hir::effect::{AliasingEffect, AliasingEffects, ValueKind, ValueReason}
 use alias_lattice::{AbstractValue, InferenceState, ReasonSet, Site};
 use alias_tables::temp_key::Name;
 use alias_tables::{TempKey, Temporaries};
+use alias_test_units::place;
 use std::alloc::{AllocError, Global};
 
 /// A site of each form, and two that differ by their reason alone, in descending order.

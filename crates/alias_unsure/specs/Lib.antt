@@ -1,6 +1,6 @@
 pub mod Words
-pub mod WordLaws
 pub mod Sets
-pub mod SetLaws
 pub mod Ways
+pub mod WordLaws
+pub mod SetLaws
 pub mod WayLaws

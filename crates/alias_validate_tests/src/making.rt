@@ -1,12 +1,10 @@
 //! Functions of one block, with their tables.
 
-use alias_base::{
-    BlockId, BlockMap, DeclarationId, EvaluationOrder, FunctionId, IdentifierId, InstructionId,
-    List, Text, TypeId,
-};
+use alias_base::{BlockId, EvaluationOrder, FunctionId, InstructionId, List, Text};
 use alias_hir::effect::AliasingEffect;
-use alias_hir::env::{Environment, Identifier, IdentifierName, MutableRange};
-use alias_hir::hir::{BasicBlock, FunctionType, Hir, HirFunction, Instruction};
+use alias_hir::env::{Environment, Identifier, IdentifierName};
+use alias_hir::hir::{BasicBlock, FunctionType, HirFunction, Instruction};
+use alias_hir::lookup::fresh_identifier;
 use alias_hir::place::{Effect, Place, PlaceOrSpread, Span};
 use alias_hir::terminal::Terminal;
 use alias_hir::types::Ty;
@@ -15,12 +13,9 @@ use std::alloc::{AllocError, Global};
 
 /// A place of the identifier, with no span.
 pub fn place(number: u32, effect: Effect) -> Place {
-    Place {
-        identifier: IdentifierId(number),
-        effect,
-        reactive: false,
-        span: None,
-    }
+    let mut place = alias_test_units::place(number);
+    place.effect = effect;
+    place
 }
 
 /// A place that is read.
@@ -37,22 +32,11 @@ pub fn at(number: u32, effect: Effect, start: u32) -> Place {
 
 /// The identifier of that number. 1 is named `x`.
 fn identifier(alloc: Global, number: u32) -> Result<Identifier, AllocError> {
-    let name = if number == 1 {
-        Some(IdentifierName::Named(Text::from_str(alloc, "x")?))
-    } else {
-        None
-    };
-    Ok(Identifier {
-        declaration_id: DeclarationId(number),
-        name,
-        mutable_range: MutableRange {
-            start: EvaluationOrder::UNSET,
-            end: EvaluationOrder::UNSET,
-        },
-        scope: None,
-        type_: TypeId(number),
-        span: None,
-    })
+    let mut identifier = fresh_identifier(None, number, number);
+    if number == 1 {
+        identifier.name = Some(IdentifierName::Named(Text::from_str(alloc, "x")?));
+    }
+    Ok(identifier)
 }
 
 fn add_identifiers(alloc: Global, env: &mut Environment, count: u32) -> Result<(), AllocError> {
@@ -98,34 +82,20 @@ fn block(
         numbers.push(InstructionId(next))?;
         next = next.wrapping_add(1);
     }
-    Ok(BasicBlock {
-        phis: List::new(alloc),
-        instructions: numbers,
-        terminal: Terminal::Return {
-            id: EvaluationOrder(9),
-            value,
-            effects: None,
-        },
-    })
+    let terminal = Terminal::Return {
+        id: EvaluationOrder(9),
+        value,
+        effects: None,
+    };
+    alias_test_units::block(alloc, numbers.as_slice(), terminal)
 }
 
 /// A function of no blocks, whose summary is given.
 pub fn function(alloc: Global, summary: List<AliasingEffect>) -> HirFunction {
-    HirFunction {
-        fn_type: FunctionType::Other,
-        params: List::new(alloc),
-        context: List::new(alloc),
-        context_values: List::new(alloc),
-        returns: read(7),
-        body: Hir {
-            entry: BlockId(0),
-            blocks: BlockMap::new(alloc),
-        },
-        instructions: List::new(alloc),
-        is_async: false,
-        span: None,
-        aliasing_effects: Some(summary),
-    }
+    let mut func = alias_test_units::function(alloc, FunctionType::Other);
+    func.returns = read(7);
+    func.aliasing_effects = Some(summary);
+    func
 }
 
 /// Puts all instructions of the function into its one block, which returns the value.

@@ -8,6 +8,7 @@ use alias_hir::value::{
     InstructionKind, InstructionValue, JsxAttribute, JsxTag, LValue, LValuePattern,
     LoweredFunction, ObjectPattern, ObjectProperty, ObjectPropertyOrSpread, Pattern,
 };
+use alias_test_units::place;
 use alias_visit::lvalues::{each_instruction_lvalue_ids, each_instruction_value_lvalue};
 use alias_visit::lvalues_mut::for_each_instruction_value_lvalue_mut;
 use alias_visit::operands::each_instruction_value_operand;
@@ -19,15 +20,6 @@ use std::alloc::{AllocError, Global};
 use std::test::Fail;
 
 const NO_SPAN: Option<Span> = None;
-
-fn place(number: u32) -> Place {
-    Place {
-        identifier: IdentifierId(number),
-        effect: Effect::Unknown,
-        reactive: false,
-        span: NO_SPAN,
-    }
-}
 
 /// The identifiers of the places, below ten each, as the digits of one number.
 fn numbers(places: &[Place]) -> u32 {

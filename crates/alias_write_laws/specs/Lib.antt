@@ -1,5 +1,5 @@
 pub mod Writes
 pub mod Telling
-pub mod WriteLaws
 pub mod BlockWrites
 pub mod Solutions
+pub mod WriteLaws

@@ -20,6 +20,6 @@ number_report-requires c = told_length c.args.env.now c.args.signature.now c.arg
 -- with the numbers of its report it is the one stated
 pub returns-clause-answer : goal.returns-clause-answer
 returns-clause-answer c =
-    told_ok c.args.env.now c.args.signature.now c.args.site c.args.args.now c.args.state.now c.requires c.in_ok-legacy.legacy c.in_ok-legacy.ensures c.in_ok-error.error c.intern.new.reports
-    (ap (λ r. intern_report c.args.site.receiver.identifier r (tables_with c.args.env.now.interned)) (sym c.in_ok-report.ensures) ∙ c.in_ok-error.ensures.answer)
-    ∙ ap (λ es. Ok (legacy es c.in_ok-legacy.legacy.missing, record c.args.env.now { interned = c.intern.new.reports })) (sym c.number_report.ensures)
+    told_ok c.args.env.now c.args.signature.now c.args.site c.args.args.now c.args.state.now c.requires c.in_ok-legacy.legacy c.in_ok-legacy.ensures c.in_ok-error.error c.intern_report.new.reports
+    (ap (λ r. intern_report c.args.site.receiver.identifier r (tables_with c.args.env.now.interned)) (sym c.in_ok-report.ensures) ∙ c.in_ok-error.ensures.answer (tables_with c.args.env.now.interned))
+    ∙ ap (λ es. Ok (legacy es c.in_ok-legacy.legacy.missing, record c.args.env.now { interned = c.intern_report.new.reports })) (sym c.number_report.ensures)

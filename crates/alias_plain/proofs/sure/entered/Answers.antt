@@ -6,7 +6,7 @@ use Rattle.alias_base.specs.declared.ids.BlockId.{BlockId}
 use Rattle.alias_flow.specs.Machine.{joined}
 use Rattle.alias_unsure.specs.Sets.{Rows, union}
 use Rattle.alias_plain_laws.specs.UnsureFlow.{source_of, with_phis, entered_from, rows_or_none}
-use Rattle.alias_plain_laws.specs.Walks.{left_after, left-none, left-some, left_fewer, left-end}
+use Rattle.alias_lattice.specs.WalkLaws.{left_after, left-none, left-some, left_fewer, left-end}
 use Rattle.alias_plain.proofs.sure.entered.Goals as goal
 
 pub ways-init : goal.ways-init

@@ -8,7 +8,8 @@ use Rattle.alias_lattice.specs.SiteOrderLaws.{sites_total}
 use Rattle.alias_lattice.specs.declared.site.Site.{Site}
 use Rattle.alias_text.specs.Certificates.{spaced_site, sites_text}
 use Rattle.alias_text.specs.Fitting.{SmallEntry}
-use Rattle.alias_text.proofs.Walks.{left-none, left_fewer, still_complete, still_all, now_complete, now_all}
+use Rattle.alias_lattice.specs.WalkLaws.{left-none, left_fewer}
+use Rattle.alias_text.proofs.Walks.{still_complete, still_all, now_complete, now_all}
 use Rattle.alias_text.proofs.certificates.push_sites.Goals as goal
 
 entry_of : (o : Option (Site × Unit {0})) (k : Site) → option_map (λ (e : Site × Unit {0}). e.0) o ≡ Some k → o ≡ Some (k, tt)

@@ -3,7 +3,7 @@ use Rattle.std.specs.List.{AllByRecursion}
 use Rattle.alias_lattice.specs.SiteOrder.{site_cmp}
 use Rattle.alias_text.specs.Certificates.{sites_text}
 use Rattle.alias_text.specs.Fitting.{SmallEntry}
-use Rattle.alias_text.proofs.Walks.{left_after}
+use Rattle.alias_lattice.specs.WalkLaws.{left_after}
 use Rattle.alias_text.proofs.certificates.push_sites.Given as goal
 
 -- the sites that are left complete the text, and all are small where they are

@@ -5,7 +5,8 @@ use Rattle.alias_lattice.specs.SiteOrder.{site_cmp}
 use Rattle.alias_lattice.specs.SiteOrderLaws.{sites_total}
 use Rattle.alias_text.specs.Certificates.{value_line}
 use Rattle.alias_text.specs.Fitting.{FittingValue}
-use Rattle.alias_text.proofs.Walks.{left-none, left_fewer, still_complete, still_all, now_complete, now_all}
+use Rattle.alias_lattice.specs.WalkLaws.{left-none, left_fewer}
+use Rattle.alias_text.proofs.Walks.{still_complete, still_all, now_complete, now_all}
 use Rattle.alias_text.proofs.certificates.push_values.Goals as goal
 
 pub values-init : goal.values-init

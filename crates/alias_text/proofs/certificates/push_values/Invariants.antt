@@ -3,7 +3,7 @@ use Rattle.std.specs.List.{AllByRecursion, flat_map}
 use Rattle.alias_lattice.specs.SiteOrder.{site_cmp}
 use Rattle.alias_text.specs.Certificates.{value_line}
 use Rattle.alias_text.specs.Fitting.{FittingValue}
-use Rattle.alias_text.proofs.Walks.{left_after}
+use Rattle.alias_lattice.specs.WalkLaws.{left_after}
 use Rattle.alias_text.proofs.certificates.push_values.Given as goal
 
 -- the values that are left complete the text, and all fit where they do

@@ -4,7 +4,8 @@ use Rattle.alias_lattice.specs.KeyLaws.{ids_total}
 use Rattle.alias_lattice.specs.Keys.{id_cmp}
 use Rattle.alias_text.specs.Certificates.{variable_line}
 use Rattle.alias_text.specs.Fitting.{SmallVariable}
-use Rattle.alias_text.proofs.Walks.{left-none, left_fewer, still_complete, still_all, now_complete, now_all}
+use Rattle.alias_lattice.specs.WalkLaws.{left-none, left_fewer}
+use Rattle.alias_text.proofs.Walks.{still_complete, still_all, now_complete, now_all}
 use Rattle.alias_text.proofs.certificates.push_variables.Goals as goal
 
 pub variables-init : goal.variables-init

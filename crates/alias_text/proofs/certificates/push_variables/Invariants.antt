@@ -3,7 +3,7 @@ use Rattle.std.specs.List.{AllByRecursion, flat_map}
 use Rattle.alias_lattice.specs.Keys.{id_cmp}
 use Rattle.alias_text.specs.Certificates.{variable_line}
 use Rattle.alias_text.specs.Fitting.{SmallVariable}
-use Rattle.alias_text.proofs.Walks.{left_after}
+use Rattle.alias_lattice.specs.WalkLaws.{left_after}
 use Rattle.alias_text.proofs.certificates.push_variables.Given as goal
 
 -- the sets that are left complete the text, and all are small where they are

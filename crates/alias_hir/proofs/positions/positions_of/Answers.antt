@@ -1,7 +1,7 @@
 use Rattle.std.proofs.Common.{◌∙◌, ap, sym, Some, None, append-nil}
-use Rattle.alias_effects.proofs.Moving.{positions_left}
-use Rattle.alias_effects.proofs.pass.positions_of.Goals as goal
-use Rattle.alias_effects.proofs.pass.positions_of.Goals.{in-Some+in_ok-push, in_default}
+use Rattle.alias_hir.proofs.PositionLemmas.{positions_left}
+use Rattle.alias_hir.proofs.positions.positions_of.Goals as goal
+use Rattle.alias_hir.proofs.positions.positions_of.Goals.{in-Some+in_ok-push, in_default}
 
 pub loop-name-preserved : goal.loop-name-preserved
 loop-name-preserved c =

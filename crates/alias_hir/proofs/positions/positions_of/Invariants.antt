@@ -1,6 +1,6 @@
 use Rattle.std.proofs.Common.{◌≡◌, ◌++◌, drop}
-use Rattle.alias_plain_laws.specs.Positions.{positions_of}
-use Rattle.alias_plain.proofs.flow.positions_of.Given as goal
+use Rattle.alias_hir.specs.Positions.{positions_of}
+use Rattle.alias_hir.proofs.positions.positions_of.Given as goal
 
 -- the positions so far, and those of the names that are left, are all positions
 abbrev pub invariant-loop-name : goal.invariant-loop-name

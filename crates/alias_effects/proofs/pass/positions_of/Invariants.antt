@@ -1,7 +1,0 @@
-use Rattle.std.proofs.Common.{◌≡◌, ◌++◌, drop}
-use Rattle.alias_effects.specs.Numbered.{positions_of}
-use Rattle.alias_effects.proofs.pass.positions_of.Given as goal
-
--- the positions so far, and those of the names that are left, are all positions
-abbrev pub invariant-loop-name : goal.invariant-loop-name
-invariant-loop-name l = l.positions.items ++ positions_of l.blocks (drop l.name-index l.names) ≡ positions_of l.blocks l.names
