@@ -9,14 +9,14 @@ use Rattle.alias_base.specs.declared.ids.InstructionId.{InstructionId}
 use Rattle.alias_hir.specs.declared.hir.BasicBlock.{BasicBlock}
 use Rattle.alias_hir.specs.declared.hir.HirFunction.{HirFunction}
 use Rattle.alias_hir.specs.declared.hir.Instruction.{Instruction}
-use Rattle.alias_bare_laws.specs.BareParts.{terminal_records}
+use Rattle.alias_fitting_laws.specs.bare.BareParts.{terminal_records}
 use Rattle.alias_effects.specs.declared.solved.BlockEntry.{BlockEntry}
-use Rattle.alias_range_places.specs.Keeping.{but_instruction, but_block, but_entry}
+use Rattle.alias_range_pass.specs.places.Keeping.{but_instruction, but_block, but_entry}
 use Rattle.alias_text.specs.Lines.{effect_text, recorded, recorded_of}
 use Rattle.alias_certificate.specs.declared.certificate.CertBlock.{CertBlock}
 use Rattle.alias_certificate.specs.declared.certificate.CertEffect.{CertEffect}
-use Rattle.alias_cert_text_laws.specs.Certifying.{cert_value, cert_variable, cert_effect, effects_of, effects_in, ends_in, cert_block}
-use Rattle.alias_inferred_laws.specs.Solutions.{but_ranged}
+use Rattle.alias_certificate_laws.specs.text.Certifying.{cert_value, cert_variable, cert_effect, effects_of, effects_in, ends_in, cert_block}
+use Rattle.alias_inferred_laws.specs.inferred.Solutions.{but_ranged}
 
 recorded_same : (o : Option Instruction) → recorded_of (option_map but_instruction o) ≡ recorded_of o
 recorded_same None = refl

@@ -14,15 +14,15 @@ use Rattle.alias_hir.specs.declared.hir.HirFunction.{HirFunction}
 use Rattle.alias_hir.specs.declared.hir.Instruction.{Instruction}
 use Rattle.alias_hir.specs.declared.terminal.Terminal.{Terminal}
 use Rattle.alias_hir.specs.declared.terminal.Terminal.TheVariants.{Return, MaybeThrow}
-use Rattle.alias_block.specs.declared.recorded.BlockEffects.{BlockEffects}
-use Rattle.alias_block.specs.declared.recorded.InstructionEffects.{InstructionEffects}
-use Rattle.alias_block.specs.declared.recorded.TerminalEffects.{TerminalEffects}
+use Rattle.alias_step.specs.declared.block.recorded.BlockEffects.{BlockEffects}
+use Rattle.alias_step.specs.declared.block.recorded.InstructionEffects.{InstructionEffects}
+use Rattle.alias_step.specs.declared.block.recorded.TerminalEffects.{TerminalEffects}
 use Rattle.alias_effects.specs.Inference.{instructions_recorded, terminal_recorded}
 use Rattle.alias_effects.specs.Recording.{recorded_instructions, block_with, with_terminal_at, recorded_terminals, with_effects_of}
 use Rattle.alias_effects.specs.declared.solved.Solved.{Solved}
-use Rattle.alias_accept_laws.specs.Alike.{Paired, none, more, Maybe, nothing, just, Alike, AlikeEffects}
-use Rattle.alias_accept_laws.specs.AlikeBlocks.{AlikeInstruction, of_instruction, AlikeTerminal, of_terminal, AlikeRecorded}
-use Rattle.alias_accept_laws.proofs.Likeness.{paired_self, paired_append, paired_get, alike_self}
+use Rattle.alias_certificate_laws.specs.accepting.Alike.{Paired, none, more, Maybe, nothing, just, Alike, AlikeEffects}
+use Rattle.alias_certificate_laws.specs.accepting.AlikeBlocks.{AlikeInstruction, of_instruction, AlikeTerminal, of_terminal, AlikeRecorded}
+use Rattle.alias_certificate_laws.proofs.accepting.Likeness.{paired_self, paired_append, paired_get, alike_self}
 use Rattle.alias_range_alike_laws.specs.Ranging.{CarryAlike, carried, EndAlike, stays, ended, CarriesAlike}
 use Rattle.alias_accepted_laws.proofs.Seen.{paired_set}
 

@@ -13,35 +13,35 @@ use Rattle.alias_lattice.specs.Flows.{Stepped, IsReached}
 use Rattle.alias_lattice.specs.JoinLaws.{state_laws}
 use Rattle.alias_lattice.specs.States.{State, state_join, state_below}
 use Rattle.alias_flow.specs.Solutions.{entry_at, RecordsSteps, KeepsOthers}
-use Rattle.alias_flow_check.specs.Checks.{Arriving, solution_checked}
-use Rattle.alias_flow_check.proofs.Solves.{check_keeps, check_keeps_others, check_keeps_count}
+use Rattle.alias_flow.specs.check.Checks.{Arriving, solution_checked}
+use Rattle.alias_flow.proofs.check.Solves.{check_keeps, check_keeps_others, check_keeps_count}
 use Rattle.alias_tables.specs.GrowingLaws.{grows_self}
 use Rattle.alias_tables.specs.Tables.{TableLists}
 use Rattle.alias_tables.specs.declared.temporaries.Temporary.{Temporary}
-use Rattle.alias_block.specs.Blocks.{infer_block}
-use Rattle.alias_block.specs.Contexts.{BlockContext, context_of}
-use Rattle.alias_block.specs.Recorded.{no_effects}
-use Rattle.alias_block.specs.declared.faults.BlockRefusal.{BlockRefusal}
-use Rattle.alias_block.specs.declared.recorded.BlockEffects.{BlockEffects}
-use Rattle.alias_write_back.specs.WriteBack.{tables_of}
+use Rattle.alias_step.specs.block.Blocks.{infer_block}
+use Rattle.alias_step.specs.block.Contexts.{BlockContext, context_of}
+use Rattle.alias_step.specs.block.Recorded.{no_effects}
+use Rattle.alias_step.specs.declared.block.faults.BlockRefusal.{BlockRefusal}
+use Rattle.alias_step.specs.declared.block.recorded.BlockEffects.{BlockEffects}
+use Rattle.alias_tables.specs.write_back.WriteBack.{tables_of}
 use Rattle.alias_effects.specs.FunctionFlow.{outcome_of}
 use Rattle.alias_effects.specs.Numbered.{step_at}
 use Rattle.alias_effects.specs.declared.output.PassEnd.{PassEnd}
 use Rattle.alias_certificate.specs.declared.certificate.CertFunction.{CertFunction}
 use Rattle.alias_certificate.specs.declared.fault.CheckFault.TheVariants as fault
-use Rattle.alias_cert_function.specs.declared.claims.Difference.{Difference}
-use Rattle.alias_cert_function.specs.Faults.{faulted}
-use Rattle.alias_cert_function.specs.Functions.{checked_end, function_solved}
-use Rattle.alias_cert_function.specs.Temporaries.{temporaries_stated}
-use Rattle.alias_accept_laws.specs.Accepting.{rules, rules_of, IsAcceptedOrFull, accepted, full}
-use Rattle.alias_accept_laws.specs.Alike.{Paired, none, more, Maybe, nothing, just, AlikeTemporaries, Gives, given, excused, Elsewhere, elsewhere}
-use Rattle.alias_accept_laws.specs.AlikeBlocks.{AlikeRecorded, AlikeOut, out, IsBlockFull}
-use Rattle.alias_accept_laws.specs.Certifying.{IsSolution}
-use Rattle.alias_accept_laws.specs.Saying.{said_temporary, said_function}
-use Rattle.alias_accept_laws.proofs.Blocking.{away, same_infer_block}
-use Rattle.alias_accept_laws.proofs.Certifying.{some_or_none, laws, asked as asked_of, remade, begun as begun_of, before, steps_accepted}
-use Rattle.alias_accept_laws.proofs.Knowing.{facts_elsewhere}
-use Rattle.alias_accept_laws.proofs.Solutions.{stepped_is, reached_there}
+use Rattle.alias_cert.specs.declared.function.claims.Difference.{Difference}
+use Rattle.alias_cert.specs.function.Faults.{faulted}
+use Rattle.alias_cert.specs.function.Functions.{checked_end, function_solved}
+use Rattle.alias_cert.specs.function.Temporaries.{temporaries_stated}
+use Rattle.alias_certificate_laws.specs.accepting.Accepting.{rules, rules_of, IsAcceptedOrFull, accepted, full}
+use Rattle.alias_certificate_laws.specs.accepting.Alike.{Paired, none, more, Maybe, nothing, just, AlikeTemporaries, Gives, given, excused, Elsewhere, elsewhere}
+use Rattle.alias_certificate_laws.specs.accepting.AlikeBlocks.{AlikeRecorded, AlikeOut, out, IsBlockFull}
+use Rattle.alias_certificate_laws.specs.accepting.Certifying.{IsSolution}
+use Rattle.alias_certificate_laws.specs.accepting.Saying.{said_temporary, said_function}
+use Rattle.alias_certificate_laws.proofs.accepting.Blocking.{away, same_infer_block}
+use Rattle.alias_certificate_laws.proofs.accepting.Certifying.{some_or_none, laws, asked as asked_of, remade, begun as begun_of, before, steps_accepted}
+use Rattle.alias_certificate_laws.proofs.accepting.Knowing.{facts_elsewhere}
+use Rattle.alias_certificate_laws.proofs.accepting.Solutions.{stepped_is, reached_there}
 use Rattle.alias_accepted_laws.specs.Following.{OrFull, done, full as full_check}
 
 none_of : {A : Type 0} (n b : ℕ) → entry_at {P = A} (replicate n None) b ≡ None

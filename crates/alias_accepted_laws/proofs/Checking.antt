@@ -5,8 +5,8 @@ use Rattle.alias_base.specs.Answer.{◌>>=◌}
 use Rattle.alias_lattice.specs.Flows.{Outcome, Stepped, Refused}
 use Rattle.alias_flow.specs.Machine.{Rules, up, send_all}
 use Rattle.alias_flow.specs.Solutions.{entry_at}
-use Rattle.alias_flow_check.specs.Checks.{first_not_above, not_joined, Arriving, passed, outcome_checked, state_checked, block_checked, blocks_checked, joined_unless, joins_checked, begins, begun_with, solution_checked}
-use Rattle.alias_order_laws.proofs.Ordering.{went}
+use Rattle.alias_flow.specs.check.Checks.{first_not_above, not_joined, Arriving, passed, outcome_checked, state_checked, block_checked, blocks_checked, joined_unless, joins_checked, begins, begun_with, solution_checked}
+use Rattle.alias_answer_laws.proofs.order.Ordering.{went}
 
 module _ {P T K C D : Type 0} (join : P → P → P) (below : P → P → Bool) (rules : Rules P T K C) (differs : T → ℕ → K → Option D) (entries : List (Option P)) (inv : T → Type 0)
     (step : (t : T) (b : ℕ) (x y : P) (u : T) (k : K) → entry_at entries b ≡ Some x → inv t → rules.flow.step t b x ≡ Stepped y u k → inv u) where

@@ -20,7 +20,7 @@ use Rattle.alias_hir.specs.declared.hir.ParamPattern.{ParamPattern}
 use Rattle.alias_hir.specs.declared.place.Place.{Place}
 use Rattle.alias_hir.specs.declared.place.PlaceOrSpread.{PlaceOrSpread}
 use Rattle.alias_hir.specs.declared.place.Span.{Span}
-use Rattle.alias_hir.specs.declared.report.DiagnosticId.{DiagnosticId}
+use Rattle.alias_hir.specs.declared.report.ReportId.{ReportId}
 use Rattle.alias_hir.specs.declared.types.Ty.{Ty}
 use Rattle.alias_hir.specs.declared.value.ArrayElement.{ArrayElement}
 use Rattle.alias_hir.specs.declared.value.ArrayElement.TheVariants as element
@@ -55,9 +55,9 @@ use Rattle.alias_signature.specs.Loads.{property_load_effects}
 use Rattle.alias_signature.specs.Patterns.{target_effects, item_effects, target_property_effects, pattern_effects}
 use Rattle.alias_signature.specs.Signatures.{signature_of_value}
 use Rattle.alias_signature.specs.Stores.{is_current, property_store_effects}
-use Rattle.alias_accept_laws.specs.Alike.{Paired, Maybe, nothing, just}
-use Rattle.alias_accept_laws.proofs.Calling.{same_length}
-use Rattle.alias_accept_laws.proofs.Likeness.{paired_get}
+use Rattle.alias_certificate_laws.specs.accepting.Alike.{Paired, Maybe, nothing, just}
+use Rattle.alias_certificate_laws.proofs.accepting.Calling.{same_length}
+use Rattle.alias_certificate_laws.proofs.accepting.Likeness.{paired_get}
 use Rattle.alias_range_alike_laws.specs.Spans.{Respanned, respanned}
 use Rattle.alias_accepted_laws.specs.Spans.{with_ids}
 
@@ -195,7 +195,7 @@ module _ (env : Environment) (ids : List Identifier) (spans : Paired Respanned e
   load_same : (l object : Place) → property_load_effects there l object ≡ property_load_effects env l object
   load_same l object = λ i. if primitive_same l.identifier i then created l Primitive ∷ [] else CreateFrom object l ∷ []
 
-  pub signature_same : (facts : FunctionFacts) (d : Option DiagnosticId) (l : Place) (span : Option Span) (v : InstructionValue) → signature_of_value (known there facts d) l span v ≡ signature_of_value (known env facts d) l span v
+  pub signature_same : (facts : FunctionFacts) (d : Option ReportId) (l : Place) (span : Option Span) (v : InstructionValue) → signature_of_value (known there facts d) l span v ≡ signature_of_value (known env facts d) l span v
   signature_same facts d l span (value.ArrayExpression elements) = λ i. created l Mutable ∷ flat_map (λ e. element_same l e i) elements
   signature_same facts d l span (value.NewExpression callee args) = call_same callee callee false args l span
   signature_same facts d l span (value.CallExpression callee args) = call_same callee callee true args l span

@@ -27,28 +27,28 @@ use Rattle.alias_tables.specs.declared.faults.Refusal.{Refusal}
 use Rattle.alias_tables.specs.declared.faults.Refusal.TheVariants as refused
 use Rattle.alias_tables.specs.declared.temp_key.TempKey.{TempKey}
 use Rattle.alias_tables.specs.declared.temporaries.Temporary.{Temporary}
-use Rattle.alias_block.specs.Contexts.{context_of}
-use Rattle.alias_block.specs.Blocks.{infer_block}
-use Rattle.alias_block.specs.declared.recorded.BlockEffects.{BlockEffects}
+use Rattle.alias_step.specs.block.Contexts.{context_of}
+use Rattle.alias_step.specs.block.Blocks.{infer_block}
+use Rattle.alias_step.specs.declared.block.recorded.BlockEffects.{BlockEffects}
 use Rattle.alias_effects.specs.Numbered.{numbered, step_at}
 use Rattle.alias_effects.specs.PassLaws.{outcome_is}
 use Rattle.alias_certificate.specs.declared.certificate.CertTemporary.{CertTemporary}
 use Rattle.alias_certificate.specs.declared.fault.CheckFault.{CheckFault}
 use Rattle.alias_certificate.specs.declared.fault.CheckFault.TheVariants as fault
-use Rattle.alias_cert_function.specs.Temporaries.{is_key_there, next_number, given, temporary_stated, temporaries_stated}
-use Rattle.alias_entry_laws.specs.Named.{KeyNamed, AreNumbered}
-use Rattle.alias_entry_laws.proofs.Blocks.{OptionKnown, AreKnown, PhisNamed, block_inferred}
-use Rattle.alias_entry_laws.proofs.Leading.{Placed, Counted}
-use Rattle.alias_entry_laws.proofs.States.{Stating, stating_on}
-use Rattle.alias_entry_laws.proofs.Stepping.{InTable, InstructionKnown}
-use Rattle.alias_order_laws.proofs.Ordering.{went}
-use Rattle.alias_accept_laws.specs.Alike.{none, more, moved, of_key, AlikeTemporaries}
-use Rattle.alias_accept_laws.proofs.Calling.{same_length}
-use Rattle.alias_accept_laws.proofs.Likeness.{paired_append}
+use Rattle.alias_cert.specs.function.Temporaries.{is_key_there, next_number, given, temporary_stated, temporaries_stated}
+use Rattle.alias_effects_laws.specs.entries.Named.{KeyNamed, AreNumbered}
+use Rattle.alias_effects_laws.proofs.entries.Blocks.{OptionKnown, AreKnown, PhisNamed, block_inferred}
+use Rattle.alias_effects_laws.proofs.entries.Leading.{Placed, Counted}
+use Rattle.alias_effects_laws.proofs.entries.States.{Stating, stating_on}
+use Rattle.alias_effects_laws.proofs.entries.Stepping.{InTable, InstructionKnown}
+use Rattle.alias_answer_laws.proofs.order.Ordering.{went}
+use Rattle.alias_certificate_laws.specs.accepting.Alike.{none, more, moved, of_key, AlikeTemporaries}
+use Rattle.alias_certificate_laws.proofs.accepting.Calling.{same_length}
+use Rattle.alias_certificate_laws.proofs.accepting.Likeness.{paired_append}
 
 -- ---- the tables that a check begins with
 
--- nothing is noted, and there is no first effect yet
+-- nothing is noted, and there is no interned effect yet
 pub record IsFresh (t : TableLists) : Type 0 where
   pub first : t.first ≡ []
   pub reads : t.reads ≡ []

@@ -12,47 +12,47 @@ use Rattle.alias_lattice.specs.States.{State}
 use Rattle.alias_flow.specs.Machine.{SolverState, VisitLog, Solved}
 use Rattle.alias_rules.specs.Fitting.{function_fits}
 use Rattle.alias_tables.specs.Tables.{TableLists}
-use Rattle.alias_block.specs.Contexts.{context_of}
-use Rattle.alias_block.specs.declared.recorded.BlockEffects.{BlockEffects}
+use Rattle.alias_step.specs.block.Contexts.{context_of}
+use Rattle.alias_step.specs.declared.block.recorded.BlockEffects.{BlockEffects}
 use Rattle.alias_effects.specs.Inference.{end_of, env_after, answer_of, pass_end}
 use Rattle.alias_effects.specs.Numbered.{visits_end}
 use Rattle.alias_effects.specs.Recording.{with_effects_of}
 use Rattle.alias_effects.specs.declared.output.PassEnd.{PassEnd}
 use Rattle.alias_range_pass.specs.Passes.{Ranged, range_pass}
-use Rattle.alias_range_places.specs.Keeping.{but_context}
+use Rattle.alias_range_pass.specs.places.Keeping.{but_context}
 use Rattle.alias_nested.specs.Analysis.{Analysed, Analysis, analysis, numbered, function_analysed}
 use Rattle.alias_nested.specs.Finishing.{finished}
 use Rattle.alias_nested.specs.Order.{SameInSlot}
-use Rattle.alias_nested.specs.Settling.{settled}
+use Rattle.alias_nested.specs.Annotating.{annotated}
 use Rattle.alias_nested.proofs.Changing.{slots_stay}
 use Rattle.alias_nested.proofs.Evolving.{passed_contexts}
-use Rattle.alias_inferred_laws.proofs.Listing.{Passed, function_passed}
-use Rattle.alias_inferred_laws.proofs.Ranging.{PassLeaves, pass_leaves}
+use Rattle.alias_inferred_laws.proofs.inferred.Listing.{Passed, function_passed}
+use Rattle.alias_inferred_laws.proofs.inferred.Ranging.{PassLeaves, pass_leaves}
 use Rattle.alias_text.specs.Lines.{effect_text}
 use Rattle.alias_certificate.specs.declared.certificate.CertFunction.{CertFunction}
 use Rattle.alias_certificate.specs.declared.fault.CheckFault.{CheckFault}
 use Rattle.alias_certificate.specs.declared.fault.CheckFault.TheVariants as fault
 use Rattle.alias_cert.specs.Functions.{CheckedFunction, Checking, checking, checked_function, said, ranging, stored_summary, summed, nested_finished, nested_as_said, nested_checked, root_finished, root_as_said, root_checked}
-use Rattle.alias_cert_effects.specs.Telling.{is_summary_told}
-use Rattle.alias_cert_function.specs.Functions.{function_solved}
-use Rattle.alias_accept_laws.specs.Alike.{AlikeEffects, AlikeFunction}
-use Rattle.alias_accept_laws.specs.Saying.{said_function}
-use Rattle.alias_handed_laws.specs.Handed.{IsNamed}
+use Rattle.alias_cert.specs.effects.Telling.{is_summary_claimed}
+use Rattle.alias_cert.specs.function.Functions.{function_solved}
+use Rattle.alias_certificate_laws.specs.accepting.Alike.{AlikeEffects, AlikeFunction}
+use Rattle.alias_certificate_laws.specs.accepting.Saying.{said_function}
+use Rattle.alias_inferred_laws.specs.handed.Handed.{IsNamed}
 use Rattle.alias_accepted_laws.specs.Following.{SeenAlike, SeenNearly, OrFull, done, EndsAlike, PassesAreFollowed, ReadsAreSet, RangeFollowed, RangesAreFollowed, Follows}
 use Rattle.alias_accepted_laws.proofs.Seen.{after_seen, settled_alike, settled_seen}
-use Rattle.alias_accepted_laws.proofs.Telling.{IsSaidOf, or_full_made, said_there, summary_told}
+use Rattle.alias_accepted_laws.proofs.Telling.{IsSaidOf, or_full_made, said_there, summary_reported}
 
 ok_same : {A E : Type 0} (x y : A) → ◌≡◌ {A = Result A E} (Ok x) (Ok y) → x ≡ y
 ok_same x y h = cc
 
--- a summary that is told goes through
-summed_told : (c : CertFunction) (summary : List AliasingEffect) (f : HirFunction) (a : Checking) → is_summary_told summary c.summary ≡ true → summed c summary f a ≡ Ok (f, a)
-summed_told c summary f a h =
+-- a summary that is reported goes through
+summed_reported : (c : CertFunction) (summary : List AliasingEffect) (f : HirFunction) (a : Checking) → is_summary_claimed summary c.summary ≡ true → summed c summary f a ≡ Ok (f, a)
+summed_reported c summary f a h =
     ap (λ b. let r : Result ⊤ CheckFault = if b then Ok tt else Err (fault.Summary c.function) in let q : Result (HirFunction × Checking) CheckFault = r >>= (λ (u : ⊤). Ok (f, a)) in q) h
 
--- what a certificate says of a function that an effects pass ended so with is told of what is alike
-told_of : (summary there : List AliasingEffect) (c cert : CertFunction) → cert ≡ c → cert.summary ≡ map effect_text summary → AlikeEffects summary there → is_summary_told there c.summary ≡ true
-told_of summary there c cert is texts a = ap (λ (z : CertFunction). is_summary_told there z.summary) (sym is) ∙ ap (is_summary_told there) texts ∙ summary_told summary there a
+-- what a certificate says of a function that an effects pass ended so with is reported of what is alike
+reported_of : (summary there : List AliasingEffect) (c cert : CertFunction) → cert ≡ c → cert.summary ≡ map effect_text summary → AlikeEffects summary there → is_summary_claimed there c.summary ≡ true
+reported_of summary there c cert is texts a = ap (λ (z : CertFunction). is_summary_claimed there z.summary) (sym is) ∙ ap (is_summary_claimed there) texts ∙ summary_reported summary there a
 
 one_more : {A B : Type 0} (xs : List A) (ys : List B) (x : A) (y : B) → length xs ≡ length ys → length (xs ++ x ∷ []) ≡ length (ys ++ y ∷ [])
 one_more xs ys x y e = length-append xs (x ∷ []) ∙ ap (λ n. n + 1) e ∙ sym (length-append ys (y ∷ []))
@@ -84,13 +84,13 @@ module _ (passes : PassesAreFollowed) (reads : ReadsAreSet) (ranges : RangesAreF
 
     -- what the inference made of it
     abbrev made : PassEnd → Ranged → HirFunction × Analysis
-    made e r = ((settled r.summary r.after).0, analysis (settled r.summary r.after).1 (a.functions ++ own id f a e ∷ []))
+    made e r = ((annotated r.summary r.after).0, analysis (annotated r.summary r.after).1 (a.functions ++ own id f a e ∷ []))
 
     -- what the check made of it
     abbrev checks : CertFunction → PassEnd → List CheckedFunction
     checks cert o = c.functions ++ checked_function (Some id) true f c.env cert o ∷ []
 
-    contexts_before : (r : Ranged) (e : PassEnd) (env : Environment) (g : HirFunction) → range_pass true g (env_after env e) ≡ Ok r → map but_context (settled r.summary r.after).1.functions ≡ map but_context env.functions
+    contexts_before : (r : Ranged) (e : PassEnd) (env : Environment) (g : HirFunction) → range_pass true g (env_after env e) ≡ Ok r → map but_context (annotated r.summary r.after).1.functions ≡ map but_context env.functions
     contexts_before r e env g ran =
         let leaves : PassLeaves true g (env_after env e) r = pass_leaves true g (env_after env e) r ran in
         ap (λ (z : Environment). z.functions) leaves.kept.rest ∙ passed_contexts env e
@@ -108,18 +108,18 @@ module _ (passes : PassesAreFollowed) (reads : ReadsAreSet) (ranges : RangesAreF
         range = ranges (env_after a.env (end_of f w)) (env_after c.env o) (begun (end_of f w)) (begun o) true r nearly alike.carries ran
 
         abbrev last : HirFunction × Environment
-        last = settled range.there.summary range.there.after
+        last = annotated range.there.summary range.there.after
 
         finishes : finished (begun o) (env_after c.env o) ≡ Ok last
-        finishes = ap (λ q. let z : Result (HirFunction × Environment) InferError = q >>= (λ (k : Ranged). Ok (settled k.summary k.after)) in z) range.is
+        finishes = ap (λ q. let z : Result (HirFunction × Environment) InferError = q >>= (λ (k : Ranged). Ok (annotated k.summary k.after)) in z) range.is
 
-        told : is_summary_told range.there.summary cert.summary ≡ true
-        told = told_of r.summary range.there.summary cert (said_function (Some id) f w.progress.joined_input w.recorded w.tables.temporaries (map effect_text r.summary)) is refl range.summary
+        reported : is_summary_claimed range.there.summary cert.summary ≡ true
+        reported = reported_of r.summary range.there.summary cert (said_function (Some id) f w.progress.joined_input w.recorded w.tables.temporaries (map effect_text r.summary)) is refl range.summary
 
         finished_so : nested_finished cert id (begun o, checking (env_after c.env o) (checks cert o)) ≡ Ok (last.0, checking last.1 (checks cert o))
         finished_so =
             ap (λ q. ranging (Some id) q >>= (λ (k : HirFunction × Environment). summed cert (stored_summary k.0) k.0 (checking k.1 (checks cert o)))) finishes
-            ∙ summed_told cert range.there.summary last.0 (checking last.1 (checks cert o)) told
+            ∙ summed_reported cert range.there.summary last.0 (checking last.1 (checks cert o)) reported
 
         joined : Whole (last.0, checking last.1 (checks cert o))
         joined = record {
@@ -128,7 +128,7 @@ module _ (passes : PassesAreFollowed) (reads : ReadsAreSet) (ranges : RangesAreF
           count = one_more c.functions a.functions (checked_function (Some id) true f c.env cert o) (own id f a (end_of f w)) follows.count;
           slots = λ k free.
               slots_stay c.env last.1 (contexts_before range.there o c.env (begun o) range.is) k.0 ∙ follows.slots k free
-              ∙ sym (slots_stay a.env (settled r.summary r.after).1 (contexts_before r (end_of f w) a.env (begun (end_of f w)) ran) k.0);
+              ∙ sym (slots_stay a.env (annotated r.summary r.after).1 (contexts_before r (end_of f w) a.env (begun (end_of f w)) ran) k.0);
         }
 
         nested_done : OrFull Whole (nested_finished cert id (begun o, checking (env_after c.env o) (checks cert o)))
@@ -174,13 +174,13 @@ module _ (passes : PassesAreFollowed) (reads : ReadsAreSet) (ranges : RangesAreF
         abbrev root_last : HirFunction × Environment
         root_last = root_range.there.after
 
-        root_told : is_summary_told root_range.there.summary cert.summary ≡ true
-        root_told = told_of r.summary root_range.there.summary cert (said_function None f w.progress.joined_input w.recorded w.tables.temporaries (map effect_text r.summary)) is refl root_range.summary
+        root_reported : is_summary_claimed root_range.there.summary cert.summary ≡ true
+        root_reported = reported_of r.summary root_range.there.summary cert (said_function None f w.progress.joined_input w.recorded w.tables.temporaries (map effect_text r.summary)) is refl root_range.summary
 
         root_finished_so : root_finished cert (root_begun o, checking (env_after c.env o) (root_checks cert o)) ≡ Ok (root_last.0, checking root_last.1 (root_checks cert o))
         root_finished_so =
             ap (λ q. ranging None q >>= (λ (k : Ranged). summed cert k.summary k.after.0 (checking k.after.1 (root_checks cert o)))) root_range.is
-            ∙ summed_told cert root_range.there.summary root_last.0 (checking root_last.1 (root_checks cert o)) root_told
+            ∙ summed_reported cert root_range.there.summary root_last.0 (checking root_last.1 (root_checks cert o)) root_reported
 
         root_done : OrFull (RootJoined a) (root_finished cert (root_begun o, checking (env_after c.env o) (root_checks cert o)))
         root_done =

@@ -18,10 +18,10 @@ use Rattle.alias_rules.specs.Fitting.{function_fits}
 use Rattle.alias_rules.specs.RuleLaws.{fitting_entry}
 use Rattle.alias_tables.specs.Tables.{TableLists, has_room}
 use Rattle.alias_tables.specs.declared.temporaries.Temporary.{Temporary}
-use Rattle.alias_block.specs.Contexts.{context_of}
-use Rattle.alias_block.specs.declared.recorded.BlockEffects.{BlockEffects}
-use Rattle.alias_block_laws.specs.BlockLaws.{StateWithin}
-use Rattle.alias_write_back.specs.WriteBack.{tables_of}
+use Rattle.alias_step.specs.block.Contexts.{context_of}
+use Rattle.alias_step.specs.declared.block.recorded.BlockEffects.{BlockEffects}
+use Rattle.alias_step_laws.specs.blocks.BlockLaws.{StateWithin}
+use Rattle.alias_tables.specs.write_back.WriteBack.{tables_of}
 use Rattle.alias_effects.specs.Inference.{end_of}
 use Rattle.alias_effects.specs.Numbered.{numbered, visits_end}
 use Rattle.alias_effects.specs.Recording.{with_effects_of}
@@ -29,18 +29,18 @@ use Rattle.alias_effects.specs.declared.output.PassEnd.{PassEnd}
 use Rattle.alias_nested.specs.Created.{created_functions}
 use Rattle.alias_certificate.specs.declared.certificate.CertFunction.{CertFunction}
 use Rattle.alias_certificate.specs.declared.fault.CheckFault.{CheckFault}
-use Rattle.alias_cert_function.specs.Functions.{checked_end, function_solved}
-use Rattle.alias_cert_function.specs.Temporaries.{is_key_there}
-use Rattle.alias_entry_laws.proofs.Blocks.{AreKnown}
-use Rattle.alias_entry_laws.proofs.Entries.{tables_named, reached_known}
-use Rattle.alias_entry_laws.proofs.Keeping.{at_holds}
-use Rattle.alias_entry_laws.proofs.Leading.{MakesAll, ReadsHave, Counted}
-use Rattle.alias_entry_laws.proofs.States.{Stating}
-use Rattle.alias_accept_laws.specs.Alike.{none, AlikeTemporaries, Elsewhere, elsewhere}
-use Rattle.alias_accept_laws.specs.Certifying.{NamesItsOwn}
-use Rattle.alias_accept_laws.specs.Saying.{NamesThere, AreCounted, said_temporary, said_function}
-use Rattle.alias_accept_laws.proofs.Calling.{same_length}
-use Rattle.alias_accept_laws.proofs.Elsewhere.{context_at_elsewhere}
+use Rattle.alias_cert.specs.function.Functions.{checked_end, function_solved}
+use Rattle.alias_cert.specs.function.Temporaries.{is_key_there}
+use Rattle.alias_effects_laws.proofs.entries.Blocks.{AreKnown}
+use Rattle.alias_effects_laws.proofs.entries.Entries.{tables_named, reached_known}
+use Rattle.alias_effects_laws.proofs.entries.Keeping.{at_holds}
+use Rattle.alias_effects_laws.proofs.entries.Leading.{MakesAll, ReadsHave, Counted}
+use Rattle.alias_effects_laws.proofs.entries.States.{Stating}
+use Rattle.alias_certificate_laws.specs.accepting.Alike.{none, AlikeTemporaries, Elsewhere, elsewhere}
+use Rattle.alias_certificate_laws.specs.accepting.Certifying.{NamesItsOwn}
+use Rattle.alias_certificate_laws.specs.accepting.Saying.{NamesThere, AreCounted, said_temporary, said_function}
+use Rattle.alias_certificate_laws.proofs.accepting.Calling.{same_length}
+use Rattle.alias_certificate_laws.proofs.accepting.Elsewhere.{context_at_elsewhere}
 use Rattle.alias_certified_laws.specs.Names.{NamesAreThere}
 use Rattle.alias_accepted_laws.specs.Following.{SeenAlike, OrFull, done, full, ReadsAreSetIn, EndsAlike, PassesAreFollowed}
 use Rattle.alias_range_alike_laws.specs.Ranging.{CarriesAlike}

@@ -5,7 +5,7 @@ use Rattle.alias_hir.specs.declared.env.Environment.{Environment}
 use Rattle.alias_hir.specs.declared.env.Identifier.{Identifier}
 use Rattle.alias_hir.specs.declared.hir.HirFunction.{HirFunction}
 use Rattle.alias_range_pass.specs.Passes.{Ranged, range_pass, records}
-use Rattle.alias_accept_laws.specs.Alike.{Paired, none, more, AlikeFunction, seen}
+use Rattle.alias_certificate_laws.specs.accepting.Alike.{Paired, none, more, AlikeFunction, seen}
 use Rattle.alias_accepted_laws.specs.Following.{but_seen, SeenAlike, SeenNearly, RangeFollowed, RangesAreFollowed}
 use Rattle.alias_range_alike_laws.specs.Ranging.{CarriesAlike, NearlyAlike, near, Nearby, nearby, SameContextAt, RangesNearby, RangePassIsNearlyAlike}
 use Rattle.alias_range_alike_laws.specs.Spans.{Respanned, RangesReadNoSpan}

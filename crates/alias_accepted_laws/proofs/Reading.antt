@@ -14,21 +14,21 @@ use Rattle.alias_lattice.specs.Flows.{Stepped, IsReached}
 use Rattle.alias_lattice.specs.States.{State}
 use Rattle.alias_flow.specs.Machine.{SolverState, VisitLog, Solved}
 use Rattle.alias_flow.specs.Solutions.{entry_at, RecordsSteps, KeepsOthers}
-use Rattle.alias_ranges.specs.Walks.{IsOneOf}
+use Rattle.alias_graph.specs.Walks.{IsOneOf}
 use Rattle.alias_rules.specs.Fitting.{function_fits}
 use Rattle.alias_rules.specs.RuleLaws.{fitting_entry}
 use Rattle.alias_tables.specs.Tables.{TableLists}
 use Rattle.alias_tables.specs.declared.reads.ContextRead.{ContextRead}
-use Rattle.alias_block.specs.Contexts.{context_of}
-use Rattle.alias_block.specs.declared.recorded.BlockEffects.{BlockEffects}
-use Rattle.alias_block.specs.Blocks.{infer_block}
+use Rattle.alias_step.specs.block.Contexts.{context_of}
+use Rattle.alias_step.specs.declared.block.recorded.BlockEffects.{BlockEffects}
+use Rattle.alias_step.specs.block.Blocks.{infer_block}
 use Rattle.alias_effects.specs.Inference.{solved_of, instructions_recorded}
 use Rattle.alias_effects.specs.Numbered.{numbered, step_at, visits_end}
 use Rattle.alias_effects.specs.PassLaws.{outcome_is}
 use Rattle.alias_effects.specs.Recording.{with_effects_of}
-use Rattle.alias_entry_laws.specs.Named.{CreatesHas, CreatesAt}
-use Rattle.alias_entry_laws.proofs.Entries.{CreateIn, There, tables_named}
-use Rattle.alias_entry_laws.proofs.Leading.{ReadsHave}
+use Rattle.alias_effects_laws.specs.entries.Named.{CreatesHas, CreatesAt}
+use Rattle.alias_effects_laws.proofs.entries.Entries.{CreateIn, There, tables_named}
+use Rattle.alias_effects_laws.proofs.entries.Leading.{ReadsHave}
 use Rattle.alias_accepted_laws.specs.Following.{ReadsAreSet, ReadsAreSetIn}
 use Rattle.alias_range_alike_laws.specs.Ranging.{SetsContext}
 use Rattle.alias_accepted_laws.proofs.Recording.{AllFilled, HasEntry, block_filled, block_enters}

@@ -15,17 +15,17 @@ use Rattle.alias_hir.specs.declared.hir.BasicBlock.{BasicBlock}
 use Rattle.alias_hir.specs.declared.hir.Instruction.{Instruction}
 use Rattle.alias_hir.specs.declared.place.Place.{Place}
 use Rattle.alias_hir.specs.declared.place.Span.{Span}
-use Rattle.alias_hir.specs.declared.report.DiagnosticId.{DiagnosticId}
+use Rattle.alias_hir.specs.declared.report.ReportId.{ReportId}
 use Rattle.alias_hir.specs.declared.value.InstructionValue.{InstructionValue}
 use Rattle.alias_hir.specs.declared.value.InstructionValue.TheVariants.{FunctionExpression, ObjectMethod}
 use Rattle.alias_lattice.specs.States.{State}
-use Rattle.alias_lattice.specs.declared.look.MissingLook.{MissingLook}
-use Rattle.alias_ranges.specs.Walks.{IsOneOf}
+use Rattle.alias_lattice.specs.declared.lookup.MissingLookup.{MissingLookup}
+use Rattle.alias_graph.specs.Walks.{IsOneOf}
 use Rattle.alias_rules.specs.Fitting.{is_apply}
 use Rattle.alias_tables.specs.ReplayLaws.{first_is, not_given}
 use Rattle.alias_tables.specs.Steps.{◌>>=◌, and_then, gives, each}
 use Rattle.alias_tables.specs.Tables.{TableLists, Step, noted}
-use Rattle.alias_freezing.specs.Contexts.{context_of}
+use Rattle.alias_apply.specs.freezing.Contexts.{context_of}
 use Rattle.alias_signature.specs.Known.{Known, known}
 use Rattle.alias_signature.specs.Signatures.{signature_of_value}
 use Rattle.alias_apply.specs.Apply.{apply_simple, intern_and_apply_simple, is_read_capture, note_read_capture, apply_create_function, apply_plain, intern_and_apply_plain}
@@ -34,18 +34,18 @@ use Rattle.alias_apply.specs.Progress.{record_of, made}
 use Rattle.alias_apply.specs.declared.progress.StepProgress.{StepProgress}
 use Rattle.alias_step.specs.Calls.{apply_effect, apply_effects}
 use Rattle.alias_step.specs.Instructions.{begun, check_created, with_result, apply_instruction, context_with, apply_signature_with, apply_signature}
-use Rattle.alias_step_laws.specs.KeepingLaws as keeping
-use Rattle.alias_block.specs.Blocks.{step_start, after_instruction, infer_instruction_at, apply_signatures, after_terminal, apply_terminal, block_start, finished_at, finished, infer_phis, infer_block}
-use Rattle.alias_block.specs.Actions.{terminal_action}
-use Rattle.alias_block.specs.Contexts.{BlockContext}
-use Rattle.alias_block.specs.Faults.{in_block}
-use Rattle.alias_block.specs.Recorded.{recorded_as}
-use Rattle.alias_block.specs.ReplayLaws.{in_block_gives}
-use Rattle.alias_block.specs.declared.block.BlockProgress.{BlockProgress}
-use Rattle.alias_block.specs.declared.recorded.BlockEffects.{BlockEffects}
-use Rattle.alias_block.specs.declared.recorded.InstructionEffects.{InstructionEffects}
-use Rattle.alias_accept_laws.specs.Alike.{Alike, capture, create_function}
-use Rattle.alias_accept_laws.proofs.Interning.{interned}
+use Rattle.alias_step_laws.specs.steps.KeepingLaws as keeping
+use Rattle.alias_step.specs.block.Blocks.{step_start, after_instruction, infer_instruction_at, apply_signatures, after_terminal, apply_terminal, block_start, finished_at, finished, infer_phis, infer_block}
+use Rattle.alias_step.specs.block.Actions.{terminal_action}
+use Rattle.alias_step.specs.block.Contexts.{BlockContext}
+use Rattle.alias_step.specs.block.Faults.{in_block}
+use Rattle.alias_step.specs.block.Recorded.{recorded_as}
+use Rattle.alias_step.specs.block.ReplayLaws.{in_block_gives}
+use Rattle.alias_step.specs.declared.block.block.BlockProgress.{BlockProgress}
+use Rattle.alias_step.specs.declared.block.recorded.BlockEffects.{BlockEffects}
+use Rattle.alias_step.specs.declared.block.recorded.InstructionEffects.{InstructionEffects}
+use Rattle.alias_certificate_laws.specs.accepting.Alike.{Alike, capture, create_function}
+use Rattle.alias_certificate_laws.proofs.accepting.Interning.{interned}
 
 -- ---- what is recorded
 
@@ -182,7 +182,7 @@ new_function k l span v f e = cc
 
 signature_has : (env : Environment) (facts : FunctionFacts) (i : Instruction) (f : FunctionId) (s : StepProgress) → created i.value ≡ Some f → Gives Has (apply_signature env facts i s)
 signature_has env facts i f s e =
-    gives_then (Anything {A = Option DiagnosticId}) Has _ (λ error. apply_signature_with env facts i error s) (anything _)
+    gives_then (Anything {A = Option ReportId}) Has _ (λ error. apply_signature_with env facts i error s) (anything _)
     (λ error none.
     let n = new_function (known env facts error) i.lvalue i.span i.value f e in
     subst (λ es. Gives Has (apply_instruction (context_with env facts) (created i.value) es i.lvalue.identifier s)) (sym n.is) (instruction_has (context_with env facts) (created i.value) i.lvalue n.func n.captures i.lvalue.identifier s))
@@ -245,8 +245,8 @@ module _ (c : BlockContext) where
   abbrev Out : (List InstructionEffects → Type 0) → State × BlockEffects → Type 0
   Out P r = P r.1.instructions
 
-  ended_out : (P : List InstructionEffects → Type 0) (m : Option MissingLook) (s : BlockProgress) → P s.effects.instructions → Gives (Out P) (finished_at m s)
-  ended_out P (Some look) s h = λ t u y e. not_given _ y u e
+  ended_out : (P : List InstructionEffects → Type 0) (m : Option MissingLookup) (s : BlockProgress) → P s.effects.instructions → Gives (Out P) (finished_at m s)
+  ended_out P (Some lookup) s h = λ t u y e. not_given _ y u e
   ended_out P None s h = gives_gives (Out P) (s.state, s.effects) h
 
   block_out : (P : List InstructionEffects → Type 0) (b : BlockId) (block : BasicBlock) (x : State) → Gives (λ (z : BlockProgress). P z.effects.instructions) (apply_signatures c block.instructions (block_start (infer_phis block.phis x))) → Gives (Out P) (infer_block c b block x)

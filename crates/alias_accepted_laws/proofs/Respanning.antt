@@ -27,26 +27,26 @@ use Rattle.alias_hir.specs.declared.signature.AliasingSignatureConfig.{AliasingS
 use Rattle.alias_hir.specs.declared.signature.AliasingEffectConfig.{AliasingEffectConfig}
 use Rattle.alias_hir.specs.declared.signature.AliasingEffectConfig.TheVariants as config
 use Rattle.alias_hir.specs.declared.signature.FunctionSignature.{FunctionSignature}
-use Rattle.alias_lattice.specs.States.{State, look, sites_of, missing_look, given}
-use Rattle.alias_lattice.specs.declared.look.MissingLook.{MissingLook}
+use Rattle.alias_lattice.specs.States.{State, lookup, sites_of, missing_lookup, given}
+use Rattle.alias_lattice.specs.declared.lookup.MissingLookup.{MissingLookup}
 use Rattle.alias_lattice.specs.declared.site.Site.{Site}
 use Rattle.alias_lattice.specs.declared.site.Site.TheVariants.{Function}
 use Rattle.alias_lattice.specs.declared.value.AbstractValue.{AbstractValue}
 use Rattle.alias_facts.specs.Hoisted.{Accesses}
-use Rattle.alias_freezing.specs.Sites.{sites_at}
+use Rattle.alias_apply.specs.freezing.Sites.{sites_at}
 use Rattle.alias_apply.specs.Apply.{is_mutable_capture, has_error, function_value, note_read_capture, is_mutable_function, apply_simple, intern_and_apply_simple, capture_each, apply_create_function, apply_plain, intern_and_apply_plain, intern_and_apply_all_plain}
 use Rattle.alias_apply.specs.Contexts.{StepContext, access_to, hoisted_access, summary_of}
 use Rattle.alias_apply.specs.Kinds.{is_frozen, is_writable}
 use Rattle.alias_apply.specs.Mutation.{intern_and_apply_mutate_frozen, intern_and_apply_mutate_global, report_write, report_hoisted_write, record_mutation, apply_mutate, apply_mutate_conditionally}
-use Rattle.alias_apply.specs.Progress.{record_of, with_state, looked_with_span, kind_at, made, first_missing}
+use Rattle.alias_apply.specs.Progress.{record_of, with_state, looked_up_with_span, kind_at, made, first_missing}
 use Rattle.alias_apply.specs.Reports.{labels_at, write_reason, write_report, access_labels, access_span, hoisting_report}
 use Rattle.alias_apply.specs.declared.progress.StepProgress.{StepProgress}
 use Rattle.alias_calls.specs.Arguments.{is_bad_spread_of, first_bad, has_further}
-use Rattle.alias_calls.specs.Configs.{stands, with_config_effect, with_temporary, config_call, config_list}
+use Rattle.alias_calls.specs.Configs.{substituted, with_config_effect, with_temporary, config_call, config_expansion}
 use Rattle.alias_calls.specs.Copies.{Collected, with_freezes_unless, with_freezes}
 use Rattle.alias_calls.specs.Immutable.{is_still, writes_param, is_writing_site, verdict, checked, answered_by, signature_at, verdict_of_place, verdict_by, verdict_of, unless_answered, immutables}
-use Rattle.alias_calls.specs.Legacy.{legacy, ended, return_reason, with_impure, with_receiver, visits_of, asked, with_still, visited, legacy_after, legacy_list}
-use Rattle.alias_calls.specs.Summaries.{last_spread, rest_or_temporary, names_with, summary_names, stands_for, copied, with_copied, needs_rest, names_list, summary_call, summary_list}
+use Rattle.alias_calls.specs.Legacy.{legacy, ended, return_reason, with_impure, with_receiver, visits_of, asked, with_still, visited, legacy_after, legacy_expansion}
+use Rattle.alias_calls.specs.Summaries.{last_spread, rest_or_temporary, names_with, summary_names, substituted_for, copied, with_copied, needs_rest, names_expansion, summary_call, summary_expansion}
 use Rattle.alias_calls.specs.Calls.{ConfigCall, SummaryCall}
 use Rattle.alias_calls.specs.Visits.{iterated, visit, spread_effect, is_refused, or_effect, rest_use, with_refused, visit_argument, visit_arguments}
 use Rattle.alias_calls.specs.declared.call.CallSite.{CallSite}
@@ -57,10 +57,10 @@ use Rattle.alias_calls.specs.declared.visits.Visits.{Visits}
 use Rattle.alias_step.specs.Calls.{call_of, with_missing, apply_by_summary, apply_inner_call_by, apply_inner_call, apply_inner_effect, apply_inner_effects, apply_by_legacy, apply_by_config, incompatible, apply_compatible, apply_by_signature, apply_call_by, apply_call, apply_effect, apply_effects}
 use Rattle.alias_step.specs.Defaults.{mutate_operand, iterate_operand, capture_operand, apply_operand, apply_by_default}
 use Rattle.alias_step.specs.Instructions.{written_by, is_frozen_context, record_mutate_frozen, check_write, check_summary, check_created, begun, with_result, apply_instruction}
-use Rattle.alias_step.specs.Lists.{called_function, list_of_summary, list_of_function, list_of_called, signature_of_type, list_of_config}
+use Rattle.alias_step.specs.Expansions.{called_function, expansion_of_summary, expansion_of_function, expansion_of_called, signature_of_type, expansion_of_config}
 use Rattle.alias_step.specs.Operands.{Call, same_place, operands}
 use Rattle.alias_step.specs.declared.call.Operand.{Operand}
-use Rattle.alias_freezing.specs.Contexts.{context_of}
+use Rattle.alias_apply.specs.freezing.Contexts.{context_of}
 use Rattle.alias_tables.specs.Steps.{◌>>=◌, gives, each, collect}
 use Rattle.alias_tables.specs.Tables.{TableLists, intern, has_room, new_place, temporary_after, temporary}
 use Rattle.alias_tables.specs.Temporaries.{temp_like, temporary_of}
@@ -68,7 +68,7 @@ use Rattle.alias_tables.specs.declared.faults.Refusal.TheVariants.{TooMany}
 use Rattle.alias_tables.specs.declared.temp_key.TempKey.{TempKey}
 use Rattle.alias_tables.specs.declared.temp_key.TempKey.TheVariants.{Named, Rest}
 use Rattle.alias_tables.specs.declared.temporaries.Temporary.{Temporary}
-use Rattle.alias_accept_laws.specs.Alike.{Paired}
+use Rattle.alias_certificate_laws.specs.accepting.Alike.{Paired}
 use Rattle.alias_range_alike_laws.specs.Spans.{Respanned}
 use Rattle.alias_accepted_laws.specs.Spans.{with_ids}
 use Rattle.alias_accepted_laws.proofs.Knowing.{long_same, name_same, declaration_same, param_same, ref_same, collection_same, signature_at_same}
@@ -123,11 +123,11 @@ module _ (env : Environment) (ids : List Identifier) (spans : Paired Respanned e
   copied_same : (k : SummaryCall) (s : SummaryEffect) (out : List AliasingEffect) → with_copied there k s out ≡ with_copied env k s out
   copied_same k (OfPair p a x) out = refl
   copied_same k (OfPlace p x) out = refl
-  copied_same k (OfFreeze r x) out = freezes_same k.args r (stands_for k x) out
+  copied_same k (OfFreeze r x) out = freezes_same k.args r (substituted_for k x) out
   copied_same k Passed out = refl
   copied_same k GivenUp out = refl
 
-  names_list_same : (k : SummaryCall) (es : List AliasingEffect) → names_list there k es ≡ names_list env k es
+  names_list_same : (k : SummaryCall) (es : List AliasingEffect) → names_expansion there k es ≡ names_expansion env k es
   names_list_same k es =
       λ i. if nat_lt (length k.args) (length k.names.params) then gives None
       else (if needs_rest k.names.params k.args && not (is_some k.names.rest) then gives None else collect (λ e out. copied_same k (copied e) out i) es [])
@@ -139,11 +139,11 @@ module _ (env : Environment) (ids : List Identifier) (spans : Paired Respanned e
   names_same : (f : FunctionId) (function : HirFunction) → summary_names there f function ≡ summary_names env f function
   names_same f function = λ i. rest_same (last_spread function.params None) f function i >>= (λ rest. gives (names_with function rest))
 
-  summary_list_same : (f : FunctionId) (function : HirFunction) (es : List AliasingEffect) (into : Place) (args : List PlaceOrSpreadOrHole) → summary_list there f function es into args ≡ summary_list env f function es into args
+  summary_list_same : (f : FunctionId) (function : HirFunction) (es : List AliasingEffect) (into : Place) (args : List PlaceOrSpreadOrHole) → summary_expansion there f function es into args ≡ summary_expansion env f function es into args
   summary_list_same f function es into args = λ i. names_same f function i >>= (λ names. names_list_same (summary_call names into args function.context) es i)
 
   config_effect_same : (k : ConfigCall) (e : AliasingEffectConfig) (out : List AliasingEffect) → with_config_effect there k e out ≡ with_config_effect env k e out
-  config_effect_same k (config.Freeze v r) out = freezes_same k.args r (stands k v) out
+  config_effect_same k (config.Freeze v r) out = freezes_same k.args r (substituted k v) out
   config_effect_same k (config.Create x kind r) out = refl
   config_effect_same k (config.CreateFrom a x) out = refl
   config_effect_same k (config.Assign a x) out = refl
@@ -158,7 +158,7 @@ module _ (env : Environment) (ids : List Identifier) (spans : Paired Respanned e
   with_temporary_same : (site : CallSite) (name : List ℕ) (ps : List Place) → with_temporary there site name ps ≡ with_temporary env site name ps
   with_temporary_same site name ps = λ i. temporary_same (Named site.into.identifier (record { text = name })) site.receiver.span i >>= (λ p. gives (ps ++ p ∷ []))
 
-  config_list_same : (part : AliasingSignatureConfig) (site : CallSite) (args : List PlaceOrSpreadOrHole) → config_list there part site args ≡ config_list env part site args
+  config_list_same : (part : AliasingSignatureConfig) (site : CallSite) (args : List PlaceOrSpreadOrHole) → config_expansion there part site args ≡ config_expansion env part site args
   config_list_same part site args =
       λ i. if has_further part.params args 0 && not (is_some part.rest) then gives None
       else (each (λ name ps. with_temporary_same site name ps i) part.temporaries [] >>= (λ temporaries. collect (λ e out. config_effect_same (config_call part site args temporaries) e out i) part.effects []))
@@ -173,20 +173,20 @@ module _ (env : Environment) (ids : List Identifier) (spans : Paired Respanned e
   site_same (Function f) = writes_same (slice_get env.functions f.0)
   site_same k = refl
 
-  place_verdict_same : (u : State) (p : Place) (m : Option MissingLook) → verdict_of_place there u p m ≡ verdict_of_place env u p m
+  place_verdict_same : (u : State) (p : Place) (m : Option MissingLookup) → verdict_of_place there u p m ≡ verdict_of_place env u p m
   place_verdict_same u p m =
-      λ i. verdict (answered_by (is_still (look u p.identifier).kind && not (list_any (λ k. site_same k i) (sites_at u p.identifier)))) (first_missing m (missing_look u p.identifier None))
+      λ i. verdict (answered_by (is_still (lookup u p.identifier).kind && not (list_any (λ k. site_same k i) (sites_at u p.identifier)))) (first_missing m (missing_lookup u p.identifier None))
 
-  verdict_by_same : (o : Option FunctionSignature) (u : State) (p : Place) (m : Option MissingLook) → verdict_by o there u p m ≡ verdict_by o env u p m
+  verdict_by_same : (o : Option FunctionSignature) (u : State) (p : Place) (m : Option MissingLookup) → verdict_by o there u p m ≡ verdict_by o env u p m
   verdict_by_same (Some signature) u p m = refl
   verdict_by_same None u p m = place_verdict_same u p m
 
-  verdict_same : (u : State) (a : PlaceOrSpreadOrHole) (m : Option MissingLook) → verdict_of there u a m ≡ verdict_of env u a m
+  verdict_same : (u : State) (a : PlaceOrSpreadOrHole) (m : Option MissingLookup) → verdict_of there u a m ≡ verdict_of env u a m
   verdict_same u (arg.Place p) m = ap (λ o. verdict_by o there u p m) (signature_at_same env ids spans p.identifier) ∙ verdict_by_same (signature_at env p.identifier) u p m
   verdict_same u (arg.Spread x) m = place_verdict_same u x.place m
   verdict_same u arg.Hole m = refl
 
-  immutables_same : (u : State) (args : List PlaceOrSpreadOrHole) (m : Option MissingLook) → immutables there u args m ≡ immutables env u args m
+  immutables_same : (u : State) (args : List PlaceOrSpreadOrHole) (m : Option MissingLookup) → immutables there u args m ≡ immutables env u args m
   immutables_same u [] m = refl
   immutables_same u (a ∷ others) m = λ i. let v = verdict_same u a m i in unless_answered v.answer v.missing (immutables_same u others v.missing i)
 
@@ -221,25 +221,25 @@ module _ (env : Environment) (ids : List Identifier) (spans : Paired Respanned e
   after_same : (s : FunctionSignature) (site : CallSite) (args : List PlaceOrSpreadOrHole) (k : Checked) (out : List AliasingEffect) → legacy_after there s site args k out ≡ legacy_after env s site args k out
   after_same s site args k out = λ i. if k.holds then gives (legacy (with_still site args out) k.missing) else ended (visited_same s site args out i).refused site.into (visited_same s site args out i) k.missing
 
-  legacy_same : (s : FunctionSignature) (site : CallSite) (args : List PlaceOrSpreadOrHole) (u : State) → legacy_list there s site args u ≡ legacy_list env s site args u
+  legacy_same : (s : FunctionSignature) (site : CallSite) (args : List PlaceOrSpreadOrHole) (u : State) → legacy_expansion there s site args u ≡ legacy_expansion env s site args u
   legacy_same s site args u =
       λ i. with_impure env s site (effect.Create site.into s.return_value_kind (return_reason s) ∷ []) >>= (λ out. after_same s site args (asked_same s args u i) out i)
 
   -- ---- which list a call stands for
 
-  list_of_summary_same : (call : Call) (f : FunctionId) (function : HirFunction) (o : Option (List AliasingEffect)) → list_of_summary there call f function o ≡ list_of_summary env call f function o
+  list_of_summary_same : (call : Call) (f : FunctionId) (function : HirFunction) (o : Option (List AliasingEffect)) → expansion_of_summary there call f function o ≡ expansion_of_summary env call f function o
   list_of_summary_same call f function None = refl
   list_of_summary_same call f function (Some es) = summary_list_same f function es call.site.into call.args
 
-  list_of_function_same : (call : Call) (f : FunctionId) (o : Option HirFunction) → list_of_function there call f o ≡ list_of_function env call f o
+  list_of_function_same : (call : Call) (f : FunctionId) (o : Option HirFunction) → expansion_of_function there call f o ≡ expansion_of_function env call f o
   list_of_function_same call f None = refl
   list_of_function_same call f (Some function) = list_of_summary_same call f function function.aliasing_effects
 
-  list_of_called_same : (call : Call) (o : Option FunctionId) → list_of_called there call o ≡ list_of_called env call o
+  list_of_called_same : (call : Call) (o : Option FunctionId) → expansion_of_called there call o ≡ expansion_of_called env call o
   list_of_called_same call None = refl
   list_of_called_same call (Some f) = list_of_function_same call f (slice_get env.functions f.0)
 
-  list_of_config_same : (call : Call) (o : Option AliasingSignatureConfig) → list_of_config there call o ≡ list_of_config env call o
+  list_of_config_same : (call : Call) (o : Option AliasingSignatureConfig) → expansion_of_config there call o ≡ expansion_of_config env call o
   list_of_config_same call None = refl
   list_of_config_same call (Some part) = config_list_same part call.site call.args
 
@@ -274,10 +274,10 @@ module _ (env : Environment) (ids : List Identifier) (spans : Paired Respanned e
     mutation_same Global w e v s = write_same w v s
 
     mutate_same : (e : AliasingEffect) (v : Place) (s : StepProgress) → apply_mutate d e v s ≡ apply_mutate c e v s
-    mutate_same e v s = λ i. if ref_same env ids spans v.identifier i then gives s else mutation_same (kind_at v s) (look s.state v.identifier) e v (looked_with_span v s) i
+    mutate_same e v s = λ i. if ref_same env ids spans v.identifier i then gives s else mutation_same (kind_at v s) (lookup s.state v.identifier) e v (looked_up_with_span v s) i
 
     conditional_same : (e : AliasingEffect) (v : Place) (s : StepProgress) → apply_mutate_conditionally d e v s ≡ apply_mutate_conditionally c e v s
-    conditional_same e v s = λ i. if ref_same env ids spans v.identifier i then s else (if is_writable (kind_at v s) then record_of e (looked_with_span v s) else looked_with_span v s)
+    conditional_same e v s = λ i. if ref_same env ids spans v.identifier i then s else (if is_writable (kind_at v s) then record_of e (looked_up_with_span v s) else looked_up_with_span v s)
 
     simple_same : (e : AliasingEffect) (s : StepProgress) → apply_simple d e s ≡ apply_simple c e s
     simple_same (effect.Mutate v r) s = mutate_same (effect.Mutate v r) v s
@@ -381,7 +381,7 @@ module _ (env : Environment) (ids : List Identifier) (spans : Paired Respanned e
 
     check_write_same : (context : List Place) (o : Option Place) (s : StepProgress) → check_write d context o s ≡ check_write c context o s
     check_write_same context None s = refl
-    check_write_same context (Some v) s = λ i. if is_frozen_context context s.state v then record_mutate_frozen (written_same v.identifier v.span (look s.state v.identifier).reason i) v s else gives s
+    check_write_same context (Some v) s = λ i. if is_frozen_context context s.state v then record_mutate_frozen (written_same v.identifier v.span (lookup s.state v.identifier).reason i) v s else gives s
 
     check_summary_same : (context : List Place) (o : Option (List AliasingEffect)) (s : StepProgress) → check_summary d context o s ≡ check_summary c context o s
     check_summary_same context None s = refl

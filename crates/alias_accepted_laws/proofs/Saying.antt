@@ -14,24 +14,24 @@ use Rattle.alias_hir.specs.declared.hir.HirFunction.{HirFunction}
 use Rattle.alias_lattice.specs.States.{State}
 use Rattle.alias_flow.specs.Machine.{SolverState, VisitLog, End, Solved}
 use Rattle.alias_flow.specs.Machine as end
-use Rattle.alias_function_rules.specs.Rules.{instruction_is_uninferred, terminal_is_uninferred, phi_is_uninferred, block_is_uninferred, function_is_uninferred}
+use Rattle.alias_rules.specs.function_rules.Rules.{instruction_is_uninferred, terminal_is_uninferred, phi_is_uninferred, block_is_uninferred, function_is_uninferred}
 use Rattle.alias_rules.specs.Fitting.{function_fits}
 use Rattle.alias_rules.specs.Functions.{rules_hold}
 use Rattle.alias_rules.specs.Nesting.{times}
 use Rattle.alias_rules.specs.RuleLaws.{Parts, parts_of_rules, rules_make_function_fit}
 use Rattle.alias_rules.specs.TreeLaws.{times_cons}
 use Rattle.alias_tables.specs.Tables.{TableLists}
-use Rattle.alias_block.specs.Contexts.{context_of}
-use Rattle.alias_block.specs.declared.faults.BlockRefusal.{BlockRefusal}
-use Rattle.alias_block.specs.declared.recorded.BlockEffects.{BlockEffects}
+use Rattle.alias_step.specs.block.Contexts.{context_of}
+use Rattle.alias_step.specs.declared.block.faults.BlockRefusal.{BlockRefusal}
+use Rattle.alias_step.specs.declared.block.recorded.BlockEffects.{BlockEffects}
 use Rattle.alias_effects.specs.Inference.{solved_of, end_of, env_after, answer_of, pass_end}
 use Rattle.alias_effects.specs.Numbered.{visits_end}
 use Rattle.alias_effects.specs.Recording.{with_effects_of}
 use Rattle.alias_effects.specs.declared.output.PassEnd.{PassEnd}
 use Rattle.alias_effects.specs.declared.solved.Solved.{Solved as Solution}
-use Rattle.alias_ranges.specs.Walks.{IsOneOf}
+use Rattle.alias_graph.specs.Walks.{IsOneOf}
 use Rattle.alias_range_pass.specs.Passes.{Ranged, range_pass}
-use Rattle.alias_range_places.specs.Keeping.{but_context}
+use Rattle.alias_range_pass.specs.places.Keeping.{but_context}
 use Rattle.alias_explain.proofs.Lists.{in_longer}
 use Rattle.alias_nested.specs.Analysis.{Analysed, Analysis, analysis, most_levels, numbered, function_analysed}
 use Rattle.alias_nested.specs.Order.{functions_of, numbers}
@@ -40,24 +40,24 @@ use Rattle.alias_nested.proofs.Changing.{slots_stay}
 use Rattle.alias_nested.proofs.Evolving.{passed_contexts}
 use Rattle.alias_nested.proofs.InOrder.{once_below}
 use Rattle.alias_nested.proofs.Keeping.{pruned_fits}
-use Rattle.alias_order_laws.specs.Order.{nested_innermost_first}
-use Rattle.alias_order_laws.proofs.Ordering.{goes_over}
-use Rattle.alias_order_laws.proofs.Solving.{root_apart, solved_in_order}
+use Rattle.alias_answer_laws.specs.order.Order.{nested_innermost_first}
+use Rattle.alias_answer_laws.proofs.order.Ordering.{goes_over}
+use Rattle.alias_answer_laws.proofs.order.Solving.{root_apart, solved_in_order}
 use Rattle.alias_text.specs.Lines.{effect_text, recorded}
 use Rattle.alias_text.specs.Summaries.{recorded_summary}
 use Rattle.alias_certificate.specs.declared.certificate.CertBlock.{CertBlock}
 use Rattle.alias_certificate.specs.declared.certificate.CertFunction.{CertFunction}
-use Rattle.alias_cert_text_laws.specs.Certifying.{cert_blocks, cert_function, certificate_of}
-use Rattle.alias_accept_laws.specs.Saying.{said_temporary, said_function}
-use Rattle.alias_inferred_laws.specs.Solutions.{but_ranged}
-use Rattle.alias_inferred_laws.proofs.Explaining.{RootRanged}
-use Rattle.alias_inferred_laws.proofs.Lasting.{is_numbered, later, own, number_itself, some_number, last_of, Entered, SlotHolds, slot_holds, analysed_holds, none_hold}
-use Rattle.alias_inferred_laws.proofs.Listing.{Passed, function_passed, without_summary}
-use Rattle.alias_inferred_laws.proofs.Ranging.{PassLeaves, pass_leaves}
-use Rattle.alias_inferred_laws.proofs.Rooting.{RootBegun, root_entry, root_begun, root_validated, RootEnded, root_ended}
-use Rattle.alias_handed_laws.specs.Handed.{names_of, IsNamed}
-use Rattle.alias_cause_laws.proofs.Chain.{Around, around, link_uninferred}
-use Rattle.alias_cause_laws.proofs.Walking.{Stored, stored_still, Walked, analysed_walked}
+use Rattle.alias_certificate_laws.specs.text.Certifying.{cert_blocks, cert_function, certificate_of}
+use Rattle.alias_certificate_laws.specs.accepting.Saying.{said_temporary, said_function}
+use Rattle.alias_inferred_laws.specs.inferred.Solutions.{but_ranged}
+use Rattle.alias_inferred_laws.proofs.inferred.Explaining.{RootRanged}
+use Rattle.alias_inferred_laws.proofs.inferred.Lasting.{is_numbered, later, own, number_itself, some_number, last_of, Entered, SlotHolds, slot_holds, analysed_holds, none_hold}
+use Rattle.alias_inferred_laws.proofs.inferred.Listing.{Passed, function_passed, without_summary}
+use Rattle.alias_inferred_laws.proofs.inferred.Ranging.{PassLeaves, pass_leaves}
+use Rattle.alias_inferred_laws.proofs.inferred.Rooting.{RootBegun, root_entry, root_begun, root_validated, RootEnded, root_ended}
+use Rattle.alias_inferred_laws.specs.handed.Handed.{names_of, IsNamed}
+use Rattle.alias_cause_laws.proofs.causes.Chain.{Around, around, link_uninferred}
+use Rattle.alias_cause_laws.proofs.causes.Walking.{Stored, stored_still, Walked, analysed_walked}
 use Rattle.alias_certified_laws.specs.Printed.{PrintsWhatIsSaid}
 use Rattle.alias_accepted_laws.proofs.Blocks.{blocks_alike}
 use Rattle.alias_accepted_laws.proofs.Telling.{IsSaidOf, IsSaidAt}
@@ -391,7 +391,7 @@ module _ (prints : PrintsWhatIsSaid) (u : HirUnit) (a : UnitAnalysis) (rules : r
     plain : Plain x.func
     plain = plain_alike x.func place.link.func place.link.ran.same (plain_of place.link.func (link_uninferred u.env parts.environment place.id x place.left place.link))
 
-    -- the function as it is told of
+    -- the function as it is reported
     itself : ◌≡◌ {A = Analysed} (record { env = x.env; func = x.func; is_function_expression = true; solved = numbered id (solved_of x.func pass.left) }) x
     itself =
         ap (λ s. let z : Analysed = record { env = x.env; func = x.func; is_function_expression = true; solved = s } in z) solution

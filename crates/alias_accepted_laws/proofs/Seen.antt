@@ -15,20 +15,20 @@ use Rattle.alias_hir.specs.declared.place.Effect.TheVariants.{Capture, Read}
 use Rattle.alias_hir.specs.declared.place.Place.{Place}
 use Rattle.alias_hir.specs.declared.place.Span.{Span}
 use Rattle.alias_hir.specs.declared.types.Ty.TheVariants.{Var}
-use Rattle.alias_bare_laws.specs.Bare.{without_range}
+use Rattle.alias_fitting_laws.specs.bare.Bare.{without_range}
 use Rattle.alias_nesting_laws.specs.SlotLaws.{set_other}
 use Rattle.alias_tables.specs.declared.reads.ContextRead.{ContextRead}
 use Rattle.alias_tables.specs.declared.temporaries.Temporary.{Temporary}
-use Rattle.alias_write_back.specs.WriteBack.{with_identifiers, read_place, with_context_read, with_read, with_reads}
+use Rattle.alias_tables.specs.write_back.WriteBack.{with_identifiers, read_place, with_context_read, with_read, with_reads}
 use Rattle.alias_effects.specs.Inference.{env_after}
 use Rattle.alias_effects.specs.declared.output.PassEnd.{PassEnd}
 use Rattle.alias_range_pass.specs.Passes.{Ranged}
-use Rattle.alias_range_places.specs.Keeping.{but_effect}
-use Rattle.alias_nested.specs.Settling.{takes, is_capture, context_settled, summarized, reset_at, reset, settled}
-use Rattle.alias_order_laws.proofs.Ordering.{differs}
-use Rattle.alias_accept_laws.specs.Alike.{Paired, none, more, Maybe, nothing, just, Alike, apply, create_from, immutable_capture, assign, alias, capture, maybe_alias, create, freeze, impure, mutate_frozen, mutate_global, render, mutate, mutate_conditionally, mutate_transitive, mutate_transitive_conditionally, create_function, AlikeEffects, AlikeTemporaries, AlikeFunction, seen}
-use Rattle.alias_accept_laws.proofs.Calling.{same_length}
-use Rattle.alias_accept_laws.proofs.Likeness.{paired_self, paired_append, paired_get, alike_self}
+use Rattle.alias_range_pass.specs.places.Keeping.{but_effect}
+use Rattle.alias_nested.specs.Annotating.{takes, is_capture, context_annotated, summarized, reset_at, reset, annotated}
+use Rattle.alias_answer_laws.proofs.order.Ordering.{differs}
+use Rattle.alias_certificate_laws.specs.accepting.Alike.{Paired, none, more, Maybe, nothing, just, Alike, apply, create_from, immutable_capture, assign, alias, capture, maybe_alias, create, freeze, impure, mutate_frozen, mutate_global, render, mutate, mutate_conditionally, mutate_transitive, mutate_transitive_conditionally, create_function, AlikeEffects, AlikeTemporaries, AlikeFunction, seen}
+use Rattle.alias_certificate_laws.proofs.accepting.Calling.{same_length}
+use Rattle.alias_certificate_laws.proofs.accepting.Likeness.{paired_self, paired_append, paired_get, alike_self}
 use Rattle.alias_accepted_laws.specs.Following.{but_seen, SeenAlike, SeenNearly, ReadsAreSetIn}
 use Rattle.alias_range_alike_laws.specs.Spans.{Respanned, respanned}
 use Rattle.alias_range_alike_laws.specs.Ranging.{CarriesAlike, NearlyAlike, near, SameContextAt, SetsContext}
@@ -209,10 +209,10 @@ any_alike : (x : IdentifierId) (es fs : List AliasingEffect) → AlikeEffects es
 any_alike x es fs none = refl
 any_alike x es fs (more {a = e} {b = f} {xs = xs} {ys = ys} q rest) = ap (λ b. b || list_any (takes x) ys) (takes_alike x e f q) ∙ ap (λ b. takes x e || b) (any_alike x xs ys rest)
 
-contexts_settled : (es fs : List AliasingEffect) → AlikeEffects es fs → (ps : List Place) → map (context_settled fs) ps ≡ map (context_settled es) ps
+contexts_settled : (es fs : List AliasingEffect) → AlikeEffects es fs → (ps : List Place) → map (context_annotated fs) ps ≡ map (context_annotated es) ps
 contexts_settled es fs a [] = refl
 contexts_settled es fs a (p ∷ ps) =
-    ap (λ b. record p { effect = if b || is_capture p.effect then Capture else Read } ∷ map (context_settled fs) ps) (any_alike p.identifier es fs a) ∙ ap (λ zs. context_settled es p ∷ zs) (contexts_settled es fs a ps)
+    ap (λ b. record p { effect = if b || is_capture p.effect then Capture else Read } ∷ map (context_annotated fs) ps) (any_alike p.identifier es fs a) ∙ ap (λ zs. context_annotated es p ∷ zs) (contexts_settled es fs a ps)
 
 range_gone : (is js : List Identifier) (n : ℕ) (o p : Option Identifier) → Maybe Respanned o p → Paired Respanned is js → Paired Respanned (reset_at is n o) (reset_at js n p)
 range_gone is js n o p nothing s = s
@@ -230,11 +230,11 @@ as_itself g params context returns p c r =
     ap (λ z. record g { params = z; context = context; returns = returns }) p ∙ ap (λ z. record g { context = z; returns = returns }) c ∙ ap (λ z. record g { returns = z }) r
 
 module _ (r there : Ranged) (summary : AlikeEffects r.summary there.summary) (carries : CarriesAlike r.after.0 there.after.0) where
-  contexts_same : map (context_settled there.summary) there.after.0.context ≡ map (context_settled r.summary) r.after.0.context
-  contexts_same = contexts_settled r.summary there.summary summary there.after.0.context ∙ ap (λ (z : HirFunction). map (context_settled r.summary) z.context) carries.same
+  contexts_same : map (context_annotated there.summary) there.after.0.context ≡ map (context_annotated r.summary) r.after.0.context
+  contexts_same = contexts_settled r.summary there.summary summary there.after.0.context ∙ ap (λ (z : HirFunction). map (context_annotated r.summary) z.context) carries.same
 
   -- the function is seen alike
-  pub settled_alike : AlikeFunction (settled r.summary r.after).0 (settled there.summary there.after).0
+  pub settled_alike : AlikeFunction (annotated r.summary r.after).0 (annotated there.summary there.after).0
   settled_alike =
       let f : HirFunction = summarized r.summary r.after.0 in
       let g : HirFunction = summarized there.summary there.after.0 in
@@ -243,9 +243,9 @@ module _ (r there : Ranged) (summary : AlikeEffects r.summary there.summary) (ca
       (seen f g (just summary))
 
   -- and so is the environment
-  pub settled_seen : SeenAlike r.after.1 there.after.1 → SeenAlike (settled r.summary r.after).1 (settled there.summary there.after).1
+  pub settled_seen : SeenAlike r.after.1 there.after.1 → SeenAlike (annotated r.summary r.after).1 (annotated there.summary there.after).1
   settled_seen s = record {
-    identifiers = subst (λ ps. Paired Respanned (settled r.summary r.after).1.identifiers (reset ps there.after.1.identifiers)) (sym contexts_same) (ranges_gone (summarized r.summary r.after.0).context r.after.1.identifiers there.after.1.identifiers s.identifiers);
+    identifiers = subst (λ ps. Paired Respanned (annotated r.summary r.after).1.identifiers (reset ps there.after.1.identifiers)) (sym contexts_same) (ranges_gone (summarized r.summary r.after.0).context r.after.1.identifiers there.after.1.identifiers s.identifiers);
     functions = s.functions;
     rest = s.rest;
   }

@@ -16,14 +16,14 @@ use Rattle.alias_hir.specs.declared.hir.HirFunction.{HirFunction}
 use Rattle.alias_hir.specs.declared.hir.Instruction.{Instruction}
 use Rattle.alias_hir.specs.declared.value.InstructionValue.{InstructionValue}
 use Rattle.alias_nesting_laws.specs.SlotLaws.{set_other, set_there}
-use Rattle.alias_block.specs.declared.recorded.BlockEffects.{BlockEffects}
-use Rattle.alias_block.specs.declared.recorded.InstructionEffects.{InstructionEffects}
-use Rattle.alias_block.specs.declared.recorded.TerminalEffects.{TerminalEffects}
+use Rattle.alias_step.specs.declared.block.recorded.BlockEffects.{BlockEffects}
+use Rattle.alias_step.specs.declared.block.recorded.InstructionEffects.{InstructionEffects}
+use Rattle.alias_step.specs.declared.block.recorded.TerminalEffects.{TerminalEffects}
 use Rattle.alias_effects.specs.Inference.{instructions_recorded}
 use Rattle.alias_effects.specs.Recording.{with_recorded, recorded_instructions, block_with, with_terminal_at, recorded_terminals, with_effects_of}
 use Rattle.alias_effects.specs.declared.solved.Solved.{Solved}
-use Rattle.alias_order_laws.proofs.Ordering.{differs}
-use Rattle.alias_ranges.specs.Walks.{IsOneOf}
+use Rattle.alias_answer_laws.proofs.order.Ordering.{differs}
+use Rattle.alias_graph.specs.Walks.{IsOneOf}
 use Rattle.alias_range_alike_laws.specs.Ranging.{SetsContext}
 use Rattle.alias_accepted_laws.proofs.Recording.{Filled, AllFilled, HasEntry, has_front, has_rest, all_filled}
 

@@ -10,11 +10,11 @@ use Rattle.alias_lattice.specs.States.{State, state_below}
 use Rattle.alias_flow.specs.Machine.{SolverState, VisitLog, Solved}
 use Rattle.alias_flow.specs.Solutions.{entry_at, RecordsSteps, KeepsOthers}
 use Rattle.alias_tables.specs.Tables.{TableLists}
-use Rattle.alias_block.specs.Contexts.{context_of}
-use Rattle.alias_block.specs.declared.recorded.BlockEffects.{BlockEffects}
+use Rattle.alias_step.specs.block.Contexts.{context_of}
+use Rattle.alias_step.specs.declared.block.recorded.BlockEffects.{BlockEffects}
 use Rattle.alias_effects.specs.Numbered.{numbered, visits_end}
-use Rattle.alias_accept_laws.specs.Certifying.{NamesItsOwn, IsSolution}
-use Rattle.alias_accept_laws.proofs.Passing.{solves, kept, pass_solves}
+use Rattle.alias_certificate_laws.specs.accepting.Certifying.{NamesItsOwn, IsSolution}
+use Rattle.alias_certificate_laws.proofs.accepting.Passing.{solves, kept, pass_solves}
 
 pub record IsSolved (env : Environment) (func : HirFunction) (e : Bool) (w : SolverState (VisitLog State) TableLists BlockEffects) : Type 0 where
   pub solves : SolvesFlow state_below (numbered (context_of env func e)).flow w.tables (entry_at w.progress.joined_input)

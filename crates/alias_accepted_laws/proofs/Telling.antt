@@ -8,8 +8,8 @@ use Rattle.alias_lattice.specs.States.{State}
 use Rattle.alias_flow.specs.Machine.{SolverState, VisitLog, Solved}
 use Rattle.alias_rules.specs.Fitting.{function_fits}
 use Rattle.alias_tables.specs.Tables.{TableLists}
-use Rattle.alias_block.specs.Contexts.{context_of}
-use Rattle.alias_block.specs.declared.recorded.BlockEffects.{BlockEffects}
+use Rattle.alias_step.specs.block.Contexts.{context_of}
+use Rattle.alias_step.specs.declared.block.recorded.BlockEffects.{BlockEffects}
 use Rattle.alias_effects.specs.Inference.{solved_of, end_of, env_after}
 use Rattle.alias_effects.specs.Numbered.{visits_end}
 use Rattle.alias_effects.specs.Recording.{with_effects_of}
@@ -20,10 +20,10 @@ use Rattle.alias_certificate.specs.declared.certificate.CertFunction.{CertFuncti
 use Rattle.alias_certificate.specs.declared.fault.CheckFault.{CheckFault}
 use Rattle.alias_certificate.specs.declared.fault.CheckFault.TheVariants as fault
 use Rattle.alias_cert.specs.Functions.{same_name, said_as, said}
-use Rattle.alias_cert_effects.specs.Telling.{is_all, texts_after, is_summary_told}
-use Rattle.alias_accept_laws.specs.Alike.{none, more, AlikeEffects}
-use Rattle.alias_accept_laws.specs.Saying.{said_function}
-use Rattle.alias_accept_laws.proofs.Texts.{told_alike}
+use Rattle.alias_cert.specs.effects.Telling.{is_all, texts_after, is_summary_claimed}
+use Rattle.alias_certificate_laws.specs.accepting.Alike.{none, more, AlikeEffects}
+use Rattle.alias_certificate_laws.specs.accepting.Saying.{said_function}
+use Rattle.alias_certificate_laws.proofs.accepting.Texts.{claimed_alike}
 use Rattle.alias_accepted_laws.specs.Following.{OrFull, done, full}
 
 -- the certificate says of the function what its effects pass ended with, and the summary that the range pass then gave
@@ -67,8 +67,8 @@ said_there functions n id c at named =
 
 texts_left : (es fs : List AliasingEffect) → AlikeEffects es fs → texts_after fs (map effect_text es) ≡ Some []
 texts_left es fs none = refl
-texts_left es fs (more {a = e} {b = f} {xs = xs} {ys = ys} q qs) = ap (λ b. if b then texts_after ys (map effect_text xs) else None) (told_alike e f q) ∙ texts_left xs ys qs
+texts_left es fs (more {a = e} {b = f} {xs = xs} {ys = ys} q qs) = ap (λ b. if b then texts_after ys (map effect_text xs) else None) (claimed_alike e f q) ∙ texts_left xs ys qs
 
--- a summary that is alike is the one that is told
-pub summary_told : (es fs : List AliasingEffect) → AlikeEffects es fs → is_summary_told fs (map effect_text es) ≡ true
-summary_told es fs a = ap is_all (texts_left es fs a)
+-- a summary that is alike is the one that is reported
+pub summary_reported : (es fs : List AliasingEffect) → AlikeEffects es fs → is_summary_claimed fs (map effect_text es) ≡ true
+summary_reported es fs a = ap is_all (texts_left es fs a)

@@ -9,7 +9,7 @@ use Rattle.alias_hir.specs.declared.env.Identifier.{Identifier}
 use Rattle.alias_hir.specs.declared.hir.BasicBlock.{BasicBlock}
 use Rattle.alias_hir.specs.declared.hir.HirFunction.{HirFunction}
 use Rattle.alias_hir.specs.declared.hir.Instruction.{Instruction}
-use Rattle.alias_hir.specs.declared.report.DiagnosticId.{DiagnosticId}
+use Rattle.alias_hir.specs.declared.report.ReportId.{ReportId}
 use Rattle.alias_hir.specs.Positions.{edges_at, entry_position}
 use Rattle.alias_lattice.specs.States.{State, state_join, state_below}
 use Rattle.alias_facts.specs.Facts.{function_facts}
@@ -18,17 +18,17 @@ use Rattle.alias_flow.specs.Machine.{solution}
 use Rattle.alias_tables.specs.Steps.{◌>>=◌, gives, each}
 use Rattle.alias_tables.specs.Tables.{TableLists}
 use Rattle.alias_apply.specs.declared.progress.StepProgress.{StepProgress}
-use Rattle.alias_signature.specs.Globals.{told_of}
-use Rattle.alias_step.specs.Instructions.{apply_instruction, intern_told, context_with, apply_signature_with, apply_signature}
-use Rattle.alias_block.specs.Blocks.{infer_phis, step_start, after_instruction, infer_instruction, infer_instruction_at, apply_signatures, apply_terminal, block_start, finished, infer_block}
-use Rattle.alias_block.specs.Contexts.{BlockContext, context_of}
-use Rattle.alias_block.specs.Faults.{in_block}
-use Rattle.alias_block.specs.Initial.{initial_state}
-use Rattle.alias_block.specs.declared.block.BlockProgress.{BlockProgress}
+use Rattle.alias_signature.specs.Globals.{instruction_report}
+use Rattle.alias_step.specs.Instructions.{apply_instruction, intern_reported, context_with, apply_signature_with, apply_signature}
+use Rattle.alias_step.specs.block.Blocks.{infer_phis, step_start, after_instruction, infer_instruction, infer_instruction_at, apply_signatures, apply_terminal, block_start, finished, infer_block}
+use Rattle.alias_step.specs.block.Contexts.{BlockContext, context_of}
+use Rattle.alias_step.specs.block.Faults.{in_block}
+use Rattle.alias_step.specs.block.Initial.{initial_state}
+use Rattle.alias_step.specs.declared.block.block.BlockProgress.{BlockProgress}
 use Rattle.alias_effects.specs.FunctionFlow.{outcome_of}
 use Rattle.alias_effects.specs.Numbered.{step_at, numbered, visits_end}
-use Rattle.alias_write_back.specs.WriteBack.{tables_of}
-use Rattle.alias_accept_laws.specs.Alike.{Paired}
+use Rattle.alias_tables.specs.write_back.WriteBack.{tables_of}
+use Rattle.alias_certificate_laws.specs.accepting.Alike.{Paired}
 use Rattle.alias_range_alike_laws.specs.Spans.{Respanned}
 use Rattle.alias_accepted_laws.specs.Spans.{with_ids, SpansAreNotRead}
 use Rattle.alias_accepted_laws.proofs.Knowing.{facts_same, signature_same}
@@ -38,13 +38,13 @@ module _ (env : Environment) (ids : List Identifier) (spans : Paired Respanned e
   abbrev there : Environment
   there = with_ids env ids
 
-  signature_with_same : (facts : FunctionFacts) (x : Instruction) (e : Option DiagnosticId) (s : StepProgress) → apply_signature_with there facts x e s ≡ apply_signature_with env facts x e s
+  signature_with_same : (facts : FunctionFacts) (x : Instruction) (e : Option ReportId) (s : StepProgress) → apply_signature_with there facts x e s ≡ apply_signature_with env facts x e s
   signature_with_same facts x e s =
       ap (λ es. apply_instruction (context_with there facts) (created x.value) es x.lvalue.identifier s) (signature_same env ids spans facts e x.lvalue x.span x.value)
       ∙ instruction_same env ids spans facts.hoisted (created x.value) _ x.lvalue.identifier s
 
   applied_same : (facts : FunctionFacts) (x : Instruction) (s : StepProgress) → apply_signature there facts x s ≡ apply_signature env facts x s
-  applied_same facts x s = λ i. intern_told (told_of x.value x.span) >>= (λ error. signature_with_same facts x error s i)
+  applied_same facts x s = λ i. intern_reported (instruction_report x.value x.span) >>= (λ error. signature_with_same facts x error s i)
 
   module _ (func : HirFunction) (b : Bool) where
     -- what is known of the function is the same already

@@ -8,19 +8,19 @@ use Rattle.alias_hir.specs.declared.error.InferError.{InferError}
 use Rattle.alias_hir.specs.declared.hir.HirFunction.{HirFunction}
 use Rattle.alias_nesting_laws.specs.SlotLaws.{set_other, set_there}
 use Rattle.alias_nesting_laws.specs.Slots.{with_function}
-use Rattle.alias_range_places.specs.Keeping.{but_context}
+use Rattle.alias_range_pass.specs.places.Keeping.{but_context}
 use Rattle.alias_nested.specs.Analysis.{Analysed, Analysis, each as each_analysed, function_analysed, taken_analysed, put_back, found_analysed, slot_analysed, analysed}
 use Rattle.alias_nested.specs.Created.{created_functions}
 use Rattle.alias_nested.specs.Slots.{emptied}
-use Rattle.alias_order_laws.proofs.Ordering.{went, differs}
-use Rattle.alias_inferred_laws.proofs.Listing.{Passed, function_passed}
+use Rattle.alias_answer_laws.proofs.order.Ordering.{went, differs}
+use Rattle.alias_inferred_laws.proofs.inferred.Listing.{Passed, function_passed}
 use Rattle.alias_certificate.specs.declared.certificate.CertFunction.{CertFunction}
 use Rattle.alias_cert.specs.Functions.{Checking, nested_checked}
 use Rattle.alias_cert.specs.Units.{each as each_checked, put_back as put_back_checked, taken_checked, found_checked, slot_checked, below_checked}
-use Rattle.alias_accept_laws.specs.Alike.{Maybe, nothing, just, AlikeFunction, seen}
-use Rattle.alias_accept_laws.proofs.Likeness.{paired_get}
-use Rattle.alias_handed_laws.specs.Handed.{IsNamed}
-use Rattle.alias_handed_laws.proofs.Preceding.{named_more}
+use Rattle.alias_certificate_laws.specs.accepting.Alike.{Maybe, nothing, just, AlikeFunction, seen}
+use Rattle.alias_certificate_laws.proofs.accepting.Likeness.{paired_get}
+use Rattle.alias_inferred_laws.specs.handed.Handed.{IsNamed}
+use Rattle.alias_inferred_laws.proofs.handed.Preceding.{named_more}
 use Rattle.alias_accepted_laws.specs.Following.{OrFull, done, PassesAreFollowed, ReadsAreSet, RangesAreFollowed, Follows}
 use Rattle.alias_accepted_laws.proofs.One.{Joined, own, nested_follows}
 use Rattle.alias_accepted_laws.proofs.Seen.{function_self, seen_with}

@@ -14,8 +14,8 @@ use Rattle.alias_certificate.specs.declared.fault.CheckFault.{CheckFault}
 use Rattle.alias_certificate.specs.declared.fault.CheckFault.TheVariants as fault
 use Rattle.alias_cert.specs.Functions.{Checking, checking, root_checked}
 use Rattle.alias_cert.specs.Units.{below_checked, none_left, unit_checked}
-use Rattle.alias_cert_text_laws.specs.Certifying.{cert_function, certificate_of}
-use Rattle.alias_inferred_laws.proofs.Rooting.{root_entry}
+use Rattle.alias_certificate_laws.specs.text.Certifying.{cert_function, certificate_of}
+use Rattle.alias_inferred_laws.proofs.inferred.Rooting.{root_entry}
 use Rattle.alias_certified_laws.specs.Printed.{PrintsWhatIsSaid}
 use Rattle.alias_accepted_laws.specs.Complete.{IsAcceptedOrFull, accepted, full as full_unit, CertificatesAreAccepted}
 use Rattle.alias_accepted_laws.specs.Following.{OrFull, done, full, PassesAreFollowed, ReadsAreSet, RangesAreFollowed, Follows}

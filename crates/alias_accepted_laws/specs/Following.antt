@@ -10,8 +10,8 @@ use Rattle.alias_flow.specs.Machine.{SolverState, VisitLog, Solved}
 use Rattle.alias_rules.specs.Fitting.{function_fits}
 use Rattle.alias_tables.specs.Tables.{TableLists}
 use Rattle.alias_tables.specs.declared.reads.ContextRead.{ContextRead}
-use Rattle.alias_block.specs.Contexts.{context_of}
-use Rattle.alias_block.specs.declared.recorded.BlockEffects.{BlockEffects}
+use Rattle.alias_step.specs.block.Contexts.{context_of}
+use Rattle.alias_step.specs.declared.block.recorded.BlockEffects.{BlockEffects}
 use Rattle.alias_effects.specs.Inference.{end_of}
 use Rattle.alias_effects.specs.Numbered.{visits_end}
 use Rattle.alias_effects.specs.Recording.{with_effects_of}
@@ -22,10 +22,10 @@ use Rattle.alias_nested.specs.Order.{SameInSlot}
 use Rattle.alias_certificate.specs.declared.fault.CheckFault.{CheckFault}
 use Rattle.alias_certificate.specs.declared.fault.CheckFault.TheVariants as fault
 use Rattle.alias_cert.specs.Functions.{Checking}
-use Rattle.alias_cert_function.specs.Functions.{function_solved}
-use Rattle.alias_accept_laws.specs.Alike.{Paired, AlikeEffects, AlikeTemporaries, AlikeFunction}
-use Rattle.alias_accept_laws.specs.Saying.{said_function}
-use Rattle.alias_handed_laws.specs.Handed.{IsNamed}
+use Rattle.alias_cert.specs.function.Functions.{function_solved}
+use Rattle.alias_certificate_laws.specs.accepting.Alike.{Paired, AlikeEffects, AlikeTemporaries, AlikeFunction}
+use Rattle.alias_certificate_laws.specs.accepting.Saying.{said_function}
+use Rattle.alias_inferred_laws.specs.handed.Handed.{IsNamed}
 use Rattle.alias_range_alike_laws.specs.Ranging.{CarriesAlike, NearlyAlike, SameContextAt, SetsContext}
 use Rattle.alias_range_alike_laws.specs.Spans.{Respanned}
 

@@ -3,9 +3,9 @@ use Rattle.std.specs.Prelude.{◌≡◌, Bool, List}
 use Rattle.alias_hir.specs.declared.env.Environment.{Environment}
 use Rattle.alias_hir.specs.declared.env.Identifier.{Identifier}
 use Rattle.alias_hir.specs.declared.hir.HirFunction.{HirFunction}
-use Rattle.alias_block.specs.Contexts.{context_of}
+use Rattle.alias_step.specs.block.Contexts.{context_of}
 use Rattle.alias_effects.specs.Numbered.{visits_end}
-use Rattle.alias_accept_laws.specs.Alike.{Paired}
+use Rattle.alias_certificate_laws.specs.accepting.Alike.{Paired}
 use Rattle.alias_range_alike_laws.specs.Spans.{Respanned}
 
 -- the environment with these identifiers

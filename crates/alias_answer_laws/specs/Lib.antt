@@ -1,11 +1,2 @@
-pub mod Avoiding
-pub mod Applies
-pub mod BlockLaws
-pub mod PassLaws
-pub mod FunctionLaws
-pub mod ValidationLaws
-pub mod UnitLaws
-pub mod KnownValueLaws
-pub mod KnownFunctionLaws
-pub mod KnownWalkLaws
-pub mod KnownUnitLaws
+pub mod order
+pub mod answers

@@ -1,4 +1,7 @@
-//! Which refusals no inference of a unit answers.
+//! What the inference of a unit and the analysis of its functions answer: in which order, and which refusals never.
 #![tactic(auto)]
 
-pub mod laws;
+pub mod answers;
+pub mod applies;
+pub mod order;
+pub mod refusals;

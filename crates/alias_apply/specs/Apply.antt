@@ -13,8 +13,8 @@ use Rattle.alias_hir.specs.Effects.{error_of}
 use Rattle.alias_hir.specs.Types.{is_ref_at}
 use Rattle.alias_lattice.specs.declared.site.Site.TheVariants.{Function}
 use Rattle.alias_lattice.specs.declared.value.AbstractValue.{AbstractValue}
-use Rattle.alias_lattice.specs.States.{State, look, sites_of, given}
-use Rattle.alias_freezing.specs.Contexts.{context_of}
+use Rattle.alias_lattice.specs.States.{State, lookup, sites_of, given}
+use Rattle.alias_apply.specs.freezing.Contexts.{context_of}
 use Rattle.alias_tables.specs.Steps.{◌>>=◌, gives, each}
 use Rattle.alias_tables.specs.Tables.{Step, intern, noted}
 use Rattle.alias_apply.specs.declared.progress.StepProgress.{StepProgress}
@@ -27,7 +27,7 @@ use Rattle.alias_apply.specs.Values.{apply_create, apply_create_from, apply_assi
 
 -- the place is defined, and may be written
 abbrev pub is_mutable_capture : State → Place → Bool
-is_mutable_capture u p = is_some (sites_of u p.identifier) && is_writable (look u p.identifier).kind
+is_mutable_capture u p = is_some (sites_of u p.identifier) && is_writable (lookup u p.identifier).kind
 
 abbrev pub is_error : AliasingEffect → Bool
 is_error e = is_some (error_of e)
@@ -45,7 +45,7 @@ is_capture u = false
 
 -- the function takes the place in, and its value is only read
 abbrev pub is_read_capture : State → Place → Bool
-is_read_capture u p = is_capture p.effect && is_some (sites_of u p.identifier) && is_read_only (look u p.identifier).kind
+is_read_capture u p = is_capture p.effect && is_some (sites_of u p.identifier) && is_read_only (lookup u p.identifier).kind
 
 abbrev pub note_read_capture : FunctionId → Place → StepProgress → Step StepProgress
 note_read_capture f p s = if is_read_capture s.state p then noted (record { function = f; place = p.identifier }) s else gives s

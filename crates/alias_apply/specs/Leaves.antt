@@ -8,12 +8,12 @@ use Rattle.alias_tables.specs.Steps.{◌>>=◌, gives}
 use Rattle.alias_tables.specs.Tables.{Step, intern}
 use Rattle.alias_apply.specs.declared.progress.StepProgress.{StepProgress}
 use Rattle.alias_apply.specs.Kinds.{is_constant, may_be_frozen}
-use Rattle.alias_apply.specs.Progress.{record_of, looked_at, looked_with_span, kind_at}
+use Rattle.alias_apply.specs.Progress.{record_of, looked_up_at, looked_up_with_span, kind_at}
 
 -- ImmutableCapture: recorded unless the source is constant
 abbrev pub apply_immutable_capture : Place → Place → StepProgress → StepProgress
 apply_immutable_capture a x s =
-    if is_constant (kind_at a s) then looked_at a s else record_of (effect.ImmutableCapture a x) (looked_at a s)
+    if is_constant (kind_at a s) then looked_up_at a s else record_of (effect.ImmutableCapture a x) (looked_up_at a s)
 
 -- ImmutableCapture, and the effects that are just recorded
 abbrev pub apply_leaf : AliasingEffect → StepProgress → StepProgress
@@ -46,7 +46,7 @@ intern_and_apply_leaf e s = do
 
 abbrev pub apply_maybe_alias : Place → Place → StepProgress → Step StepProgress
 apply_maybe_alias a x s =
-    let u = looked_with_span a (looked_with_span x s) in
+    let u = looked_up_with_span a (looked_up_with_span x s) in
     if may_be_frozen (kind_at a s) then intern_and_apply_leaf (effect.ImmutableCapture a x) u
     else gives (record_of (effect.MaybeAlias a x) u)
 

@@ -1,3 +1,4 @@
+pub mod freezing
 pub mod Kinds
 pub mod Made
 pub mod Progress

@@ -14,16 +14,16 @@ use Rattle.alias_lattice.specs.declared.mutation.MutateVariant.{MutateVariant}
 use Rattle.alias_lattice.specs.declared.mutation.MutationResult.{MutationResult}
 use Rattle.alias_lattice.specs.declared.mutation.MutationResult.TheVariants as result
 use Rattle.alias_lattice.specs.Mutations.{mutation}
-use Rattle.alias_lattice.specs.States.{look, frozen, does_freeze}
-use Rattle.alias_freezing.specs.Contexts.{context_of}
-use Rattle.alias_freezing.specs.Going.{gone_into_place}
+use Rattle.alias_lattice.specs.States.{lookup, frozen, does_freeze}
+use Rattle.alias_apply.specs.freezing.Contexts.{context_of}
+use Rattle.alias_apply.specs.freezing.Transitive.{place_frozen_transitively}
 use Rattle.alias_tables.specs.Steps.{◌>>=◌, gives}
 use Rattle.alias_tables.specs.Tables.{Step, intern_report}
 use Rattle.alias_apply.specs.declared.progress.StepProgress.{StepProgress}
 use Rattle.alias_apply.specs.Contexts.{StepContext, hoisted_access}
 use Rattle.alias_apply.specs.Kinds.{is_frozen, is_writable}
 use Rattle.alias_apply.specs.Leaves.{intern_and_apply_leaf}
-use Rattle.alias_apply.specs.Progress.{record_of, with_state, looked_with_span, noted, kind_at}
+use Rattle.alias_apply.specs.Progress.{record_of, with_state, looked_up_with_span, noted, kind_at}
 use Rattle.alias_apply.specs.Reports.{write_report, hoisting_report}
 
 -- a report on the place is interned, and its error is stepped
@@ -66,21 +66,21 @@ module _ (c : StepContext) where
   abbrev pub apply_mutate : AliasingEffect → Place → StepProgress → Step StepProgress
   apply_mutate e v s =
       if is_ref_at c.env v.identifier then gives s
-      else record_mutation (kind_at v s) (look s.state v.identifier) e v (looked_with_span v s)
+      else record_mutation (kind_at v s) (lookup s.state v.identifier) e v (looked_up_with_span v s)
 
   -- the conditional ones: recorded where the value is writable
   abbrev pub apply_mutate_conditionally : AliasingEffect → Place → StepProgress → StepProgress
   apply_mutate_conditionally e v s =
       if is_ref_at c.env v.identifier then s
-      else (if is_writable (kind_at v s) then record_of e (looked_with_span v s) else looked_with_span v s)
+      else (if is_writable (kind_at v s) then record_of e (looked_up_with_span v s) else looked_up_with_span v s)
 
   -- the same, by what the state answers of a write
   abbrev pub record_result : MutationResult → AliasingEffect → Place → StepProgress → Step StepProgress
   record_result result.Mutate e v s = gives (record_of e s)
   record_result result.None e v s = gives s
   record_result result.MutateRef e v s = gives s
-  record_result result.MutateFrozen e v s = report_hoisted_write (hoisted_access c v.identifier) (look s.state v.identifier) v s
-  record_result result.MutateGlobal e v s = report_write (look s.state v.identifier) v s
+  record_result result.MutateFrozen e v s = report_hoisted_write (hoisted_access c v.identifier) (lookup s.state v.identifier) v s
+  record_result result.MutateGlobal e v s = report_write (lookup s.state v.identifier) v s
 
   abbrev pub apply_mutation : MutateVariant → AliasingEffect → Place → StepProgress → Step StepProgress
   apply_mutation w e v s =
@@ -91,5 +91,5 @@ module _ (c : StepContext) where
   abbrev pub apply_freeze : Place → ValueReason → StepProgress → StepProgress
   apply_freeze v r s =
       let u = record_of (effect.Freeze v r) (with_state (frozen v.identifier r s.state) s) in
-      if does_freeze s.state v.identifier then (if freezes_on c.env.config then with_state (gone_into_place r (context_of c.env) v.identifier u.state) u else u)
+      if does_freeze s.state v.identifier then (if freezes_on c.env.config then with_state (place_frozen_transitively r (context_of c.env) v.identifier u.state) u else u)
       else with_state (frozen v.identifier r s.state) s

@@ -4,8 +4,8 @@ use Rattle.alias_base.specs.declared.ids.IdentifierId.{IdentifierId}
 use Rattle.alias_hir.specs.declared.effect.ValueKind.{ValueKind}
 use Rattle.alias_hir.specs.declared.place.Place.{Place}
 use Rattle.alias_hir.specs.declared.place.Span.{Span}
-use Rattle.alias_lattice.specs.declared.look.MissingLook.{MissingLook}
-use Rattle.alias_lattice.specs.States.{State, look, missing_look}
+use Rattle.alias_lattice.specs.declared.lookup.MissingLookup.{MissingLookup}
+use Rattle.alias_lattice.specs.States.{State, lookup, missing_lookup}
 use Rattle.alias_hir.specs.declared.effect.AliasingEffect.{AliasingEffect}
 use Rattle.alias_tables.specs.declared.faults.Refusal.{Refusal}
 use Rattle.alias_tables.specs.declared.faults.Refusal.TheVariants.{Reinitialized}
@@ -25,28 +25,28 @@ abbrev pub with_state : State → StepProgress → StepProgress
 with_state u s = record s { state = u }
 
 -- the first of two looks that may be missing
-abbrev pub first_missing : Option MissingLook → Option MissingLook → Option MissingLook
+abbrev pub first_missing : Option MissingLookup → Option MissingLookup → Option MissingLookup
 first_missing None m = m
 first_missing (Some l) m = Some l
 
--- a look that may be missing is noted, where it is the first that is
-abbrev pub noted : Option MissingLook → StepProgress → StepProgress
+-- a lookup that may be missing is noted, where it is the first that is
+abbrev pub noted : Option MissingLookup → StepProgress → StepProgress
 noted m s = record s { missing = first_missing s.missing m }
 
 -- a look at the identifier, which is noted where it is the first without a value
-abbrev pub looked : IdentifierId → Option Span → StepProgress → StepProgress
-looked x span s = noted (missing_look s.state x span) s
+abbrev pub looked_up : IdentifierId → Option Span → StepProgress → StepProgress
+looked_up x span s = noted (missing_lookup s.state x span) s
 
 -- a look at a place without its span, and with it
-abbrev pub looked_at : Place → StepProgress → StepProgress
-looked_at p s = looked p.identifier None s
+abbrev pub looked_up_at : Place → StepProgress → StepProgress
+looked_up_at p s = looked_up p.identifier None s
 
-abbrev pub looked_with_span : Place → StepProgress → StepProgress
-looked_with_span p s = looked p.identifier p.span s
+abbrev pub looked_up_with_span : Place → StepProgress → StepProgress
+looked_up_with_span p s = looked_up p.identifier p.span s
 
 -- the kind of the place's value as the step has come
 abbrev pub kind_at : Place → StepProgress → ValueKind
-kind_at p s = (look s.state p.identifier).kind
+kind_at p s = (lookup s.state p.identifier).kind
 
 -- the identifier is made, once in an instruction
 abbrev pub made : IdentifierId → StepProgress → Step StepProgress

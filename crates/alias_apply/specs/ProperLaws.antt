@@ -11,9 +11,9 @@ use Rattle.alias_hir.specs.declared.report.Report.{Report}
 use Rattle.alias_lattice.specs.declared.site.Site.TheVariants.{Created, CreatedFrom, Function, AssignFrozen, AssignCopy}
 use Rattle.alias_lattice.specs.declared.value.AbstractValue.{AbstractValue}
 use Rattle.alias_lattice.specs.AbstractValues.{AbstractProper}
-use Rattle.alias_lattice.specs.States.{look, frozen, does_freeze, given, assigned}
+use Rattle.alias_lattice.specs.States.{lookup, frozen, does_freeze, given, assigned}
 use Rattle.alias_lattice.specs.ProperStates.{StateProper}
-use Rattle.alias_lattice.specs.ProperLaws.{proper-single_reason, proper-given, proper-assigned, proper-frozen, proper-look}
+use Rattle.alias_lattice.specs.ProperLaws.{proper-single_reason, proper-given, proper-assigned, proper-frozen, proper-lookup}
 use Rattle.alias_hir.specs.declared.effect.AliasingEffect.{AliasingEffect}
 use Rattle.alias_hir.specs.declared.effect.AliasingEffect.TheVariants as effect
 use Rattle.alias_tables.specs.declared.reads.ContextRead.{ContextRead}
@@ -23,12 +23,12 @@ use Rattle.alias_tables.specs.Tables.{TableLists, Step, intern, intern_report, n
 use Rattle.alias_tables.specs.Steps.{◌>>=◌, and_then, gives, refuses, each}
 use Rattle.alias_tables.specs.ReplayLaws.{first_is, not_given}
 use Rattle.alias_hir.specs.Types.{is_ref_at}
-use Rattle.alias_freezing.specs.Contexts.{context_of}
-use Rattle.alias_freezing.specs.ProperLaws.{proper-gone_into_place}
+use Rattle.alias_apply.specs.freezing.Contexts.{context_of}
+use Rattle.alias_apply.specs.freezing.ProperLaws.{proper-place_frozen_transitively}
 use Rattle.alias_apply.specs.declared.progress.StepProgress.{StepProgress}
 use Rattle.alias_apply.specs.Contexts.{StepContext, hoisted_access}
 use Rattle.alias_apply.specs.Kinds.{is_constant, is_frozen, may_be_frozen, is_writable, captures, may_alias}
-use Rattle.alias_apply.specs.Progress.{record_of, with_state, looked_with_span, kind_at, is_made, made}
+use Rattle.alias_apply.specs.Progress.{record_of, with_state, looked_up_with_span, kind_at, is_made, made}
 use Rattle.alias_apply.specs.Reports.{write_report, hoisting_report}
 use Rattle.alias_apply.specs.Leaves.{apply_immutable_capture, apply_leaf, intern_and_apply_leaf, apply_maybe_alias, apply_aliasing, intern_and_apply_aliasing}
 use Rattle.alias_apply.specs.Values.{apply_create, record_create_from, apply_create_from, assign_value, apply_assign, apply_link, apply_alias}
@@ -111,7 +111,7 @@ fine_intern_and_apply_leaf e s h = sound_after ProgressProper (intern e) (λ f. 
 
 fine_maybe_alias : (a x : Place) (s : StepProgress) → ProgressProper s → Fine (apply_maybe_alias a x s)
 fine_maybe_alias a x s h =
-    let u = looked_with_span a (looked_with_span x s) in
+    let u = looked_up_with_span a (looked_up_with_span x s) in
     fine_if (may_be_frozen (kind_at a s)) _ _ (fine_intern_and_apply_leaf (effect.ImmutableCapture a x) u h) (fine_gives (record_of (effect.MaybeAlias a x) u) h)
 
 fine_aliasing : (e : AliasingEffect) (s : StepProgress) → ProgressProper s → Fine (apply_aliasing e s)
@@ -135,7 +135,7 @@ fine_record_create_from MaybeFrozen r a x s h = fine_gives (record_of (effect.Cr
 
 fine_create_from : (a x : Place) (s : StepProgress) → ProgressProper s → Fine (apply_create_from a x s)
 fine_create_from a x s h = fine_then (made x.identifier s) _ (fine_made x.identifier s h) (λ u g.
-    fine_record_create_from _ _ a x _ (proper-given x.identifier (CreatedFrom a.identifier x.identifier) _ u.state g (proper-look u.state a.identifier g)))
+    fine_record_create_from _ _ a x _ (proper-given x.identifier (CreatedFrom a.identifier x.identifier) _ u.state g (proper-lookup u.state a.identifier g)))
 
 fine_assign_value : (v : AbstractValue) (a x : Place) (s : StepProgress) → AbstractProper v → ProgressProper s → Fine (assign_value v a x s)
 fine_assign_value v a x s p h =
@@ -147,11 +147,11 @@ fine_assign_value v a x s p h =
 
 fine_assign : (a x : Place) (s : StepProgress) → ProgressProper s → Fine (apply_assign a x s)
 fine_assign a x s h = fine_then (made x.identifier s) _ (fine_made x.identifier s h) (λ u g.
-    fine_assign_value (look u.state a.identifier) a x (looked_with_span a u) (proper-look u.state a.identifier g) g)
+    fine_assign_value (lookup u.state a.identifier) a x (looked_up_with_span a u) (proper-lookup u.state a.identifier g) g)
 
 fine_link : (e : AliasingEffect) (a x : Place) (s : StepProgress) → ProgressProper s → Fine (apply_link e a x s)
 fine_link e a x s h =
-    let u = looked_with_span a (looked_with_span x s) in
+    let u = looked_up_with_span a (looked_up_with_span x s) in
     fine_if (may_be_frozen (kind_at a s)) _ _ (fine_intern_and_apply_leaf (effect.ImmutableCapture a x) u h)
     (fine_if (captures (kind_at a s) (kind_at x s)) _ _ (fine_gives (record_of e u) h)
     (fine_if (may_alias (kind_at a s) (kind_at x s)) _ _ (fine_intern_and_apply_aliasing (effect.MaybeAlias a x) u h) (fine_gives u h)))
@@ -189,7 +189,7 @@ module _ (c : StepContext) where
   fine_mutation Global there e v s h = fine_report_write there v s h
 
   fine_mutate : (e : AliasingEffect) (v : Place) (s : StepProgress) → ProgressProper s → Fine (apply_mutate c e v s)
-  fine_mutate e v s h = fine_if (is_ref_at c.env v.identifier) _ _ (fine_gives s h) (fine_mutation (kind_at v s) (look s.state v.identifier) e v (looked_with_span v s) h)
+  fine_mutate e v s h = fine_if (is_ref_at c.env v.identifier) _ _ (fine_gives s h) (fine_mutation (kind_at v s) (lookup s.state v.identifier) e v (looked_up_with_span v s) h)
 
   proper_condition : (e : AliasingEffect) (v : Place) (s : StepProgress) → ProgressProper s → ProgressProper (apply_mutate_conditionally c e v s)
   proper_condition e v s h = either_proper (is_ref_at c.env v.identifier) _ _ h (either_proper (is_writable (kind_at v s)) _ _ h h)
@@ -198,7 +198,7 @@ module _ (c : StepContext) where
   proper_freeze v r s h =
       let g = proper-frozen v.identifier r s.state h in
       either_proper (does_freeze s.state v.identifier) _ _
-      (either_proper (freezes_on c.env.config) _ _ (proper-gone_into_place r (context_of c.env) v.identifier (frozen v.identifier r s.state) g) g)
+      (either_proper (freezes_on c.env.config) _ _ (proper-place_frozen_transitively r (context_of c.env) v.identifier (frozen v.identifier r s.state) g) g)
       g
 
   fine_simple : (e : AliasingEffect) (s : StepProgress) → ProgressProper s → Fine (apply_simple c e s)

@@ -9,18 +9,18 @@ use Rattle.alias_hir.specs.declared.place.Place.{Place}
 use Rattle.alias_hir.specs.declared.report.Report.{Report}
 use Rattle.alias_lattice.specs.declared.value.AbstractValue.{AbstractValue}
 use Rattle.alias_lattice.specs.declared.site.Site.TheVariants.{AssignFrozen, AssignCopy}
-use Rattle.alias_lattice.specs.States.{look, given, assigned}
+use Rattle.alias_lattice.specs.States.{lookup, given, assigned}
 use Rattle.alias_hir.specs.declared.effect.AliasingEffect.{AliasingEffect}
 use Rattle.alias_hir.specs.declared.effect.AliasingEffect.TheVariants as effect
 use Rattle.alias_tables.specs.GrowingLaws.{Again, again_gives, again_refuses, again_then, again_if, again_each, again_intern}
 use Rattle.alias_tables.specs.ReportLaws.{again_report, again_noted}
 use Rattle.alias_tables.specs.declared.faults.Refusal.TheVariants.{AliasBeforeCreate}
 use Rattle.alias_hir.specs.Types.{is_ref_at}
-use Rattle.alias_freezing.specs.Contexts.{context_of}
+use Rattle.alias_apply.specs.freezing.Contexts.{context_of}
 use Rattle.alias_apply.specs.declared.progress.StepProgress.{StepProgress}
 use Rattle.alias_apply.specs.Contexts.{StepContext, hoisted_access}
 use Rattle.alias_apply.specs.Kinds.{is_constant, is_frozen, may_be_frozen, captures, may_alias}
-use Rattle.alias_apply.specs.Progress.{kind_at, is_made, made, looked_with_span, record_of, with_state}
+use Rattle.alias_apply.specs.Progress.{kind_at, is_made, made, looked_up_with_span, record_of, with_state}
 use Rattle.alias_apply.specs.Reports.{write_report, hoisting_report}
 use Rattle.alias_apply.specs.Leaves.{intern_and_apply_leaf, apply_maybe_alias, apply_aliasing, intern_and_apply_aliasing}
 use Rattle.alias_apply.specs.Values.{apply_create, record_create_from, apply_create_from, assign_value, apply_assign, apply_link, apply_alias}
@@ -35,7 +35,7 @@ again_intern_and_apply_leaf e s = again_then _ _ (again_intern e) (λ f. again_g
 
 again_maybe_alias : (a x : Place) (s : StepProgress) → Again (apply_maybe_alias a x s)
 again_maybe_alias a x s =
-    let u = looked_with_span a (looked_with_span x s) in
+    let u = looked_up_with_span a (looked_up_with_span x s) in
     again_if (may_be_frozen (kind_at a s)) _ _ (again_intern_and_apply_leaf (effect.ImmutableCapture a x) u) (again_gives (record_of (effect.MaybeAlias a x) u))
 
 again_aliasing : (e : AliasingEffect) (s : StepProgress) → Again (apply_aliasing e s)
@@ -68,11 +68,11 @@ again_assign_value v a x s =
     (again_gives (record_of (effect.Assign a x) (with_state (assigned x.identifier a.identifier s.state) s))))
 
 again_assign : (a x : Place) (s : StepProgress) → Again (apply_assign a x s)
-again_assign a x s = again_then _ _ (again_made x.identifier s) (λ u. again_assign_value (look u.state a.identifier) a x (looked_with_span a u))
+again_assign a x s = again_then _ _ (again_made x.identifier s) (λ u. again_assign_value (lookup u.state a.identifier) a x (looked_up_with_span a u))
 
 again_link : (e : AliasingEffect) (a x : Place) (s : StepProgress) → Again (apply_link e a x s)
 again_link e a x s =
-    let u = looked_with_span a (looked_with_span x s) in
+    let u = looked_up_with_span a (looked_up_with_span x s) in
     again_if (may_be_frozen (kind_at a s)) _ _ (again_intern_and_apply_leaf (effect.ImmutableCapture a x) u)
     (again_if (captures (kind_at a s) (kind_at x s)) _ _ (again_gives (record_of e u))
     (again_if (may_alias (kind_at a s) (kind_at x s)) _ _ (again_intern_and_apply_aliasing (effect.MaybeAlias a x) u) (again_gives u)))
@@ -106,7 +106,7 @@ module _ (c : StepContext) where
   again_mutation Global there e v s = again_report_write there v s
 
   again_mutate : (e : AliasingEffect) (v : Place) (s : StepProgress) → Again (apply_mutate c e v s)
-  again_mutate e v s = again_if (is_ref_at c.env v.identifier) _ _ (again_gives s) (again_mutation (kind_at v s) (look s.state v.identifier) e v (looked_with_span v s))
+  again_mutate e v s = again_if (is_ref_at c.env v.identifier) _ _ (again_gives s) (again_mutation (kind_at v s) (lookup s.state v.identifier) e v (looked_up_with_span v s))
 
   again_simple : (e : AliasingEffect) (s : StepProgress) → Again (apply_simple c e s)
   again_simple (effect.Create x k r) s = again_create x k r s

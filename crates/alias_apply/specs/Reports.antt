@@ -1,7 +1,7 @@
 -- The reports of steps.
 use Rattle.std.specs.Prelude.{ℕ, List, [], ◌∷◌, ◌++◌, Option, None, Some, slice_get, codes, if◌then◌else◌}
 use Rattle.alias_base.specs.declared.ids.IdentifierId.{IdentifierId}
-use Rattle.alias_hir.specs.Diagnostics.{same_span}
+use Rattle.alias_hir.specs.ReportNumbers.{same_span}
 use Rattle.alias_hir.specs.declared.effect.ValueReason.TheVariants as reason
 use Rattle.alias_hir.specs.declared.env.IdentifierName.{IdentifierName}
 use Rattle.alias_hir.specs.declared.env.IdentifierName.TheVariants.{Named, Promoted}
@@ -58,7 +58,7 @@ write_reason reasons =
     else (if has_reason reasons reason.ReactiveFunctionArgument then codes "Modifying component props or hook arguments is not allowed. Consider using a local variable instead"
     else late_write_reason reasons))))
 
--- what is told of a write of a value that isn't to be written
+-- what is reported of a write of a value that isn't to be written
 abbrev pub write_report : Environment → IdentifierId → Option Span → ℕ → Report
 write_report env id span reasons = record {
   category = Immutability;
@@ -81,7 +81,7 @@ abbrev pub hoisting_labels : Environment → IdentifierId → Option Span → Op
 hoisting_labels env id span access =
     access_labels (access_span access) span (named env id (codes "variable") ++ codes " accessed before it is declared") ++ labels_at span (Some (named env id (codes "variable") ++ codes " is declared here"))
 
--- what is told of a write of a variable that is read before it is declared
+-- what is reported of a write of a variable that is read before it is declared
 abbrev pub hoisting_report : Environment → IdentifierId → Option Span → Option Place → Report
 hoisting_report env id span access = record {
   category = Immutability;
@@ -96,7 +96,7 @@ abbrev pub impure_name : Option (List ℕ) → List ℕ
 impure_name None = []
 impure_name (Some name) = codes "`" ++ name ++ codes "` is an impure function. "
 
--- what is told of a call of an impure function, whose signature may name it
+-- what is reported of a call of an impure function, whose signature may name it
 abbrev pub impure_report : Option (List ℕ) → Option Span → Report
 impure_report name span = record {
   category = Purity;
@@ -109,7 +109,7 @@ impure_report name span = record {
 abbrev pub impure_part_report : Report
 impure_part_report = record { category = Purity; message = codes "Impure function call"; help = None; labels = [] }
 
--- what is told of a call of a function that can't be memoized
+-- what is reported of a call of a function that can't be memoized
 abbrev pub incompatible_report : Option Span → List ℕ → Report
 incompatible_report span text = record {
   category = IncompatibleLibrary;
@@ -118,6 +118,6 @@ incompatible_report span text = record {
   labels = labels_at span (Some text);
 }
 
--- what is told of a spread argument that would be frozen
+-- what is reported of a spread argument that would be frozen
 abbrev pub spread_report : Option Span → Report
 spread_report span = record { category = Todo; message = codes "Support spread syntax for hook arguments"; help = None; labels = labels_at span None }

@@ -9,14 +9,14 @@ use Rattle.alias_hir.specs.declared.place.Place.{Place}
 use Rattle.alias_lattice.specs.declared.site.Site.TheVariants.{Created, CreatedFrom, AssignFrozen, AssignCopy}
 use Rattle.alias_lattice.specs.declared.value.AbstractValue.{AbstractValue}
 use Rattle.alias_lattice.specs.Reasons.{primary_reason}
-use Rattle.alias_lattice.specs.States.{look, given, assigned}
+use Rattle.alias_lattice.specs.States.{lookup, given, assigned}
 use Rattle.alias_tables.specs.declared.faults.Refusal.TheVariants.{AliasBeforeCreate}
 use Rattle.alias_tables.specs.Steps.{◌>>=◌, gives, refuses}
 use Rattle.alias_tables.specs.Tables.{Step}
 use Rattle.alias_apply.specs.declared.progress.StepProgress.{StepProgress}
 use Rattle.alias_apply.specs.Kinds.{is_constant, is_frozen, may_be_frozen, captures, may_alias, value_with}
 use Rattle.alias_apply.specs.Leaves.{intern_and_apply_leaf, intern_and_apply_aliasing}
-use Rattle.alias_apply.specs.Progress.{record_of, with_state, looked_at, looked_with_span, kind_at, is_made, made}
+use Rattle.alias_apply.specs.Progress.{record_of, with_state, looked_up_at, looked_up_with_span, kind_at, is_made, made}
 
 -- ---- values that are made
 
@@ -39,8 +39,8 @@ record_create_from MaybeFrozen r a x s = gives (record_of (effect.CreateFrom a x
 abbrev pub apply_create_from : Place → Place → StepProgress → Step StepProgress
 apply_create_from a x s = do
   u ← made x.identifier s
-  let v = look u.state a.identifier
-  record_create_from v.kind (primary_reason v.reason) a x (with_state (given x.identifier (CreatedFrom a.identifier x.identifier) v u.state) (looked_at a u))
+  let v = lookup u.state a.identifier
+  record_create_from v.kind (primary_reason v.reason) a x (with_state (given x.identifier (CreatedFrom a.identifier x.identifier) v u.state) (looked_up_at a u))
 
 -- a target that is the same value, by the source's kind
 abbrev pub assign_value : AbstractValue → Place → Place → StepProgress → Step StepProgress
@@ -54,14 +54,14 @@ assign_value v a x s =
 abbrev pub apply_assign : Place → Place → StepProgress → Step StepProgress
 apply_assign a x s = do
   u ← made x.identifier s
-  assign_value (look u.state a.identifier) a x (looked_with_span a u)
+  assign_value (lookup u.state a.identifier) a x (looked_up_with_span a u)
 
 -- ---- values that are put into others
 
 -- Capture and Alias: by the kinds of source and target
 abbrev pub apply_link : AliasingEffect → Place → Place → StepProgress → Step StepProgress
 apply_link e a x s =
-    let u = looked_with_span a (looked_with_span x s) in
+    let u = looked_up_with_span a (looked_up_with_span x s) in
     if may_be_frozen (kind_at a s) then intern_and_apply_leaf (effect.ImmutableCapture a x) u
     else (if captures (kind_at a s) (kind_at x s) then gives (record_of e u)
     else (if may_alias (kind_at a s) (kind_at x s) then intern_and_apply_aliasing (effect.MaybeAlias a x) u

@@ -11,13 +11,13 @@ ghost use Rattle.alias_apply.specs.Progress.{record_of, Follows};
 ghost use Rattle.alias_apply.specs.Apply.{apply_simple, intern_and_apply_simple, is_mutable_capture, is_error, has_error, is_mutable_function, function_value, is_capture, is_read_capture, note_read_capture, capture_each, apply_create_function, apply_plain, intern_and_apply_plain, intern_and_apply_all_plain};
 
 use crate::context::{StepContext, summary_of};
+use crate::freezing::context_of;
 use crate::kinds::{is_read_only, is_writable};
 use crate::leaves::apply_aliasing;
 use crate::mutation::{apply_freeze, apply_mutate, apply_mutate_conditionally};
 use crate::progress::{StepProgress, give, make, record};
 use crate::values::{apply_alias, apply_assign, apply_create, apply_create_from, apply_link};
 use alias_base::{FunctionId, List};
-use alias_freezing::context_of;
 use alias_hir::effect::{AliasingEffect, AliasingEffects, ValueKind, error_of};
 use alias_hir::place::{Effect, Place};
 use alias_hir::types::is_ref_at;

@@ -5,7 +5,7 @@ ghost use Rattle.alias_apply.specs.Progress.{Follows};
 ghost use Rattle.alias_apply.specs.Leaves.{apply_immutable_capture, apply_leaf, intern_and_apply_leaf, apply_maybe_alias, apply_aliasing, intern_and_apply_aliasing};
 
 use crate::kinds::{is_constant, may_be_frozen};
-use crate::progress::{StepProgress, look, record};
+use crate::progress::{StepProgress, lookup, record};
 use alias_hir::effect::AliasingEffect;
 use alias_hir::place::Place;
 use alias_tables::{EffectFault, Tables};
@@ -18,7 +18,7 @@ fn apply_immutable_capture(
 ) -> Result<(), AllocError>
     ensures { OnOk result (step.new ≡ apply_immutable_capture from into step.old) }
 {
-    let value = look(step, from.identifier, None);
+    let value = lookup(step, from.identifier, None);
     if is_constant(value.kind) {
         return Ok(());
     }
@@ -81,8 +81,8 @@ fn apply_maybe_alias(
     ensures { Follows (apply_maybe_alias from into step.old tables.old) result step.new tables.new }
 {
     // The target's value isn't needed, but it is read: a read before its definition is recorded.
-    let _target = look(step, into.identifier, into.span);
-    let source = look(step, from.identifier, from.span);
+    let _target = lookup(step, into.identifier, into.span);
+    let source = lookup(step, from.identifier, from.span);
     if may_be_frozen(source.kind) {
         return intern_and_apply_leaf(
             step,

@@ -3,6 +3,7 @@
 
 pub mod apply;
 pub mod context;
+pub mod freezing;
 pub mod kinds;
 pub mod laws;
 pub mod leaves;

@@ -7,11 +7,11 @@ ghost use Rattle.alias_apply.specs.Mutation.{intern_and_apply_mutate_frozen, int
 ghost use Rattle.alias_tables.specs.Steps.{gives};
 
 use crate::context::{StepContext, hoisted_access};
+use crate::freezing::freeze_place_transitively;
 use crate::kinds::is_frozen;
 use crate::leaves::intern_and_apply_leaf;
 use crate::progress::{StepProgress, note_missing, record, value_at};
 use crate::reports::{hoisting_report, write_report};
-use alias_freezing::go_into_place;
 use alias_hir::effect::{AliasingEffect, ValueReason};
 use alias_hir::env::Config;
 use alias_hir::place::Place;
@@ -123,7 +123,7 @@ fn record_result(
     }
 }
 
-/// The step of a write of the variant: a look that is missing is noted, and then what the state answers decides.
+/// The step of a write of the variant: a lookup that is missing is noted, and then what the state answers decides.
 fn apply_mutation(
     context: &StepContext<'_>,
     step: &mut StepProgress,
@@ -196,7 +196,7 @@ pub fn apply_freeze(
     }
     record(step, AliasingEffect::Freeze { value, reason })?;
     if freezes_on(context.env.config) {
-        go_into_place(
+        freeze_place_transitively(
             tables.alloc(),
             &mut step.state,
             context.env,

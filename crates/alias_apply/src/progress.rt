@@ -1,14 +1,14 @@
 //! How far the step of an instruction has come.
 
 ghost use Rattle.std.specs.Prelude.{◌≡◌, OnOk};
-ghost use Rattle.alias_lattice.specs.States.{look as look_of, given};
-ghost use Rattle.alias_apply.specs.Progress.{with_state, record_of, looked, noted, made, Follows};
+ghost use Rattle.alias_lattice.specs.States.{lookup as lookup_of, given};
+ghost use Rattle.alias_apply.specs.Progress.{with_state, record_of, looked_up, noted, made, Follows};
 
 use crate::made::MadeIdentifiers;
 use alias_base::IdentifierId;
 use alias_hir::effect::{AliasingEffect, AliasingEffects};
 use alias_hir::place::{Place, Span};
-use alias_lattice::{AbstractValue, InferenceState, MissingLook, Site};
+use alias_lattice::{AbstractValue, InferenceState, MissingLookup, Site};
 use alias_tables::{EffectFault, Refusal, Tables};
 use std::alloc::AllocError;
 
@@ -20,8 +20,8 @@ pub struct StepProgress {
     pub made: MadeIdentifiers,
     /// What was recorded of the instruction.
     pub recorded: AliasingEffects,
-    /// The first look of the block at an identifier without a value.
-    pub missing: Option<MissingLook>,
+    /// The first lookup of the block at an identifier without a value.
+    pub missing: Option<MissingLookup>,
 }
 
 /// Appends the effect to what was recorded.
@@ -51,7 +51,7 @@ pub fn make(
 
 /// The value of the place. A look at one without a value isn't noted.
 pub fn value_at(step: &StepProgress, place: &Place) -> AbstractValue
-    ensures { result ≡ look_of step.now.state place.now.identifier }
+    ensures { result ≡ lookup_of step.now.state place.now.identifier }
 {
     step.state
         .kind_with_span(place.identifier, place.span)
@@ -59,7 +59,7 @@ pub fn value_at(step: &StepProgress, place: &Place) -> AbstractValue
 }
 
 /// Notes a look at an identifier without a value, if it is the first.
-pub fn note_missing(step: &mut StepProgress, missing: Option<MissingLook>)
+pub fn note_missing(step: &mut StepProgress, missing: Option<MissingLookup>)
     ensures { step.new ≡ noted missing step.old }
 {
     if step.missing.is_none() {
@@ -68,13 +68,17 @@ pub fn note_missing(step: &mut StepProgress, missing: Option<MissingLook>)
 }
 
 /// The value of the identifier. A look at one without a value is noted, if it is the first.
-pub fn look(step: &mut StepProgress, identifier: IdentifierId, span: Option<Span>) -> AbstractValue
-    ensures value { result ≡ look_of step.old.state identifier }
-    ensures noted { step.new ≡ looked identifier span step.old }
+pub fn lookup(
+    step: &mut StepProgress,
+    identifier: IdentifierId,
+    span: Option<Span>,
+) -> AbstractValue
+    ensures value { result ≡ lookup_of step.old.state identifier }
+    ensures noted { step.new ≡ looked_up identifier span step.old }
 {
-    let look = step.state.kind_with_span(identifier, span);
-    note_missing(step, look.missing);
-    look.value
+    let lookup = step.state.kind_with_span(identifier, span);
+    note_missing(step, lookup.missing);
+    lookup.value
 }
 
 /// The place's one site is this one, with this value.

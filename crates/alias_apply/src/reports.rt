@@ -1,7 +1,7 @@
 //! The reports of steps.
 
 ghost use Rattle.std.specs.Prelude.{◌≡◌, ◌++◌, codes, slice_get, option_map, IfOk, OnOk};
-ghost use Rattle.alias_hir.specs.Diagnostics.{same_span};
+ghost use Rattle.alias_hir.specs.ReportNumbers.{same_span};
 ghost use Rattle.alias_apply.specs.Reports.{name_or, name_in, named, labels_at, late_write_reason, write_reason, write_report, access_labels, access_span, hoisting_labels, hoisting_report, impure_name, impure_report, impure_part_report, incompatible_report, spread_report};
 
 use alias_base::{IdentifierId, List, Text, TryClone};
@@ -40,18 +40,18 @@ fn name_of(env: &Environment, identifier: IdentifierId) -> Option<&IdentifierNam
 }
 
 /// The name in backquotes or else the word, and what follows.
-fn told_of(
+fn reported_of(
     alloc: Global,
     env: &Environment,
     identifier: IdentifierId,
     other: &str,
-    told: &str,
+    reported: &str,
 ) -> Result<Text, AllocError>
-    ensures { IfOk result (λ t. t ≡ named env.now identifier other.now ++ told.now) }
+    ensures { IfOk result (λ t. t ≡ named env.now identifier other.now ++ reported.now) }
 {
     let mut text = Text::new(alloc);
     push_name_or(&mut text, name_of(env, identifier), other)?;
-    text.push_str(told)?;
+    text.push_str(reported)?;
     Ok(text)
 }
 
@@ -106,7 +106,7 @@ pub fn write_reason(reasons: &ReasonSet) -> &'static str
     }
 }
 
-/// What is told of a write of a value that isn't to be written.
+/// What is reported of a write of a value that isn't to be written.
 pub fn write_report(
     alloc: Global,
     env: &Environment,
@@ -116,12 +116,12 @@ pub fn write_report(
 ) -> Result<Report, AllocError>
     ensures { IfOk result (λ r. r ≡ write_report env.now identifier span reasons.now) }
 {
-    let told = told_of(alloc, env, identifier, "value", " cannot be modified")?;
+    let reported = reported_of(alloc, env, identifier, "value", " cannot be modified")?;
     Ok(Report {
         category: ErrorCategory::Immutability,
         message: Text::from_str(alloc, "This value cannot be modified")?,
         help: Some(Text::from_str(alloc, write_reason(reasons))?),
-        labels: labels_at(alloc, span, Some(told))?,
+        labels: labels_at(alloc, span, Some(reported))?,
     })
 }
 
@@ -178,20 +178,20 @@ fn hoisting_labels(
 ) -> Result<List<Label>, AllocError>
     ensures { IfOk result (λ l. l ≡ hoisting_labels env.now identifier span access) }
 {
-    let accessed = told_of(
+    let accessed = reported_of(
         alloc,
         env,
         identifier,
         "variable",
         " accessed before it is declared",
     )?;
-    let declared = told_of(alloc, env, identifier, "variable", " is declared here")?;
+    let declared = reported_of(alloc, env, identifier, "variable", " is declared here")?;
     let mut labels = access_labels(alloc, access_span(access), span, accessed)?;
     push_label(&mut labels, span, declared)?;
     Ok(labels)
 }
 
-/// What is told of a write of a variable that is read before it is declared.
+/// What is reported of a write of a variable that is read before it is declared.
 pub fn hoisting_report(
     alloc: Global,
     env: &Environment,
@@ -201,7 +201,7 @@ pub fn hoisting_report(
 ) -> Result<Report, AllocError>
     ensures { IfOk result (λ r. r ≡ hoisting_report env.now identifier span access) }
 {
-    let help = told_of(
+    let help = reported_of(
         alloc,
         env,
         identifier,
@@ -229,7 +229,7 @@ fn push_impure_name(text: &mut Text, name: Option<&Text>) -> Result<(), AllocErr
     }
 }
 
-/// What is told of a call of an impure function, whose signature may name it.
+/// What is reported of a call of an impure function, whose signature may name it.
 pub fn impure_report(
     alloc: Global,
     name: Option<&Text>,
@@ -242,16 +242,16 @@ pub fn impure_report(
     help.push_str(
         "Calling an impure function can produce unstable results that update unpredictably when the component happens to re-render. (https://react.dev/reference/rules/components-and-hooks-must-be-pure#components-and-hooks-must-be-idempotent)",
     )?;
-    let told = Text::from_str(alloc, "Cannot call impure function")?;
+    let reported = Text::from_str(alloc, "Cannot call impure function")?;
     Ok(Report {
         category: ErrorCategory::Purity,
         message: Text::from_str(alloc, "Cannot call impure function during render")?,
         help: Some(help),
-        labels: labels_at(alloc, span, Some(told))?,
+        labels: labels_at(alloc, span, Some(reported))?,
     })
 }
 
-/// What is told of an impure call that an aliasing part makes.
+/// What is reported of an impure call that an aliasing part makes.
 pub fn impure_part_report(alloc: Global) -> Result<Report, AllocError>
     ensures { IfOk result (λ r. r ≡ impure_part_report) }
 {
@@ -263,7 +263,7 @@ pub fn impure_part_report(alloc: Global) -> Result<Report, AllocError>
     })
 }
 
-/// What is told of a call of a function that can't be memoized.
+/// What is reported of a call of a function that can't be memoized.
 pub fn incompatible_report(
     alloc: Global,
     span: Option<Span>,
@@ -271,7 +271,7 @@ pub fn incompatible_report(
 ) -> Result<Report, AllocError>
     ensures { IfOk result (λ r. r ≡ incompatible_report span text.now) }
 {
-    let told = text.try_clone(alloc)?;
+    let reported = text.try_clone(alloc)?;
     let help = Text::from_str(
         alloc,
         "This API returns functions which cannot be memoized without leading to stale UI. To prevent this, by default React Compiler will skip memoizing this component/hook. However, you may see issues if values from this API are passed to other components/hooks that are memoized",
@@ -280,7 +280,7 @@ pub fn incompatible_report(
         category: ErrorCategory::IncompatibleLibrary,
         message: Text::from_str(alloc, "Use of incompatible library")?,
         help: Some(help),
-        labels: labels_at(alloc, span, Some(told))?,
+        labels: labels_at(alloc, span, Some(reported))?,
     })
 }
 

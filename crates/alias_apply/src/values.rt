@@ -6,7 +6,7 @@ ghost use Rattle.alias_apply.specs.Values.{apply_create, record_create_from, app
 
 use crate::kinds::{captures, is_constant, is_frozen, may_alias, may_be_frozen, value_with};
 use crate::leaves::{intern_and_apply_aliasing, intern_and_apply_leaf};
-use crate::progress::{StepProgress, give, look, make, record};
+use crate::progress::{StepProgress, give, lookup, make, record};
 use alias_hir::effect::{AliasingEffect, ValueKind, ValueReason};
 use alias_hir::place::Place;
 use alias_lattice::{AbstractValue, Site, primary_reason};
@@ -92,7 +92,7 @@ pub fn apply_create_from(
     ensures { Follows (apply_create_from from into step.old tables.old) result step.new tables.new }
 {
     make(step, tables, into.identifier)?;
-    let value = look(step, from.identifier, None);
+    let value = lookup(step, from.identifier, None);
     let site = Site::CreatedFrom {
         from: from.identifier,
         into: into.identifier,
@@ -153,7 +153,7 @@ pub fn apply_assign(
     ensures { Follows (apply_assign from into step.old tables.old) result step.new tables.new }
 {
     make(step, tables, into.identifier)?;
-    let value = look(step, from.identifier, from.span);
+    let value = lookup(step, from.identifier, from.span);
     assign_value(step, tables, value, from, into)
 }
 
@@ -167,8 +167,8 @@ pub fn apply_link(
 ) -> Result<(), EffectFault>
     ensures { Follows (apply_link effect from into step.old tables.old) result step.new tables.new }
 {
-    let target = look(step, into.identifier, into.span);
-    let source = look(step, from.identifier, from.span);
+    let target = lookup(step, into.identifier, into.span);
+    let source = lookup(step, from.identifier, from.span);
     if may_be_frozen(source.kind) {
         return intern_and_apply_leaf(
             step,

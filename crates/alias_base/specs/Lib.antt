@@ -4,3 +4,4 @@ pub mod Indexes
 pub mod Lending
 pub mod formers
 pub mod AnswerLaws
+pub mod failures

@@ -1,10 +1,7 @@
-//! The step of a block: its terminal, and missing looks.
+//! The step of a block: its terminal, and missing lookups.
 
 use crate::making::value;
 use alias_base::{BlockId, EvaluationOrder, IdentifierId, List};
-use alias_block::{
-    BlockContext, BlockEffects, BlockFault, BlockRefusal, TerminalEffects, infer_block,
-};
 use alias_facts::function_facts;
 use alias_hir::effect::{AliasingEffect, ValueKind, ValueReason};
 use alias_hir::env::Environment;
@@ -13,6 +10,9 @@ use alias_hir::interned::InternedReports;
 use alias_hir::terminal::Terminal;
 use alias_hir::value::InstructionValue;
 use alias_lattice::{InferenceState, Site};
+use alias_step::block::{
+    BlockContext, BlockEffects, BlockFault, BlockRefusal, TerminalEffects, infer_block,
+};
 use alias_tables::Tables;
 use alias_test_units::{add_instruction, block_of, environment, function, place};
 use std::alloc::{AllocError, Global};
@@ -103,8 +103,8 @@ fn left_by(state: &InferenceState, effects: &BlockEffects) -> Left {
 fn ending_of(answer: &Result<(InferenceState, BlockEffects), BlockFault>) -> Ending {
     match answer {
         Ok((state, effects)) => Ending::Done(left_by(state, effects)),
-        Err(BlockFault::Refused(BlockRefusal::Uninitialized(look))) => {
-            Ending::Uninitialized(look.identifier)
+        Err(BlockFault::Refused(BlockRefusal::Uninitialized(lookup))) => {
+            Ending::Uninitialized(lookup.identifier)
         }
         Err(_) => Ending::Refused,
     }
@@ -293,7 +293,7 @@ fn loaded(alloc: Global) -> Result<Ending, AllocError> {
 }
 
 #[test]
-fn a_missing_look_refuses_the_block(rt: HostRuntime) -> Result<(), Fail> {
+fn a_missing_lookup_refuses_the_block(rt: HostRuntime) -> Result<(), Fail> {
     match loaded(rt.alloc())? {
         Ending::Uninitialized(identifier) => assert!(rt; identifier == IdentifierId(4)),
         _ => panic!(rt; "not refused"),

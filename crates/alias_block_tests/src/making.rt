@@ -1,12 +1,12 @@
 //! Values, and the states that functions begin with.
 
 use alias_base::IdentifierId;
-use alias_block::{BlockContext, initial_state};
 use alias_facts::function_facts;
 use alias_hir::effect::{ValueKind, ValueReason};
 use alias_hir::env::Environment;
 use alias_hir::hir::HirFunction;
 use alias_lattice::{AbstractValue, InferenceState, ReasonSet};
+use alias_step::block::{BlockContext, initial_state};
 use alias_test_units::environment;
 use std::alloc::{AllocError, Global};
 
@@ -20,10 +20,10 @@ pub fn value(kind: ValueKind, reason: ValueReason) -> AbstractValue {
 
 /// What the identifier has in the state, if it is defined.
 fn found(state: &InferenceState, number: u32) -> Option<AbstractValue> {
-    let look = state.kind_with_span(IdentifierId(number), None);
-    match look.missing {
+    let lookup = state.kind_with_span(IdentifierId(number), None);
+    match lookup.missing {
         Some(_) => None,
-        None => Some(look.value),
+        None => Some(lookup.value),
     }
 }
 

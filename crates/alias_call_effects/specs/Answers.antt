@@ -8,7 +8,7 @@ use Rattle.alias_hir.specs.declared.place.Place.{Place}
 use Rattle.alias_hir.specs.declared.place.Span.{Span}
 use Rattle.alias_hir.specs.declared.report.Interned.{Interned}
 use Rattle.alias_hir.specs.declared.report.Report.{Report}
-use Rattle.alias_hir.specs.Diagnostics.{same_identity, same_instance, number_of}
+use Rattle.alias_hir.specs.ReportNumbers.{same_identity, same_instance, number_of}
 use Rattle.alias_tables.specs.declared.faults.EffectFault.{EffectFault}
 use Rattle.alias_tables.specs.declared.faults.EffectFault.TheVariants.{Refused}
 use Rattle.alias_tables.specs.declared.faults.EffectFault.TheVariants as fault

@@ -5,7 +5,7 @@ use Rattle.alias_base.specs.declared.ids.IdentifierId.{IdentifierId}
 use Rattle.alias_hir.specs.declared.effect.AliasingEffect.{AliasingEffect}
 use Rattle.alias_hir.specs.declared.effect.AliasingEffect.TheVariants as effect
 use Rattle.alias_hir.specs.declared.effect.ValueReason.{ValueReason}
-use Rattle.alias_hir.specs.Diagnostics.{with_interned}
+use Rattle.alias_hir.specs.ReportNumbers.{with_interned}
 use Rattle.alias_hir.specs.declared.error.Counter.TheVariants.{Diagnostics}
 use Rattle.alias_hir.specs.declared.env.Environment.{Environment}
 use Rattle.alias_hir.specs.declared.place.Effect.{Effect}
@@ -13,10 +13,10 @@ use Rattle.alias_hir.specs.declared.place.Effect.TheVariants as use_of
 use Rattle.alias_hir.specs.declared.place.Place.{Place}
 use Rattle.alias_hir.specs.declared.place.PlaceOrSpreadOrHole.{PlaceOrSpreadOrHole}
 use Rattle.alias_hir.specs.declared.place.PlaceOrSpreadOrHole.TheVariants as arg
-use Rattle.alias_hir.specs.declared.report.DiagnosticId.{DiagnosticId}
+use Rattle.alias_hir.specs.declared.report.ReportId.{ReportId}
 use Rattle.alias_hir.specs.declared.report.Interned.{Interned}
 use Rattle.alias_hir.specs.declared.signature.FunctionSignature.{FunctionSignature}
-use Rattle.alias_lattice.specs.declared.look.MissingLook.{MissingLook}
+use Rattle.alias_lattice.specs.declared.lookup.MissingLookup.{MissingLookup}
 use Rattle.alias_lattice.specs.States.{State}
 use Rattle.alias_tables.specs.declared.faults.Refusal.{Refusal}
 use Rattle.alias_tables.specs.declared.faults.Refusal.TheVariants.{SpreadArgument}
@@ -28,12 +28,12 @@ use Rattle.alias_calls.specs.declared.call.CallSite.{CallSite}
 use Rattle.alias_calls.specs.declared.immutable.Checked.{Checked}
 use Rattle.alias_calls.specs.declared.legacy.Legacy.{Legacy}
 use Rattle.alias_calls.specs.declared.visits.Visits.{Visits}
-use Rattle.alias_calls.specs.Legacy.{legacy, is_capture, with_receiver, visits_of, return_reason, all_links, still_captures, with_still, ended, asked, visited, legacy_after, legacy_list}
+use Rattle.alias_calls.specs.Legacy.{legacy, is_capture, with_receiver, visits_of, return_reason, all_links, still_captures, with_still, ended, asked, visited, legacy_after, legacy_expansion}
 use Rattle.alias_calls.specs.Visits.{iterated, visit, rest_use, or_effect, spread_effect, is_refused, with_refused, visit_argument, visit_arguments}
 use Rattle.alias_call_effects.specs.declared.error.SignatureError.{SignatureError}
 use Rattle.alias_call_effects.specs.declared.error.SignatureError.TheVariants.{TooMany}
 use Rattle.alias_call_effects.specs.Answers.{signature_error, given_alone, has_numbers, tables_with, with_reports}
-use Rattle.alias_call_effects.specs.Legacy.{is_told, legacy_called, list_without_reports}
+use Rattle.alias_call_effects.specs.Legacy.{is_reported, legacy_called, list_without_reports}
 
 -- ---- effects ahead of those that come
 
@@ -81,15 +81,15 @@ abbrev behind : List AliasingEffect → Result Legacy Refusal → Result Legacy 
 behind out (Ok l) = Ok (legacy (out ++ l.effects) l.missing)
 behind out (Err c) = Err c
 
-abbrev ended_as : Option Place → Place → Visits → Option MissingLook → Result Legacy Refusal
+abbrev ended_as : Option Place → Place → Visits → Option MissingLookup → Result Legacy Refusal
 ended_as (Some p) into v m = Err (SpreadArgument p.span (spread_report p.span))
 ended_as None into v m = Ok (legacy (v.out ++ all_links into v.stored v.captured) m)
 
-ended_leaves : (o : Option Place) (into : Place) (v : Visits) (m : Option MissingLook) (t : TableLists) → ended o into v m t ≡ leaving t (ended_as o into v m)
+ended_leaves : (o : Option Place) (into : Place) (v : Visits) (m : Option MissingLookup) (t : TableLists) → ended o into v m t ≡ leaving t (ended_as o into v m)
 ended_leaves (Some p) into v m t = refl
 ended_leaves None into v m t = refl
 
-ended_behind : (o : Option Place) (into : Place) (out : List AliasingEffect) (v : Visits) (m : Option MissingLook) → ended_as o into (ahead out v) m ≡ behind out (ended_as o into v m)
+ended_behind : (o : Option Place) (into : Place) (out : List AliasingEffect) (v : Visits) (m : Option MissingLookup) → ended_as o into (ahead out v) m ≡ behind out (ended_as o into v m)
 ended_behind (Some p) into out v m = refl
 ended_behind None into out v m = ap (λ (es : List AliasingEffect). Ok (legacy es m)) (append_assoc out v.out (all_links into v.stored v.captured))
 
@@ -100,13 +100,13 @@ error_is : (x e : SignatureError) → ◌≡◌ {A = Result Legacy SignatureErro
 error_is x e h = cc
 
 module _ (env : Environment) (s : FunctionSignature) (site : CallSite) (args : List PlaceOrSpreadOrHole) where
-  abbrev ended_with : Visits → Option MissingLook → Result Legacy Refusal
+  abbrev ended_with : Visits → Option MissingLookup → Result Legacy Refusal
   ended_with v m = ended_as v.refused site.into v m
 
-  abbrev after_as : Bool → Option MissingLook → List AliasingEffect → Result Legacy Refusal
+  abbrev after_as : Bool → Option MissingLookup → List AliasingEffect → Result Legacy Refusal
   after_as b m out = if b then Ok (legacy (with_still site args out) m) else ended_with (visited env s site args out) m
 
-  after_leaves : (b : Bool) (m : Option MissingLook) (out : List AliasingEffect) (t : TableLists) → legacy_after env s site args (record { holds = b; missing = m }) out t ≡ leaving t (after_as b m out)
+  after_leaves : (b : Bool) (m : Option MissingLookup) (out : List AliasingEffect) (t : TableLists) → legacy_after env s site args (record { holds = b; missing = m }) out t ≡ leaving t (after_as b m out)
   after_leaves true m out t = refl
   after_leaves false m out t = ended_leaves (visited env s site args out).refused site.into (visited env s site args out) m t
 
@@ -116,7 +116,7 @@ module _ (env : Environment) (s : FunctionSignature) (site : CallSite) (args : L
       ∙ ap (visit_arguments env s site.into (return_reason s) 0 args) (visit_ahead env site.into (return_reason s) site.receiver s.callee_effect out _)
       ∙ arguments_ahead env s site.into (return_reason s) 0 args out _
 
-  after_behind : (b : Bool) (m : Option MissingLook) (out : List AliasingEffect) → after_as b m out ≡ behind out (after_as b m [])
+  after_behind : (b : Bool) (m : Option MissingLookup) (out : List AliasingEffect) → after_as b m out ≡ behind out (after_as b m [])
   after_behind true m out =
       ap (λ (es : List AliasingEffect). Ok (legacy es m)) (append_assoc out (effect.Alias site.receiver site.into ∷ []) (still_captures site.into args))
   after_behind false m out =
@@ -134,10 +134,10 @@ module _ (env : Environment) (s : FunctionSignature) (site : CallSite) (args : L
     list_after : (out : List AliasingEffect) (t : TableLists) → legacy_after env s site args (asked env s args u) out t ≡ leaving t (behind out others)
     list_after out t = let c = asked env s args u in after_leaves c.holds c.missing out t ∙ ap (leaving t) (after_behind c.holds c.missing out)
 
-    abbrev report_step : TableLists → Result (DiagnosticId × TableLists) Refusal
+    abbrev report_step : TableLists → Result (ReportId × TableLists) Refusal
     report_step = intern_report site.receiver.identifier (impure_report s.canonical_name site.span)
 
-    abbrev with_error : DiagnosticId → List AliasingEffect
+    abbrev with_error : ReportId → List AliasingEffect
     with_error d = created ∷ effect.Impure site.receiver d ∷ []
 
     abbrev next : List AliasingEffect → TableLists → Result (Legacy × TableLists) Refusal
@@ -146,41 +146,41 @@ module _ (env : Environment) (s : FunctionSignature) (site : CallSite) (args : L
     abbrev list_if : Bool → TableLists → Result (Legacy × TableLists) Refusal
     list_if b t = and_then ((if b then (report_step >>= (λ d. gives (with_error d))) else gives (created ∷ [])) t) next
 
-    list_is : (b : Bool) → is_told env s ≡ b → (t : TableLists) → legacy_list env s site args u t ≡ list_if b t
+    list_is : (b : Bool) → is_reported env s ≡ b → (t : TableLists) → legacy_expansion env s site args u t ≡ list_if b t
     list_is b is t = ap (λ (x : Bool). list_if x t) is
 
-    -- where the call isn't told of
-    untold : is_told env s ≡ false → (t : TableLists) → legacy_list env s site args u t ≡ leaving t (behind (created ∷ []) others)
-    untold quiet t = list_is false quiet t ∙ list_after (created ∷ []) t
+    -- where the call isn't reported
+    unreported : is_reported env s ≡ false → (t : TableLists) → legacy_expansion env s site args u t ≡ leaving t (behind (created ∷ []) others)
+    unreported quiet t = list_is false quiet t ∙ list_after (created ∷ []) t
 
-    told_next : (r : Result (DiagnosticId × TableLists) Refusal) (t : TableLists) → report_step t ≡ r → list_if true t ≡ and_then (and_then r (λ d. gives (with_error d))) next
-    told_next r t is = ap (λ (x : Result (DiagnosticId × TableLists) Refusal). and_then (and_then x (λ d. gives (with_error d))) next) is
+    reported_next : (r : Result (ReportId × TableLists) Refusal) (t : TableLists) → report_step t ≡ r → list_if true t ≡ and_then (and_then r (λ d. gives (with_error d))) next
+    reported_next r t is = ap (λ (x : Result (ReportId × TableLists) Refusal). and_then (and_then x (λ d. gives (with_error d))) next) is
 
-    -- where it is told of
-    told : is_told env s ≡ true → (t after : TableLists) (d : DiagnosticId) → report_step t ≡ Ok (d, after) → legacy_list env s site args u t ≡ leaving after (behind (with_error d) others)
-    told tells t after d is = list_is true tells t ∙ told_next (Ok (d, after)) t is ∙ list_after (with_error d) after
+    -- where it is reported
+    reported : is_reported env s ≡ true → (t after : TableLists) (d : ReportId) → report_step t ≡ Ok (d, after) → legacy_expansion env s site args u t ≡ leaving after (behind (with_error d) others)
+    reported tells t after d is = list_is true tells t ∙ reported_next (Ok (d, after)) t is ∙ list_after (with_error d) after
 
     -- and there is no number for its report
-    untellable : is_told env s ≡ true → (t : TableLists) (c : Refusal) → report_step t ≡ Err c → legacy_list env s site args u t ≡ Err c
-    untellable tells t c is = list_is true tells t ∙ told_next (Err c) t is
+    untellable : is_reported env s ≡ true → (t : TableLists) (c : Refusal) → report_step t ≡ Err c → legacy_expansion env s site args u t ≡ Err c
+    untellable tells t c is = list_is true tells t ∙ reported_next (Err c) t is
 
     -- ---- from the list without reports
 
-    abbrev first_id : DiagnosticId
+    abbrev first_id : ReportId
     first_id = record { identity = 0; instance = 0 }
 
     abbrev first_table : TableLists
     first_table = tables_with (with_interned [] site.receiver.identifier (impure_report s.canonical_name site.span))
 
-    first_told : is_told env s ≡ true → list_without_reports env s site args u ≡ given_alone (leaving first_table (behind (with_error first_id) others))
-    first_told tells = ap given_alone (told tells (tables_with []) first_table first_id refl)
+    first_reported : is_reported env s ≡ true → list_without_reports env s site args u ≡ given_alone (leaving first_table (behind (with_error first_id) others))
+    first_reported tells = ap given_alone (reported tells (tables_with []) first_table first_id refl)
 
-    renumbered : (o : Result Legacy Refusal) (l : Legacy) (d : DiagnosticId) (es : List Interned) → given_alone (leaving first_table (behind (with_error first_id) o)) ≡ Ok l
+    renumbered : (o : Result Legacy Refusal) (l : Legacy) (d : ReportId) (es : List Interned) → given_alone (leaving first_table (behind (with_error first_id) o)) ≡ Ok l
         → with_reports env (leaving (tables_with es) (behind (with_error d) o)) ≡ Ok (legacy (slice_set l.effects 1 (effect.Impure site.receiver d)) l.missing, record env { interned = es })
     renumbered (Ok x) l d es h = ap (λ (y : Legacy). Ok (legacy (slice_set y.effects 1 (effect.Impure site.receiver d)) y.missing, record env { interned = es })) (given_is _ l h)
     renumbered (Err c) l d es h = cc
 
-    refused_too : (o : Result Legacy Refusal) (e : SignatureError) (d : DiagnosticId) (after : TableLists) → given_alone (leaving first_table (behind (with_error first_id) o)) ≡ Err e
+    refused_too : (o : Result Legacy Refusal) (e : SignatureError) (d : ReportId) (after : TableLists) → given_alone (leaving first_table (behind (with_error first_id) o)) ≡ Err e
         → with_reports env (leaving after (behind (with_error d) o)) ≡ Err e
     refused_too (Ok x) e d after h = cc
     refused_too (Err c) e d after h = ap (λ (z : SignatureError). Err z) (error_is (signature_error c) e h)
@@ -189,30 +189,30 @@ module _ (env : Environment) (s : FunctionSignature) (site : CallSite) (args : L
     second_there (Ok x) l h = subst (λ (y : Legacy). 1 < length y.effects) (given_is _ l h) (omega arith)
     second_there (Err c) l h = cc
 
-    -- the list of a call that is told of has its report's numbers in the second effect
-    pub told_ok : is_told env s ≡ true → (l : Legacy) → list_without_reports env s site args u ≡ Ok l → (d : DiagnosticId) (es : List Interned) → report_step (tables_with env.interned) ≡ Ok (d, tables_with es)
+    -- the expansion of a call that is reported has its report's numbers in the second effect
+    pub reported_ok : is_reported env s ≡ true → (l : Legacy) → list_without_reports env s site args u ≡ Ok l → (d : ReportId) (es : List Interned) → report_step (tables_with env.interned) ≡ Ok (d, tables_with es)
         → legacy_called s site args u env ≡ Ok (legacy (slice_set l.effects 1 (effect.Impure site.receiver d)) l.missing, record env { interned = es })
-    told_ok tells l h d es is = ap (with_reports env) (told tells (tables_with env.interned) (tables_with es) d is) ∙ renumbered others l d es (sym (first_told tells) ∙ h)
+    reported_ok tells l h d es is = ap (with_reports env) (reported tells (tables_with env.interned) (tables_with es) d is) ∙ renumbered others l d es (sym (first_reported tells) ∙ h)
 
-    pub told_length : is_told env s ≡ true → (l : Legacy) → list_without_reports env s site args u ≡ Ok l → 1 < length l.effects
-    told_length tells l h = second_there others l (sym (first_told tells) ∙ h)
+    pub reported_length : is_reported env s ≡ true → (l : Legacy) → list_without_reports env s site args u ≡ Ok l → 1 < length l.effects
+    reported_length tells l h = second_there others l (sym (first_reported tells) ∙ h)
 
-    tellable_if : (b : Bool) (p : DiagnosticId × TableLists) (c : Refusal) → b ≡ true → (if b then Ok p else Err c) ≡ Ok p
+    tellable_if : (b : Bool) (p : ReportId × TableLists) (c : Refusal) → b ≡ true → (if b then Ok p else Err c) ≡ Ok p
     tellable_if true p c h = refl
     tellable_if false p c h = cc
 
-    pub told_err : is_told env s ≡ true → (e : SignatureError) → list_without_reports env s site args u ≡ Err e → has_numbers site.receiver.identifier (impure_report s.canonical_name site.span) env.interned ≡ true
+    pub reported_err : is_reported env s ≡ true → (e : SignatureError) → list_without_reports env s site args u ≡ Err e → has_numbers site.receiver.identifier (impure_report s.canonical_name site.span) env.interned ≡ true
         → legacy_called s site args u env ≡ Err e
-    told_err tells e h room =
-        ap (with_reports env) (told tells (tables_with env.interned) _ _ (tellable_if _ _ _ room))
-        ∙ refused_too others e _ _ (sym (first_told tells) ∙ h)
+    reported_err tells e h room =
+        ap (with_reports env) (reported tells (tables_with env.interned) _ _ (tellable_if _ _ _ room))
+        ∙ refused_too others e _ _ (sym (first_reported tells) ∙ h)
 
-    full_if : (b : Bool) (p : DiagnosticId × TableLists) (c : Refusal) → b ≡ false → (if b then Ok p else Err c) ≡ Err c
+    full_if : (b : Bool) (p : ReportId × TableLists) (c : Refusal) → b ≡ false → (if b then Ok p else Err c) ≡ Err c
     full_if true p c h = cc
     full_if false p c h = refl
 
-    pub told_full : is_told env s ≡ true → has_numbers site.receiver.identifier (impure_report s.canonical_name site.span) env.interned ≡ false → legacy_called s site args u env ≡ Err (TooMany Diagnostics)
-    told_full tells full = ap (with_reports env) (untellable tells (tables_with env.interned) (refusal.TooMany Diagnostics) (full_if _ _ _ full))
+    pub reported_full : is_reported env s ≡ true → has_numbers site.receiver.identifier (impure_report s.canonical_name site.span) env.interned ≡ false → legacy_called s site args u env ≡ Err (TooMany Diagnostics)
+    reported_full tells full = ap (with_reports env) (untellable tells (tables_with env.interned) (refusal.TooMany Diagnostics) (full_if _ _ _ full))
 
     same_ok : (o : Result Legacy Refusal) (l : Legacy) → given_alone (leaving (tables_with []) o) ≡ Ok l → with_reports env (leaving (tables_with env.interned) o) ≡ Ok (l, env)
     same_ok (Ok x) l h = ap (λ (y : Legacy). Ok (y, env)) (given_is x l h)
@@ -222,12 +222,12 @@ module _ (env : Environment) (s : FunctionSignature) (site : CallSite) (args : L
     same_err (Ok x) e h = cc
     same_err (Err c) e h = ap (λ (z : SignatureError). Err z) (error_is (signature_error c) e h)
 
-    first_untold : is_told env s ≡ false → list_without_reports env s site args u ≡ given_alone (leaving (tables_with []) (behind (created ∷ []) others))
-    first_untold quiet = ap given_alone (untold quiet (tables_with []))
+    first_unreported : is_reported env s ≡ false → list_without_reports env s site args u ≡ given_alone (leaving (tables_with []) (behind (created ∷ []) others))
+    first_unreported quiet = ap given_alone (unreported quiet (tables_with []))
 
-    -- the list of a call that isn't told of is the same whatever is interned
-    pub untold_ok : is_told env s ≡ false → (l : Legacy) → list_without_reports env s site args u ≡ Ok l → legacy_called s site args u env ≡ Ok (l, env)
-    untold_ok quiet l h = ap (with_reports env) (untold quiet (tables_with env.interned)) ∙ same_ok (behind (created ∷ []) others) l (sym (first_untold quiet) ∙ h)
+    -- the expansion of a call that isn't reported is the same whatever is interned
+    pub unreported_ok : is_reported env s ≡ false → (l : Legacy) → list_without_reports env s site args u ≡ Ok l → legacy_called s site args u env ≡ Ok (l, env)
+    unreported_ok quiet l h = ap (with_reports env) (unreported quiet (tables_with env.interned)) ∙ same_ok (behind (created ∷ []) others) l (sym (first_unreported quiet) ∙ h)
 
-    pub untold_err : is_told env s ≡ false → (e : SignatureError) → list_without_reports env s site args u ≡ Err e → legacy_called s site args u env ≡ Err e
-    untold_err quiet e h = ap (with_reports env) (untold quiet (tables_with env.interned)) ∙ same_err (behind (created ∷ []) others) e (sym (first_untold quiet) ∙ h)
+    pub unreported_err : is_reported env s ≡ false → (e : SignatureError) → list_without_reports env s site args u ≡ Err e → legacy_called s site args u env ≡ Err e
+    unreported_err quiet e h = ap (with_reports env) (unreported quiet (tables_with env.interned)) ∙ same_err (behind (created ∷ []) others) e (sym (first_unreported quiet) ∙ h)

@@ -8,3 +8,4 @@ pub mod GrowthLaws
 pub mod PartLaws
 pub mod LegacyLaws
 pub mod ConfigLaws
+pub mod laws

@@ -12,7 +12,7 @@ use Rattle.alias_tables.specs.declared.temp_key.TempKey.TheVariants.{Rest}
 use Rattle.alias_tables.specs.Steps.{◌>>=◌, gives}
 use Rattle.alias_calls.specs.declared.call.SummaryNames.{SummaryNames}
 use Rattle.alias_calls.specs.Copies.{Collected}
-use Rattle.alias_calls.specs.Summaries.{plain_params, last_spread, summary_call, names_list}
+use Rattle.alias_calls.specs.Summaries.{plain_params, last_spread, summary_call, names_expansion}
 use Rattle.alias_call_effects.specs.declared.error.SignatureError.{SignatureError}
 use Rattle.alias_call_effects.specs.declared.summaries.AliasingSignature.{AliasingSignature}
 use Rattle.alias_call_effects.specs.Answers.{tables_with, given_alone}
@@ -43,5 +43,5 @@ abbrev pub names_of : AliasingSignature → SummaryNames
 names_of s = record { params = s.params; rest = s.rest; returns = s.returns }
 
 -- the list that the signature gives, if it gives one
-abbrev pub signature_list : AliasingSignature → Place → List PlaceOrSpreadOrHole → List Place → Environment → Result Collected SignatureError
-signature_list s into args context env = given_alone (names_list env (summary_call (names_of s) into args context) s.effects (tables_with []))
+abbrev pub signature_expansion : AliasingSignature → Place → List PlaceOrSpreadOrHole → List Place → Environment → Result Collected SignatureError
+signature_expansion s into args context env = given_alone (names_expansion env (summary_call (names_of s) into args context) s.effects (tables_with []))

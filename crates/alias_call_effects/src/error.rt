@@ -14,7 +14,7 @@ pub enum SignatureError {
     SpreadArgument(Option<Span>),
     /// All numbers are taken.
     TooMany(Counter),
-    /// Want of memory, which can come at any growth.
+    /// Out of memory, which can come at any growth.
     Memory(AllocError),
 }
 

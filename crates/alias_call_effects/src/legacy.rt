@@ -5,7 +5,7 @@ ghost use Rattle.alias_base.specs.Answer.{Gives};
 ghost use Rattle.alias_hir.specs.declared.effect.AliasingEffect.TheVariants.{Impure};
 ghost use Rattle.alias_apply.specs.Reports.{impure_report};
 ghost use Rattle.alias_call_effects.specs.Answers.{Answers, has_numbers, is_memory, site_of};
-ghost use Rattle.alias_call_effects.specs.Legacy.{is_told, legacy_called, list_without_reports};
+ghost use Rattle.alias_call_effects.specs.Legacy.{is_reported, legacy_called, list_without_reports};
 
 use crate::configs::site_of;
 use crate::error::SignatureError;
@@ -17,15 +17,15 @@ use alias_hir::env::Environment;
 use alias_hir::error::Counter;
 use alias_hir::interned::InternedReports;
 use alias_hir::place::{Place, PlaceOrSpreadOrHole, Span};
-use alias_hir::report::{DiagnosticId, Report};
+use alias_hir::report::{Report, ReportId};
 use alias_hir::signature::FunctionSignature;
 use alias_lattice::InferenceState;
 use alias_tables::{Tables, intern_report};
 use std::alloc::{AllocError, Global};
 
-/// Whether the call of an impure function is told of.
-fn is_told(env: &Environment, signature: &FunctionSignature) -> bool
-    ensures { result ≡ is_told env.now signature.now }
+/// Whether the call of an impure function is reported.
+fn is_reported(env: &Environment, signature: &FunctionSignature) -> bool
+    ensures { result ≡ is_reported env.now signature.now }
 {
     signature.impure && env.config.validate_no_impure_functions_in_render
 }
@@ -48,7 +48,7 @@ fn has_numbers(reports: &InternedReports, identifier: IdentifierId, report: &Rep
     identity < 4294967295 && instance < 4294967295
 }
 
-/// The list as it is where no report is interned. Where the call is told of, its report has the numbers of the first one.
+/// The list as it is where no report is interned. Where the call is reported, its report has the numbers of the first one.
 fn list_without_reports(
     alloc: Global,
     env: &Environment,
@@ -64,16 +64,16 @@ fn list_without_reports(
 }
 
 /// Gives the report of an impure call, which stands second, its numbers.
-fn number_report(effects: &mut AliasingEffects, place: Place, error: DiagnosticId)
+fn number_report(effects: &mut AliasingEffects, place: Place, error: ReportId)
     requires { 1 < length effects.old }
     ensures { effects.new ≡ slice_set effects.old 1 (Impure place error) }
 {
     let _effect = effects.replace(1, AliasingEffect::Impure { place, error });
 }
 
-/// The list of a call that is told of. After an `Err` nothing has changed.
-#[tactic(auto, using(crate::specs::LegacyLaws::told_full))]
-fn told_list(
+/// The list of a call that is reported. After an `Err` nothing has changed.
+#[tactic(auto, using(crate::specs::LegacyLaws::reported_full))]
+fn reported_expansion(
     alloc: Global,
     env: &mut Environment,
     state: &InferenceState,
@@ -81,7 +81,7 @@ fn told_list(
     site: CallSite,
     args: &[PlaceOrSpreadOrHole],
 ) -> Result<Legacy, SignatureError>
-    requires { is_told env.old signature.now ≡ true }
+    requires { is_reported env.old signature.now ≡ true }
     ensures answer { Answers (legacy_called signature.now site args.now state.now env.old) result env.new }
     ensures err { OnErr result (env.new ≡ env.old) }
 {
@@ -101,7 +101,7 @@ fn told_list(
 ///
 /// The errors: `TooMany`, where no number is left for that report; else `SpreadArgument`, at the first spread argument that
 /// would be frozen. After an `Err` the environment is as it was.
-#[tactic(auto, using(crate::specs::LegacyLaws::untold_ok, crate::specs::LegacyLaws::untold_err))]
+#[tactic(auto, using(crate::specs::LegacyLaws::unreported_ok, crate::specs::LegacyLaws::unreported_err))]
 pub fn compute_effects_for_legacy_signature(
     alloc: Global,
     state: &InferenceState,
@@ -116,8 +116,8 @@ pub fn compute_effects_for_legacy_signature(
     ensures err { OnErr result (env.new ≡ env.old) }
 {
     let site = site_of(lvalue, receiver, span);
-    if is_told(env, signature) {
-        told_list(alloc, env, state, signature, site, args)
+    if is_reported(env, signature) {
+        reported_expansion(alloc, env, state, signature, site, args)
     } else {
         list_without_reports(alloc, env, state, signature, site, args)
     }

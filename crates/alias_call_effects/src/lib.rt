@@ -4,6 +4,7 @@
 
 mod configs;
 pub mod error;
+pub mod laws;
 mod legacy;
 pub mod named;
 pub mod summaries;

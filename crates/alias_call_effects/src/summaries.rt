@@ -7,7 +7,7 @@ ghost use Rattle.alias_hir.specs.declared.hir.HirFunction.{HirFunction as Functi
 ghost use Rattle.alias_calls.specs.Summaries.{last_spread};
 ghost use Rattle.alias_call_effects.specs.Answers.{Answers, is_memory};
 ghost use Rattle.alias_call_effects.specs.Kept.{kept, HasGrown};
-ghost use Rattle.alias_call_effects.specs.Summaries.{HasSummary, rest_or_temporary, signature_with, signature_of, names_of, signature_list};
+ghost use Rattle.alias_call_effects.specs.Summaries.{HasSummary, rest_or_temporary, signature_with, signature_of, names_of, signature_expansion};
 
 use crate::error::SignatureError;
 use crate::temporaries::temporary_at;
@@ -121,7 +121,7 @@ pub fn compute_effects_for_aliasing_signature(
     context: &[Place],
     _span: Option<&Span>,
 ) -> Result<Option<AliasingEffects>, SignatureError>
-    ensures { Gives is_memory (signature_list signature.now lvalue.now args.now context.now env.now) result }
+    ensures { Gives is_memory (signature_expansion signature.now lvalue.now args.now context.now env.now) result }
 {
     let tables = Tables::new(alloc, InternedReports::new(alloc));
     let names = names_of(alloc, signature)?;

@@ -98,7 +98,7 @@ const READ: [(&'static str, u32, u32); 4] = [
     ("ImmutableCapture", 2, 3),
 ];
 
-const TOLD: [(&'static str, u32, u32); 5] = [
+const REPORTED: [(&'static str, u32, u32); 5] = [
     ("Create", 3, 0),
     ("Impure", 1, 1),
     ("Alias", 1, 3),
@@ -122,20 +122,23 @@ fn reads(alloc: Global, env: &mut Environment, want: &[(&'static str, u32, u32)]
 }
 
 fn interns_another(alloc: Global, env: &mut Environment) -> Result<bool, AllocError> {
-    let other = env.intern_aliasing_diagnostic(IdentifierId(0), another_report(alloc)?);
+    let other = env.intern_aliasing_report(IdentifierId(0), another_report(alloc)?);
     Ok(other.is_ok())
 }
 
-/// Whether a call lists what is wanted before impure calls are told of, another report is interned then, and two calls
+/// Whether a call lists what is wanted before impure calls are reported, another report is interned then, and two calls
 /// list what is wanted; and how many reports there are before and after.
 fn calls(alloc: Global, env: &mut Environment) -> Result<([bool; 4], [usize; 2]), AllocError> {
-    let untold = reads(alloc, env, &READ);
+    let unreported = reads(alloc, env, &READ);
     let before = env.interned.len();
     env.config.validate_no_impure_functions_in_render = true;
     let other = interns_another(alloc, env)?;
-    let told = reads(alloc, env, &TOLD);
-    let again = reads(alloc, env, &TOLD);
-    Ok(([untold, other, told, again], [before, env.interned.len()]))
+    let reported = reads(alloc, env, &REPORTED);
+    let again = reads(alloc, env, &REPORTED);
+    Ok((
+        [unreported, other, reported, again],
+        [before, env.interned.len()],
+    ))
 }
 
 fn impure_calls(alloc: Global) -> Result<([bool; 4], [usize; 2]), AllocError> {
@@ -144,14 +147,14 @@ fn impure_calls(alloc: Global) -> Result<([bool; 4], [usize; 2]), AllocError> {
 }
 
 #[test]
-fn an_impure_call_is_told_of_where_that_is_asked(rt: HostRuntime) -> Result<(), Fail> {
+fn an_impure_call_is_reported_where_that_is_asked(rt: HostRuntime) -> Result<(), Fail> {
     let (listed, interned) = impure_calls(rt.alloc())?;
     assert_eq!(rt; listed, [true; 4]);
     assert_eq!(rt; interned, [0, 2]);
     Ok(())
 }
 
-/// Whether a call that would freeze a spread argument is refused, where impure calls are told of.
+/// Whether a call that would freeze a spread argument is refused, where impure calls are reported.
 fn refuses(alloc: Global, env: &mut Environment) -> bool {
     env.config.validate_no_impure_functions_in_render = true;
     let answer = called(alloc, env, Effect::Freeze, spread_argument());

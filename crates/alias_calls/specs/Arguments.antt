@@ -29,9 +29,9 @@ module _ {K : Type 0} (same : K → K → Bool) where
   with_argument k param rest arg.Hole so_far = so_far
 
   -- what the name stands for after all arguments, of which the first is number i
-  abbrev pub standing : K → List K → Option K → List PlaceOrSpreadOrHole → ℕ → List Place → List Place
-  standing k params rest [] i so_far = so_far
-  standing k params rest (a ∷ others) i so_far = standing k params rest others (i + 1) (with_argument k (slice_get params i) rest a so_far)
+  abbrev pub substituted_arguments : K → List K → Option K → List PlaceOrSpreadOrHole → ℕ → List Place → List Place
+  substituted_arguments k params rest [] i so_far = so_far
+  substituted_arguments k params rest (a ∷ others) i so_far = substituted_arguments k params rest others (i + 1) (with_argument k (slice_get params i) rest a so_far)
 
 -- the argument needs a rest: it is spread, or there is no parameter for it
 abbrev pub is_further : {K : Type 0} → Option K → PlaceOrSpreadOrHole → Bool

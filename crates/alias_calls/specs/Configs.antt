@@ -1,7 +1,7 @@
 -- The effects of a call by the aliasing part of its signature.
 use Rattle.std.specs.Prelude.{ℕ, ◌+◌, Bool, cond, ◌&&◌, not, List, [], ◌∷◌, ◌++◌, Option, Some, None, slice_get, if◌then◌else◌}
 use Rattle.std.specs.Option.{is_some}
-use Rattle.alias_hir.specs.Diagnostics.{same_text}
+use Rattle.alias_hir.specs.ReportNumbers.{same_text}
 use Rattle.alias_hir.specs.declared.effect.AliasingEffect.{AliasingEffect}
 use Rattle.alias_hir.specs.declared.effect.AliasingEffect.TheVariants as effect
 use Rattle.alias_hir.specs.declared.env.Environment.{Environment}
@@ -20,7 +20,7 @@ use Rattle.alias_apply.specs.Reports.{impure_part_report}
 use Rattle.alias_calls.specs.declared.call.CallSite.{CallSite}
 use Rattle.alias_calls.specs.declared.copies.PairKind.TheVariants as pair
 use Rattle.alias_calls.specs.declared.copies.PlaceKind.TheVariants as at
-use Rattle.alias_calls.specs.Arguments.{standing, has_further, first_of}
+use Rattle.alias_calls.specs.Arguments.{substituted_arguments, has_further, first_of}
 use Rattle.alias_calls.specs.Calls.{ConfigCall}
 use Rattle.alias_calls.specs.Copies.{Collected, with_pairs, with_each, with_freezes}
 
@@ -37,16 +37,16 @@ or_places (Some p) others = p ∷ []
 or_places None others = others
 
 -- before the arguments: the result, or else the receiver
-abbrev pub stands_first : AliasingSignatureConfig → CallSite → List ℕ → List Place
-stands_first config site q =
+abbrev pub substituted_first : AliasingSignatureConfig → CallSite → List ℕ → List Place
+substituted_first config site q =
     if same_text config.returns q then site.into ∷ []
     else (if same_text config.receiver q then site.receiver ∷ [] else [])
 
 -- a temporary, or else what the arguments say
-abbrev pub stands : ConfigCall → List ℕ → List Place
-stands c q =
+abbrev pub substituted : ConfigCall → List ℕ → List Place
+substituted c q =
     or_places (slice_get c.temporaries (name_index q c.config.temporaries))
-    (standing same_text q c.config.params c.config.rest c.args 0 (stands_first c.config c.site q))
+    (substituted_arguments same_text q c.config.params c.config.rest c.args 0 (substituted_first c.config c.site q))
 
 -- ---- inner calls
 
@@ -57,7 +57,7 @@ argument_at (Some p) = arg.Place p ∷ []
 -- a named argument without a place is dropped, and holes stay
 abbrev pub inner_argument : ConfigCall → ApplyArgConfig → List PlaceOrSpreadOrHole
 inner_argument c named.Hole = arg.Hole ∷ []
-inner_argument c (named.Place q) = argument_at (first_of (stands c q))
+inner_argument c (named.Place q) = argument_at (first_of (substituted c q))
 
 abbrev pub inner_arguments : ConfigCall → List ApplyArgConfig → List PlaceOrSpreadOrHole
 inner_arguments c [] = []
@@ -85,17 +85,17 @@ with_impures ps out = do
 
 -- an effect of the part, for each combination of the places that its names stand for
 abbrev pub with_config_effect : Environment → ConfigCall → AliasingEffectConfig → List AliasingEffect → Step Collected
-with_config_effect env c (config.Freeze v r) out = with_freezes env c.args r (stands c v) out
-with_config_effect env c (config.Create x k r) out = with_each (at.Create k r) (stands c x) out
-with_config_effect env c (config.CreateFrom a x) out = with_pairs pair.CreateFrom (stands c a) (stands c x) out
-with_config_effect env c (config.Assign a x) out = with_pairs pair.Assign (stands c a) (stands c x) out
-with_config_effect env c (config.Alias a x) out = with_pairs pair.Alias (stands c a) (stands c x) out
-with_config_effect env c (config.Capture a x) out = with_pairs pair.Capture (stands c a) (stands c x) out
-with_config_effect env c (config.ImmutableCapture a x) out = with_pairs pair.ImmutableCapture (stands c a) (stands c x) out
-with_config_effect env c (config.Impure p) out = with_impures (stands c p) out
-with_config_effect env c (config.Mutate v) out = with_each (at.Mutate None) (stands c v) out
-with_config_effect env c (config.MutateTransitiveConditionally v) out = with_each at.MutateTransitiveConditionally (stands c v) out
-with_config_effect env c (config.Apply r f mutates inner x) out = with_apply c (first_of (stands c r)) (first_of (stands c f)) (first_of (stands c x)) mutates inner out
+with_config_effect env c (config.Freeze v r) out = with_freezes env c.args r (substituted c v) out
+with_config_effect env c (config.Create x k r) out = with_each (at.Create k r) (substituted c x) out
+with_config_effect env c (config.CreateFrom a x) out = with_pairs pair.CreateFrom (substituted c a) (substituted c x) out
+with_config_effect env c (config.Assign a x) out = with_pairs pair.Assign (substituted c a) (substituted c x) out
+with_config_effect env c (config.Alias a x) out = with_pairs pair.Alias (substituted c a) (substituted c x) out
+with_config_effect env c (config.Capture a x) out = with_pairs pair.Capture (substituted c a) (substituted c x) out
+with_config_effect env c (config.ImmutableCapture a x) out = with_pairs pair.ImmutableCapture (substituted c a) (substituted c x) out
+with_config_effect env c (config.Impure p) out = with_impures (substituted c p) out
+with_config_effect env c (config.Mutate v) out = with_each (at.Mutate None) (substituted c v) out
+with_config_effect env c (config.MutateTransitiveConditionally v) out = with_each at.MutateTransitiveConditionally (substituted c v) out
+with_config_effect env c (config.Apply r f mutates inner x) out = with_apply c (first_of (substituted c r)) (first_of (substituted c f)) (first_of (substituted c x)) mutates inner out
 
 abbrev pub with_config_effects : Environment → ConfigCall → List AliasingEffectConfig → List AliasingEffect → Step Collected
 with_config_effects env c = collect (with_config_effect env c)
@@ -112,8 +112,8 @@ abbrev pub config_call : AliasingSignatureConfig → CallSite → List PlaceOrSp
 config_call config site args temporaries = record { config = config; site = site; args = args; temporaries = temporaries }
 
 -- the list that the aliasing part gives, if it gives one. An argument that needs a rest gives none where there is no rest
-abbrev pub config_list : Environment → AliasingSignatureConfig → CallSite → List PlaceOrSpreadOrHole → Step Collected
-config_list env config site args =
+abbrev pub config_expansion : Environment → AliasingSignatureConfig → CallSite → List PlaceOrSpreadOrHole → Step Collected
+config_expansion env config site args =
     if has_further config.params args 0 && not (is_some config.rest) then gives None
     else (do
       temporaries ← each (with_temporary env site) config.temporaries []

@@ -18,11 +18,11 @@ use Rattle.alias_hir.specs.declared.place.PlaceOrSpreadOrHole.TheVariants as arg
 use Rattle.alias_hir.specs.declared.signature.FunctionSignature.{FunctionSignature}
 use Rattle.alias_hir.specs.Tables.{function_signature}
 use Rattle.alias_hir.specs.Types.{type_of}
-use Rattle.alias_lattice.specs.declared.look.MissingLook.{MissingLook}
+use Rattle.alias_lattice.specs.declared.lookup.MissingLookup.{MissingLookup}
 use Rattle.alias_lattice.specs.declared.site.Site.{Site}
 use Rattle.alias_lattice.specs.declared.site.Site.TheVariants.{Function}
-use Rattle.alias_lattice.specs.States.{State, look, missing_look}
-use Rattle.alias_freezing.specs.Sites.{sites_at}
+use Rattle.alias_lattice.specs.States.{State, lookup, missing_lookup}
+use Rattle.alias_apply.specs.freezing.Sites.{sites_at}
 use Rattle.alias_apply.specs.Progress.{first_missing}
 use Rattle.alias_calls.specs.declared.immutable.Checked.{Checked}
 use Rattle.alias_calls.specs.declared.immutable.Verdict.{Verdict}
@@ -67,22 +67,22 @@ is_still kind.Primitive = true
 is_still kind.Frozen = true
 is_still k = false
 
-abbrev pub verdict : Option Bool → Option MissingLook → Verdict
+abbrev pub verdict : Option Bool → Option MissingLookup → Verdict
 verdict answer missing = record { answer = answer; missing = missing }
 
-abbrev pub checked : Bool → Option MissingLook → Checked
+abbrev pub checked : Bool → Option MissingLookup → Checked
 checked holds missing = record { holds = holds; missing = missing }
 
 abbrev pub answered_by : Bool → Option Bool
 answered_by b = if b then None else Some false
 
 -- its kind is Primitive or Frozen, and none of its sites is a function that writes a parameter, or else the answer is no
-abbrev pub verdict_of_place : Environment → State → Place → Option MissingLook → Verdict
+abbrev pub verdict_of_place : Environment → State → Place → Option MissingLookup → Verdict
 verdict_of_place env s p m =
-    verdict (answered_by (is_still (look s p.identifier).kind && not (has_writing_site env (sites_at s p.identifier)))) (first_missing m (missing_look s p.identifier None))
+    verdict (answered_by (is_still (lookup s p.identifier).kind && not (has_writing_site env (sites_at s p.identifier)))) (first_missing m (missing_lookup s p.identifier None))
 
 -- a function with a signature answers at once
-abbrev pub verdict_by : Option FunctionSignature → Environment → State → Place → Option MissingLook → Verdict
+abbrev pub verdict_by : Option FunctionSignature → Environment → State → Place → Option MissingLookup → Verdict
 verdict_by (Some signature) env s p m = verdict (Some (writes_nothing signature)) m
 verdict_by None env s p m = verdict_of_place env s p m
 
@@ -90,16 +90,16 @@ verdict_by None env s p m = verdict_of_place env s p m
 abbrev pub signature_at : Environment → IdentifierId → Option FunctionSignature
 signature_at env id = option_and_then (function_signature env) (type_of env id)
 
-abbrev pub verdict_of : Environment → State → PlaceOrSpreadOrHole → Option MissingLook → Verdict
+abbrev pub verdict_of : Environment → State → PlaceOrSpreadOrHole → Option MissingLookup → Verdict
 verdict_of env s (arg.Place p) m = verdict_by (signature_at env p.identifier) env s p m
 verdict_of env s (arg.Spread x) m = verdict_of_place env s x.place m
 verdict_of env s arg.Hole m = verdict None m
 
-abbrev pub unless_answered : Option Bool → Option MissingLook → Checked → Checked
+abbrev pub unless_answered : Option Bool → Option MissingLookup → Checked → Checked
 unless_answered (Some b) m others = checked b m
 unless_answered None m others = others
 
--- the arguments are immutable, and the first missing look on the way
-abbrev pub immutables : Environment → State → List PlaceOrSpreadOrHole → Option MissingLook → Checked
+-- the arguments are immutable, and the first missing lookup on the way
+abbrev pub immutables : Environment → State → List PlaceOrSpreadOrHole → Option MissingLookup → Checked
 immutables env s [] m = checked true m
 immutables env s (a ∷ others) m = let v = verdict_of env s a m in unless_answered v.answer v.missing (immutables env s others v.missing)

@@ -11,7 +11,7 @@ use Rattle.alias_hir.specs.declared.place.Place.{Place}
 use Rattle.alias_hir.specs.declared.place.PlaceOrSpreadOrHole.{PlaceOrSpreadOrHole}
 use Rattle.alias_hir.specs.declared.place.PlaceOrSpreadOrHole.TheVariants as arg
 use Rattle.alias_hir.specs.declared.signature.FunctionSignature.{FunctionSignature}
-use Rattle.alias_lattice.specs.declared.look.MissingLook.{MissingLook}
+use Rattle.alias_lattice.specs.declared.lookup.MissingLookup.{MissingLookup}
 use Rattle.alias_lattice.specs.States.{State}
 use Rattle.alias_tables.specs.declared.faults.Refusal.TheVariants.{SpreadArgument}
 use Rattle.alias_tables.specs.Steps.{◌>>=◌, gives, refuses}
@@ -33,10 +33,10 @@ abbrev pub all_links : Place → List Place → List Place → List AliasingEffe
 all_links into stored [] = []
 all_links into stored (c ∷ captured) = links_of into stored c ++ all_links into stored captured
 
-abbrev pub legacy : List AliasingEffect → Option MissingLook → Legacy
+abbrev pub legacy : List AliasingEffect → Option MissingLookup → Legacy
 legacy effects missing = record { effects = effects; missing = missing }
 
-abbrev pub ended : Option Place → Place → Visits → Option MissingLook → Step Legacy
+abbrev pub ended : Option Place → Place → Visits → Option MissingLookup → Step Legacy
 ended (Some p) into v m = refuses (SpreadArgument p.span (spread_report p.span))
 ended None into v m = gives (legacy (v.out ++ all_links into v.stored v.captured) m)
 
@@ -58,7 +58,7 @@ abbrev pub is_capture : Effect → Bool
 is_capture use_of.Capture = true
 is_capture e = false
 
--- the call of an impure function is told of, where that is asked
+-- the call of an impure function is reported, where that is asked
 abbrev pub with_impure : Environment → FunctionSignature → CallSite → List AliasingEffect → Step (List AliasingEffect)
 with_impure env s site out =
     if s.impure && env.config.validate_no_impure_functions_in_render then (do
@@ -92,8 +92,8 @@ module _ (env : Environment) (s : FunctionSignature) (site : CallSite) (args : L
       if c.holds then gives (legacy (with_still site args out) c.missing)
       else ended (visited out).refused site.into (visited out) c.missing
 
-  -- the list, and the first missing look on the way
-  abbrev pub legacy_list : State → Step Legacy
-  legacy_list u = do
+  -- the list, and the first missing lookup on the way
+  abbrev pub legacy_expansion : State → Step Legacy
+  legacy_expansion u = do
     out ← with_impure env s site (effect.Create site.into s.return_value_kind (return_reason s) ∷ [])
     legacy_after (asked env s args u) out

@@ -1,4 +1,4 @@
--- The lists of calls replay: made again under the tables that they left, or under ones that extend them, they are the same and leave them.
+-- The expansions of calls replay: made again under the tables that they left, or under ones that extend them, they are the same and leave them.
 use Rattle.std.specs.Prelude.{ℕ, Bool, ◌&&◌, not, nat_lt, List, [], ◌∷◌, ◌++◌, length, Option, Some, None}
 use Rattle.std.specs.Option.{is_some}
 use Rattle.alias_base.specs.declared.ids.FunctionId.{FunctionId}
@@ -15,7 +15,7 @@ use Rattle.alias_hir.specs.declared.signature.AliasingEffectConfig.TheVariants a
 use Rattle.alias_hir.specs.declared.signature.AliasingSignatureConfig.{AliasingSignatureConfig}
 use Rattle.alias_hir.specs.declared.signature.ApplyArgConfig.{ApplyArgConfig}
 use Rattle.alias_hir.specs.declared.signature.FunctionSignature.{FunctionSignature}
-use Rattle.alias_lattice.specs.declared.look.MissingLook.{MissingLook}
+use Rattle.alias_lattice.specs.declared.lookup.MissingLookup.{MissingLookup}
 use Rattle.alias_lattice.specs.States.{State}
 use Rattle.alias_tables.specs.declared.faults.Refusal.TheVariants.{SpreadArgument}
 use Rattle.alias_tables.specs.declared.temp_key.TempKey.TheVariants.{Named, Rest}
@@ -30,10 +30,10 @@ use Rattle.alias_calls.specs.declared.summaries.SummaryEffect.TheVariants.{OfPai
 use Rattle.alias_calls.specs.declared.visits.Visits.{Visits}
 use Rattle.alias_calls.specs.Arguments.{first_bad, has_further, first_of}
 use Rattle.alias_calls.specs.Calls.{ConfigCall, SummaryCall}
-use Rattle.alias_calls.specs.Configs.{impure_step, with_impures, with_temporary, stands, with_apply, with_config_effect, with_config_effects, config_call, config_list}
+use Rattle.alias_calls.specs.Configs.{impure_step, with_impures, with_temporary, substituted, with_apply, with_config_effect, with_config_effects, config_call, config_expansion}
 use Rattle.alias_calls.specs.Copies.{with_freezes_unless, with_freezes}
-use Rattle.alias_calls.specs.Legacy.{return_reason, with_impure, visited, asked, with_still, legacy, ended, all_links, legacy_after, legacy_list}
-use Rattle.alias_calls.specs.Summaries.{last_spread, rest_or_temporary, names_with, summary_names, stands_for, copied, with_copied, with_copies, with_all_copies, needs_rest, names_list, summary_call, summary_list}
+use Rattle.alias_calls.specs.Legacy.{return_reason, with_impure, visited, asked, with_still, legacy, ended, all_links, legacy_after, legacy_expansion}
+use Rattle.alias_calls.specs.Summaries.{last_spread, rest_or_temporary, names_with, summary_names, substituted_for, copied, with_copied, with_copies, with_all_copies, needs_rest, names_expansion, summary_call, summary_expansion}
 
 again_freezes_unless : (o : Option Place) (r : ValueReason) (ps : List Place) (out : List AliasingEffect) → Again (with_freezes_unless o r ps out)
 again_freezes_unless (Some p) r ps out = again_refuses (SpreadArgument p.span (spread_report p.span))
@@ -61,23 +61,23 @@ again_apply c (Some r) None i mutates inner out = again_gives None
 again_apply c None f i mutates inner out = again_gives None
 
 again_config_effect : (env : Environment) (c : ConfigCall) (e : AliasingEffectConfig) (out : List AliasingEffect) → Again (with_config_effect env c e out)
-again_config_effect env c (config.Freeze v r) out = again_freezes env c.args r (stands c v) out
+again_config_effect env c (config.Freeze v r) out = again_freezes env c.args r (substituted c v) out
 again_config_effect env c (config.Create x k r) out = again_gives _
 again_config_effect env c (config.CreateFrom a x) out = again_gives _
 again_config_effect env c (config.Assign a x) out = again_gives _
 again_config_effect env c (config.Alias a x) out = again_gives _
 again_config_effect env c (config.Capture a x) out = again_gives _
 again_config_effect env c (config.ImmutableCapture a x) out = again_gives _
-again_config_effect env c (config.Impure p) out = again_impures (stands c p) out
+again_config_effect env c (config.Impure p) out = again_impures (substituted c p) out
 again_config_effect env c (config.Mutate v) out = again_gives _
 again_config_effect env c (config.MutateTransitiveConditionally v) out = again_gives _
-again_config_effect env c (config.Apply r f mutates inner x) out = again_apply c (first_of (stands c r)) (first_of (stands c f)) (first_of (stands c x)) mutates inner out
+again_config_effect env c (config.Apply r f mutates inner x) out = again_apply c (first_of (substituted c r)) (first_of (substituted c f)) (first_of (substituted c x)) mutates inner out
 
 again_config_effects : (env : Environment) (c : ConfigCall) (es : List AliasingEffectConfig) (out : List AliasingEffect) → Again (with_config_effects env c es out)
 again_config_effects env c = again_collect (with_config_effect env c) (again_config_effect env c)
 
-pub again_config_list : (env : Environment) (config : AliasingSignatureConfig) (site : CallSite) (args : List PlaceOrSpreadOrHole) → Again (config_list env config site args)
-again_config_list env config site args =
+pub again_config_expansion : (env : Environment) (config : AliasingSignatureConfig) (site : CallSite) (args : List PlaceOrSpreadOrHole) → Again (config_expansion env config site args)
+again_config_expansion env config site args =
     again_if (has_further config.params args 0 && not (is_some config.rest)) _ _ (again_gives None)
     (again_then _ _ (again_each (with_temporary env site) (again_with_temporary env site) config.temporaries []) (λ ts. again_config_effects env (config_call config site args ts) config.effects []))
 
@@ -93,21 +93,21 @@ again_summary_names env f function = again_then _ _ (again_rest (last_spread fun
 again_copied : (env : Environment) (c : SummaryCall) (e : SummaryEffect) (out : List AliasingEffect) → Again (with_copied env c e out)
 again_copied env c (OfPair k a x) out = again_gives _
 again_copied env c (OfPlace k x) out = again_gives _
-again_copied env c (OfFreeze r x) out = again_freezes env c.args r (stands_for c x) out
+again_copied env c (OfFreeze r x) out = again_freezes env c.args r (substituted_for c x) out
 again_copied env c Passed out = again_gives _
 again_copied env c GivenUp out = again_gives None
 
 again_all_copies : (env : Environment) (c : SummaryCall) (es : List AliasingEffect) (out : List AliasingEffect) → Again (with_all_copies env c es out)
 again_all_copies env c = again_collect (with_copies env c) (λ e. again_copied env c (copied e))
 
-pub again_names_list : (env : Environment) (c : SummaryCall) (es : List AliasingEffect) → Again (names_list env c es)
-again_names_list env c es =
+pub again_names_expansion : (env : Environment) (c : SummaryCall) (es : List AliasingEffect) → Again (names_expansion env c es)
+again_names_expansion env c es =
     again_if (nat_lt (length c.args) (length c.names.params)) _ _ (again_gives None)
     (again_if (needs_rest c.names.params c.args && not (is_some c.names.rest)) _ _ (again_gives None) (again_all_copies env c es []))
 
-pub again_summary_list : (env : Environment) (f : FunctionId) (function : HirFunction) (es : List AliasingEffect) (into : Place) (args : List PlaceOrSpreadOrHole) → Again (summary_list env f function es into args)
-again_summary_list env f function es into args =
-    again_then _ _ (again_summary_names env f function) (λ names. again_names_list env (summary_call names into args function.context) es)
+pub again_summary_expansion : (env : Environment) (f : FunctionId) (function : HirFunction) (es : List AliasingEffect) (into : Place) (args : List PlaceOrSpreadOrHole) → Again (summary_expansion env f function es into args)
+again_summary_expansion env f function es into args =
+    again_then _ _ (again_summary_names env f function) (λ names. again_names_expansion env (summary_call names into args function.context) es)
 
 -- ---- signatures without an aliasing part
 
@@ -117,7 +117,7 @@ again_with_impure env s site out =
     (again_then _ _ (again_report site.receiver.identifier (impure_report s.canonical_name site.span)) (λ d. again_gives (out ++ effect.Impure site.receiver d ∷ [])))
     (again_gives out)
 
-again_ended : (o : Option Place) (into : Place) (v : Visits) (m : Option MissingLook) → Again (ended o into v m)
+again_ended : (o : Option Place) (into : Place) (v : Visits) (m : Option MissingLookup) → Again (ended o into v m)
 again_ended (Some p) into v m = again_refuses (SpreadArgument p.span (spread_report p.span))
 again_ended None into v m = again_gives (legacy (v.out ++ all_links into v.stored v.captured) m)
 
@@ -127,7 +127,7 @@ module _ (env : Environment) (s : FunctionSignature) (site : CallSite) (args : L
       again_if c.holds _ _ (again_gives (legacy (with_still site args out) c.missing))
       (again_ended (visited env s site args out).refused site.into (visited env s site args out) c.missing)
 
-  pub again_legacy_list : (u : State) → Again (legacy_list env s site args u)
-  again_legacy_list u =
+  pub again_legacy_expansion : (u : State) → Again (legacy_expansion env s site args u)
+  again_legacy_expansion u =
       again_then _ _ (again_with_impure env s site (effect.Create site.into s.return_value_kind (return_reason s) ∷ []))
       (λ out. again_legacy_after (asked env s args u) out)

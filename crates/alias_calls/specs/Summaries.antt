@@ -22,7 +22,7 @@ use Rattle.alias_calls.specs.declared.copies.PairKind.TheVariants as pair
 use Rattle.alias_calls.specs.declared.copies.PlaceKind.TheVariants as at
 use Rattle.alias_calls.specs.declared.summaries.SummaryEffect.{SummaryEffect}
 use Rattle.alias_calls.specs.declared.summaries.SummaryEffect.TheVariants.{OfPair, OfPlace, OfFreeze, Passed, GivenUp}
-use Rattle.alias_calls.specs.Arguments.{standing}
+use Rattle.alias_calls.specs.Arguments.{substituted_arguments}
 use Rattle.alias_calls.specs.Calls.{SummaryCall}
 use Rattle.alias_calls.specs.Copies.{Collected, with_pairs, with_each, with_freezes}
 
@@ -62,16 +62,16 @@ summary_names env f function = do
 -- ---- what a name stands for
 
 -- a context place stands for itself
-abbrev pub context_standing : IdentifierId → List Place → List Place → List Place
-context_standing q [] so_far = so_far
-context_standing q (p ∷ ps) so_far = context_standing q ps (if same_id p.identifier q then p ∷ [] else so_far)
+abbrev pub substituted_context : IdentifierId → List Place → List Place → List Place
+substituted_context q [] so_far = so_far
+substituted_context q (p ∷ ps) so_far = substituted_context q ps (if same_id p.identifier q then p ∷ [] else so_far)
 
 abbrev pub returned : SummaryNames → Place → IdentifierId → List Place
 returned names into q = if same_id names.returns q then into ∷ [] else []
 
 -- what an identifier of the summary stands for
-abbrev pub stands_for : SummaryCall → IdentifierId → List Place
-stands_for c q = context_standing q c.context (standing same_id q c.names.params c.names.rest c.args 0 (returned c.names c.into q))
+abbrev pub substituted_for : SummaryCall → IdentifierId → List Place
+substituted_for c q = substituted_context q c.context (substituted_arguments same_id q c.names.params c.names.rest c.args 0 (returned c.names c.into q))
 
 -- ---- effects
 
@@ -98,9 +98,9 @@ copied (effect.CreateFunction x f captures) = GivenUp
 
 -- for each combination of the places that the identifiers stand for
 abbrev pub with_copied : Environment → SummaryCall → SummaryEffect → List AliasingEffect → Step Collected
-with_copied env c (OfPair k a x) out = with_pairs k (stands_for c a) (stands_for c x) out
-with_copied env c (OfPlace k x) out = with_each k (stands_for c x) out
-with_copied env c (OfFreeze r x) out = with_freezes env c.args r (stands_for c x) out
+with_copied env c (OfPair k a x) out = with_pairs k (substituted_for c a) (substituted_for c x) out
+with_copied env c (OfPlace k x) out = with_each k (substituted_for c x) out
+with_copied env c (OfFreeze r x) out = with_freezes env c.args r (substituted_for c x) out
 with_copied env c Passed out = gives (Some out)
 with_copied env c GivenUp out = gives None
 
@@ -122,8 +122,8 @@ abbrev pub needs_rest : List IdentifierId → List PlaceOrSpreadOrHole → Bool
 needs_rest params args = nat_lt (length params) (length args) || list_any is_spread args
 
 -- the list that the names give for these effects, if they give one: not where there are fewer arguments than parameters, nor where they need a rest and there is none
-abbrev pub names_list : Environment → SummaryCall → List AliasingEffect → Step Collected
-names_list env c effects =
+abbrev pub names_expansion : Environment → SummaryCall → List AliasingEffect → Step Collected
+names_expansion env c effects =
     if nat_lt (length c.args) (length c.names.params) then gives None
     else (if needs_rest c.names.params c.args && not (is_some c.names.rest) then gives None
     else with_all_copies env c effects [])
@@ -132,7 +132,7 @@ abbrev pub summary_call : SummaryNames → Place → List PlaceOrSpreadOrHole �
 summary_call names into args context = record { names = names; into = into; args = args; context = context }
 
 -- the list that the summary of a function gives, if it gives one. The names are made first
-abbrev pub summary_list : Environment → FunctionId → HirFunction → List AliasingEffect → Place → List PlaceOrSpreadOrHole → Step Collected
-summary_list env f function effects into args = do
+abbrev pub summary_expansion : Environment → FunctionId → HirFunction → List AliasingEffect → Place → List PlaceOrSpreadOrHole → Step Collected
+summary_expansion env f function effects into args = do
   names ← summary_names env f function
-  names_list env (summary_call names into args function.context) effects
+  names_expansion env (summary_call names into args function.context) effects

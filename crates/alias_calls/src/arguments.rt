@@ -1,7 +1,7 @@
 //! What the names of a signature stand for in a call.
 
 ghost use Rattle.std.specs.Prelude.{◌≡◌, ◌∷◌, [], option_map, slice_get, OnOk};
-ghost use Rattle.alias_calls.specs.Arguments.{is_rest, with_further, with_plain, with_argument, standing, is_further, has_further, is_bad_spread_of, is_bad_spread, first_bad};
+ghost use Rattle.alias_calls.specs.Arguments.{is_rest, with_further, with_plain, with_argument, substituted_arguments, is_further, has_further, is_bad_spread_of, is_bad_spread, first_bad};
 
 use alias_base::{IdentifierId, List};
 use alias_hir::env::Environment;
@@ -47,7 +47,7 @@ fn with_plain<K: PartialEq>(
     match param {
         Some(param) => {
             if *param == *name {
-                stands_for(alloc, so_far, place)?;
+                substituted_for(alloc, so_far, place)?;
             }
             Ok(())
         }
@@ -56,7 +56,7 @@ fn with_plain<K: PartialEq>(
 }
 
 /// The place alone.
-fn stands_for(alloc: Global, so_far: &mut List<Place>, place: Place) -> Result<(), AllocError>
+fn substituted_for(alloc: Global, so_far: &mut List<Place>, place: Place) -> Result<(), AllocError>
     ensures { OnOk result (so_far.new ≡ place ∷ []) }
 {
     *so_far = List::new(alloc);
@@ -90,7 +90,7 @@ fn param_at<K>(params: &[K], index: usize) -> Option<&K>
 }
 
 /// What the name stands for after all arguments.
-pub fn standing<K: PartialEq>(
+pub fn substituted_arguments<K: PartialEq>(
     alloc: Global,
     name: &K,
     params: &[K],
@@ -98,7 +98,7 @@ pub fn standing<K: PartialEq>(
     args: &[PlaceOrSpreadOrHole],
     so_far: &mut List<Place>,
 ) -> Result<(), AllocError>
-    ensures { OnOk result (so_far.new ≡ standing K.eq name.now params.now (option_map (λ r. r.now) rest.entry) args.now 0 so_far.old) }
+    ensures { OnOk result (so_far.new ≡ substituted_arguments K.eq name.now params.now (option_map (λ r. r.now) rest.entry) args.now 0 so_far.old) }
 {
     let mut index = 0usize;
     for argument in args {

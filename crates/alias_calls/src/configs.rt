@@ -1,16 +1,16 @@
 //! The effects of a call by the aliasing part of its signature.
 
 ghost use Rattle.std.specs.Prelude.{◌≡◌, ◌++◌, [], slice_get, option_map, IfOk, OnOk};
-ghost use Rattle.alias_hir.specs.Diagnostics.{same_text};
+ghost use Rattle.alias_hir.specs.ReportNumbers.{same_text};
 ghost use Rattle.alias_tables.specs.GrowingLaws.{Grows};
 ghost use Rattle.alias_tables.specs.Steps.{each};
 ghost use Rattle.alias_tables.specs.Tables.{Leaves};
 ghost use Rattle.alias_calls.specs.Arguments.{first_of};
 ghost use Rattle.alias_calls.specs.Calls.{held_config};
-ghost use Rattle.alias_calls.specs.Configs.{name_index, or_places, stands_first, stands, inner_argument, inner_arguments, with_apply, impure_step, with_impures, with_config_effect, with_config_effects, with_temporary, config_list};
+ghost use Rattle.alias_calls.specs.Configs.{name_index, or_places, substituted_first, substituted, inner_argument, inner_arguments, with_apply, impure_step, with_impures, with_config_effect, with_config_effects, with_temporary, config_expansion};
 ghost use Rattle.alias_calls.specs.Copies.{Collects, Extended, with_each, with_pairs, with_freezes};
 
-use crate::arguments::{has_further, standing};
+use crate::arguments::{has_further, substituted_arguments};
 use crate::call::{CallSite, ConfigCall};
 use crate::copies::{PairKind, PlaceKind, push_at, push_freezes, push_pairs};
 use alias_apply::reports::impure_part_report;
@@ -44,14 +44,14 @@ fn name_index(name: &Text, names: &[Text]) -> usize
 }
 
 /// What a name of an aliasing part stands for before the arguments: the target, or else the receiver, where it is their
-/// name. The one error is want of memory.
-fn stands_first(
+/// name. The one error is out of memory.
+fn substituted_first(
     alloc: Global,
     config: &AliasingSignatureConfig,
     site: CallSite,
     name: &Text,
 ) -> Result<List<Place>, AllocError>
-    ensures { IfOk result (λ l. l ≡ stands_first config.now site name.now) }
+    ensures { IfOk result (λ l. l ≡ substituted_first config.now site name.now) }
 {
     let mut places = List::new(alloc);
     if is_text(&config.returns, name) {
@@ -62,7 +62,7 @@ fn stands_first(
     Ok(places)
 }
 
-/// The one place, or else the others. The one error is want of memory.
+/// The one place, or else the others. The one error is out of memory.
 fn or_places(
     alloc: Global,
     place: Option<Place>,
@@ -90,12 +90,12 @@ fn place_at(places: &[Place], index: usize) -> Option<Place>
 }
 
 /// What a name stands for: a place of its own, or else what the arguments say.
-fn stands(alloc: Global, call: &ConfigCall<'_>, name: &Text) -> Result<List<Place>, AllocError>
-    ensures { IfOk result (λ l. l ≡ stands (held_config call.now) name.now) }
+fn substituted(alloc: Global, call: &ConfigCall<'_>, name: &Text) -> Result<List<Place>, AllocError>
+    ensures { IfOk result (λ l. l ≡ substituted (held_config call.now) name.now) }
 {
     let config = call.config;
-    let mut places = stands_first(alloc, config, call.site, name)?;
-    standing(
+    let mut places = substituted_first(alloc, config, call.site, name)?;
+    substituted_arguments(
         alloc,
         name,
         config.params.as_slice(),
@@ -118,14 +118,14 @@ fn first_of(places: &[Place]) -> Option<Place>
 }
 
 /// The first place that a name stands for, if there is one.
-fn first_standing(
+fn first_substituted(
     alloc: Global,
     call: &ConfigCall<'_>,
     name: &Text,
 ) -> Result<Option<Place>, AllocError>
-    ensures { IfOk result (λ p. p ≡ first_of (stands (held_config call.now) name.now)) }
+    ensures { IfOk result (λ p. p ≡ first_of (substituted (held_config call.now) name.now)) }
 {
-    let places = stands(alloc, call, name)?;
+    let places = substituted(alloc, call, name)?;
     Ok(first_of(places.as_slice()))
 }
 
@@ -143,7 +143,7 @@ fn push_inner_argument(
             inner.push(PlaceOrSpreadOrHole::Hole)?;
             Ok(())
         }
-        ApplyArgConfig::Place(name) => match first_standing(alloc, call, name)? {
+        ApplyArgConfig::Place(name) => match first_substituted(alloc, call, name)? {
             Some(place) => {
                 inner.push(PlaceOrSpreadOrHole::Place(place))?;
                 Ok(())
@@ -204,10 +204,10 @@ fn push_impures_of(
     out: &mut AliasingEffects,
     name: &Text,
 ) -> Result<bool, EffectFault>
-    ensures answer { Collects (with_impures (stands (held_config call.now) name.now) out.old tables.old) result out.new tables.new }
+    ensures answer { Collects (with_impures (substituted (held_config call.now) name.now) out.old tables.old) result out.new tables.new }
     ensures grown { Grows tables.old.reports tables.new.reports }
 {
-    let places = stands(tables.alloc(), call, name)?;
+    let places = substituted(tables.alloc(), call, name)?;
     push_impures(tables, out, places.as_slice())?;
     Ok(true)
 }
@@ -221,9 +221,9 @@ fn push_freezes_of(
     reason: ValueReason,
     name: &Text,
 ) -> Result<bool, EffectFault>
-    ensures { Collects (with_freezes env.now call.now.args.now reason (stands (held_config call.now) name.now) out.old tables.now) result out.new tables.now }
+    ensures { Collects (with_freezes env.now call.now.args.now reason (substituted (held_config call.now) name.now) out.old tables.now) result out.new tables.now }
 {
-    let places = stands(tables.alloc(), call, name)?;
+    let places = substituted(tables.alloc(), call, name)?;
     push_freezes(env, tables, call.args, out, reason, places.as_slice())
 }
 
@@ -235,9 +235,9 @@ fn push_each(
     kind: PlaceKind,
     name: &Text,
 ) -> Result<bool, EffectFault>
-    ensures { Collects (with_each kind (stands (held_config call.now) name.now) out.old tables.now) result out.new tables.now }
+    ensures { Collects (with_each kind (substituted (held_config call.now) name.now) out.old tables.now) result out.new tables.now }
 {
-    let places = stands(tables.alloc(), call, name)?;
+    let places = substituted(tables.alloc(), call, name)?;
     push_at(out, kind, places.as_slice())?;
     Ok(true)
 }
@@ -251,10 +251,10 @@ fn push_each_pair(
     from: &Text,
     into: &Text,
 ) -> Result<bool, EffectFault>
-    ensures { Collects (with_pairs kind (stands (held_config call.now) from.now) (stands (held_config call.now) into.now) out.old tables.now) result out.new tables.now }
+    ensures { Collects (with_pairs kind (substituted (held_config call.now) from.now) (substituted (held_config call.now) into.now) out.old tables.now) result out.new tables.now }
 {
-    let sources = stands(tables.alloc(), call, from)?;
-    let targets = stands(tables.alloc(), call, into)?;
+    let sources = substituted(tables.alloc(), call, from)?;
+    let targets = substituted(tables.alloc(), call, into)?;
     push_pairs(out, kind, sources.as_slice(), targets.as_slice())?;
     Ok(true)
 }
@@ -355,9 +355,9 @@ fn push_config_effect(
             into,
         } => {
             let places = InnerPlaces {
-                receiver: first_standing(tables.alloc(), call, receiver)?,
-                function: first_standing(tables.alloc(), call, function)?,
-                into: first_standing(tables.alloc(), call, into)?,
+                receiver: first_substituted(tables.alloc(), call, receiver)?,
+                function: first_substituted(tables.alloc(), call, function)?,
+                into: first_substituted(tables.alloc(), call, into)?,
             };
             push_apply(
                 tables,
@@ -448,7 +448,7 @@ pub fn compute_effects_for_aliasing_signature_config(
     site: CallSite,
     args: &[PlaceOrSpreadOrHole],
 ) -> Result<Option<AliasingEffects>, EffectFault>
-    ensures { Leaves (config_list env.now config.now site args.now tables.old) result tables.new }
+    ensures { Leaves (config_expansion env.now config.now site args.now tables.old) result tables.new }
 {
     if has_further(config.params.as_slice(), args) && !config.rest.is_some() {
         return Ok(None);

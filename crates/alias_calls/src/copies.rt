@@ -8,7 +8,7 @@ use alias_apply::reports::spread_report;
 use alias_hir::effect::{AliasingEffect, AliasingEffects, MutationReason, ValueKind, ValueReason};
 use alias_hir::env::Environment;
 use alias_hir::place::{Place, PlaceOrSpreadOrHole};
-use alias_hir::report::DiagnosticId;
+use alias_hir::report::ReportId;
 use alias_tables::{EffectFault, Refusal, Tables};
 use std::alloc::AllocError;
 
@@ -28,9 +28,9 @@ pub enum PairKind {
 pub enum PlaceKind {
     Create(ValueKind, ValueReason),
     Freeze(ValueReason),
-    Impure(DiagnosticId),
-    MutateFrozen(DiagnosticId),
-    MutateGlobal(DiagnosticId),
+    Impure(ReportId),
+    MutateFrozen(ReportId),
+    MutateGlobal(ReportId),
     Render,
     Mutate(Option<MutationReason>),
     MutateConditionally,

@@ -4,7 +4,7 @@ ghost use Rattle.std.specs.Prelude.{◌≡◌, option_map, None};
 ghost use Rattle.std.specs.List.{list_any};
 ghost use Rattle.alias_apply.specs.Progress.{first_missing};
 ghost use Rattle.alias_calls.specs.Immutable.{is_mutating, writes_nothing, is_long_in, param_place, is_long_param, writes_param, is_writing_site, has_writing_site, is_still, verdict_of_place, verdict_by, signature_at, verdict_of, immutables};
-ghost use Rattle.alias_freezing.specs.Sites.{in_order, sites_at};
+ghost use Rattle.alias_apply.specs.freezing.Sites.{in_order, sites_at};
 
 use alias_base::IdentifierId;
 use alias_hir::effect::ValueKind;
@@ -13,20 +13,20 @@ use alias_hir::hir::{HirFunction, ParamPattern};
 use alias_hir::place::{Effect, Place, PlaceOrSpreadOrHole};
 use alias_hir::signature::FunctionSignature;
 use alias_hir::types::type_of;
-use alias_lattice::{InferenceState, Lattice, MissingLook, Site, SiteSet};
+use alias_lattice::{InferenceState, Lattice, MissingLookup, Site, SiteSet};
 
-/// Whether all arguments are immutable, and the first missing look on the way.
+/// Whether all arguments are immutable, and the first missing lookup on the way.
 #[derive(Clone, Copy, Debug, PartialEq, Eq)]
 pub struct Checked {
     pub holds: bool,
-    pub missing: Option<MissingLook>,
+    pub missing: Option<MissingLookup>,
 }
 
 /// What one argument says of it. `None` where it leaves the answer to the others.
 #[derive(Clone, Copy, Debug, PartialEq, Eq)]
 pub struct Verdict {
     pub answer: Option<bool>,
-    pub missing: Option<MissingLook>,
+    pub missing: Option<MissingLookup>,
 }
 
 fn is_mutating(effect: Effect) -> bool
@@ -119,7 +119,7 @@ fn has_writing_site(env: &Environment, sites: &SiteSet) -> bool
     ensures { result ≡ has_writing_site env.now (in_order sites.now) }
 {
     // Does nothing: it tells the prover that this is a proper value.
-    sites.known();
+    sites.recall_proper();
     let mut after = None;
     'sites: while let Some(site) = sites.next_site(after) {
         if is_writing_site(env, site) {
@@ -146,11 +146,11 @@ fn is_still(kind: ValueKind) -> bool
     matches!(kind, ValueKind::Primitive | ValueKind::Frozen)
 }
 
-fn first_missing(first: Option<MissingLook>, next: Option<MissingLook>) -> Option<MissingLook>
+fn first_missing(first: Option<MissingLookup>, next: Option<MissingLookup>) -> Option<MissingLookup>
     ensures { result ≡ first_missing first next }
 {
     match first {
-        Some(look) => Some(look),
+        Some(lookup) => Some(lookup),
         None => next,
     }
 }
@@ -160,15 +160,15 @@ fn verdict_of_place(
     env: &Environment,
     state: &InferenceState,
     place: &Place,
-    missing: Option<MissingLook>,
+    missing: Option<MissingLookup>,
 ) -> Verdict
     ensures { result ≡ verdict_of_place env.now state.now place.now missing }
 {
-    let look = state.kind_with_span(place.identifier, None);
-    let goes_on = is_still(look.value.kind) && !has_writing_value(env, state, place);
+    let lookup = state.kind_with_span(place.identifier, None);
+    let goes_on = is_still(lookup.value.kind) && !has_writing_value(env, state, place);
     Verdict {
         answer: if goes_on { None } else { Some(false) },
-        missing: first_missing(missing, look.missing),
+        missing: first_missing(missing, lookup.missing),
     }
 }
 
@@ -178,7 +178,7 @@ fn verdict_by(
     env: &Environment,
     state: &InferenceState,
     place: &Place,
-    missing: Option<MissingLook>,
+    missing: Option<MissingLookup>,
 ) -> Verdict
     ensures { result ≡ verdict_by (option_map (λ s. s.now) signature.entry) env.now state.now place.now missing }
 {
@@ -205,7 +205,7 @@ fn verdict_of(
     env: &Environment,
     state: &InferenceState,
     argument: &PlaceOrSpreadOrHole,
-    missing: Option<MissingLook>,
+    missing: Option<MissingLookup>,
 ) -> Verdict
     ensures { result ≡ verdict_of env.now state.now argument.now missing }
 {
@@ -227,7 +227,7 @@ fn verdict_of(
     }
 }
 
-/// Whether the arguments are immutable, and the first missing look on the way.
+/// Whether the arguments are immutable, and the first missing lookup on the way.
 pub(crate) fn immutables(
     env: &Environment,
     state: &InferenceState,

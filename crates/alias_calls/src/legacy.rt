@@ -5,7 +5,7 @@ ghost use Rattle.alias_hir.specs.declared.effect.AliasingEffect.TheVariants.{Cap
 ghost use Rattle.alias_hir.specs.declared.place.Place.{Place};
 ghost use Rattle.alias_tables.specs.Tables.{Leaves};
 ghost use Rattle.alias_calls.specs.Copies.{Extended};
-ghost use Rattle.alias_calls.specs.Legacy.{links_of, all_links, ended, still_captures, return_reason, is_capture, with_impure, with_receiver, visited, asked, with_still, legacy_after, legacy_list};
+ghost use Rattle.alias_calls.specs.Legacy.{links_of, all_links, ended, still_captures, return_reason, is_capture, with_impure, with_receiver, visited, asked, with_still, legacy_after, legacy_expansion};
 
 use crate::call::CallSite;
 use crate::immutable::{Checked, immutables};
@@ -16,15 +16,15 @@ use alias_hir::effect::{AliasingEffect, AliasingEffects, ValueReason};
 use alias_hir::env::Environment;
 use alias_hir::place::{Effect, Place, PlaceOrSpreadOrHole};
 use alias_hir::signature::FunctionSignature;
-use alias_lattice::{InferenceState, MissingLook};
+use alias_lattice::{InferenceState, MissingLookup};
 use alias_tables::{EffectFault, Refusal, Tables};
 use std::alloc::AllocError;
 
-/// The effects of a call, and the first missing look on the way.
+/// The effects of a call, and the first missing lookup on the way.
 #[derive(Drop)]
 pub struct Legacy {
     pub effects: AliasingEffects,
-    pub missing: Option<MissingLook>,
+    pub missing: Option<MissingLookup>,
 }
 
 fn push_captures(out: &mut AliasingEffects, from: Place, stored: &[Place]) -> Result<(), AllocError>
@@ -69,7 +69,7 @@ fn ended(
     tables: &Tables,
     into: Place,
     visits: Visits,
-    missing: Option<MissingLook>,
+    missing: Option<MissingLookup>,
 ) -> Result<Legacy, EffectFault>
     ensures { Leaves (ended visits.refused into visits missing tables.now) result tables.now }
 {
@@ -121,7 +121,7 @@ fn push_still_captures(
     Ok(())
 }
 
-/// Appends the call of an impure function, where it is told of.
+/// Appends the call of an impure function, where it is reported.
 fn push_impure_call(
     env: &Environment,
     tables: &mut Tables,
@@ -272,7 +272,7 @@ fn legacy_after(
     ended(tables, site.into, visits, checked.missing)
 }
 
-/// The effects of a call by a signature without an aliasing part, and the first missing look on the way.
+/// The effects of a call by a signature without an aliasing part, and the first missing lookup on the way.
 pub fn compute_effects_for_legacy_signature(
     env: &Environment,
     tables: &mut Tables,
@@ -281,7 +281,7 @@ pub fn compute_effects_for_legacy_signature(
     site: CallSite,
     args: &[PlaceOrSpreadOrHole],
 ) -> Result<Legacy, EffectFault>
-    ensures { Leaves (legacy_list env.now signature.now site args.now state.now tables.old) result tables.new }
+    ensures { Leaves (legacy_expansion env.now signature.now site args.now state.now tables.old) result tables.new }
 {
     let mut out = List::new(tables.alloc());
     push(

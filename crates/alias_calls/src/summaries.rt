@@ -5,10 +5,10 @@ ghost use Rattle.std.specs.List.{list_any};
 ghost use Rattle.alias_tables.specs.Tables.{Leaves};
 ghost use Rattle.alias_calls.specs.Calls.{held_summary};
 ghost use Rattle.alias_calls.specs.Copies.{Collects, with_each, with_pairs, with_freezes};
-ghost use Rattle.alias_calls.specs.Summaries.{same_id, plain_params, last_spread, rest_or_temporary, names_with, summary_names, context_standing, returned, stands_for, copied, with_copied, with_copies, with_all_copies, is_spread, needs_rest, names_list, summary_list};
+ghost use Rattle.alias_calls.specs.Summaries.{same_id, plain_params, last_spread, rest_or_temporary, names_with, summary_names, substituted_context, returned, substituted_for, copied, with_copied, with_copies, with_all_copies, is_spread, needs_rest, names_expansion, summary_expansion};
 ghost use Rattle.alias_calls.specs.declared.summaries.SummaryEffect.TheVariants.{OfPair, OfPlace};
 
-use crate::arguments::standing;
+use crate::arguments::substituted_arguments;
 use crate::call::{SummaryCall, SummaryNames};
 use crate::copies::{PairKind, PlaceKind, push_at, push_freezes, push_pairs};
 use alias_base::{FunctionId, IdentifierId, List};
@@ -125,13 +125,13 @@ fn just(alloc: Global, place: Place) -> Result<List<Place>, AllocError>
 }
 
 /// A context place stands for itself.
-fn context_standing(
+fn substituted_context(
     alloc: Global,
     identifier: IdentifierId,
     context: &[Place],
     before: List<Place>,
 ) -> Result<List<Place>, AllocError>
-    ensures { IfOk result (λ l. l ≡ context_standing identifier context.now before) }
+    ensures { IfOk result (λ l. l ≡ substituted_context identifier context.now before) }
 {
     let mut so_far = before;
     for place in context {
@@ -157,16 +157,16 @@ fn returned(
 }
 
 /// What an identifier of the summary stands for.
-fn stands_for(
+fn substituted_for(
     alloc: Global,
     call: &SummaryCall<'_>,
     identifier: IdentifierId,
 ) -> Result<List<Place>, AllocError>
-    ensures { IfOk result (λ l. l ≡ stands_for (held_summary call.now) identifier) }
+    ensures { IfOk result (λ l. l ≡ substituted_for (held_summary call.now) identifier) }
 {
     let names = call.names;
     let mut places = returned(alloc, names, call.into, identifier)?;
-    standing(
+    substituted_arguments(
         alloc,
         &identifier,
         names.params.as_slice(),
@@ -174,7 +174,7 @@ fn stands_for(
         call.args,
         &mut places,
     )?;
-    context_standing(alloc, identifier, call.context, places)
+    substituted_context(alloc, identifier, call.context, places)
 }
 
 fn of_pair(kind: PairKind, from: &Place, into: &Place) -> SummaryEffect
@@ -238,9 +238,9 @@ fn push_each(
     kind: PlaceKind,
     identifier: IdentifierId,
 ) -> Result<bool, EffectFault>
-    ensures { Collects (with_each kind (stands_for (held_summary call.now) identifier) out.old tables.now) result out.new tables.now }
+    ensures { Collects (with_each kind (substituted_for (held_summary call.now) identifier) out.old tables.now) result out.new tables.now }
 {
-    let places = stands_for(tables.alloc(), call, identifier)?;
+    let places = substituted_for(tables.alloc(), call, identifier)?;
     push_at(out, kind, places.as_slice())?;
     Ok(true)
 }
@@ -254,10 +254,10 @@ fn push_each_pair(
     from: IdentifierId,
     into: IdentifierId,
 ) -> Result<bool, EffectFault>
-    ensures { Collects (with_pairs kind (stands_for (held_summary call.now) from) (stands_for (held_summary call.now) into) out.old tables.now) result out.new tables.now }
+    ensures { Collects (with_pairs kind (substituted_for (held_summary call.now) from) (substituted_for (held_summary call.now) into) out.old tables.now) result out.new tables.now }
 {
-    let sources = stands_for(tables.alloc(), call, from)?;
-    let targets = stands_for(tables.alloc(), call, into)?;
+    let sources = substituted_for(tables.alloc(), call, from)?;
+    let targets = substituted_for(tables.alloc(), call, into)?;
     push_pairs(out, kind, sources.as_slice(), targets.as_slice())?;
     Ok(true)
 }
@@ -271,9 +271,9 @@ fn push_freezes_of(
     reason: ValueReason,
     identifier: IdentifierId,
 ) -> Result<bool, EffectFault>
-    ensures { Collects (with_freezes env.now call.now.args.now reason (stands_for (held_summary call.now) identifier) out.old tables.now) result out.new tables.now }
+    ensures { Collects (with_freezes env.now call.now.args.now reason (substituted_for (held_summary call.now) identifier) out.old tables.now) result out.new tables.now }
 {
-    let places = stands_for(tables.alloc(), call, identifier)?;
+    let places = substituted_for(tables.alloc(), call, identifier)?;
     push_freezes(env, tables, call.args, out, reason, places.as_slice())
 }
 
@@ -349,7 +349,7 @@ pub fn compute_effects_for_aliasing_signature(
     call: &SummaryCall<'_>,
     effects: &[AliasingEffect],
 ) -> Result<Option<AliasingEffects>, EffectFault>
-    ensures { Leaves (names_list env.now (held_summary call.now) effects.now tables.now) result tables.now }
+    ensures { Leaves (names_expansion env.now (held_summary call.now) effects.now tables.now) result tables.now }
 {
     let names = call.names;
     if call.args.len() < names.params.len() {
@@ -375,7 +375,7 @@ pub fn compute_effects_for_summary(
     into: Place,
     args: &[PlaceOrSpreadOrHole],
 ) -> Result<Option<AliasingEffects>, EffectFault>
-    ensures { Leaves (summary_list env.now f function.now effects.now into args.now tables.old) result tables.new }
+    ensures { Leaves (summary_expansion env.now f function.now effects.now into args.now tables.old) result tables.new }
 {
     let names = build_signature_from_function_expression(env, tables, f, function)?;
     let call = SummaryCall {

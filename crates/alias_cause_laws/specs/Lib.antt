@@ -1,1 +1,3 @@
-pub mod Causes
+pub mod ends
+pub mod causes
+pub mod nested

@@ -1,4 +1,6 @@
-//! Of what is inferred of a unit no range ends without a cause.
+//! Which ranges a range pass ends, that none ends without a cause, and what holds of those of nested functions.
 #![tactic(auto)]
 
-pub mod laws;
+pub mod causes;
+pub mod ends;
+pub mod nested;

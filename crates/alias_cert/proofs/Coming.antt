@@ -20,8 +20,8 @@ use Rattle.alias_range_pass.specs.Passes.{Ranged, range_pass}
 use Rattle.alias_nested.specs.Finishing.{finished}
 use Rattle.alias_certificate.specs.declared.certificate.CertFunction.{CertFunction}
 use Rattle.alias_certificate.specs.declared.fault.CheckFault.{CheckFault}
-use Rattle.alias_cert_function.specs.Faults.{is_memory}
-use Rattle.alias_cert_function.specs.Functions.{function_solved}
+use Rattle.alias_cert.specs.function.Faults.{is_memory}
+use Rattle.alias_cert.specs.function.Functions.{function_solved}
 use Rattle.alias_cert.specs.Functions.{CheckedFunction, Checking, checking, said, checked_function, effects_checked, range_fault, ranging, summary_checked, stored_summary, summed, nested_finished, nested_as_said, nested_checked, root_finished, root_as_said, root_checked, SolvesItsFlow, Accounts, Comes, ComesWith}
 use Rattle.alias_cert.proofs.Naming.{solves_as}
 

@@ -8,23 +8,23 @@ use Rattle.alias_hir.specs.declared.hir.HirFunction.{HirFunction}
 use Rattle.alias_hir.specs.declared.place.Place.{Place}
 use Rattle.alias_hir.specs.Positions.{Blocks}
 use Rattle.alias_rules.specs.Fitting.{function_fits}
-use Rattle.alias_bare_laws.specs.BareLaws.{bare_of_effects}
-use Rattle.alias_bare_laws.specs.RangedLaws.{evolves_with_contexts}
+use Rattle.alias_fitting_laws.specs.bare.BareLaws.{bare_of_effects}
+use Rattle.alias_fitting_laws.specs.bare.RangedLaws.{evolves_with_contexts}
 use Rattle.alias_lattice.specs.ProperStates.{StateProper}
 use Rattle.alias_lattice.specs.States.{State, state_join, state_below}
 use Rattle.alias_flow.specs.RecordingLaws.{HoldsOf, AllHold}
 use Rattle.alias_flow.specs.Solutions.{entry_at}
-use Rattle.alias_flow_check.specs.Checks.{Arriving, solution_checked}
+use Rattle.alias_flow.specs.check.Checks.{Arriving, solution_checked}
 use Rattle.alias_tables.specs.Tables.{TableLists, temporary}
 use Rattle.alias_tables.specs.declared.faults.Refusal.{Refusal}
 use Rattle.alias_tables.specs.declared.faults.Refusal.TheVariants as refused
-use Rattle.alias_step_laws.specs.FunctionSites.{StateHas}
-use Rattle.alias_step_laws.specs.TableLaws.{within_temporary}
-use Rattle.alias_step_laws.specs.Within.{FunctionWithin, TablesWithin}
-use Rattle.alias_block.specs.declared.recorded.BlockEffects.{BlockEffects}
-use Rattle.alias_block_laws.specs.BlockLaws.{BlockEffectsWithin, StateWithin}
-use Rattle.alias_block_laws.specs.WrittenLaws.{tables_extended}
-use Rattle.alias_write_back.specs.WriteBack.{tables_of}
+use Rattle.alias_step_laws.specs.steps.FunctionSites.{StateHas}
+use Rattle.alias_step_laws.specs.steps.TableLaws.{within_temporary}
+use Rattle.alias_step_laws.specs.steps.Within.{FunctionWithin, TablesWithin}
+use Rattle.alias_step.specs.declared.block.recorded.BlockEffects.{BlockEffects}
+use Rattle.alias_step_laws.specs.blocks.BlockLaws.{BlockEffectsWithin, StateWithin}
+use Rattle.alias_step_laws.specs.blocks.WrittenLaws.{tables_extended}
+use Rattle.alias_tables.specs.write_back.WriteBack.{tables_of}
 use Rattle.alias_effects.specs.Inference.{entries_of, end_tables, env_after}
 use Rattle.alias_effects.specs.Recording.{with_effects_of}
 use Rattle.alias_effects.specs.declared.output.PassEnd.{PassEnd}
@@ -39,12 +39,12 @@ use Rattle.alias_certificate.specs.declared.certificate.CertFunction.{CertFuncti
 use Rattle.alias_certificate.specs.declared.certificate.CertTemporary.{CertTemporary}
 use Rattle.alias_certificate.specs.declared.fault.CheckFault.{CheckFault}
 use Rattle.alias_certificate.specs.declared.fault.CheckFault.TheVariants as fault
-use Rattle.alias_cert_states.specs.States.{stated_state}
-use Rattle.alias_cert_function.specs.Claims.{differs}
-use Rattle.alias_cert_function.specs.Entries.{state_or_fault, line_state, entry_stated, entries_stated}
-use Rattle.alias_cert_function.specs.Functions.{marked_positions, flow_rules, marks, numbers, lines_checked, entries_checked, steps_checked, checked_end, function_solved}
-use Rattle.alias_cert_function.specs.Temporaries.{is_key_there, next_number, given, temporary_stated, temporaries_stated}
-use Rattle.alias_cert_function.proofs.Answering.{unfaulted}
+use Rattle.alias_certificate.specs.states.States.{stated_state}
+use Rattle.alias_cert.specs.function.Claims.{differs}
+use Rattle.alias_cert.specs.function.Entries.{state_or_fault, line_state, entry_stated, entries_stated}
+use Rattle.alias_cert.specs.function.Functions.{marked_positions, flow_rules, marks, numbers, lines_checked, entries_checked, steps_checked, checked_end, function_solved}
+use Rattle.alias_cert.specs.function.Temporaries.{is_key_there, next_number, given, temporary_stated, temporaries_stated}
+use Rattle.alias_cert.proofs.function.Answering.{unfaulted}
 use Rattle.alias_cert.specs.Known.{AreKnown}
 use Rattle.alias_cert.proofs.Running.{after, check_stands}
 use Rattle.alias_cert.proofs.Stated.{stated_has, created_within}

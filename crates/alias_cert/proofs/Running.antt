@@ -6,8 +6,8 @@ use Rattle.alias_lattice.specs.Flows.{Outcome, Stepped, Refused}
 use Rattle.alias_flow.specs.Machine.{Rules, up}
 use Rattle.alias_flow.specs.RecordingLaws.{HoldsOf, AllHold}
 use Rattle.alias_flow.specs.Solutions.{entry_at}
-use Rattle.alias_flow_check.specs.Checks.{Arriving, first_not_above, passed, outcome_checked, state_checked, block_checked, blocks_checked, joined_unless, joins_checked, begun_with, begins, first_arriving, is_below_entry, not_joined, solution_checked}
-use Rattle.alias_block_laws.specs.SolutionLaws.{StepKeeps, set_holds, all_held_on}
+use Rattle.alias_flow.specs.check.Checks.{Arriving, first_not_above, passed, outcome_checked, state_checked, block_checked, blocks_checked, joined_unless, joins_checked, begun_with, begins, first_arriving, is_below_entry, not_joined, solution_checked}
+use Rattle.alias_step_laws.specs.blocks.SolutionLaws.{StepKeeps, set_holds, all_held_on}
 
 -- what comes after an answer
 pub record After {A B E : Type 0} (r : Result A E) (f : A → Result B E) (z : B) : Type 0 where

@@ -6,7 +6,7 @@ use Rattle.std.proofs.lemmas.List.{append-nil}
 use Rattle.std.proofs.lemmas.Bool.{lt-ltb}
 use Rattle.alias_base.specs.Answer.{◌>>=◌}
 use Rattle.alias_base.specs.declared.ids.FunctionId.{FunctionId}
-use Rattle.alias_events.specs.FitLaws.{went_on}
+use Rattle.alias_graph.specs.recorded.FitLaws.{went_on}
 use Rattle.alias_hir.specs.declared.effect.AliasingEffect.{AliasingEffect}
 use Rattle.alias_hir.specs.declared.env.Environment.{Environment}
 use Rattle.alias_hir.specs.declared.env.Unit.{Unit as HirUnit}
@@ -21,9 +21,9 @@ use Rattle.alias_certificate.specs.declared.fault.CheckFault.TheVariants as faul
 use Rattle.alias_effects.specs.declared.output.PassEnd.{PassEnd}
 use Rattle.alias_range_pass.specs.Passes.{range_pass}
 use Rattle.alias_nested.specs.Finishing.{finished}
-use Rattle.alias_write_back.specs.WriteBack.{tables_of}
-use Rattle.alias_cert_function.specs.Temporaries.{temporaries_stated}
-use Rattle.alias_cert_function.specs.Functions.{lines_checked, entries_checked, steps_checked, checked_end, function_solved}
+use Rattle.alias_tables.specs.write_back.WriteBack.{tables_of}
+use Rattle.alias_cert.specs.function.Temporaries.{temporaries_stated}
+use Rattle.alias_cert.specs.function.Functions.{lines_checked, entries_checked, steps_checked, checked_end, function_solved}
 use Rattle.alias_cert.specs.Functions.{CheckedFunction, Checking, checking, same_name, said_as, said, checked_function, effects_checked, ranging, stored_summary, summary_checked, summed, nested_finished, nested_as_said, nested_checked, root_finished, root_as_said, root_checked, EntersAsSaid, AreAsSaid}
 use Rattle.alias_cert.specs.Units.{each, put_back, taken_checked, found_checked, slot_checked, below_checked, none_left, unit_checked}
 use Rattle.alias_cert.proofs.Coming.{all_appended}

@@ -14,7 +14,7 @@ use Rattle.alias_hir.specs.Values.{created}
 use Rattle.alias_hir.specs.declared.env.Environment.{Environment}
 use Rattle.alias_hir.specs.declared.hir.HirFunction.{HirFunction}
 use Rattle.alias_hir.specs.declared.hir.Instruction.{Instruction}
-use Rattle.alias_function_rules.specs.Rules.{is_among}
+use Rattle.alias_rules.specs.function_rules.Rules.{is_among}
 use Rattle.alias_rules.specs.Fitting.{function_fits}
 use Rattle.alias_rules.specs.Nesting.{number_of, created_in}
 use Rattle.alias_nesting_laws.specs.PartLaws.{among_cases, append_cases}
@@ -24,17 +24,17 @@ use Rattle.alias_lattice.specs.SiteOrderLaws.{sites_apart, sites_total}
 use Rattle.alias_lattice.specs.States.{State, Sites, empty_state, initialized, defined_as, value_at, with_site}
 use Rattle.alias_lattice.specs.declared.site.Site.{Site}
 use Rattle.alias_lattice.specs.declared.site.Site.TheVariants.{Function}
-use Rattle.alias_step_laws.specs.FunctionSites.{SiteHas, SetHas, StateHas}
-use Rattle.alias_step_laws.specs.FunctionSiteLaws.{has_defined_as, has_empty}
-use Rattle.alias_step_laws.specs.StepLaws.{InstructionWithin}
-use Rattle.alias_step_laws.specs.Within.{CreatedWithin, FunctionWithin}
-use Rattle.alias_block_laws.specs.EntryLaws.{context_within}
+use Rattle.alias_step_laws.specs.steps.FunctionSites.{SiteHas, SetHas, StateHas}
+use Rattle.alias_step_laws.specs.steps.FunctionSiteLaws.{has_defined_as, has_empty}
+use Rattle.alias_step_laws.specs.steps.StepLaws.{InstructionWithin}
+use Rattle.alias_step_laws.specs.steps.Within.{CreatedWithin, FunctionWithin}
+use Rattle.alias_step_laws.specs.blocks.EntryLaws.{context_within}
 use Rattle.alias_nested.specs.Created.{created_functions}
 use Rattle.alias_nested.proofs.Creating.{created_is_among}
 use Rattle.alias_certificate.specs.declared.certificate.CertBlock.{CertBlock}
 use Rattle.alias_certificate.specs.declared.certificate.CertValue.{CertValue}
 use Rattle.alias_certificate.specs.declared.certificate.CertVariable.{CertVariable}
-use Rattle.alias_cert_states.specs.States.{is_created, is_site_there, with_values, with_sites, is_full, are_valued, is_variable_there, with_variables, stated_state}
+use Rattle.alias_certificate.specs.states.States.{is_created, is_site_there, with_values, with_sites, is_full, are_valued, is_variable_there, with_variables, stated_state}
 
 -- ---- the functions of a state that is said
 

@@ -9,7 +9,7 @@ use Rattle.alias_hir.specs.declared.hir.HirFunction.{HirFunction}
 use Rattle.alias_certificate.specs.declared.certificate.CertFunction.{CertFunction}
 use Rattle.alias_certificate.specs.declared.fault.CheckFault.{CheckFault}
 use Rattle.alias_certificate.specs.declared.fault.CheckFault.TheVariants as fault
-use Rattle.alias_cert_function.specs.Faults.{is_memory}
+use Rattle.alias_cert.specs.function.Faults.{is_memory}
 use Rattle.alias_cert.specs.declared.check.Accepted.{Accepted}
 use Rattle.alias_effects.specs.declared.solved.Solved.{Solved}
 use Rattle.alias_cert.specs.Functions.{CheckedFunction, Checking, checking, root_checked, Accounts}

@@ -20,9 +20,9 @@ use Rattle.alias_nested.specs.Finishing.{finished}
 use Rattle.alias_certificate.specs.declared.certificate.CertFunction.{CertFunction}
 use Rattle.alias_certificate.specs.declared.fault.CheckFault.{CheckFault}
 use Rattle.alias_certificate.specs.declared.fault.CheckFault.TheVariants as fault
-use Rattle.alias_cert_effects.specs.Telling.{is_summary_told}
-use Rattle.alias_cert_function.specs.Faults.{is_memory}
-use Rattle.alias_cert_function.specs.Functions.{entries_checked, function_solved}
+use Rattle.alias_cert.specs.effects.Telling.{is_summary_claimed}
+use Rattle.alias_cert.specs.function.Faults.{is_memory}
+use Rattle.alias_cert.specs.function.Functions.{entries_checked, function_solved}
 
 -- ---- what is checked
 
@@ -90,9 +90,9 @@ abbrev pub ranging : {A : Type 0} → Option FunctionId → Result A InferError 
 ranging id (Ok x) = Ok x
 ranging id (Err e) = Err (range_fault id e)
 
--- the summary is the one that is told
+-- the summary is the one that is claimed
 abbrev pub summary_checked : CertFunction → List AliasingEffect → Result ⊤ CheckFault
-summary_checked c summary = if is_summary_told summary c.summary then Ok tt else Err (fault.Summary c.function)
+summary_checked c summary = if is_summary_claimed summary c.summary then Ok tt else Err (fault.Summary c.function)
 
 abbrev pub summary_or : Option (List AliasingEffect) → List AliasingEffect
 summary_or None = []
@@ -109,7 +109,7 @@ summed c summary f a = do
   u ← summary_checked c summary
   Ok (f, a)
 
--- a nested function that carries its effects is finished as the inference finishes it, with the summary that is told
+-- a nested function that carries its effects is finished as the inference finishes it, with the summary that is claimed
 abbrev pub nested_finished : CertFunction → FunctionId → HirFunction × Checking → Result (HirFunction × Checking) CheckFault
 nested_finished c id s = do
   r ← ranging (Some id) (finished s.0 s.1.env)
@@ -122,7 +122,7 @@ nested_as_said id f a c = effects_checked (Some id) true f a c >>= nested_finish
 abbrev pub nested_checked : List CertFunction → FunctionId → HirFunction → Checking → Result (HirFunction × Checking) CheckFault
 nested_checked functions id f a = said functions (length a.functions) (Some id) >>= nested_as_said id f a
 
--- the root that carries its effects: the range pass gives its summary, which is the one that is told
+-- the root that carries its effects: the range pass gives its summary, which is the one that is claimed
 abbrev pub root_finished : CertFunction → HirFunction × Checking → Result (HirFunction × Checking) CheckFault
 root_finished c s = do
   r ← ranging None (range_pass false s.0 s.1.env)

@@ -12,7 +12,7 @@ use Rattle.alias_certificate.specs.declared.certificate.CertFunction.{CertFuncti
 use Rattle.alias_certificate.specs.declared.fault.CheckFault.{CheckFault}
 use Rattle.alias_certificate.specs.declared.fault.CheckFault.TheVariants as fault
 use Rattle.alias_cert.specs.declared.check.Accepted.{Accepted}
-use Rattle.alias_cert_function.specs.Faults.{is_memory}
+use Rattle.alias_cert.specs.function.Faults.{is_memory}
 use Rattle.alias_cert.specs.Functions.{CheckedFunction, Checking, checking, nested_checked, root_checked, Accounts, AreAsSaid}
 
 -- one after the other, up to the first fault

@@ -10,6 +10,6 @@ pub(crate) fn entries_known(entries: &[BlockEntry])
 {
     for entry in entries {
         // Does nothing: it tells the prover that this is a proper value.
-        entry.state.known();
+        entry.state.recall_proper();
     }
 }

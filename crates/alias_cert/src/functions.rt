@@ -2,19 +2,19 @@
 ghost use Rattle.std.specs.Prelude.{◌≡◌, true, MatchResult, Ok, Err, Some};
 ghost use Rattle.alias_rules.specs.Fitting.{function_fits};
 ghost use Rattle.alias_nested.specs.Fitting.{FunctionKept};
-ghost use Rattle.alias_pruning_laws.specs.Pruning.{FunctionPruned};
+ghost use Rattle.alias_fitting_laws.specs.pruning.Pruning.{FunctionPruned};
 ghost use Rattle.alias_cert.specs.Functions.{checking, same_name, said as said_of, effects_checked, nested_checked, root_checked, Accounts, ComesWith};
 
 use crate::entries::entries_known;
+use crate::function::check_function_certificate;
 use crate::summaries::{check_stored, check_summary, range_fault};
 use alias_base::{FunctionId, List};
-use alias_cert_function::check_function_certificate;
 use alias_certificate::{CertFunction, CheckFault};
 use alias_effects::{Solved, leave};
 use alias_hir::env::Environment;
 use alias_hir::hir::HirFunction;
 use alias_nested::finish_function;
-use alias_range_inference::infer_mutation_aliasing_ranges;
+use alias_ranges::infer_mutation_aliasing_ranges;
 use std::alloc::Global;
 
 /// Whether the names are the same.
@@ -83,10 +83,10 @@ pub(crate) fn check_nested(
     ensures kept { FunctionPruned func.old env.old func.new env.new }
 {
     let function = Some(id);
-    let told = said(functions, solved.len(), function)?;
-    check_effects(alloc, told, function, func, env, true, solved)?;
+    let claimed = said(functions, solved.len(), function)?;
+    check_effects(alloc, claimed, function, func, env, true, solved)?;
     match finish_function(alloc, func, env) {
-        Ok(()) => check_stored(alloc, told, func),
+        Ok(()) => check_stored(alloc, claimed, func),
         Err(error) => Err(range_fault(function, error)),
     }
 }
@@ -102,10 +102,10 @@ pub(crate) fn check_root(
     requires { function_fits func.old env.old ≡ true }
     ensures { (fs : _) → Accounts fs solved.old → ComesWith (root_checked functions.now func.old (checking env.old fs)) result func.new env.new solved.new }
 {
-    let told = said(functions, solved.len(), None)?;
-    check_effects(alloc, told, None, func, env, false, solved)?;
+    let claimed = said(functions, solved.len(), None)?;
+    check_effects(alloc, claimed, None, func, env, false, solved)?;
     match infer_mutation_aliasing_ranges(alloc, func, env, false) {
-        Ok(summary) => check_summary(alloc, told, summary.as_slice()),
+        Ok(summary) => check_summary(alloc, claimed, summary.as_slice()),
         Err(error) => Err(range_fault(None, error)),
     }
 }

@@ -3,7 +3,9 @@
 #![tactic(auto)]
 
 pub mod check;
+pub mod effects;
 mod entries;
+pub mod function;
 mod functions;
 mod nested;
 mod summaries;

@@ -1,12 +1,12 @@
 //! The functions below a function, innermost first.
 ghost use Rattle.std.specs.Prelude.{◌≡◌, ◌<◌, true, false, Some, length, slice_get};
-ghost use Rattle.alias_function_rules.specs.Rules.{is_among};
+ghost use Rattle.alias_rules.specs.function_rules.Rules.{is_among};
 ghost use Rattle.alias_rules.specs.Fitting.{function_fits};
 ghost use Rattle.alias_rules.specs.Nesting.{created_in};
 ghost use Rattle.alias_nesting_laws.specs.Slots.{with_function};
 ghost use Rattle.alias_nested.specs.Fitting.{EnvironmentPruned};
 ghost use Rattle.alias_nested.specs.Slots.{emptied};
-ghost use Rattle.alias_pruning_laws.specs.Pruning.{FunctionPruned};
+ghost use Rattle.alias_fitting_laws.specs.pruning.Pruning.{FunctionPruned};
 ghost use Rattle.alias_cert.specs.Functions.{checking, Accounts, Comes, ComesWith};
 ghost use Rattle.alias_cert.specs.Units.{taken_checked, slot_checked, below_checked};
 

@@ -1,11 +1,11 @@
 //! Summaries that a certificate tells.
 ghost use Rattle.std.specs.Prelude.{◌≡◌};
 ghost use Rattle.alias_base.specs.Answer.{Gives};
-ghost use Rattle.alias_cert_function.specs.Faults.{is_memory};
+ghost use Rattle.alias_cert.specs.function.Faults.{is_memory};
 ghost use Rattle.alias_cert.specs.Functions.{range_fault, summary_checked, stored_summary};
 
+use crate::effects::is_summary_claimed;
 use alias_base::{BlockId, FunctionId};
-use alias_cert_effects::is_summary_told;
 use alias_certificate::{CertFunction, CheckFault};
 use alias_hir::effect::AliasingEffect;
 use alias_hir::error::InferError;
@@ -28,7 +28,7 @@ pub(crate) fn range_fault(function: Option<FunctionId>, error: InferError) -> Ch
     }
 }
 
-/// The summary is the one that is told.
+/// The summary is the one that is claimed.
 pub(crate) fn check_summary(
     alloc: Global,
     said: &CertFunction,
@@ -36,7 +36,7 @@ pub(crate) fn check_summary(
 ) -> Result<(), CheckFault>
     ensures { Gives is_memory (summary_checked said.now summary.now) result }
 {
-    if is_summary_told(alloc, summary, said.summary.as_slice())? {
+    if is_summary_claimed(alloc, summary, said.summary.as_slice())? {
         Ok(())
     } else {
         Err(CheckFault::Summary {
@@ -45,7 +45,7 @@ pub(crate) fn check_summary(
     }
 }
 
-/// The summary that is stored on the function is the one that is told.
+/// The summary that is stored on the function is the one that is claimed.
 pub(crate) fn check_stored(
     alloc: Global,
     said: &CertFunction,

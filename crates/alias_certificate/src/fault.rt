@@ -39,7 +39,7 @@ pub enum CheckFault {
         function: Option<FunctionId>,
         block: BlockId,
     },
-    /// The effects that the step of the block records aren't those that are told.
+    /// The effects that the step of the block records aren't those that are claimed.
     Effects {
         function: Option<FunctionId>,
         block: BlockId,
@@ -55,7 +55,7 @@ pub enum CheckFault {
         function: Option<FunctionId>,
         block: BlockId,
     },
-    /// The summary isn't the one that is told.
+    /// The summary isn't the one that is claimed.
     Summary {
         function: Option<FunctionId>,
     },
@@ -63,7 +63,7 @@ pub enum CheckFault {
     TooMany {
         which: Counter,
     },
-    /// Want of memory, which can come at any growth.
+    /// Out of memory, which can come at any growth.
     Memory(AllocError),
 }
 

@@ -10,22 +10,22 @@ use Rattle.alias_hir.specs.declared.hir.Instruction.{Instruction}
 use Rattle.alias_hir.specs.declared.terminal.Terminal.{Terminal}
 use Rattle.alias_hir.specs.declared.terminal.Terminal.TheVariants as terminal
 use Rattle.alias_lattice.specs.States.{State}
-use Rattle.alias_lattice.specs.declared.look.MissingLook.{MissingLook}
+use Rattle.alias_lattice.specs.declared.lookup.MissingLookup.{MissingLookup}
 use Rattle.alias_tables.specs.ReplayLaws.{first_is, not_given}
 use Rattle.alias_tables.specs.Steps.{and_then, gives}
 use Rattle.alias_tables.specs.Tables.{TableLists}
 use Rattle.alias_apply.specs.declared.progress.StepProgress.{StepProgress}
 use Rattle.alias_step.specs.Instructions.{apply_signature}
-use Rattle.alias_block.specs.Actions.{terminal_action}
-use Rattle.alias_block.specs.Blocks.{infer_phis, step_start, after_instruction, infer_instruction_at, apply_signatures, after_terminal, apply_terminal, block_start, finished_at, finished, infer_block}
-use Rattle.alias_block.specs.Contexts.{BlockContext}
-use Rattle.alias_block.specs.Faults.{in_block}
-use Rattle.alias_block.specs.Recorded.{recorded_as, terminal_recorded_as}
-use Rattle.alias_block.specs.declared.block.BlockProgress.{BlockProgress}
-use Rattle.alias_block.specs.declared.faults.BlockRefusal.{BlockRefusal}
-use Rattle.alias_block.specs.declared.recorded.BlockEffects.{BlockEffects}
-use Rattle.alias_block.specs.declared.recorded.InstructionEffects.{InstructionEffects}
-use Rattle.alias_block.specs.declared.recorded.TerminalEffects.{TerminalEffects}
+use Rattle.alias_step.specs.block.Actions.{terminal_action}
+use Rattle.alias_step.specs.block.Blocks.{infer_phis, step_start, after_instruction, infer_instruction_at, apply_signatures, after_terminal, apply_terminal, block_start, finished_at, finished, infer_block}
+use Rattle.alias_step.specs.block.Contexts.{BlockContext}
+use Rattle.alias_step.specs.block.Faults.{in_block}
+use Rattle.alias_step.specs.block.Recorded.{recorded_as, terminal_recorded_as}
+use Rattle.alias_step.specs.declared.block.block.BlockProgress.{BlockProgress}
+use Rattle.alias_step.specs.declared.block.faults.BlockRefusal.{BlockRefusal}
+use Rattle.alias_step.specs.declared.block.recorded.BlockEffects.{BlockEffects}
+use Rattle.alias_step.specs.declared.block.recorded.InstructionEffects.{InstructionEffects}
+use Rattle.alias_step.specs.declared.block.recorded.TerminalEffects.{TerminalEffects}
 
 -- entries in the order of the numbers, each of an instruction that is there
 pub data Aligned (xs : List Instruction) : List InstructionId → List InstructionEffects → Type 0 where
@@ -114,8 +114,8 @@ module _ (c : BlockContext) where
     pub instructions : Aligned Xs block.instructions k.instructions
     pub end : EndOf b block.terminal k.terminal
 
-  ended : (m : Option MissingLook) (s : BlockProgress) (y : State) (k : BlockEffects) (t u : TableLists) → finished_at m s t ≡ Ok ((y, k), u) → s.effects ≡ k
-  ended (Some look) s y k t u e = not_given _ (y, k) u e
+  ended : (m : Option MissingLookup) (s : BlockProgress) (y : State) (k : BlockEffects) (t u : TableLists) → finished_at m s t ≡ Ok ((y, k), u) → s.effects ≡ k
+  ended (Some lookup) s y k t u e = not_given _ (y, k) u e
   ended None s y k t u e = ap (λ (z : State × BlockEffects). z.1) (first_is (s.state, s.effects) (y, k) t u e)
 
   pub block_says : (b : BlockId) (block : BasicBlock) (x y : State) (k : BlockEffects) (t u : TableLists) → infer_block c b block x t ≡ Ok ((y, k), u) → BlockSays b block k

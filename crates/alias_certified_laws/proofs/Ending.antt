@@ -10,13 +10,13 @@ use Rattle.alias_hir.specs.declared.effect.AliasingEffect.{AliasingEffect}
 use Rattle.alias_hir.specs.declared.hir.BasicBlock.{BasicBlock}
 use Rattle.alias_hir.specs.declared.terminal.Terminal.{Terminal}
 use Rattle.alias_hir.specs.Positions.{Blocks, position_in}
-use Rattle.alias_block.specs.Recorded.{terminal_recorded_as}
-use Rattle.alias_block.specs.declared.recorded.BlockEffects.{BlockEffects}
-use Rattle.alias_block.specs.declared.recorded.TerminalEffects.{TerminalEffects}
+use Rattle.alias_step.specs.block.Recorded.{terminal_recorded_as}
+use Rattle.alias_step.specs.declared.block.recorded.BlockEffects.{BlockEffects}
+use Rattle.alias_step.specs.declared.block.recorded.TerminalEffects.{TerminalEffects}
 use Rattle.alias_effects.specs.Inference.{terminal_recorded}
 use Rattle.alias_effects.specs.Recording.{block_with}
 use Rattle.alias_text.specs.Lines.{effect_text, recorded}
-use Rattle.alias_accept_laws.specs.Saying.{said_ends}
+use Rattle.alias_certificate_laws.specs.accepting.Saying.{said_ends}
 use Rattle.alias_certified_laws.proofs.Aligning.{CanCarry, EndOf}
 use Rattle.alias_certified_laws.proofs.Carrying.{none_recorded, is_of, ends_for}
 

@@ -6,15 +6,15 @@ use Rattle.std.proofs.lemmas.Bool.{eqb-true}
 use Rattle.std.proofs.lemmas.Grind.{common_steps}
 use Rattle.alias_base.specs.declared.ids.BlockId.{BlockId}
 use Rattle.alias_base.specs.declared.ids.InstructionId.{InstructionId}
-use Rattle.alias_function_rules.specs.Rules.{is_among, first_again}
+use Rattle.alias_rules.specs.function_rules.Rules.{is_among, first_again}
 use Rattle.alias_hir.specs.declared.effect.AliasingEffect.{AliasingEffect}
 use Rattle.alias_hir.specs.declared.hir.BasicBlock.{BasicBlock}
 use Rattle.alias_hir.specs.declared.hir.Instruction.{Instruction}
 use Rattle.alias_hir.specs.Positions.{Blocks}
-use Rattle.alias_block.specs.declared.recorded.BlockEffects.{BlockEffects}
-use Rattle.alias_block.specs.declared.recorded.InstructionEffects.{InstructionEffects}
+use Rattle.alias_step.specs.declared.block.recorded.BlockEffects.{BlockEffects}
+use Rattle.alias_step.specs.declared.block.recorded.InstructionEffects.{InstructionEffects}
 use Rattle.alias_effects.specs.Inference.{instructions_recorded}
-use Rattle.alias_accept_laws.specs.Alike.{Paired, none as no_pair, more}
+use Rattle.alias_certificate_laws.specs.accepting.Alike.{Paired, none as no_pair, more}
 use Rattle.alias_certified_laws.proofs.Aligning.{Aligned, none, skip, take}
 use Rattle.alias_certified_laws.proofs.Carrying.{effects_for}
 
@@ -110,12 +110,12 @@ module _ (xs : List Instruction) where
   aligned_not_in i (take k x es at a) h = (h.0, aligned_not_in i a h.1)
 
   -- each of the numbers has in the whole what the entries have
-  pub data Looks (whole : List InstructionEffects) : List InstructionId → List InstructionEffects → Type 0 where
-    no_more : Looks whole [] []
-    nothing : (i : InstructionId) {is : List InstructionId} {es : List InstructionEffects} → effects_for i.0 whole ≡ [] → Looks whole is es → Looks whole (i ∷ is) es
+  pub data Lookups (whole : List InstructionEffects) : List InstructionId → List InstructionEffects → Type 0 where
+    no_more : Lookups whole [] []
+    nothing : (i : InstructionId) {is : List InstructionId} {es : List InstructionEffects} → effects_for i.0 whole ≡ [] → Lookups whole is es → Lookups whole (i ∷ is) es
     something : (i : InstructionId) (x : Instruction) (es : List AliasingEffect) {is : List InstructionId} {rest : List InstructionEffects} → slice_get xs i.0 ≡ Some x
-        → effects_for i.0 whole ≡ es → Looks whole is rest
-        → Looks whole (i ∷ is) (record { instruction = i; effects = es } ∷ rest)
+        → effects_for i.0 whole ≡ es → Lookups whole is rest
+        → Lookups whole (i ∷ is) (record { instruction = i; effects = es } ∷ rest)
 
   all_others : (is : List InstructionId) (i : ℕ) → AllByRecursion (IsOther i) (numbers is) → AllByRecursion (λ (k : InstructionId). (k.0 == i) ≡ false) is
   all_others [] i h = tt
@@ -143,7 +143,7 @@ module _ (xs : List Instruction) where
 
   segment : (pre post : List InstructionEffects) (seen later : List ℕ) (is : List InstructionId) (here : List InstructionEffects) → Aligned xs is here
       → first_again seen (numbers is ++ later) ≡ None → Before pre seen → Behind post later
-      → Looks (pre ++ (here ++ post)) is here
+      → Lookups (pre ++ (here ++ post)) is here
   segment pre post seen later [] [] none once f g = no_more
   segment pre post seen later [] (e ∷ rest) a once f g = elim a [ ]
   segment pre post seen later (i ∷ is) here (skip k a) once f g =
@@ -156,7 +156,7 @@ module _ (xs : List Instruction) where
       let p = once_step seen (numbers is ++ later) i.0 once in
       let entry : InstructionEffects = record { instruction = i; effects = es } in
       something i x es at (past i.0 pre (entry ∷ (rest ++ post)) (f i.0 p.0) ∙ one_same i.0 es (effects_for i.0 (rest ++ post)))
-      (subst (λ l. Looks l is rest) (append_assoc pre (entry ∷ []) (rest ++ post)) (segment (pre ++ entry ∷ []) post (i.0 ∷ seen) later is rest a p.1 (before_one pre seen i es f) g))
+      (subst (λ l. Lookups l is rest) (append_assoc pre (entry ∷ []) (rest ++ post)) (segment (pre ++ entry ∷ []) post (i.0 ∷ seen) later is rest a p.1 (before_one pre seen i es f) g))
 
   -- ---- blocks
 
@@ -181,21 +181,21 @@ module _ (xs : List Instruction) where
       let b = still_seen seen is j h in
       all_of_both (λ (z : InstructionEffects). (z.instruction.0 == j) ≡ false) pre here (f j b.0) (aligned_not_in j a b.1)
 
-  abbrev pub BlockLooks : List InstructionEffects → BlockId × BasicBlock → Option BlockEffects → Type 0
-  BlockLooks whole b r = Looks whole b.1.instructions (instructions_recorded r)
+  abbrev pub BlockLookups : List InstructionEffects → BlockId × BasicBlock → Option BlockEffects → Type 0
+  BlockLookups whole b r = Lookups whole b.1.instructions (instructions_recorded r)
 
-  each_looks : (bs : Blocks) (rs : List (Option BlockEffects)) (pre : List InstructionEffects) (seen : List ℕ) → Paired BlockAligned bs rs → first_again seen (listed bs) ≡ None → Before pre seen
-      → Paired (BlockLooks (pre ++ flat_map instructions_recorded rs)) bs rs
-  each_looks [] [] pre seen no_pair once f = no_pair
-  each_looks [] (r ∷ rs) pre seen p once f = elim p [ ]
-  each_looks (b ∷ bs) [] pre seen p once f = elim p [ ]
-  each_looks (b ∷ bs) (r ∷ rs) pre seen (more a p) once f =
+  each_lookups : (bs : Blocks) (rs : List (Option BlockEffects)) (pre : List InstructionEffects) (seen : List ℕ) → Paired BlockAligned bs rs → first_again seen (listed bs) ≡ None → Before pre seen
+      → Paired (BlockLookups (pre ++ flat_map instructions_recorded rs)) bs rs
+  each_lookups [] [] pre seen no_pair once f = no_pair
+  each_lookups [] (r ∷ rs) pre seen p once f = elim p [ ]
+  each_lookups (b ∷ bs) [] pre seen p once f = elim p [ ]
+  each_lookups (b ∷ bs) (r ∷ rs) pre seen (more a p) once f =
       let here = instructions_recorded r in
       let post = flat_map instructions_recorded rs in
       more (segment pre post seen (listed bs) b.1.instructions here a once f (behind_all bs rs p))
-      (subst (λ l. Paired (BlockLooks l) bs rs) (append_assoc pre here post)
-      (each_looks bs rs (pre ++ here) (seen_after seen b.1.instructions) p (once_after seen b.1.instructions (listed bs) once) (before_block pre seen b.1.instructions here a f)))
+      (subst (λ l. Paired (BlockLookups l) bs rs) (append_assoc pre here post)
+      (each_lookups bs rs (pre ++ here) (seen_after seen b.1.instructions) p (once_after seen b.1.instructions (listed bs) once) (before_block pre seen b.1.instructions here a f)))
 
   -- all blocks of a function that lists each instruction once
-  pub all_look : (bs : Blocks) (rs : List (Option BlockEffects)) → Paired BlockAligned bs rs → first_again [] (listed bs) ≡ None → Paired (BlockLooks (flat_map instructions_recorded rs)) bs rs
-  all_look bs rs p once = each_looks bs rs [] [] p once (λ i h. tt)
+  pub all_lookup : (bs : Blocks) (rs : List (Option BlockEffects)) → Paired BlockAligned bs rs → first_again [] (listed bs) ≡ None → Paired (BlockLookups (flat_map instructions_recorded rs)) bs rs
+  all_lookup bs rs p once = each_lookups bs rs [] [] p once (λ i h. tt)

@@ -24,20 +24,20 @@ use Rattle.alias_tables.specs.Tables.{TableLists}
 use Rattle.alias_tables.specs.declared.temp_key.TempKey.{TempKey}
 use Rattle.alias_tables.specs.declared.temp_key.TempKey.TheVariants as key
 use Rattle.alias_tables.specs.declared.temporaries.Temporary.{Temporary}
-use Rattle.alias_block.specs.Contexts.{context_of}
-use Rattle.alias_block.specs.declared.recorded.BlockEffects.{BlockEffects}
+use Rattle.alias_step.specs.block.Contexts.{context_of}
+use Rattle.alias_step.specs.declared.block.recorded.BlockEffects.{BlockEffects}
 use Rattle.alias_effects.specs.Numbered.{visits_end}
 use Rattle.alias_nested.specs.Created.{one_of, created_by, created_by_all, created_functions}
 use Rattle.alias_nesting_laws.specs.FittingLaws.{together}
-use Rattle.alias_cert_states.specs.States.{is_created, is_site_there}
-use Rattle.alias_cert_function.specs.Temporaries.{is_key_there}
-use Rattle.alias_entry_laws.specs.Named.{SiteNamed, SitesNamed, StateNamed, KeyNamed, AreNumbered, CreatesAt, CreatesHas, BlocksCreate, EntriesNamed}
-use Rattle.alias_entry_laws.proofs.Entries.{entries_named}
-use Rattle.alias_accept_laws.specs.Certifying.{NamesItsOwn, IsAcceptedAsSaid}
-use Rattle.alias_accept_laws.specs.Saying.{NamesThere, AreCounted}
-use Rattle.alias_entry_laws.proofs.Keeping.{at_holds}
-use Rattle.alias_accept_laws.proofs.Passing.{pass_accepted}
-use Rattle.alias_step_laws.specs.TableLaws.{all_mapped as all_on}
+use Rattle.alias_certificate.specs.states.States.{is_created, is_site_there}
+use Rattle.alias_cert.specs.function.Temporaries.{is_key_there}
+use Rattle.alias_effects_laws.specs.entries.Named.{SiteNamed, SitesNamed, StateNamed, KeyNamed, AreNumbered, CreatesAt, CreatesHas, BlocksCreate, EntriesNamed}
+use Rattle.alias_effects_laws.proofs.entries.Entries.{entries_named}
+use Rattle.alias_certificate_laws.specs.accepting.Certifying.{NamesItsOwn, IsAcceptedAsSaid}
+use Rattle.alias_certificate_laws.specs.accepting.Saying.{NamesThere, AreCounted}
+use Rattle.alias_effects_laws.proofs.entries.Keeping.{at_holds}
+use Rattle.alias_certificate_laws.proofs.accepting.Passing.{pass_accepted}
+use Rattle.alias_step_laws.specs.steps.TableLaws.{all_mapped as all_on}
 
 -- ---- lists
 

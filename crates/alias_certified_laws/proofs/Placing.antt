@@ -7,7 +7,7 @@ use Rattle.alias_base.specs.declared.ids.BlockId.{BlockId}
 use Rattle.alias_hir.specs.Terminals.{successors}
 use Rattle.alias_hir.specs.declared.hir.BasicBlock.{BasicBlock}
 use Rattle.alias_lattice.specs.Flows.{IsOneOf, IsReached, at_entry, by_edge}
-use Rattle.alias_block.specs.Contexts.{BlockContext}
+use Rattle.alias_step.specs.block.Contexts.{BlockContext}
 use Rattle.alias_effects.specs.Numbered.{numbered}
 use Rattle.alias_hir.specs.PositionLaws.{found_has_position, position_is_at}
 use Rattle.alias_hir.specs.Positions.{Blocks, position_in, with_position, positions_of, edges_at}

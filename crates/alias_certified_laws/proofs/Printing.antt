@@ -7,7 +7,7 @@ use Rattle.alias_base.specs.AnswerLaws.{both_true}
 use Rattle.alias_base.specs.Find.{value_at}
 use Rattle.alias_base.specs.declared.ids.BlockId.{BlockId}
 use Rattle.alias_base.specs.declared.ids.InstructionId.{InstructionId}
-use Rattle.alias_function_rules.specs.Rules.{instruction_is_uninferred, terminal_is_uninferred, place_is_uninferred, listed_instructions, first_again, twice}
+use Rattle.alias_rules.specs.function_rules.Rules.{instruction_is_uninferred, terminal_is_uninferred, place_is_uninferred, listed_instructions, first_again, twice}
 use Rattle.alias_hir.specs.Terminals.{terminal_effects, terminal_places}
 use Rattle.alias_hir.specs.declared.effect.AliasingEffect.{AliasingEffect}
 use Rattle.alias_hir.specs.declared.env.Environment.{Environment}
@@ -27,27 +27,27 @@ use Rattle.alias_rules.specs.RuleLaws.{fitting_entry}
 use Rattle.alias_rules.specs.declared.rules.Rule.TheVariants.{ListedOnce}
 use Rattle.alias_nesting_laws.specs.FittingLaws.{fitted}
 use Rattle.alias_tables.specs.Tables.{TableLists}
-use Rattle.alias_block.specs.Blocks.{infer_block}
-use Rattle.alias_block.specs.Contexts.{context_of}
-use Rattle.alias_block.specs.Recorded.{no_effects}
-use Rattle.alias_block.specs.declared.recorded.BlockEffects.{BlockEffects}
-use Rattle.alias_block.specs.declared.recorded.InstructionEffects.{InstructionEffects}
-use Rattle.alias_write_back.specs.WriteBack.{tables_of}
+use Rattle.alias_step.specs.block.Blocks.{infer_block}
+use Rattle.alias_step.specs.block.Contexts.{context_of}
+use Rattle.alias_step.specs.block.Recorded.{no_effects}
+use Rattle.alias_step.specs.declared.block.recorded.BlockEffects.{BlockEffects}
+use Rattle.alias_step.specs.declared.block.recorded.InstructionEffects.{InstructionEffects}
+use Rattle.alias_tables.specs.write_back.WriteBack.{tables_of}
 use Rattle.alias_effects.specs.Inference.{entries_of, instructions_recorded, terminal_recorded, solved_of}
 use Rattle.alias_effects.specs.Numbered.{step_at, visits_end}
 use Rattle.alias_effects.specs.PassLaws.{outcome_is}
 use Rattle.alias_effects.specs.Recording.{recorded_instructions, recorded_terminals, with_effects_of}
 use Rattle.alias_text.specs.Lines.{recorded_of}
-use Rattle.alias_cert_text_laws.specs.Certifying.{cert_effect, effects_of, effects_in, ends_in, cert_block}
+use Rattle.alias_certificate_laws.specs.text.Certifying.{cert_effect, effects_of, effects_in, ends_in, cert_block}
 use Rattle.alias_certificate.specs.declared.certificate.CertBlock.{CertBlock}
 use Rattle.alias_certificate.specs.declared.certificate.CertEffect.{CertEffect}
-use Rattle.alias_accept_laws.specs.Alike.{Paired, none as no_pair, more}
-use Rattle.alias_accept_laws.specs.Saying.{said_value, said_variable, said_effects, said_block, said_of, said_each, those_there}
-use Rattle.alias_accept_laws.proofs.Passing.{laws as pass_laws_of, solves as pass_ends, kept}
+use Rattle.alias_certificate_laws.specs.accepting.Alike.{Paired, none as no_pair, more}
+use Rattle.alias_certificate_laws.specs.accepting.Saying.{said_value, said_variable, said_effects, said_block, said_of, said_each, those_there}
+use Rattle.alias_certificate_laws.proofs.accepting.Passing.{laws as pass_laws_of, solves as pass_ends, kept}
 use Rattle.alias_certified_laws.proofs.Aligning.{Aligned, none, skip, BlockSays, block_says}
 use Rattle.alias_certified_laws.proofs.Carrying.{effects_for, carried, not_carried, ends_for, named_end}
 use Rattle.alias_certified_laws.proofs.Ending.{NoneOf, none_of_other, ends_at, ends_instructions, terminal_lines}
-use Rattle.alias_certified_laws.proofs.Looking.{Looks, no_more, nothing, something, BlockAligned, BlockLooks, all_look}
+use Rattle.alias_certified_laws.proofs.Looking.{Lookups, no_more, nothing, something, BlockAligned, BlockLookups, all_lookup}
 use Rattle.alias_certified_laws.proofs.Placing.{at_its_place, reached_place}
 
 -- ---- lists
@@ -89,7 +89,7 @@ module _ (xs : List Instruction) (uninferred : (i : ℕ) (x : Instruction) → s
   carries_these i x es at h = let c = carried whole xs i x at (uninferred i x at) in ap recorded_of c.1 ∙ c.2 ∙ h
 
   -- the lines of a block's instructions
-  instruction_lines : {is : List InstructionId} {es : List InstructionEffects} → Looks xs whole is es → flat_map (effects_of (recorded_instructions whole xs)) is ≡ flat_map said_effects es
+  instruction_lines : {is : List InstructionId} {es : List InstructionEffects} → Lookups xs whole is es → flat_map (effects_of (recorded_instructions whole xs)) is ≡ flat_map said_effects es
   instruction_lines no_more = refl
   instruction_lines (nothing i {is} h l) =
       ap (λ es. map (cert_effect i.0) es ++ flat_map (effects_of (recorded_instructions whole xs)) is) (carries_at i.0 (slice_get xs i.0) refl h) ∙ instruction_lines l
@@ -181,9 +181,9 @@ module _ (env : Environment) (func : HirFunction) (e : Bool) (w : SolverState (V
   aligned_at n b None there h = subst (BlockAligned func.instructions b) (sym (not_recorded n h)) (all_skipped func.instructions b.1.instructions)
   aligned_at n b (Some s) there h = let r = recorded_there n b s there h in subst (BlockAligned func.instructions b) (sym r.is) r.says.instructions
 
-  looks : Paired (BlockLooks func.instructions (flat_map instructions_recorded w.recorded)) func.body.blocks w.recorded
-  looks =
-      all_look func.instructions func.body.blocks w.recorded
+  lookups : Paired (BlockLookups func.instructions (flat_map instructions_recorded w.recorded)) func.body.blocks w.recorded
+  lookups =
+      all_lookup func.instructions func.body.blocks w.recorded
       (paired_from (BlockAligned func.instructions) func.body.blocks w.recorded recorded_long (λ n b there. aligned_at n b (entry_at w.progress.joined_input n) there refl))
       listed_once
 
@@ -225,12 +225,12 @@ module _ (env : Environment) (func : HirFunction) (e : Bool) (w : SolverState (V
         let z = ends_for func.body.blocks n r.effects.terminal b.1 in
         let line = λ (es : List CertEffect) (ls : List (List ℕ)).
         let l : CertBlock = record { block = b.0; values = map said_value s.values; variables = map said_variable s.variables; effects = es; end = ls } in l in
-        let look = subst (BlockLooks func.instructions (flat_map instructions_recorded w.recorded) b) r.is
-        (paired_at (BlockLooks func.instructions (flat_map instructions_recorded w.recorded)) looks n b there) in
+        let lookup = subst (BlockLookups func.instructions (flat_map instructions_recorded w.recorded) b) r.is
+        (paired_at (BlockLookups func.instructions (flat_map instructions_recorded w.recorded)) lookups n b there) in
         ap (λ (o : Option BasicBlock). line (effects_in gi o) (ends_in o)) (carries_own n b r there)
         ∙ ap (λ (is : List InstructionId). line (flat_map (effects_of gi) is) (ends_in (Some z))) (ends_instructions func.body.blocks n r.effects.terminal b.1)
         ∙ ap (λ (es : List CertEffect). line es (ends_in (Some z)))
-        (instruction_lines func.instructions (λ i x at. holds_at instruction_is_uninferred func.instructions i x instructions at) (flat_map instructions_recorded w.recorded) look)
+        (instruction_lines func.instructions (λ i x at. holds_at instruction_is_uninferred func.instructions i x instructions at) (flat_map instructions_recorded w.recorded) lookup)
         ∙ ap (λ (ls : List (List ℕ)). line (flat_map said_effects r.effects.instructions) ls) (terminal_lines func.body.blocks n b.0 b.1 r.at r.effects.terminal (no_effects_yet n b there) r.says.end)
 
     line_is : (n : ℕ) (b : BlockId × BasicBlock) (o : Option State) → slice_get func.body.blocks n ≡ Some b → entry_at w.progress.joined_input n ≡ o

@@ -6,10 +6,10 @@ use Rattle.alias_lattice.specs.States.{State}
 use Rattle.alias_flow.specs.Machine.{SolverState, VisitLog, Solved}
 use Rattle.alias_rules.specs.Fitting.{function_fits}
 use Rattle.alias_tables.specs.Tables.{TableLists}
-use Rattle.alias_block.specs.Contexts.{context_of}
-use Rattle.alias_block.specs.declared.recorded.BlockEffects.{BlockEffects}
+use Rattle.alias_step.specs.block.Contexts.{context_of}
+use Rattle.alias_step.specs.declared.block.recorded.BlockEffects.{BlockEffects}
 use Rattle.alias_effects.specs.Numbered.{visits_end}
-use Rattle.alias_accept_laws.specs.Certifying.{NamesItsOwn, IsAcceptedAsSaid}
+use Rattle.alias_certificate_laws.specs.accepting.Certifying.{NamesItsOwn, IsAcceptedAsSaid}
 
 abbrev pub NamesAreThere : Type 0
 NamesAreThere =

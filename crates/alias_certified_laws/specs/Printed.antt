@@ -7,16 +7,16 @@ use Rattle.alias_hir.specs.declared.hir.BasicBlock.{BasicBlock}
 use Rattle.alias_hir.specs.declared.hir.HirFunction.{HirFunction}
 use Rattle.alias_lattice.specs.States.{State}
 use Rattle.alias_flow.specs.Machine.{SolverState, VisitLog, Solved}
-use Rattle.alias_function_rules.specs.Rules.{instruction_is_uninferred, terminal_is_uninferred}
+use Rattle.alias_rules.specs.function_rules.Rules.{instruction_is_uninferred, terminal_is_uninferred}
 use Rattle.alias_rules.specs.Fitting.{function_fits}
 use Rattle.alias_tables.specs.Tables.{TableLists}
-use Rattle.alias_block.specs.Contexts.{context_of}
-use Rattle.alias_block.specs.declared.recorded.BlockEffects.{BlockEffects}
+use Rattle.alias_step.specs.block.Contexts.{context_of}
+use Rattle.alias_step.specs.declared.block.recorded.BlockEffects.{BlockEffects}
 use Rattle.alias_effects.specs.Inference.{solved_of}
 use Rattle.alias_effects.specs.Numbered.{visits_end}
 use Rattle.alias_effects.specs.Recording.{with_effects_of}
-use Rattle.alias_cert_text_laws.specs.Certifying.{cert_block}
-use Rattle.alias_accept_laws.specs.Saying.{said_each, those_there}
+use Rattle.alias_certificate_laws.specs.text.Certifying.{cert_block}
+use Rattle.alias_certificate_laws.specs.accepting.Saying.{said_each, those_there}
 
 -- What infer_block records stands in the order of the block's instructions, an entry for each of which anything is recorded; each instruction is listed once (a rule), so
 -- that it carries these effects and no others.

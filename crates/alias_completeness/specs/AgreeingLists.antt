@@ -20,7 +20,7 @@ use Rattle.alias_hir.specs.declared.env.Environment.{Environment}
 use Rattle.alias_hir.specs.declared.place.Place.{Place}
 use Rattle.alias_hir.specs.declared.place.PlaceOrSpread.{PlaceOrSpread}
 use Rattle.alias_hir.specs.declared.place.Span.{Span}
-use Rattle.alias_hir.specs.declared.report.DiagnosticId.{DiagnosticId}
+use Rattle.alias_hir.specs.declared.report.ReportId.{ReportId}
 use Rattle.alias_hir.specs.declared.types.Ty.{Ty}
 use Rattle.alias_hir.specs.declared.value.ArrayElement.{ArrayElement}
 use Rattle.alias_hir.specs.declared.value.ArrayElement.TheVariants as element
@@ -141,7 +141,7 @@ module _ (env more : Environment) (agrees : Agrees env more) where
   -- ---- all kinds
 
   -- facts that say the same of hoisted declarations and spreads
-  module _ (facts other : FunctionFacts) (hoisted : marks other.hoisted ≡ marks facts.hoisted) (spreads : other.spreads ≡ facts.spreads) (error : Option DiagnosticId) where
+  module _ (facts other : FunctionFacts) (hoisted : marks other.hoisted ≡ marks facts.hoisted) (spreads : other.spreads ≡ facts.spreads) (error : Option ReportId) where
     abbrev SameEffects : Place → Option Span → InstructionValue → Type 0
     SameEffects l span v = signature_of_value (known more other error) l span v ≡ signature_of_value (known env facts error) l span v
 

@@ -13,7 +13,7 @@ use Rattle.alias_hir.specs.declared.hir.Instruction.{Instruction}
 use Rattle.alias_hir.specs.declared.place.Place.{Place}
 use Rattle.alias_hir.specs.declared.place.PlaceOrSpread.{PlaceOrSpread}
 use Rattle.alias_hir.specs.declared.place.Span.{Span}
-use Rattle.alias_hir.specs.declared.report.DiagnosticId.{DiagnosticId}
+use Rattle.alias_hir.specs.declared.report.ReportId.{ReportId}
 use Rattle.alias_signature.specs.Calls.{argument}
 use Rattle.alias_signature.specs.Known.{known}
 use Rattle.alias_signature.specs.Signatures.{signature_of}
@@ -42,7 +42,7 @@ args_front P [] p h = (tt, h.0)
 args_front P (x ∷ xs) p h = let r = args_front P xs p h.1 in ((h.0, r.0), r.1)
 
 -- the places of the call that an instruction is
-pub call_within : (env : Environment) (func : HirFunction) → IsWithin env func → (facts : FunctionFacts) (error : Option DiagnosticId) (i : InstructionId) (x : Instruction) → slice_get func.instructions i.0 ≡ Some x
+pub call_within : (env : Environment) (func : HirFunction) → IsWithin env func → (facts : FunctionFacts) (error : Option ReportId) (i : InstructionId) (x : Instruction) → slice_get func.instructions i.0 ≡ Some x
     → (r f : Place) (m : Bool) (args : List PlaceOrSpread) (into : Place) (signature : Option TypeId) (span : Option Span) → signature_of (known env facts error) x ≡ Apply r f m (map argument args) into signature span ∷ [] → CallIsWithin env r f args into
 call_within env func within facts error i x e r f m args into signature span is =
     let P : Place → Type 0 = λ p. number p < length env.identifiers in

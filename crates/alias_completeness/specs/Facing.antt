@@ -5,7 +5,7 @@ use Rattle.std.proofs.lemmas.Bool.Decides.{nat_tests}
 use Rattle.std.specs.List.{AllByRecursion}
 use Rattle.alias_base.specs.declared.ids.FunctionId.{FunctionId}
 use Rattle.alias_base.specs.declared.ids.IdentifierId.{IdentifierId}
-use Rattle.alias_function_rules.specs.Rules.{is_among, first_again, own_identifiers, repeated, places_distinct}
+use Rattle.alias_rules.specs.function_rules.Rules.{is_among, first_again, own_identifiers, repeated, places_distinct}
 use Rattle.alias_hir.specs.Parts.{param_place}
 use Rattle.alias_hir.specs.declared.effect.AliasingEffect.{AliasingEffect}
 use Rattle.alias_hir.specs.declared.env.Environment.{Environment}

@@ -12,7 +12,7 @@ use Rattle.alias_base.specs.declared.ids.FunctionId.{FunctionId}
 use Rattle.alias_base.specs.declared.ids.InstructionId.{InstructionId}
 use Rattle.alias_base.specs.declared.ids.TypeId.{TypeId}
 use Rattle.alias_facts.specs.Facts.{function_facts}
-use Rattle.alias_function_rules.specs.Rules.{is_among}
+use Rattle.alias_rules.specs.function_rules.Rules.{is_among}
 use Rattle.alias_hir.specs.Values.{places_of, created}
 use Rattle.alias_hir.specs.declared.effect.AliasingEffect.{AliasingEffect}
 use Rattle.alias_hir.specs.declared.effect.AliasingEffect.TheVariants.{Apply}
@@ -25,7 +25,7 @@ use Rattle.alias_hir.specs.declared.place.Effect.TheVariants as operand
 use Rattle.alias_hir.specs.declared.place.Place.{Place}
 use Rattle.alias_hir.specs.declared.place.PlaceOrSpread.{PlaceOrSpread}
 use Rattle.alias_hir.specs.declared.place.Span.{Span}
-use Rattle.alias_hir.specs.declared.report.DiagnosticId.{DiagnosticId}
+use Rattle.alias_hir.specs.declared.report.ReportId.{ReportId}
 use Rattle.alias_visit.specs.Operands.{context_at}
 use Rattle.alias_visit.specs.Places.{created_places}
 use Rattle.alias_signature.specs.Calls.{argument, call_effects, type_id_of}
@@ -95,11 +95,11 @@ module _ (func : HirFunction) (env more : Environment) (agrees : AgreesOn func e
     here : IsInside env x
     here = inside.instructions i x found
 
-    same_list : (error : Option DiagnosticId) → created x.value ≡ None → signature_of (known more (function_facts func more) error) x ≡ signature_of (known env (function_facts func env) error) x
+    same_list : (error : Option ReportId) → created x.value ≡ None → signature_of (known more (function_facts func more) error) x ≡ signature_of (known env (function_facts func env) error) x
     same_list error none =
         same_effects env more agrees.agrees (function_facts func env) (function_facts func more) (same_hoisted func env more agrees inside) (found_spreads func env more agrees inside) error x.lvalue x.span x.value here.lvalue here.places none
 
-    function_list : (e : Environment) (error : Option DiagnosticId) (f : FunctionId) → created x.value ≡ Some f → signature_of (known e (function_facts func e) error) x ≡ function_effects e x.lvalue f
+    function_list : (e : Environment) (error : Option ReportId) (f : FunctionId) → created x.value ≡ Some f → signature_of (known e (function_facts func e) error) x ≡ function_effects e x.lvalue f
     function_list e error f is = creates_by_function (known e (function_facts func e) error) x.lvalue x.span x.value f is
 
     made_by_kind : (o : Option FunctionId) → created x.value ≡ o → all_made (list_of func more x) ≡ all_made (list_of func env x)
@@ -126,7 +126,7 @@ module _ (func : HirFunction) (env more : Environment) (agrees : AgreesOn func e
     abbrev IsCall : Environment → List AliasingEffect → Place → Place → Bool → List PlaceOrSpread → Place → Option Span → Type 0
     IsCall e es r f m args into span = es ≡ call_effects e r f m args into span
 
-    call_by_kind : (error : Option DiagnosticId) (r f : Place) (m : Bool) (args : List PlaceOrSpread) (into : Place) (span : Option Span) (o : Option FunctionId) → created x.value ≡ o
+    call_by_kind : (error : Option ReportId) (r f : Place) (m : Bool) (args : List PlaceOrSpread) (into : Place) (span : Option Span) (o : Option FunctionId) → created x.value ≡ o
         → IsCall more (signature_of (known more (function_facts func more) error) x) r f m args into span → IsCall env (list_of func env x) r f m args into span
     call_by_kind error r f m args into span None none is =
         let call : list_of func env x ≡ Apply r f m (map argument args) into (type_id_of more f.identifier) span ∷ []

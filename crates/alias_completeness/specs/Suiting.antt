@@ -19,7 +19,7 @@ use Rattle.alias_hir.specs.Types.{function_shape, type_of}
 use Rattle.alias_hir.specs.declared.env.Config.{Config}
 use Rattle.alias_signature.specs.Calls.{call_effects, type_id_of}
 use Rattle.alias_apply.specs.declared.progress.StepProgress.{StepProgress}
-use Rattle.alias_step.specs.Lists.{signature_of_type}
+use Rattle.alias_step.specs.Expansions.{signature_of_type}
 use Rattle.alias_plainness.specs.Making.{all_made}
 use Rattle.alias_plainness.specs.Sureness.{list_of}
 use Rattle.alias_plainness.specs.Paths.{sure_before}

@@ -4,7 +4,7 @@ use Rattle.std.specs.Prelude.{slice_get, slice_set}
 use Rattle.std.specs.List.{flat_map}
 use Rattle.alias_hir.specs.Positions.{Blocks}
 use Rattle.alias_lattice.specs.States.{State}
-use Rattle.alias_block.specs.declared.recorded.BlockEffects.{BlockEffects}
+use Rattle.alias_step.specs.declared.block.recorded.BlockEffects.{BlockEffects}
 use Rattle.alias_effects.specs.declared.solved.BlockEntry.{BlockEntry}
 use Rattle.alias_effects.specs.Inference.{block_at, entries_of}
 use Rattle.alias_effects.specs.Output.{entry_as}

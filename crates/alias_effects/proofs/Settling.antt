@@ -5,10 +5,10 @@ use Rattle.std.proofs.lemmas.List.{length-replicate}
 use Rattle.alias_base.specs.Answer.{◌>>=◌}
 use Rattle.alias_base.specs.Find.{value_at}
 use Rattle.alias_base.specs.declared.ids.BlockId.{BlockId}
-use Rattle.alias_block.specs.Contexts.{context_of}
-use Rattle.alias_block.specs.declared.faults.BlockRefusal.{BlockRefusal}
-use Rattle.alias_block.specs.declared.faults.BlockRefusal.TheVariants as block
-use Rattle.alias_block.specs.declared.recorded.BlockEffects.{BlockEffects}
+use Rattle.alias_step.specs.block.Contexts.{context_of}
+use Rattle.alias_step.specs.declared.block.faults.BlockRefusal.{BlockRefusal}
+use Rattle.alias_step.specs.declared.block.faults.BlockRefusal.TheVariants as block
+use Rattle.alias_step.specs.declared.block.recorded.BlockEffects.{BlockEffects}
 use Rattle.alias_effects.specs.Inference.{refusal, block_at, answer_of, pass_end}
 use Rattle.alias_effects.specs.Numbered.{numbered, visits_end}
 use Rattle.alias_effects.specs.Output.{last_of, last_visits}
@@ -31,7 +31,7 @@ use Rattle.alias_rules.specs.RuleLaws.{fitting_entry}
 use Rattle.alias_tables.specs.GrowingLaws.{Extends}
 use Rattle.alias_tables.specs.Tables.{TableLists}
 use Rattle.alias_tables.specs.declared.faults.Refusal.TheVariants as refused
-use Rattle.alias_write_back.specs.WriteBack.{tables_of}
+use Rattle.alias_tables.specs.write_back.WriteBack.{tables_of}
 
 pub forward_settled : (env : Environment) (func : HirFunction) (b : Bool) → is_some (value_at func.body.blocks func.body.entry) ≡ true → GoesForward env func b → (n : ℕ) → visits_end (context_of env func b) ≡ end.NotSettled n → ⊥
 forward_settled env func b entry forward n e =

@@ -15,14 +15,14 @@ use Rattle.alias_hir.specs.declared.hir.HirFunction.{HirFunction}
 use Rattle.alias_hir.specs.Terminals.{successors}
 use Rattle.alias_lattice.specs.States.{State, state_below}
 use Rattle.alias_lattice.specs.ProperStates.{StateProper}
-use Rattle.alias_block.specs.declared.recorded.BlockEffects.{BlockEffects}
+use Rattle.alias_step.specs.declared.block.recorded.BlockEffects.{BlockEffects}
 use Rattle.alias_tables.specs.Tables.{TableLists}
-use Rattle.alias_block.specs.declared.faults.BlockRefusal.{BlockRefusal}
+use Rattle.alias_step.specs.declared.block.faults.BlockRefusal.{BlockRefusal}
 use Rattle.alias_lattice.specs.Flows.{Flow, IsOneOf, IsReached, at_entry, by_edge, IsAbove, IsSolution, AreJoins}
 use Rattle.alias_flow.specs.Machine.{SolverState, VisitLog}
 use Rattle.alias_flow.specs.Solutions.{entry_at, RecordsSteps, KeepsOthers, IsForward}
 use Rattle.alias_effects.specs.FunctionFlow.{flow_of, successors_at, outcome_at}
-use Rattle.alias_block.specs.Contexts.{context_of}
+use Rattle.alias_step.specs.block.Contexts.{context_of}
 use Rattle.alias_effects.specs.Numbered.{numbered, step_at}
 use Rattle.alias_effects.specs.Inference.{entries_of, solved_of, instructions_recorded, terminal_recorded}
 use Rattle.alias_effects.specs.Solutions.{entry_state, IsSolvedUnder, effects_recorded, recorded_under, IsForwardFrom}

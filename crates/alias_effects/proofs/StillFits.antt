@@ -29,23 +29,23 @@ use Rattle.alias_rules.specs.RuleLaws.{fitting_tree}
 use Rattle.alias_nesting_laws.specs.FittingLaws.{together}
 use Rattle.alias_tables.specs.GrowingLaws.{grows_self}
 use Rattle.alias_tables.specs.Tables.{TableLists}
-use Rattle.alias_write_back.specs.WriteBack.{tables_of, with_tables}
-use Rattle.alias_block.specs.declared.faults.BlockRefusal.{BlockRefusal}
-use Rattle.alias_block.specs.declared.recorded.BlockEffects.{BlockEffects}
-use Rattle.alias_block.specs.declared.recorded.InstructionEffects.{InstructionEffects}
-use Rattle.alias_block.specs.declared.recorded.TerminalEffects.{TerminalEffects}
-use Rattle.alias_block.specs.Blocks.{infer_block}
-use Rattle.alias_block.specs.Contexts.{BlockContext, context_of}
-use Rattle.alias_block.specs.Initial.{initial_state}
-use Rattle.alias_block.specs.Recorded.{no_effects}
-use Rattle.alias_block.specs.ProperLaws.{proper_initial_state}
-use Rattle.alias_step_laws.specs.Within.{EffectsWithin, FunctionWithin, TablesWithin}
-use Rattle.alias_step_laws.specs.FunctionSiteLaws.{has_join}
-use Rattle.alias_step_laws.specs.TableLaws.{all_appended}
-use Rattle.alias_block_laws.specs.BlockLaws.{BlockEffectsWithin, StateWithin, block_effects_grow, block_inferred}
-use Rattle.alias_block_laws.specs.EntryLaws.{context_within, return_within, has_initial_state}
-use Rattle.alias_block_laws.specs.SolutionLaws.{StepKeeps, solution_stands}
-use Rattle.alias_block_laws.specs.WrittenLaws.{fits_with_tables, all_effects_written}
+use Rattle.alias_tables.specs.write_back.WriteBack.{tables_of, with_tables}
+use Rattle.alias_step.specs.declared.block.faults.BlockRefusal.{BlockRefusal}
+use Rattle.alias_step.specs.declared.block.recorded.BlockEffects.{BlockEffects}
+use Rattle.alias_step.specs.declared.block.recorded.InstructionEffects.{InstructionEffects}
+use Rattle.alias_step.specs.declared.block.recorded.TerminalEffects.{TerminalEffects}
+use Rattle.alias_step.specs.block.Blocks.{infer_block}
+use Rattle.alias_step.specs.block.Contexts.{BlockContext, context_of}
+use Rattle.alias_step.specs.block.Initial.{initial_state}
+use Rattle.alias_step.specs.block.Recorded.{no_effects}
+use Rattle.alias_step.specs.block.ProperLaws.{proper_initial_state}
+use Rattle.alias_step_laws.specs.steps.Within.{EffectsWithin, FunctionWithin, TablesWithin}
+use Rattle.alias_step_laws.specs.steps.FunctionSiteLaws.{has_join}
+use Rattle.alias_step_laws.specs.steps.TableLaws.{all_appended}
+use Rattle.alias_step_laws.specs.blocks.BlockLaws.{BlockEffectsWithin, StateWithin, block_effects_grow, block_inferred}
+use Rattle.alias_step_laws.specs.blocks.EntryLaws.{context_within, return_within, has_initial_state}
+use Rattle.alias_step_laws.specs.blocks.SolutionLaws.{StepKeeps, solution_stands}
+use Rattle.alias_step_laws.specs.blocks.WrittenLaws.{fits_with_tables, all_effects_written}
 use Rattle.alias_effects.specs.declared.output.LastVisits.{LastVisits}
 use Rattle.alias_effects.specs.declared.output.PassEnd.{PassEnd}
 use Rattle.alias_effects.specs.declared.solved.Solved.{Solved}

@@ -7,12 +7,12 @@ use Rattle.alias_hir.specs.Terminals.{successors}
 use Rattle.alias_lattice.specs.Flows.{Flow, Outcome, Stepped, Refused}
 use Rattle.alias_lattice.specs.States.{State}
 use Rattle.alias_tables.specs.Tables.{TableLists}
-use Rattle.alias_block.specs.declared.faults.BlockRefusal.{BlockRefusal}
-use Rattle.alias_block.specs.declared.recorded.BlockEffects.{BlockEffects}
-use Rattle.alias_block.specs.Blocks.{infer_block}
-use Rattle.alias_block.specs.Contexts.{BlockContext}
-use Rattle.alias_block.specs.Initial.{initial_state}
-use Rattle.alias_block.specs.Recorded.{no_effects}
+use Rattle.alias_step.specs.declared.block.faults.BlockRefusal.{BlockRefusal}
+use Rattle.alias_step.specs.declared.block.recorded.BlockEffects.{BlockEffects}
+use Rattle.alias_step.specs.block.Blocks.{infer_block}
+use Rattle.alias_step.specs.block.Contexts.{BlockContext}
+use Rattle.alias_step.specs.block.Initial.{initial_state}
+use Rattle.alias_step.specs.block.Recorded.{no_effects}
 
 -- what the step of a block gives, as an outcome of a flow
 abbrev pub outcome_of : Result ((State × BlockEffects) × TableLists) BlockRefusal → Outcome State TableLists BlockEffects BlockRefusal

@@ -14,18 +14,18 @@ use Rattle.alias_hir.specs.Positions.{Blocks}
 use Rattle.alias_lattice.specs.States.{State}
 use Rattle.alias_flow.specs.Machine.{SolverState, VisitLog, End}
 use Rattle.alias_flow.specs.Machine as end
-use Rattle.alias_block.specs.declared.faults.BlockRefusal.{BlockRefusal}
-use Rattle.alias_block.specs.declared.faults.BlockRefusal.TheVariants as block
-use Rattle.alias_block.specs.declared.recorded.BlockEffects.{BlockEffects}
+use Rattle.alias_step.specs.declared.block.faults.BlockRefusal.{BlockRefusal}
+use Rattle.alias_step.specs.declared.block.faults.BlockRefusal.TheVariants as block
+use Rattle.alias_step.specs.declared.block.recorded.BlockEffects.{BlockEffects}
 use Rattle.alias_tables.specs.Tables.{TableLists}
 use Rattle.alias_effects.specs.declared.solved.BlockEntry.{BlockEntry}
-use Rattle.alias_block.specs.declared.recorded.InstructionEffects.{InstructionEffects}
+use Rattle.alias_step.specs.declared.block.recorded.InstructionEffects.{InstructionEffects}
 use Rattle.alias_effects.specs.declared.solved.Solved.{Solved}
-use Rattle.alias_block.specs.declared.recorded.TerminalEffects.{TerminalEffects}
-use Rattle.alias_block.specs.Contexts.{context_of}
+use Rattle.alias_step.specs.declared.block.recorded.TerminalEffects.{TerminalEffects}
+use Rattle.alias_step.specs.block.Contexts.{context_of}
 use Rattle.alias_tables.specs.declared.faults.Refusal.{Refusal}
 use Rattle.alias_tables.specs.declared.faults.Refusal.TheVariants as refused
-use Rattle.alias_write_back.specs.WriteBack.{with_tables}
+use Rattle.alias_tables.specs.write_back.WriteBack.{with_tables}
 use Rattle.alias_effects.specs.declared.output.PassEnd.{PassEnd}
 use Rattle.alias_effects.specs.Numbered.{visits_end}
 use Rattle.alias_effects.specs.Recording.{with_effects_of}
@@ -64,7 +64,7 @@ abbrev pub terminal_recorded : Option BlockEffects → List TerminalEffects
 terminal_recorded None = []
 terminal_recorded (Some r) = r.terminal
 
--- what is handed out where nothing is dirty any more: entry states are the joins of what was sent, effects those of last visits, and first effects and temporaries those of the tables
+-- what is handed out where nothing is dirty any more: entry states are the joins of what was sent, effects those of last visits, and interned effects and temporaries those of the tables
 abbrev pub solved_of : HirFunction → SolverState (VisitLog State) TableLists BlockEffects → Solved
 solved_of func w = record {
   function = None;

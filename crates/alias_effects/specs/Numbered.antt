@@ -7,15 +7,15 @@ use Rattle.alias_lattice.specs.Flows.{Outcome, Stepped}
 use Rattle.alias_lattice.specs.States.{State, state_below, state_join}
 use Rattle.alias_flow.specs.Machine.{Rules, VisitLog, End, solution}
 use Rattle.alias_flow.specs.Machine as end
-use Rattle.alias_block.specs.Blocks.{infer_block}
-use Rattle.alias_block.specs.Contexts.{BlockContext}
-use Rattle.alias_block.specs.Initial.{initial_state}
-use Rattle.alias_block.specs.Recorded.{no_effects}
-use Rattle.alias_write_back.specs.WriteBack.{tables_of}
+use Rattle.alias_step.specs.block.Blocks.{infer_block}
+use Rattle.alias_step.specs.block.Contexts.{BlockContext}
+use Rattle.alias_step.specs.block.Initial.{initial_state}
+use Rattle.alias_step.specs.block.Recorded.{no_effects}
+use Rattle.alias_tables.specs.write_back.WriteBack.{tables_of}
 use Rattle.alias_effects.specs.FunctionFlow.{outcome_of}
-use Rattle.alias_block.specs.declared.recorded.BlockEffects.{BlockEffects}
+use Rattle.alias_step.specs.declared.block.recorded.BlockEffects.{BlockEffects}
 use Rattle.alias_tables.specs.Tables.{TableLists}
-use Rattle.alias_block.specs.declared.faults.BlockRefusal.{BlockRefusal}
+use Rattle.alias_step.specs.declared.block.faults.BlockRefusal.{BlockRefusal}
 
 -- a position past the end does nothing
 abbrev pub step_at : BlockContext → Option (BlockId × BasicBlock) → TableLists → State → Outcome State TableLists BlockEffects BlockRefusal

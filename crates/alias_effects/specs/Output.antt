@@ -14,9 +14,9 @@ use Rattle.alias_flow.specs.declared.flow.SolveFault.{SolveFault}
 use Rattle.alias_flow.specs.declared.flow.SolveFault.TheVariants.{Step, NotSettled, Memory}
 use Rattle.alias_flow.specs.Machine.{SolverState, VisitLog, End}
 use Rattle.alias_flow.specs.Machine as end
-use Rattle.alias_block.specs.declared.recorded.BlockEffects.{BlockEffects}
+use Rattle.alias_step.specs.declared.block.recorded.BlockEffects.{BlockEffects}
 use Rattle.alias_tables.specs.Tables.{TableLists}
-use Rattle.alias_block.specs.declared.faults.BlockRefusal.{BlockRefusal}
+use Rattle.alias_step.specs.declared.block.faults.BlockRefusal.{BlockRefusal}
 use Rattle.alias_effects.specs.declared.solved.BlockEntry.{BlockEntry}
 use Rattle.alias_effects.specs.declared.output.LastVisits.{LastVisits}
 use Rattle.alias_effects.specs.declared.output.PassEnd.{PassEnd}

@@ -14,12 +14,12 @@ use Rattle.alias_flow.specs.Machine.{FlowLaws}
 use Rattle.alias_lattice.specs.ProperStates.{StateProper}
 use Rattle.alias_lattice.specs.Flows.{Stepped}
 use Rattle.alias_lattice.specs.States.{State}
-use Rattle.alias_block.specs.declared.recorded.BlockEffects.{BlockEffects}
-use Rattle.alias_block.specs.declared.faults.BlockRefusal.{BlockRefusal}
-use Rattle.alias_block.specs.Blocks.{infer_block}
-use Rattle.alias_block.specs.Contexts.{BlockContext}
-use Rattle.alias_block.specs.ProperLaws.{proper_initial_state, proper_infer_block}
-use Rattle.alias_block.specs.ReplayLaws.{again_infer_block}
+use Rattle.alias_step.specs.declared.block.recorded.BlockEffects.{BlockEffects}
+use Rattle.alias_step.specs.declared.block.faults.BlockRefusal.{BlockRefusal}
+use Rattle.alias_step.specs.block.Blocks.{infer_block}
+use Rattle.alias_step.specs.block.Contexts.{BlockContext}
+use Rattle.alias_step.specs.block.ProperLaws.{proper_initial_state, proper_infer_block}
+use Rattle.alias_step.specs.block.ReplayLaws.{again_infer_block}
 use Rattle.alias_tables.specs.GrowingLaws.{Extends, extends_self, extends_through}
 use Rattle.alias_tables.specs.Tables.{TableLists}
 use Rattle.alias_effects.specs.FunctionFlow.{outcome_of}

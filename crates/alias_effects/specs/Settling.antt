@@ -1,6 +1,6 @@
 -- A forward function settles.
 use Rattle.std.specs.Prelude.{◌≡◌, Bool, true, false, Result, IfErr}
-use Rattle.alias_block.specs.Contexts.{context_of}
+use Rattle.alias_step.specs.block.Contexts.{context_of}
 use Rattle.alias_effects.specs.Numbered.{numbered}
 use Rattle.alias_flow.specs.Solutions.{IsForward}
 use Rattle.alias_hir.specs.declared.env.Environment.{Environment}

@@ -9,14 +9,14 @@ use Rattle.alias_hir.specs.declared.hir.HirFunction.{HirFunction}
 use Rattle.alias_lattice.specs.States.{State, state_below}
 use Rattle.alias_lattice.specs.ProperStates.{StateProper}
 use Rattle.alias_lattice.specs.Flows.{Flow, Outcome, Stepped, Refused, IsOneOf, IsSolution, AreJoins}
-use Rattle.alias_block.specs.declared.faults.BlockRefusal.{BlockRefusal}
-use Rattle.alias_block.specs.declared.recorded.BlockEffects.{BlockEffects}
+use Rattle.alias_step.specs.declared.block.faults.BlockRefusal.{BlockRefusal}
+use Rattle.alias_step.specs.declared.block.recorded.BlockEffects.{BlockEffects}
 use Rattle.alias_tables.specs.Tables.{TableLists}
 use Rattle.alias_effects.specs.declared.solved.BlockEntry.{BlockEntry}
 use Rattle.alias_effects.specs.declared.solved.Solved.{Solved}
-use Rattle.alias_block.specs.Recorded.{no_effects}
+use Rattle.alias_step.specs.block.Recorded.{no_effects}
 use Rattle.alias_effects.specs.FunctionFlow.{flow_of}
-use Rattle.alias_block.specs.Contexts.{context_of}
+use Rattle.alias_step.specs.block.Contexts.{context_of}
 use Rattle.alias_effects.specs.Numbered.{tables_left}
 
 -- the entry state of a block, among those handed out
@@ -65,7 +65,7 @@ module _ (env : Environment) (func : HirFunction) (is_function_expression : Bool
     pub in_order : IsSubsequence (map (λ (e : BlockEntry). e.block) s.entries) (keys_of func.body.blocks)
     -- each reached block has one, the initial state is below the entry's, and each block steps to a state below that of each successor
     pub solution : IsSolution state_below flow under (entry_state s.entries)
-    -- the first effects and the temporaries are those of these tables
+    -- the interned effects and the temporaries are those of these tables
     pub first : s.first ≡ under.first
     pub temporaries : s.temporaries ≡ under.temporaries
     -- the effects are those that the steps record

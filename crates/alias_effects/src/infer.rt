@@ -9,8 +9,8 @@ ghost use Rattle.alias_facts.specs.Facts.{function_facts as facts_of};
 ghost use Rattle.alias_lattice.specs.States.{state_join, state_below};
 ghost use Rattle.alias_flow.specs.Machine.{solution};
 ghost use Rattle.alias_rules.specs.Fitting.{function_fits};
-ghost use Rattle.alias_write_back.specs.WriteBack.{tables_of as tables_begun};
-ghost use Rattle.alias_block.specs.Contexts.{context_of, held};
+ghost use Rattle.alias_tables.specs.write_back.WriteBack.{tables_of as tables_begun};
+ghost use Rattle.alias_step.specs.block.Contexts.{context_of, held};
 ghost use Rattle.alias_effects.specs.Faults.{GivesInto};
 ghost use Rattle.alias_effects.specs.Output.{last_visits, VisitsEnd};
 ghost use Rattle.alias_effects.specs.Inference.{pass_end, inferred, env_after, env_inferred, effects_inferred};
@@ -25,14 +25,14 @@ use crate::recording::{record_instructions, record_terminals};
 use crate::refused::unsolved;
 use crate::solved::Solved;
 use alias_base::TryClone;
-use alias_block::{BlockContext, BlockRefusal};
 use alias_facts::{FunctionFacts, function_facts};
 use alias_flow::{SolveFault, is_forward, nothing_yet, solve, solve_forward};
 use alias_hir::env::Environment;
 use alias_hir::error::InferError;
 use alias_hir::hir::HirFunction;
+use alias_step::block::{BlockContext, BlockRefusal};
 use alias_tables::TableParts;
-use alias_write_back::write_back::{tables_of, write_back};
+use alias_tables::write_back::{tables_of, write_back};
 use std::alloc::{AllocError, Global};
 
 /// The solution of the function of which these facts are known.
@@ -132,7 +132,7 @@ fn last_visits(
 /// Infers what each instruction of the function creates, aliases, freezes and mutates.
 ///
 /// At `Ok` the effects are on the instructions and terminals, and what is handed out has them too, with
-/// entry states that solve the function's flow under the first effects and temporaries that are handed out with them. The
+/// entry states that solve the function's flow under the interned effects and temporaries that are handed out with them. The
 /// environment has got an identifier for each temporary, the reports that effects name, and the effect `Read` at the
 /// context places of nested functions that are only read. An `Err` leaves function and environment unchanged. On every
 /// answer `check_function` still holds.
@@ -204,7 +204,7 @@ pub fn leave(
 /// out. Where each block's successors stand after it, no entry state is kept.
 ///
 /// At `Ok` function and environment are as `infer_effects_certified` leaves them. An `Err` comes exactly where that
-/// comes there, and leaves both unchanged; want of memory can come at any growth. On every answer `check_function` still
+/// comes there, and leaves both unchanged; out of memory can come at any growth. On every answer `check_function` still
 /// holds.
 pub fn infer_mutation_aliasing_effects(
     alloc: Global,

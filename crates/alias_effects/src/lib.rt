@@ -9,7 +9,7 @@ mod recording;
 pub mod refused;
 pub mod solved;
 
-pub use alias_block::{InstructionEffects, TerminalEffects};
+pub use alias_step::block::{InstructionEffects, TerminalEffects};
 pub use infer::{infer_effects_certified, infer_mutation_aliasing_effects, leave};
 pub use output::PassEnd;
 pub use pass::{EffectsFlow, Recording};

@@ -5,11 +5,11 @@ ghost use Rattle.alias_effects.specs.Output.{entry_as, all_recorded, solver_stat
 
 use crate::solved::{BlockEntry, Solved};
 use alias_base::{BlockId, BlockMap, List};
-use alias_block::{BlockEffects, InstructionEffects, TerminalEffects};
 use alias_flow::Solution;
 use alias_hir::hir::{BasicBlock, HirFunction};
 use alias_hir::interned::InternedReports;
 use alias_lattice::InferenceState;
+use alias_step::block::{BlockEffects, InstructionEffects, TerminalEffects};
 use alias_tables::{ContextRead, TableParts, Tables};
 use std::alloc::{AllocError, Global};
 

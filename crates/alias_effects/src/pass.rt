@@ -13,10 +13,10 @@ ghost use Rattle.alias_facts.specs.Facts.{function_facts as facts_of};
 ghost use Rattle.alias_rules.specs.Fitting.{function_fits};
 ghost use Rattle.alias_tables.specs.GrowingLaws.{Extends};
 ghost use Rattle.alias_tables.specs.Tables.{TableLists, Leaves, temporary};
-ghost use Rattle.alias_write_back.specs.WriteBack.{tables_of as tables_begun};
-ghost use Rattle.alias_block.specs.declared.faults.BlockRefusal.{BlockRefusal};
-ghost use Rattle.alias_block.specs.declared.recorded.BlockEffects.{BlockEffects};
-ghost use Rattle.alias_block.specs.Contexts.{context_of, held};
+ghost use Rattle.alias_tables.specs.write_back.WriteBack.{tables_of as tables_begun};
+ghost use Rattle.alias_step.specs.declared.block.faults.BlockRefusal.{BlockRefusal};
+ghost use Rattle.alias_step.specs.declared.block.recorded.BlockEffects.{BlockEffects};
+ghost use Rattle.alias_step.specs.block.Contexts.{context_of, held};
 ghost use Rattle.alias_effects.specs.Numbered.{numbered};
 ghost use Rattle.alias_effects.specs.Faults.{step_fault};
 ghost use Rattle.alias_effects.specs.Inference.{end_of};
@@ -25,9 +25,6 @@ ghost use Rattle.alias_effects.specs.PassLaws.{pass_laws};
 
 use crate::output::{PassEnd, end_of};
 use alias_base::List;
-use alias_block::{
-    BlockContext, BlockEffects, BlockFault, BlockRefusal, infer_block, initial_state,
-};
 use alias_facts::FunctionFacts;
 use alias_flow::{Flow, Solution, StepFault, nothing_yet};
 use alias_hir::effect::{AliasingEffect, AliasingEffects};
@@ -38,8 +35,11 @@ use alias_hir::place::Place;
 use alias_hir::positions::{entry_position, positions_of};
 use alias_hir::successors::terminal_successors;
 use alias_lattice::InferenceState;
+use alias_step::block::{
+    BlockContext, BlockEffects, BlockFault, BlockRefusal, infer_block, initial_state,
+};
+use alias_tables::write_back::tables_of;
 use alias_tables::{ContextRead, EffectFault, TableParts, Tables, TempKey, Temporaries, Temporary};
-use alias_write_back::write_back::tables_of;
 use smallvec::SmallVec;
 use std::alloc::{AllocError, Global};
 use std::mem;
@@ -71,7 +71,7 @@ fn step_fault(fault: BlockFault) -> StepFault<BlockRefusal>
 pub struct Recording {
     /// What the last step of each block recorded, in stored order; `None` where there was none.
     pub blocks: Vec<Option<BlockEffects>>,
-    /// The first effect of each key.
+    /// The interned effect of each key.
     pub first: AliasingEffects,
     pub temporaries: Temporaries,
     /// All reports that are interned.
@@ -82,7 +82,7 @@ pub struct Recording {
 
 impl<'a> EffectsFlow<'a> {
     /// The flow of the function of which these facts are known. Nothing is stepped yet, and its tables have the reports of the
-    /// environment alone. The one error is want of memory, which comes too where the function has 2^32 blocks or more.
+    /// environment alone. The one error is out of memory, which comes too where the function has 2^32 blocks or more.
     pub fn new(
         alloc: Global,
         func: &'a HirFunction,
@@ -136,7 +136,7 @@ impl<'a> EffectsFlow<'a> {
         }
     }
 
-    /// The first effect of each key, in order.
+    /// The interned effect of each key, in order.
     pub fn first(&self) -> &[AliasingEffect]
         ensures { result.now ≡ self.now.tables.first }
     {

@@ -3,9 +3,9 @@ ghost use Rattle.std.specs.Prelude.{◌≡◌};
 ghost use Rattle.alias_effects.specs.Recording.{with_recorded, recorded_instructions, with_terminal_at, with_terminal, recorded_terminals};
 
 use alias_base::{BlockMap, List};
-use alias_block::{InstructionEffects, TerminalEffects};
 use alias_hir::effect::AliasingEffects;
 use alias_hir::hir::{BasicBlock, Instruction};
+use alias_step::block::{InstructionEffects, TerminalEffects};
 
 fn record_instruction(instructions: &mut List<Instruction>, recorded: InstructionEffects)
     ensures { instructions.new ≡ with_recorded recorded instructions.old }

@@ -5,12 +5,12 @@ ghost use Rattle.alias_effects.specs.Output.{unsettled, unsolved};
 
 use crate::output::block_at;
 use alias_base::{BlockId, InstructionId};
-use alias_block::BlockRefusal;
 use alias_flow::SolveFault;
 use alias_hir::env::Environment;
 use alias_hir::error::InferError;
 use alias_hir::hir::HirFunction;
 use alias_hir::report::{not_settled_report, uninitialized_report};
+use alias_step::block::BlockRefusal;
 use alias_tables::Refusal;
 use std::alloc::{AllocError, Global};
 
@@ -43,7 +43,7 @@ fn instruction_refusal(instruction: InstructionId, refusal: Refusal) -> InferErr
     }
 }
 
-/// The refusal of a step of the block, as one of the root function. The one error is want of memory.
+/// The refusal of a step of the block, as one of the root function. The one error is out of memory.
 pub fn refusal(
     alloc: Global,
     env: &Environment,
@@ -57,12 +57,12 @@ pub fn refusal(
             instruction,
             refusal,
         } => Ok(instruction_refusal(instruction, refusal)),
-        BlockRefusal::Uninitialized(look) => Ok(InferError::Uninitialized {
+        BlockRefusal::Uninitialized(lookup) => Ok(InferError::Uninitialized {
             function: None,
             block,
-            identifier: look.identifier,
-            span: look.span,
-            report: uninitialized_report(alloc, env, look.identifier, look.span)?,
+            identifier: lookup.identifier,
+            span: lookup.span,
+            report: uninitialized_report(alloc, env, lookup.identifier, lookup.span)?,
         }),
     }
 }

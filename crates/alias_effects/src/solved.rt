@@ -1,9 +1,9 @@
 //! What the effects pass hands out of one function.
 
 use alias_base::{BlockId, FunctionId, List};
-use alias_block::{InstructionEffects, TerminalEffects};
 use alias_hir::effect::AliasingEffects;
 use alias_lattice::InferenceState;
+use alias_step::block::{InstructionEffects, TerminalEffects};
 use alias_tables::Temporaries;
 
 /// The state that a block is entered with.
@@ -23,7 +23,7 @@ pub struct Solved {
     pub visits: List<BlockId>,
     /// The entry states.
     pub entries: List<BlockEntry>,
-    /// The first effect of each key, in the order in which they came.
+    /// The interned effect of each key, in the order in which they came.
     pub first: AliasingEffects,
     /// The identifiers that the expansion of calls added, in the order in which they came.
     pub temporaries: Temporaries,

@@ -20,7 +20,7 @@ pub struct FunctionFacts {
     pub handlers: Handlers,
 }
 
-/// What is known of the function. The one error is want of memory.
+/// What is known of the function. The one error is out of memory.
 pub fn function_facts(
     alloc: Global,
     func: &HirFunction,

@@ -65,7 +65,7 @@ impl Handlers {
     }
 }
 
-/// What the handlers of the function's `Try`s bind. The one error is want of memory.
+/// What the handlers of the function's `Try`s bind. The one error is out of memory.
 pub fn handler_bindings(alloc: Global, func: &HirFunction) -> Result<Handlers, AllocError>
     ensures { IfOk result (λ h. h ≡ handler_bindings func.now) }
 {

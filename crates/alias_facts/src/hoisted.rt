@@ -194,7 +194,7 @@ fn visit_block(
 }
 
 /// The declarations that the function hoists, each with the first place that reads it before its instruction, in stored
-/// order of blocks. The one error is want of memory.
+/// order of blocks. The one error is out of memory.
 pub fn find_hoisted_context_declarations(
     alloc: Global,
     func: &HirFunction,

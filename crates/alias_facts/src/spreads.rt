@@ -262,7 +262,7 @@ fn visit_block(
 }
 
 /// The spreads of object patterns that take frozen values apart and that nothing writes, neither by themselves nor by
-/// a variable that stands for them. The one error is want of memory.
+/// a variable that stands for them. The one error is out of memory.
 pub fn find_non_mutated_destructure_spreads(
     alloc: Global,
     func: &HirFunction,

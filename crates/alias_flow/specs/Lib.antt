@@ -6,3 +6,4 @@ pub mod Steps
 pub mod Runs
 pub mod WorkListViews
 pub mod RecordingLaws
+pub mod check

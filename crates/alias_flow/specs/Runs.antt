@@ -10,7 +10,7 @@ use Rattle.alias_flow.specs.Machine.{VisitLog, SolverState, Run, Going, Stopped,
 abbrev pub solver_state : {D T K : Type 0} → D → T → List (Option K) → SolverState D T K
 solver_state d t k = record { progress = d; tables = t; recorded = k }
 
--- what is said of a fault: of a refusal at a block, by its cause, and of being unsettled after so many visits. Want of memory is free: it can come in the place of any answer
+-- what is said of a fault: of a refusal at a block, by its cause, and of being unsettled after so many visits. Out of memory is free: it can come in the place of any answer
 abbrev pub MatchFault : {C E : Type 0} → (E → C) → SolveFault E → (ℕ → C → Type 0) → (ℕ → Type 0) → Type 0
 MatchFault cause (Step b e) refused unsettled = refused b (cause e)
 MatchFault cause (Unsettled n) refused unsettled = unsettled n

@@ -13,7 +13,7 @@ use std::alloc::{AllocError, Global};
 pub enum StepFault<E> {
     /// The flow refuses the block.
     Refused(E),
-    /// Want of memory, which can come at any step.
+    /// Out of memory, which can come at any step.
     Memory(AllocError),
 }
 
@@ -24,7 +24,7 @@ pub enum SolveFault<E> {
     Step { block: u32, fault: E },
     /// Something was still dirty after 100 rounds, of so many visits.
     NotSettled { visits: u64 },
-    /// Want of memory, which can come at any growth.
+    /// Out of memory, which can come at any growth.
     Memory(AllocError),
 }
 
@@ -119,11 +119,11 @@ pub trait Flow {
     fn entry(&self) -> u32
         ensures { result ≡ (rules self.now).flow.entry };
 
-    /// The state that the flow begins with. The one error is want of memory.
+    /// The state that the flow begins with. The one error is out of memory.
     fn initial(&self) -> Result<Self::State, AllocError>
         ensures { IfOk result (λ state. state ≡ (rules self.now).flow.initial) };
 
-    /// The blocks that the edges of a block lead to, in their order. The one error is want of memory.
+    /// The blocks that the edges of a block lead to, in their order. The one error is out of memory.
     fn edges(&self, block: u32) -> Result<SmallVec<u32, 2, Global>, AllocError>
         requires { block < (rules self.now).blocks }
         ensures { IfOk result (λ edges. edges.items ≡ (rules self.now).flow.edges block) };

@@ -82,7 +82,7 @@ fn block_goes_forward<F: Flow>(flow: &F, block: u32) -> Result<bool, AllocError>
 }
 
 /// Whether each edge of each block goes to a later block, which `solve_forward` asks for. The one error is
-/// want of memory.
+/// out of memory.
 #[tactic(auto, using(crate::proofs::Rounds::up_more, crate::proofs::EachEdge::forward_is))]
 pub fn is_forward<F: Flow>(flow: &F) -> Result<bool, AllocError>
     ensures answer { IfOk result (λ forward. forward ≡ goes_forward (F.rules flow.now)) }

@@ -1,6 +1,7 @@
 //! Flows over numbered blocks, and the sequences of visits that solve them.
 #![tactic(auto)]
 
+pub mod check;
 pub mod flow;
 pub mod forward;
 pub mod nothing;

@@ -2,7 +2,7 @@
 use Rattle.std.proofs.Common.{◌≡◌, ℕ, ◌<◌, Bool, true, false, IsTrue, ◌||◌, [], refl, sym, subst, arith}
 use Rattle.std.proofs.lemmas.Bool.{eqb-true}
 use Rattle.alias_base.specs.declared.ids.IdentifierId.{IdentifierId}
-use Rattle.alias_ranges.specs.Nodes.{Node, Nodes, SameIds, OneMore, Within, same_id, has_node}
+use Rattle.alias_graph.specs.Nodes.{Node, Nodes, SameIds, OneMore, Within, same_id, has_node}
 
 -- what held of the identifiers with a node holds where they stay the same
 pub within_same : (n : ℕ) (old new : Nodes) → Within n old → SameIds old new → Within n new

@@ -1,17 +1,17 @@
 //! Reports of walks and renders.
 ghost use Rattle.std.specs.Prelude.{◌≡◌, ◌<◌, length, IfOk, OnOk};
-ghost use Rattle.alias_ranges.specs.Nodes.{Within};
+ghost use Rattle.alias_graph.specs.Nodes.{Within};
 
 use crate::walks::{environment, graph};
 use alias_base::{FunctionId, IdentifierId, List, Text};
+use alias_graph::graph::AliasGraph;
+use alias_graph::steps::Steps;
+use alias_graph::types::{EdgeKind, MutationKind, NodeValue};
 use alias_hir::effect::{AliasingEffect, AliasingEffects};
 use alias_hir::env::Environment;
 use alias_hir::error::HirError;
 use alias_hir::hir::{FunctionType, HirFunction};
-use alias_hir::report::{DiagnosticId, ErrorCategory, Report};
-use alias_ranges::graph::AliasGraph;
-use alias_ranges::steps::Steps;
-use alias_ranges::types::{EdgeKind, MutationKind, NodeValue};
+use alias_hir::report::{ErrorCategory, Report, ReportId};
 use alias_test_units::place;
 use std::alloc::{AllocError, Global};
 use std::marker::Brand;
@@ -39,10 +39,10 @@ fn function(alloc: Global, summary: AliasingEffects) -> HirFunction {
 }
 
 /// The report on identifier 0, interned.
-fn interned(env: &mut Environment, report: Report) -> Result<DiagnosticId, AllocError>
+fn interned(env: &mut Environment, report: Report) -> Result<ReportId, AllocError>
     ensures { OnOk result (length env.new.identifiers ≡ length env.old.identifiers) }
 {
-    match env.intern_aliasing_diagnostic(IdentifierId(0), report) {
+    match env.intern_aliasing_report(IdentifierId(0), report) {
         Ok(error) => Ok(error),
         Err(HirError::Memory(e)) => Err(e),
         Err(_) => Err(AllocError),
@@ -50,7 +50,7 @@ fn interned(env: &mut Environment, report: Report) -> Result<DiagnosticId, Alloc
 }
 
 /// A summary with an impure call, which has this report.
-fn impure_summary(alloc: Global, error: DiagnosticId) -> Result<AliasingEffects, AllocError> {
+fn impure_summary(alloc: Global, error: ReportId) -> Result<AliasingEffects, AllocError> {
     let mut summary = List::new(alloc);
     summary.push(AliasingEffect::Render { place: place(0) })?;
     summary.push(AliasingEffect::Impure {
@@ -133,7 +133,7 @@ fn mutate<L: Ledger>(
 }
 
 /// How many reports a walk from a function leaves in an environment of its own.
-fn told_by_walk(
+fn reported_by_walk(
     alloc: Global,
     graph: &mut AliasGraph,
     should_record_errors: bool,
@@ -147,17 +147,17 @@ fn told_by_walk(
 }
 
 /// How many reports two walks from a function leave.
-fn told_by_walks(alloc: Global, should_record_errors: bool) -> Result<usize, AllocError> {
+fn reported_by_walks(alloc: Global, should_record_errors: bool) -> Result<usize, AllocError> {
     let mut graph = held_functions(alloc)?;
-    let once = told_by_walk(alloc, &mut graph, should_record_errors)?;
-    let again = told_by_walk(alloc, &mut graph, should_record_errors)?;
+    let once = reported_by_walk(alloc, &mut graph, should_record_errors)?;
+    let again = reported_by_walk(alloc, &mut graph, should_record_errors)?;
     Ok(once.saturating_add(again))
 }
 
 #[test]
 fn a_walk_tells_a_function_once(rt: HostRuntime) -> Result<(), Fail> {
-    assert_eq!(rt; told_by_walks(rt.alloc(), true)?, 1);
-    assert_eq!(rt; told_by_walks(rt.alloc(), false)?, 0);
+    assert_eq!(rt; reported_by_walks(rt.alloc(), true)?, 1);
+    assert_eq!(rt; reported_by_walks(rt.alloc(), false)?, 0);
     Ok(())
 }
 
@@ -179,7 +179,7 @@ fn render(
 }
 
 /// How many reports a render leaves, after a walk at `marked` if that is given.
-fn told_by_render(
+fn reported_by_render(
     alloc: Global,
     index: u32,
     start: u32,
@@ -194,10 +194,10 @@ fn told_by_render(
 #[test]
 fn a_render_tells_functions(rt: HostRuntime) -> Result<(), Fail> {
     let alloc = rt.alloc();
-    assert_eq!(rt; told_by_render(alloc, 3, 3, None)?, 2);
-    assert_eq!(rt; told_by_render(alloc, 1, 1, None)?, 1);
-    assert_eq!(rt; told_by_render(alloc, 3, 3, Some(1))?, 0);
-    assert_eq!(rt; told_by_render(alloc, 3, 3, Some(0))?, 1);
-    assert_eq!(rt; told_by_render(alloc, 3, 0, None)?, 1);
+    assert_eq!(rt; reported_by_render(alloc, 3, 3, None)?, 2);
+    assert_eq!(rt; reported_by_render(alloc, 1, 1, None)?, 1);
+    assert_eq!(rt; reported_by_render(alloc, 3, 3, Some(1))?, 0);
+    assert_eq!(rt; reported_by_render(alloc, 3, 3, Some(0))?, 1);
+    assert_eq!(rt; reported_by_render(alloc, 3, 0, None)?, 1);
     Ok(())
 }

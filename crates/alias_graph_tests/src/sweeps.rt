@@ -1,12 +1,12 @@
 //! Tests of range ends by one sweep, and of a graph that is cut off to a part.
 ghost use Rattle.std.specs.Prelude.{◌≡◌, length, IfOk, OnOk};
-ghost use Rattle.alias_ranges.specs.Nodes.{Within};
+ghost use Rattle.alias_graph.specs.Nodes.{Within};
 
 use crate::walks::{environment, graph};
 use alias_base::{EvaluationOrder, IdentifierId};
+use alias_graph::graph::AliasGraph;
+use alias_graph::types::{EdgeKind, LinkList, MutationKind, NodeValue, RangeWalk};
 use alias_hir::env::Environment;
-use alias_ranges::graph::AliasGraph;
-use alias_ranges::types::{EdgeKind, LinkList, MutationKind, NodeValue, RangeWalk};
 use alias_test_units::place;
 use std::alloc::{AllocError, Global};
 use std::test::Fail;

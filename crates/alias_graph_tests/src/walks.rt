@@ -1,14 +1,14 @@
 ghost use Rattle.std.specs.Prelude.{◌≡◌, ◌+◌, ◌<◌, length, IfOk, OnOk, ◌≤◌};
-ghost use Rattle.alias_ranges.specs.Nodes.{Within};
+ghost use Rattle.alias_graph.specs.Nodes.{Within};
 
 use alias_base::{EvaluationOrder, FunctionId, IdentifierId, List};
+use alias_graph::events::{GraphEvent, build};
+use alias_graph::graph::AliasGraph;
+use alias_graph::steps::Steps;
+use alias_graph::types::{EdgeKind, Link, LinkList, MutationInfo, MutationKind, NodeValue};
 use alias_hir::effect::MutationReason;
 use alias_hir::env::Environment;
 use alias_hir::place::Span;
-use alias_ranges::events::{GraphEvent, build};
-use alias_ranges::graph::AliasGraph;
-use alias_ranges::steps::Steps;
-use alias_ranges::types::{EdgeKind, Link, LinkList, MutationInfo, MutationKind, NodeValue};
 use alias_test_units::place;
 use std::alloc::{AllocError, Global};
 use std::marker::Brand;

@@ -1,4 +1,4 @@
--- Which errors are want of memory, and errors of tables as errors of the inference.
+-- Which errors are out of memory, and errors of tables as errors of the inference.
 use Rattle.std.specs.Prelude.{Bool, true, false}
 use Rattle.alias_hir.specs.declared.error.HirError.{HirError}
 use Rattle.alias_hir.specs.declared.error.HirError.TheVariants as hir

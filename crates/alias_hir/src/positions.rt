@@ -18,7 +18,7 @@ pub fn entry_position(func: &HirFunction) -> usize
     }
 }
 
-/// The positions of those of the list that are blocks, in the list's order. The one error is want of memory.
+/// The positions of those of the list that are blocks, in the list's order. The one error is out of memory.
 pub fn positions_of(
     alloc: Global,
     blocks: &BlockMap<BasicBlock>,

@@ -31,7 +31,7 @@ pub struct Label {
 /// An interned report as effects name it. Reports that say the same of one identifier have one identity; each
 /// of them that points at something else is an instance of its own.
 #[derive(Clone, Copy, Debug, PartialEq, Eq)]
-pub struct DiagnosticId {
+pub struct ReportId {
     pub identity: u32,
     pub instance: u32,
 }
@@ -138,7 +138,7 @@ fn uninitialized_labels(alloc: Global, span: Option<Span>) -> Result<List<Label>
 }
 
 /// The report where an identifier is read that has no value. It points at the given span, or else at the
-/// identifier's own, or at nothing where neither is there. The one error is want of memory.
+/// identifier's own, or at nothing where neither is there. The one error is out of memory.
 pub fn uninitialized_report(
     alloc: Global,
     env: &Environment,
@@ -161,7 +161,7 @@ pub fn uninitialized_report(
 }
 
 /// The report where the states of a function's blocks were not settled after 100 rounds. It points at
-/// nothing. The one error is want of memory.
+/// nothing. The one error is out of memory.
 pub fn not_settled_report(alloc: Global) -> Result<Report, AllocError>
     ensures { IfOk result (λ r. r ≡ not_settled_report) }
 {

@@ -8,7 +8,7 @@ use alias_hir::lookup::fresh_identifier;
 use alias_hir::place::{Effect, Span};
 use alias_hir::printed::push_type;
 use alias_hir::report::{
-    DiagnosticId, ErrorCategory, Label, Report, not_settled_report, uninitialized_report,
+    ErrorCategory, Label, Report, ReportId, not_settled_report, uninitialized_report,
 };
 use alias_hir::signature::{FunctionSignature, HookKind, Shape};
 use alias_hir::successors::terminal_successors;
@@ -238,9 +238,9 @@ fn interned(
     env: &mut Environment,
     identifier: u32,
     start: u32,
-) -> Result<Option<DiagnosticId>, AllocError> {
+) -> Result<Option<ReportId>, AllocError> {
     let report = impure(alloc, start)?;
-    match env.intern_aliasing_diagnostic(IdentifierId(identifier), report) {
+    match env.intern_aliasing_report(IdentifierId(identifier), report) {
         Ok(id) => Ok(Some(id)),
         Err(HirError::Memory(e)) => Err(e),
         Err(HirError::TooMany(Counter::Identifiers)) => Ok(None),
@@ -252,14 +252,14 @@ fn interned(
 fn interns_reports(rt: HostRuntime) -> Result<(), Fail> {
     let alloc = rt.alloc();
     let mut env = environment(alloc, 0)?;
-    let id = |identity: u32, instance: u32| Some(DiagnosticId { identity, instance });
+    let id = |identity: u32, instance: u32| Some(ReportId { identity, instance });
     assert!(rt; interned(alloc, &mut env, 1, 3)? == id(0, 0));
     assert!(rt; interned(alloc, &mut env, 1, 4)? == id(0, 1));
     assert!(rt; interned(alloc, &mut env, 0, 3)? == id(2, 2));
     assert!(rt; interned(alloc, &mut env, 1, 4)? == id(0, 1));
     assert_eq!(rt; env.interned.len(), 3);
     assert_eq!(rt; env.errors.len(), 0);
-    let number = |identity: u32, instance: u32| DiagnosticId { identity, instance };
+    let number = |identity: u32, instance: u32| ReportId { identity, instance };
     assert!(rt; env.is_interned(number(0, 1)));
     assert!(rt; !env.is_interned(number(1, 1)));
     assert!(rt; !env.is_interned(number(3, 3)));
@@ -274,7 +274,7 @@ fn records_reports(rt: HostRuntime) -> Result<(), Fail> {
     assert!(rt; !env.has_invariant_errors());
     env.record_diagnostic(not_settled_report(alloc)?)?;
     assert!(rt; env.has_invariant_errors());
-    let error = DiagnosticId {
+    let error = ReportId {
         identity: 0,
         instance: 0,
     };

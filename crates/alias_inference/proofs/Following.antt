@@ -12,18 +12,18 @@ use Rattle.alias_hir.specs.declared.hir.HirFunction.{HirFunction}
 use Rattle.alias_hir.specs.declared.report.Report.{Report}
 use Rattle.alias_rules.specs.Functions.{rules_hold}
 use Rattle.alias_effects.specs.declared.solved.Solved.{Solved}
-use Rattle.alias_answer_laws.specs.KnownUnitLaws.{no_call_says}
-use Rattle.alias_answer_laws.specs.UnitLaws.{no_call_answers}
-use Rattle.alias_cause_laws.proofs.Caused.{each_has_cause}
-use Rattle.alias_cause_laws.specs.Causes.{EachHasCause}
-use Rattle.alias_handed_laws.proofs.Handing.{solved_over}
-use Rattle.alias_handed_laws.specs.Handed.{IsSolvedInOrder}
+use Rattle.alias_answer_laws.specs.answers.KnownUnitLaws.{no_call_says}
+use Rattle.alias_answer_laws.specs.answers.UnitLaws.{no_call_answers}
+use Rattle.alias_cause_laws.proofs.causes.Caused.{each_has_cause}
+use Rattle.alias_cause_laws.specs.causes.Causes.{EachHasCause}
+use Rattle.alias_inferred_laws.proofs.handed.Handing.{solved_over}
+use Rattle.alias_inferred_laws.specs.handed.Handed.{IsSolvedInOrder}
 use Rattle.alias_nested.specs.Analysis.{Analysis, analysis, analysed, most_levels, is_free}
 use Rattle.alias_nested.specs.Answers.{AnalysedWith, Analyses, AnalysesInto, AnalysesExactly, AnalysesExactlyInto}
 use Rattle.alias_nested.specs.Units.{RootAnalysis, UnitAnalysis, root_analysed, handed_out, unit_analysed, InfersUnit}
 use Rattle.alias_nested.specs.declared.infer.Inferred.{Inferred}
-use Rattle.alias_nested_range_laws.proofs.Ranging.{nested_are_ranged}
-use Rattle.alias_refusal_laws.proofs.Refusing.{never_unknown}
+use Rattle.alias_cause_laws.proofs.nested.Ranging.{nested_are_ranged}
+use Rattle.alias_answer_laws.proofs.refusals.Refusing.{never_unknown}
 use Rattle.alias_unit_completeness.specs.Complete.{unit_caused, analyses_blame, into_blame}
 use Rattle.alias_unit_completeness.specs.Refusals.{IsCaused, BlamesRightly, BlamesNoPlain, blames_no_plain}
 use Rattle.alias_inference.specs.Inferences.{unit_with, NestedAreRangedIn}

@@ -5,7 +5,7 @@ use Rattle.alias_hir.specs.declared.env.Unit.{Unit as HirUnit}
 use Rattle.alias_hir.specs.declared.hir.HirFunction.{HirFunction}
 use Rattle.alias_nested.specs.Analysis.{Analysed}
 use Rattle.alias_nested.specs.declared.infer.Inferred.{Inferred}
-use Rattle.alias_nested_range_laws.specs.Nested.{NestedAreRanged}
+use Rattle.alias_cause_laws.specs.nested.Nested.{NestedAreRanged}
 
 -- the unit of a function and its environment
 abbrev pub unit_with : HirFunction → Environment → HirUnit

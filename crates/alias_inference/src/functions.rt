@@ -1,7 +1,7 @@
 //! The functions below a function, innermost first.
 
 ghost use Rattle.std.specs.Prelude.{◌≡◌, ◌≢◌, ℕ, ◌≤◌, true, false, [], Some, Ok, Err, IfOk, IfErr, length, map};
-ghost use Rattle.alias_failures.specs.Failures.{HasFailed};
+ghost use Rattle.alias_base.specs.failures.Failures.{HasFailed};
 ghost use Rattle.alias_hir.specs.declared.error.InferError.TheVariants.{EffectsNotInferred};
 ghost use Rattle.alias_rules.specs.Fitting.{function_fits};
 ghost use Rattle.alias_rules.specs.Functions.{rules_hold};
@@ -10,7 +10,7 @@ ghost use Rattle.alias_nested.specs.Analysis.{analysis, most_levels, analysed, i
 ghost use Rattle.alias_nested.specs.Answers.{AnalysedWith, Analyses, AnalysesInto, AnalysesExactly, AnalysesExactlyInto};
 ghost use Rattle.alias_nested.specs.Order.{below_innermost_first, numbers, functions_of, KeepsToOrder};
 ghost use Rattle.alias_nested.specs.Refusals.{AnalysisRefused, Leaves};
-ghost use Rattle.alias_pruning_laws.specs.Pruning.{SlotsKept};
+ghost use Rattle.alias_fitting_laws.specs.pruning.Pruning.{SlotsKept};
 ghost use Rattle.alias_unit_completeness.specs.Refusals.{BlamesRightly, IsCaused};
 ghost use Rattle.alias_inference.specs.Inferences.{unit_with};
 

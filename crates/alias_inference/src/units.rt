@@ -1,11 +1,11 @@
 //! The inference of a unit.
 
 ghost use Rattle.std.specs.Prelude.{◌≡◌, ◌≢◌, ◌≤◌, true, false, Err, IfOk, IfErr, IsOkAnd};
-ghost use Rattle.alias_failures.specs.Failures.{HasFailed};
+ghost use Rattle.alias_base.specs.failures.Failures.{HasFailed};
 ghost use Rattle.alias_hir.specs.declared.error.InferError.TheVariants.{UnreplacedApply, EffectsNotInferred};
 ghost use Rattle.alias_rules.specs.Fitting.{function_fits};
-ghost use Rattle.alias_cause_laws.specs.Causes.{EachHasCause};
-ghost use Rattle.alias_handed_laws.specs.Handed.{IsSolvedInOrder};
+ghost use Rattle.alias_cause_laws.specs.causes.Causes.{EachHasCause};
+ghost use Rattle.alias_inferred_laws.specs.handed.Handed.{IsSolvedInOrder};
 ghost use Rattle.alias_nested.specs.Analysis.{is_free, IsPassFault};
 ghost use Rattle.alias_nested.specs.Roots.{RootIsCovered, RootCoversHeap, RootHasCauses, RootListsFlows};
 ghost use Rattle.alias_nested.specs.Units.{unit_analysed, InfersUnit};

@@ -1,3 +1,2 @@
-pub mod Reports
-pub mod Explanations
-pub mod Solutions
+pub mod inferred
+pub mod handed

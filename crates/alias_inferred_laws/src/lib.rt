@@ -1,4 +1,6 @@
-//! What holds of what is inferred of a unit: of its lints, and of the causes of its ranges.
+//! What holds of what is inferred of a unit: of its lints, its explanations, and its solutions.
 #![tactic(auto)]
 
-pub mod laws;
+pub mod handed;
+pub mod inferred;
+pub mod lints;

@@ -17,7 +17,7 @@ use Rattle.alias_hir.specs.declared.hir.Instruction.{Instruction}
 use Rattle.alias_hir.specs.declared.place.Place.{Place}
 use Rattle.alias_rules.specs.Fitting.{function_fits}
 use Rattle.alias_visit.specs.Places.{identifiers_in}
-use Rattle.alias_function_rules.specs.Rules.{is_unknown, listed_instructions, is_among}
+use Rattle.alias_rules.specs.function_rules.Rules.{is_unknown, listed_instructions, is_among}
 use Rattle.alias_visit.specs.Operands.{owned_operands}
 
 -- ---- effects and creations

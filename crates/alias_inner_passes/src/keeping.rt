@@ -1,13 +1,13 @@
 //! Passes that keep everything.
 ghost use Rattle.std.specs.Prelude.{ℕ, ◌≡◌, ◌≤◌, Bool, true, false, Ok, Err, if◌then◌else◌, is_err};
-ghost use Rattle.alias_failures.specs.Failures.{Plan, new_plan, fails_now, called};
+ghost use Rattle.alias_base.specs.failures.Failures.{Plan, new_plan, fails_now, called};
 ghost use Rattle.alias_inner_passes.specs.Passes.{Keeps};
 ghost use Rattle.alias_rules.specs.Fitting.{function_fits};
 ghost use Rattle.alias_inner_passes.specs.declared.passes.PassStop.TheVariants.{Failed};
 
 use crate::passes::{InnerPasses, PassStop};
 use alias_base::List;
-use alias_failures::PlannedFailures;
+use alias_base::failures::PlannedFailures;
 use alias_hir::env::Environment;
 use alias_hir::hir::HirFunction;
 use std::alloc::Global;
@@ -24,7 +24,7 @@ pub struct FailingPasses {
 }
 
 impl Model for FailingPasses {
-    ghost use Rattle.alias_failures.specs.Failures.{Plan};
+    ghost use Rattle.alias_base.specs.failures.Failures.{Plan};
 
     ghost Value = { Plan };
 
@@ -32,7 +32,7 @@ impl Model for FailingPasses {
 }
 
 impl FailingPasses {
-    ghost use Rattle.alias_failures.specs.Failures.{new_plan};
+    ghost use Rattle.alias_base.specs.failures.Failures.{new_plan};
 
     /// Passes whose calls of these numbers fail, where the first call has number 1, of whichever pass it is.
     /// Takes no memory.

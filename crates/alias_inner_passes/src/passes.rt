@@ -1,6 +1,6 @@
 //! What a pass of the caller may do.
 ghost use Rattle.std.specs.Prelude.{ℕ, ◌≡◌, ◌≤◌, Bool, true, Err};
-ghost use Rattle.alias_failures.specs.Failures.{HasFailed};
+ghost use Rattle.alias_base.specs.failures.Failures.{HasFailed};
 ghost use Rattle.alias_inner_passes.specs.Passes.{Keeps};
 ghost use Rattle.alias_inner_passes.specs.declared.passes.PassStop.TheVariants.{Failed, Memory};
 ghost use Rattle.alias_rules.specs.Fitting.{function_fits};
@@ -16,7 +16,7 @@ pub enum PassStop {
     /// It failed.
     #[error("the pass failed")]
     Failed,
-    /// Want of memory, which can come at any growth.
+    /// Out of memory, which can come at any growth.
     #[error("no memory is left")]
     Memory(AllocError),
 }

@@ -19,7 +19,7 @@ const MAX_DEPTH: usize = 127;
 pub enum TreeFault {
     /// They are no JSON, nest deeper than 127 levels, or have a number out of range.
     NotJson,
-    /// Want of memory, which can come at any growth.
+    /// Out of memory, which can come at any growth.
     Memory(AllocError),
 }
 

@@ -16,7 +16,7 @@ use Rattle.alias_lattice.specs.KindLaws.{kinds_apart}
 use Rattle.alias_lattice.specs.ReasonOrder.{reason_cmp}
 use Rattle.alias_lattice.specs.ReasonOrderLaws.{reasons_apart}
 use Rattle.alias_tables.specs.CaptureOrder.{by_ids}
-use Rattle.alias_tables.specs.FirstEffects.{key_cmp}
+use Rattle.alias_tables.specs.InternedEffects.{key_cmp}
 use Rattle.alias_tables.specs.declared.key.Captures.{Captures}
 use Rattle.alias_tables.specs.declared.key.EffectKey.{EffectKey}
 use Rattle.alias_tables.specs.declared.key.EffectKey.TheVariants as key

@@ -9,7 +9,7 @@ use Rattle.alias_hir.specs.declared.effect.AliasingEffect.{AliasingEffect}
 use Rattle.alias_hir.specs.declared.effect.AliasingEffect.TheVariants as effect
 use Rattle.alias_lattice.specs.declared.site.Site.{Site}
 use Rattle.alias_lattice.specs.declared.site.Site.TheVariants.{Created, CreatedFrom, Function}
-use Rattle.alias_tables.specs.FirstEffects.{key_cmp, same_key}
+use Rattle.alias_tables.specs.InternedEffects.{key_cmp, same_key}
 use Rattle.alias_tables.specs.Keys.{key_of}
 use Rattle.alias_tables.specs.declared.key.EffectKey.{EffectKey}
 use Rattle.alias_tables.specs.declared.key.EffectKey.TheVariants as key

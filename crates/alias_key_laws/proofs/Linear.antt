@@ -8,9 +8,9 @@ use Rattle.std.specs.declared.cmp.Ordering.{Ordering}
 use Rattle.std.specs.declared.cmp.Ordering.TheVariants.{Less, Equal, Greater}
 use Rattle.alias_lattice.specs.SiteOrder.{site_cmp}
 use Rattle.alias_lattice.specs.SiteOrderLaws.{sites_apart, sites_total}
-use Rattle.alias_ranges.specs.declared.types.MutationKind.TheVariants.{Conditional, Definite}
-use Rattle.alias_ranges.specs.contracts.types.MutationKindOrd.TheImpl.Laws as kind_laws
-use Rattle.alias_tables.specs.FirstEffects.{key_cmp}
+use Rattle.alias_graph.specs.declared.types.MutationKind.TheVariants.{Conditional, Definite}
+use Rattle.alias_graph.specs.contracts.types.MutationKindOrd.TheImpl.Laws as kind_laws
+use Rattle.alias_tables.specs.InternedEffects.{key_cmp}
 use Rattle.alias_tables.specs.contracts.key.EffectKeyOrd.TheImpl.Laws as key_laws
 use Rattle.alias_key_laws.specs.Orders.{ExactlyOne, IsLinearOrder, mutation_kind_cmp}
 use Rattle.alias_key_laws.proofs.Apart.{keys_apart}

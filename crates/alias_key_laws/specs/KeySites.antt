@@ -6,7 +6,7 @@ use Rattle.alias_hir.specs.declared.effect.AliasingEffect.TheVariants as effect
 use Rattle.alias_lattice.specs.declared.site.Site.{Site}
 use Rattle.alias_lattice.specs.declared.site.Site.TheVariants.{Created, CreatedFrom, Function}
 use Rattle.alias_tables.specs.declared.key.EffectKey.{EffectKey}
-use Rattle.alias_tables.specs.FirstEffects.{same_key}
+use Rattle.alias_tables.specs.InternedEffects.{same_key}
 use Rattle.alias_tables.specs.Keys.{key_of}
 
 -- the identifier that the effect makes as a new value, and the site that it gives it

@@ -1,2 +1,3 @@
 pub mod KeySites
 pub mod Orders
+pub mod sites

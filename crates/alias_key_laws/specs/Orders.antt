@@ -2,8 +2,8 @@
 use Rattle.std.specs.Prelude.{◌≡◌, ◌⊎◌}
 use Rattle.std.specs.declared.cmp.Ordering.{Ordering}
 use Rattle.std.specs.declared.cmp.Ordering.TheVariants.{Less, Equal, Greater}
-use Rattle.alias_ranges.specs.declared.types.MutationKind.{MutationKind}
-use Rattle.alias_ranges.specs.contracts.types.MutationKindOrd.TheImpl as derived
+use Rattle.alias_graph.specs.declared.types.MutationKind.{MutationKind}
+use Rattle.alias_graph.specs.contracts.types.MutationKindOrd.TheImpl as derived
 
 -- one of the three holds, and no other
 abbrev pub ExactlyOne : Type 0 → Type 0 → Type 0 → Type 0

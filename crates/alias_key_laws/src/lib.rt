@@ -3,4 +3,5 @@
 
 pub mod keys;
 pub mod orders;
+pub mod sites;
 pub mod walks;

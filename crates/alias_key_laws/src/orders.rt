@@ -1,7 +1,7 @@
 //! The orders that sets and maps go by.
 
 ghost use Rattle.alias_lattice.specs.SiteOrder.{site_cmp};
-ghost use Rattle.alias_tables.specs.FirstEffects.{key_cmp};
+ghost use Rattle.alias_tables.specs.InternedEffects.{key_cmp};
 ghost use Rattle.alias_key_laws.specs.Orders.{IsLinearOrder, mutation_kind_cmp};
 
 /// The order of sites is total: of any two exactly one is less, or they are the same site. Does nothing.

@@ -2,10 +2,10 @@
 
 ghost use Rattle.std.specs.Prelude.{◌≡◌, ◌≤◌, ◌+◌, ◌*◌, ℕ, []};
 ghost use Rattle.alias_base.specs.declared.ids.IdentifierId.{IdentifierId};
-ghost use Rattle.alias_ranges.specs.Links.{all_links, step_to, walk};
-ghost use Rattle.alias_ranges.specs.Nodes.{Nodes};
-ghost use Rattle.alias_ranges.specs.Renders.{render_to, rendered};
-ghost use Rattle.alias_ranges.specs.declared.types.Entry.{Entry};
+ghost use Rattle.alias_graph.specs.Links.{all_links, step_to, walk};
+ghost use Rattle.alias_graph.specs.Nodes.{Nodes};
+ghost use Rattle.alias_graph.specs.Renders.{render_to, rendered};
+ghost use Rattle.alias_graph.specs.declared.types.Entry.{Entry};
 
 /// The walk of a mutation is defined as so many steps, and that of a render too: after these nothing is left to come to, and
 /// any more change nothing. So neither is cut short. Does nothing.

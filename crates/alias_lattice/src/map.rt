@@ -47,7 +47,7 @@ impl<K: PlainKey, V: Lattice + Drop> Lattice for LatticeMap<K, V> {
 
     ghost laws = { list_laws K.cmp K.total K.same V.proper V.join V.below V.laws };
 
-    fn known(&self) {
+    fn recall_proper(&self) {
         // A look at the field tells the prover what holds of it.
         let _chunks = &self.chunks;
     }
@@ -119,7 +119,7 @@ impl<K: PlainKey, V: Lattice + Drop> LatticeMap<K, V> {
         entry_after(self.chunks(), after)
     }
 
-    /// The join of the two maps. The one error is want of memory.
+    /// The join of the two maps. The one error is out of memory.
     pub fn joined(&self, other: &Self) -> Result<Self, AllocError>
         ensures { IfOk result (λ joined. joined ≡ list_join K.cmp V.join self.now other.now) }
     {
@@ -133,7 +133,7 @@ impl<K: PlainKey, V: Lattice + Drop> LatticeMap<K, V> {
         ensures grew { IfOk result (λ p. p.1 ≡ not (list_below K.cmp V.below other.now self.now)) }
     {
         // Does nothing: it tells the prover that this is a proper value.
-        self.known();
+        self.recall_proper();
         let mut joined = self.try_clone()?;
         let mut grew = false;
         let mut near = Cursor::start();
@@ -146,13 +146,13 @@ impl<K: PlainKey, V: Lattice + Drop> LatticeMap<K, V> {
         Ok((joined, grew))
     }
 
-    /// Sets the value at the key. The one error is want of memory, which leaves the map unchanged.
+    /// Sets the value at the key. The one error is out of memory, which leaves the map unchanged.
     pub fn set(&mut self, key: K, value: V) -> Result<(), AllocError>
         ensures ok { OnOk result (self.new ≡ put K.cmp key value self.old) }
         ensures err { OnErr result (self.new ≡ self.old) }
     {
         // Does nothing: it tells the prover that this is a proper value.
-        value.known();
+        value.recall_proper();
         self.chunks.put(self.alloc, key, value)
     }
 
@@ -201,7 +201,7 @@ impl<K: PlainKey, V: Lattice + Drop> LatticeMap<K, V> {
     }
 }
 
-/// Sets a value in each of two maps. The one error is want of memory, which leaves both unchanged.
+/// Sets a value in each of two maps. The one error is out of memory, which leaves both unchanged.
 pub(crate) fn set_both<K: PlainKey, V: Lattice + Drop, L: PlainKey, W: Lattice + Drop>(
     first: &mut LatticeMap<K, V>,
     key: K,
@@ -216,7 +216,7 @@ pub(crate) fn set_both<K: PlainKey, V: Lattice + Drop, L: PlainKey, W: Lattice +
     ensures second_err { OnErr result (second.new ≡ second.old) }
 {
     // Does nothing: it tells the prover that this is a proper value.
-    second_value.known();
+    second_value.recall_proper();
     let alloc = second.alloc;
     second
         .chunks

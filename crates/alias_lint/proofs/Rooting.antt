@@ -7,8 +7,8 @@ use Rattle.alias_hir.specs.declared.error.HirError.{HirError}
 use Rattle.alias_hir.specs.declared.error.InferError.{InferError}
 use Rattle.alias_hir.specs.declared.hir.HirFunction.{HirFunction}
 use Rattle.alias_hir.specs.declared.report.Report.{Report}
-use Rattle.alias_events.specs.BlockListings.{listed}
-use Rattle.alias_events.specs.declared.listing.Listing.{Listing}
+use Rattle.alias_graph.specs.recorded.BlockListings.{listed}
+use Rattle.alias_graph.specs.declared.recorded.listing.Listing.{Listing}
 use Rattle.alias_validate.specs.Freezing.{frozen_reports}
 use Rattle.alias_lint.specs.declared.sites.Lint.{Lint}
 use Rattle.alias_lint.specs.Frozen.{frozen_lints}
@@ -32,14 +32,14 @@ module _ (f : HirFunction) (env : Environment) where
 
   -- ---- reports
 
-  pub told_all : (r : Result (List Lint) InferError) (rs : List Report) → reports_in r ≡ Ok rs → (xs : List Lint) × (r ≡ Ok xs) × (reports_of xs ≡ rs)
-  told_all (Ok xs) rs h = (xs, refl, cc)
-  told_all (Err e) rs h = cc
+  pub reported_all : (r : Result (List Lint) InferError) (rs : List Report) → reports_in r ≡ Ok rs → (xs : List Lint) × (r ≡ Ok xs) × (reports_of xs ≡ rs)
+  reported_all (Ok xs) rs h = (xs, refl, cc)
+  reported_all (Err e) rs h = cc
 
   -- the lints without their places are what the range pass and both validations record
   pub root_reports : (ls : List Lint) → root_lints f env ≡ Ok ls → AreReports f env ls
-  root_reports ls done l begun rs es ds h same interned told =
-      let xs = told_all (reassigned_lints env f) rs (reassigned_same env f ∙ sym (reassigned_alike env es f) ∙ told) in
+  root_reports ls done l begun rs es ds h same interned reported =
+      let xs = reported_all (reassigned_lints env f) rs (reassigned_same env f ∙ sym (reassigned_alike env es f) ∙ reported) in
       let walks = walk_lints env f l in
       let frozen = frozen_lints env f in
       let all : (let y : Result (List Lint) InferError = Ok ((walks ++ xs.0) ++ frozen) in y ≡ Ok ls) =

@@ -4,21 +4,21 @@ use Rattle.std.specs.Prelude.{Ok}
 use Rattle.alias_base.specs.declared.ids.IdentifierId.{IdentifierId}
 use Rattle.alias_hir.specs.declared.env.Environment.{Environment}
 use Rattle.alias_hir.specs.declared.hir.HirFunction.{HirFunction}
-use Rattle.alias_hir.specs.Diagnostics.{effect_reports}
-use Rattle.alias_ranges.specs.declared.types.Entry.{Entry}
-use Rattle.alias_ranges.specs.declared.types.NodeValue.{NodeValue}
-use Rattle.alias_ranges.specs.declared.types.NodeValue.TheVariants.{Object, Phi, Function}
-use Rattle.alias_ranges.specs.declared.types.Origin.{Origin}
-use Rattle.alias_ranges.specs.Marks.{marked}
-use Rattle.alias_ranges.specs.Nodes.{Node, Nodes, node_at}
-use Rattle.alias_ranges.specs.Renders.{rendered, render_reports}
-use Rattle.alias_ranges.specs.Reports.{value_reports, reported_at, reports_after}
-use Rattle.alias_events.specs.declared.listing.Listing.{Listing}
-use Rattle.alias_events.specs.declared.listing.RecordedMutation.{RecordedMutation}
-use Rattle.alias_events.specs.declared.listing.RecordedRender.{RecordedRender}
-use Rattle.alias_events.specs.BlockListings.{listed}
-use Rattle.alias_events.specs.Recording.{graph_listed}
-use Rattle.alias_range_summary.specs.Walking.{Walked, start_origin, expanded, mutation_start, after_mutation, after_mutations, after_render, after_renders, env_reported, mutations_done, renders_done}
+use Rattle.alias_hir.specs.ReportNumbers.{effect_reports}
+use Rattle.alias_graph.specs.declared.types.Entry.{Entry}
+use Rattle.alias_graph.specs.declared.types.NodeValue.{NodeValue}
+use Rattle.alias_graph.specs.declared.types.NodeValue.TheVariants.{Object, Phi, Function}
+use Rattle.alias_graph.specs.declared.types.Origin.{Origin}
+use Rattle.alias_graph.specs.NodeMarks.{marked}
+use Rattle.alias_graph.specs.Nodes.{Node, Nodes, node_at}
+use Rattle.alias_graph.specs.Renders.{rendered, render_reports}
+use Rattle.alias_graph.specs.Reports.{value_reports, reported_at, reports_after}
+use Rattle.alias_graph.specs.declared.recorded.listing.Listing.{Listing}
+use Rattle.alias_graph.specs.declared.recorded.listing.RecordedMutation.{RecordedMutation}
+use Rattle.alias_graph.specs.declared.recorded.listing.RecordedRender.{RecordedRender}
+use Rattle.alias_graph.specs.recorded.BlockListings.{listed}
+use Rattle.alias_graph.specs.recorded.Recording.{graph_listed}
+use Rattle.alias_range_pass.specs.summary.Walking.{Walked, start_origin, expanded, mutation_start, after_mutation, after_mutations, after_render, after_renders, env_reported, mutations_done, renders_done}
 use Rattle.alias_lint.specs.declared.sites.Lint.{Lint}
 use Rattle.alias_lint.specs.LintLaws.{SameReports}
 use Rattle.alias_lint.specs.Sites.{reports_of, in_root}

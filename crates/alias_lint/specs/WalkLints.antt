@@ -9,15 +9,15 @@ use Rattle.alias_hir.specs.declared.hir.BasicBlock.{BasicBlock}
 use Rattle.alias_hir.specs.declared.hir.HirFunction.{HirFunction}
 use Rattle.alias_hir.specs.declared.hir.Instruction.{Instruction}
 use Rattle.alias_hir.specs.declared.report.Report.{Report}
-use Rattle.alias_hir.specs.Diagnostics.{effect_reports}
-use Rattle.alias_ranges.specs.Nodes.{Nodes}
-use Rattle.alias_ranges.specs.Renders.{rendered, render_reports}
-use Rattle.alias_ranges.specs.Reports.{reports_after}
-use Rattle.alias_events.specs.declared.listing.Listing.{Listing}
-use Rattle.alias_events.specs.declared.listing.RecordedMutation.{RecordedMutation}
-use Rattle.alias_events.specs.declared.listing.RecordedRender.{RecordedRender}
-use Rattle.alias_events.specs.Recording.{graph_listed}
-use Rattle.alias_range_summary.specs.Walking.{start_origin, expanded, mutation_start, nodes_after}
+use Rattle.alias_hir.specs.ReportNumbers.{effect_reports}
+use Rattle.alias_graph.specs.Nodes.{Nodes}
+use Rattle.alias_graph.specs.Renders.{rendered, render_reports}
+use Rattle.alias_graph.specs.Reports.{reports_after}
+use Rattle.alias_graph.specs.declared.recorded.listing.Listing.{Listing}
+use Rattle.alias_graph.specs.declared.recorded.listing.RecordedMutation.{RecordedMutation}
+use Rattle.alias_graph.specs.declared.recorded.listing.RecordedRender.{RecordedRender}
+use Rattle.alias_graph.specs.recorded.Recording.{graph_listed}
+use Rattle.alias_range_pass.specs.summary.Walking.{start_origin, expanded, mutation_start, nodes_after}
 use Rattle.alias_lint.specs.declared.sites.Lint.{Lint}
 use Rattle.alias_lint.specs.Sites.{site, lints_at, in_root}
 

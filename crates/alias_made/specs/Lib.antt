@@ -2,3 +2,4 @@ pub mod Draws
 pub mod Instructions
 pub mod Blocks
 pub mod Units
+pub mod laws

@@ -4,6 +4,7 @@
 pub mod blocks;
 pub mod draws;
 pub mod instructions;
+pub mod laws;
 #[cfg(test)]
 mod tests;
 pub mod unit;

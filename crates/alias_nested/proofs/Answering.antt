@@ -16,7 +16,7 @@ use Rattle.alias_nested.specs.Analysis.{Analysed, Analysis, analysis, naming, ea
 use Rattle.alias_nested.specs.Answers.{Answers, Only, Then, done, refused, Each, IsPassed, Passed, Completed, CompletedWith, FunctionAnalysed, TakenAnalysed, FoundAnalysed, SlotAnalysed, AnalysedWith, Analyses, AnalysesInto, AnalysesExactly, AnalysesExactlyInto}
 use Rattle.alias_nested.specs.Refusals.{Refusals, OneOfRefused, at_once, later, CompletionRefused, FunctionRefused, TakenRefused, SlotRefused, AnalysisRefused, Leaves, CompletesOne, LeadsToOne, LeadsToOneWith}
 use Rattle.alias_nested.specs.Created.{created_functions}
-use Rattle.alias_nested.specs.Settling.{settled}
+use Rattle.alias_nested.specs.Annotating.{annotated}
 use Rattle.alias_nested.specs.Slots.{emptied}
 use Rattle.alias_nested.proofs.Ending.{unfree}
 use Rattle.alias_nesting_laws.specs.Slots.{with_function}
@@ -40,7 +40,7 @@ module _ (keeps_all : Bool) (id : FunctionId) (f₀ f₁ : HirFunction) (e₀ e�
   third_refused f₂ f₃ f₄ e₂ e₃ e₄ summary e h second is left = later (f₁, e₁) first (later (record { summary = summary; after = (f₂, e₂) }) h (later (f₃, e₃) second (is, left)))
 
   pub completes : (f₂ f₃ f₄ f₅ : HirFunction) (e₂ e₃ e₄ e₅ : Environment) (summary : List AliasingEffect) → naming id (range_pass true f₁ e₁) ≡ Ok (record { summary = summary; after = (f₂, e₂) })
-      → IsPassed keeps_all (f₂, e₂) (f₃, e₃) → IsPassed keeps_all (f₃, e₃) (f₄, e₄) → (f₅, e₅) ≡ settled summary (f₄, e₄) → Completed keeps_all id (f₀, e₀) (Ok (f₅, e₅))
+      → IsPassed keeps_all (f₂, e₂) (f₃, e₃) → IsPassed keeps_all (f₃, e₃) (f₄, e₄) → (f₅, e₅) ≡ annotated summary (f₄, e₄) → Completed keeps_all id (f₀, e₀) (Ok (f₅, e₅))
   completes f₂ f₃ f₄ f₅ e₂ e₃ e₄ e₅ summary h second third set =
       done (f₁, e₁) first (done (record { summary = summary; after = (f₂, e₂) }) h (done (f₃, e₃) second (done (f₄, e₄) third (ap Ok (sym set)))))
 
@@ -143,16 +143,16 @@ passed_on {B} id pass s next r calm (done t p h) = subst (λ z. next z r) (passe
 passed_on {B} id pass s next r calm (refused e h is) = absurd (calm (subst (λ (q : Result B InferError). IsPassFault q) (sym is) (subst IsFault (sym h) tt)))
 
 abbrev Scoped : FunctionId → List AliasingEffect → HirFunction × Environment → Answers (HirFunction × Environment)
-Scoped id summary kinds = Then (Passed true id InferReactiveScopeVariables kinds) (λ scopes. Only (Ok (settled summary scopes)))
+Scoped id summary kinds = Then (Passed true id InferReactiveScopeVariables kinds) (λ scopes. Only (Ok (annotated summary scopes)))
 
 abbrev Rewritten : FunctionId → Ranged → Answers (HirFunction × Environment)
 Rewritten id z = Then (Passed true id RewriteInstructionKindsBasedOnReassignment z.after) (Scoped id z.summary)
 
 completed_is : (id : FunctionId) (s : HirFunction × Environment) (r : Result (HirFunction × Environment) InferError) → IsCalm r → Completed true id s r → completed id s.0 s.1 ≡ r
 completed_is id s r calm h =
-    then_is (Only (naming id (range_pass true s.0 s.1))) (Rewritten id) (naming id (range_pass true s.0 s.1)) (λ z. Ok (settled z.summary z.after))
+    then_is (Only (naming id (range_pass true s.0 s.1))) (Rewritten id) (naming id (range_pass true s.0 s.1)) (λ z. Ok (annotated z.summary z.after))
     (λ q k e. e)
-    (λ z q k e. passed_on id InferReactiveScopeVariables z.after (λ scopes. Only (Ok (settled z.summary scopes))) q k (passed_on id RewriteInstructionKindsBasedOnReassignment z.after (Scoped id z.summary) q k e))
+    (λ z q k e. passed_on id InferReactiveScopeVariables z.after (λ scopes. Only (Ok (annotated z.summary scopes))) q k (passed_on id RewriteInstructionKindsBasedOnReassignment z.after (Scoped id z.summary) q k e))
     r calm
     (passed_on id DeadCodeElimination s (λ dead. Then (Only (naming id (range_pass true dead.0 dead.1))) (Rewritten id)) r calm h)
 

@@ -8,14 +8,14 @@ use Rattle.std.proofs.lemmas.List.{append-nil, append_assoc, map-append}
 use Rattle.std.proofs.lemmas.Option.{slice_get_within}
 use Rattle.alias_base.specs.declared.ids.FunctionId.{FunctionId}
 use Rattle.alias_effects.specs.declared.solved.Solved.{Solved}
-use Rattle.alias_function_rules.specs.Rules.{is_among}
+use Rattle.alias_rules.specs.function_rules.Rules.{is_among}
 use Rattle.alias_hir.specs.declared.effect.AliasingEffect.{AliasingEffect}
 use Rattle.alias_hir.specs.declared.env.Environment.{Environment}
 use Rattle.alias_hir.specs.declared.error.InferError.{InferError}
 use Rattle.alias_hir.specs.declared.error.InferError.TheVariants as error
 use Rattle.alias_hir.specs.declared.hir.HirFunction.{HirFunction}
 use Rattle.alias_range_pass.specs.Laws.{PassKeeps}
-use Rattle.alias_range_places.specs.Keeping.{but_context}
+use Rattle.alias_range_pass.specs.places.Keeping.{but_context}
 use Rattle.alias_rules.specs.Fitting.{function_fits}
 use Rattle.alias_rules.specs.Nesting.{times}
 use Rattle.alias_rules.specs.TreeLaws.{counted}
@@ -27,7 +27,7 @@ use Rattle.alias_nested.specs.Analysis.{named, IsFault}
 use Rattle.alias_nested.specs.Answers.{IsPassed}
 use Rattle.alias_nested.specs.Created.{created_functions}
 use Rattle.alias_nested.specs.Order.{created_by_slot, innermost_first, below_innermost_first, slot_innermost_first, numbers, functions_of, Notes, SameInSlot, SameInSlots, ChangesOnly, EndsAt, refused_function, is_nameless, Names, KeepsToOrder, KeepsToOrderWith}
-use Rattle.alias_nested.specs.Settling.{settled}
+use Rattle.alias_nested.specs.Annotating.{annotated}
 use Rattle.alias_nested.proofs.InOrder.{times_append, in_neither, not_one, once_below, same_creates, order_stays, slot_stays}
 use Rattle.alias_nested.proofs.Leading.{from_here, nothing_from}
 
@@ -75,8 +75,8 @@ pub passed_slots : (keeps_all : Bool) (f : HirFunction) (env : Environment) (g :
 passed_slots keeps_all f env g more p = ap (map but_context) p.keeps.tables.functions
 
 -- what is set at the end
-pub settled_slots : (summary : List AliasingEffect) (f : HirFunction) (env : Environment) (g : HirFunction) (more : Environment) → (g, more) ≡ settled summary (f, env) → SameInSlots env more
-settled_slots summary f env g more h = ap (λ (s : HirFunction × Environment). map but_context s.1.functions) h
+pub annotated_slots : (summary : List AliasingEffect) (f : HirFunction) (env : Environment) (g : HirFunction) (more : Environment) → (g, more) ≡ annotated summary (f, env) → SameInSlots env more
+annotated_slots summary f env g more h = ap (λ (s : HirFunction × Environment). map but_context s.1.functions) h
 
 -- ---- one step after the other
 

@@ -4,7 +4,7 @@ use Rattle.std.specs.List.{flat_map}
 use Rattle.std.proofs.Common.{zero, suc, refl, ap, sym, subst, ◌∙◌, eq-eqb, arith, ◌+◌, ◌<◌, ◌≤◌}
 use Rattle.std.proofs.lemmas.Bool.{eqb-true}
 use Rattle.std.proofs.lemmas.Grind.{flat_map-append}
-use Rattle.alias_function_rules.specs.Rules.{is_among}
+use Rattle.alias_rules.specs.function_rules.Rules.{is_among}
 use Rattle.alias_hir.specs.declared.env.Environment.{Environment}
 use Rattle.alias_rules.specs.Nesting.{times, created_at, next_level, tree_from}
 use Rattle.alias_rules.specs.TreeLaws.{times_cons, times_both, counted}
@@ -12,7 +12,7 @@ use Rattle.alias_nesting_laws.specs.ClosureLaws.{Among}
 use Rattle.alias_nesting_laws.specs.FittingLaws.{first_among, later_among}
 use Rattle.alias_nesting_laws.specs.PartLaws.{absent}
 use Rattle.alias_nesting_laws.specs.SubtreeLaws.{tree_parts, tree_end, ended_parts}
-use Rattle.alias_pruning_laws.specs.BelowLaws.{Source, source_of}
+use Rattle.alias_fitting_laws.specs.pruning.BelowLaws.{Source, source_of}
 
 -- ---- sums over numbers
 

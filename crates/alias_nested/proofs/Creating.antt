@@ -12,7 +12,7 @@ use Rattle.alias_hir.specs.Values.{created}
 use Rattle.alias_hir.specs.declared.hir.BasicBlock.{BasicBlock}
 use Rattle.alias_hir.specs.declared.hir.HirFunction.{HirFunction}
 use Rattle.alias_hir.specs.declared.hir.Instruction.{Instruction}
-use Rattle.alias_function_rules.specs.Rules.{is_among, first_missing, missing, listed_instructions, instructions_listed, first_again, twice, none_listed_twice}
+use Rattle.alias_rules.specs.function_rules.Rules.{is_among, first_missing, missing, listed_instructions, instructions_listed, first_again, twice, none_listed_twice}
 use Rattle.alias_hir.specs.declared.env.Environment.{Environment}
 use Rattle.alias_rules.specs.Fitting.{function_fits}
 use Rattle.alias_rules.specs.Functions.{of_function}

@@ -3,9 +3,9 @@ use Rattle.std.specs.Prelude.{◌≡◌, ◌==◌, Bool, true, false, if◌then�
 use Rattle.std.specs.Option.{option_map_or}
 use Rattle.std.proofs.Common.{ap, sym, ◌∙◌}
 use Rattle.alias_base.specs.declared.ids.IdentifierId.{IdentifierId}
-use Rattle.alias_bare_laws.specs.EvolvedLaws.{Evolves}
-use Rattle.alias_bare_laws.specs.RangedLaws.{evolves_with_contexts}
-use Rattle.alias_block_laws.specs.WrittenLaws.{tables_extended}
+use Rattle.alias_fitting_laws.specs.bare.EvolvedLaws.{Evolves}
+use Rattle.alias_fitting_laws.specs.bare.RangedLaws.{evolves_with_contexts}
+use Rattle.alias_step_laws.specs.blocks.WrittenLaws.{tables_extended}
 use Rattle.alias_effects.proofs.StillFits.{pass_end_within}
 use Rattle.alias_effects.specs.Inference.{pass_end, end_tables, env_after}
 use Rattle.alias_effects.specs.declared.output.PassEnd.{PassEnd}
@@ -13,13 +13,13 @@ use Rattle.alias_hir.specs.declared.env.Environment.{Environment}
 use Rattle.alias_hir.specs.declared.hir.HirFunction.{HirFunction}
 use Rattle.alias_hir.specs.declared.place.Effect.TheVariants.{Read}
 use Rattle.alias_hir.specs.declared.place.Place.{Place}
-use Rattle.alias_range_places.specs.Keeping.{but_effect, but_context}
-use Rattle.alias_range_places.specs.StayLaws.{set_stays}
+use Rattle.alias_range_pass.specs.places.Keeping.{but_effect, but_context}
+use Rattle.alias_range_pass.specs.places.StayLaws.{set_stays}
 use Rattle.alias_rules.specs.Fitting.{function_fits}
 use Rattle.alias_tables.specs.declared.reads.ContextRead.{ContextRead}
 use Rattle.alias_tables.specs.declared.temporaries.Temporary.{Temporary}
 use Rattle.alias_nested.specs.Order.{SameInSlots}
-use Rattle.alias_write_back.specs.WriteBack.{with_identifiers, read_place, with_context_read, with_read, with_reads}
+use Rattle.alias_tables.specs.write_back.WriteBack.{with_identifiers, read_place, with_context_read, with_read, with_reads}
 
 -- ---- the effects pass
 

@@ -110,7 +110,7 @@ no_fault_of (Err z) e h is = subst (λ y. IsFault y → ⊥) (err_is z e is) h
     err_is : {A : Type 0} (x y : InferError) → ◌≡◌ {A = Result A InferError} (Err x) (Err y) → x ≡ y
     err_is x y q = cc
 
--- nor is what the validation answers one, want of memory included
+-- nor is what the validation answers one, out of memory included
 pub faultless_error : (env : Environment) (func : HirFunction) (e : InferError) → (is_memory e ≡ false → with_reassigned env (reassigned_reports env func) ≡ Err e) → IsFault e → ⊥
 faultless_error env func (Memory m) h f = f
 faultless_error env func (PassFault g p) h f = no_fault_of (with_reassigned env (reassigned_reports env func)) (PassFault g p) (reassigned_faultless env func) (h refl) f

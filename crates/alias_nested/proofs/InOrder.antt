@@ -4,10 +4,10 @@ use Rattle.std.specs.List.{flat_map}
 use Rattle.std.proofs.Common.{zero, suc, refl, ap, sym, ◌∙◌, subst, arith, ◌+◌, ◌≤◌}
 use Rattle.std.proofs.lemmas.List.{map-append}
 use Rattle.alias_base.specs.declared.ids.FunctionId.{FunctionId}
-use Rattle.alias_function_rules.specs.Rules.{is_among}
+use Rattle.alias_rules.specs.function_rules.Rules.{is_among}
 use Rattle.alias_hir.specs.declared.env.Environment.{Environment}
 use Rattle.alias_hir.specs.declared.hir.HirFunction.{HirFunction}
-use Rattle.alias_range_places.specs.Keeping.{but_context}
+use Rattle.alias_range_pass.specs.places.Keeping.{but_context}
 use Rattle.alias_rules.specs.Fitting.{function_fits}
 use Rattle.alias_rules.specs.Nesting.{created_in, created_at, times}
 use Rattle.alias_rules.specs.TreeLaws.{times_both}
@@ -15,7 +15,7 @@ use Rattle.alias_rules.specs.declared.rules.Rule.TheVariants.{ListedOnce}
 use Rattle.alias_nesting_laws.specs.ClosureLaws.{Closed, tree_closed, among_front, among_rest}
 use Rattle.alias_nesting_laws.specs.FittingLaws.{Fitted, fitted, first_among}
 use Rattle.alias_nesting_laws.specs.PartLaws.{absent, not_both}
-use Rattle.alias_pruning_laws.specs.BelowLaws.{below_distinct}
+use Rattle.alias_fitting_laws.specs.pruning.BelowLaws.{below_distinct}
 use Rattle.alias_nested.specs.Created.{created_functions}
 use Rattle.alias_nested.specs.Order.{created_by_slot, innermost_first, below_innermost_first, numbers}
 use Rattle.alias_nested.proofs.Counting.{numbers_innermost_first, listed_fewer, times_in_tree}

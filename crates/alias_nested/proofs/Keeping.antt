@@ -3,11 +3,11 @@ use Rattle.std.specs.Prelude.{◌≡◌, ℕ, Bool, true, false, if◌then◌els
 use Rattle.std.proofs.Common.{zero, suc, ap, sym, subst, ◌∙◌, arith}
 use Rattle.alias_base.specs.AnswerLaws.{both_true}
 use Rattle.alias_base.specs.declared.ids.FunctionId.{FunctionId}
-use Rattle.alias_bare_laws.specs.Bare.{but_places, without_range, but_ranges_and_contexts, TablesFit}
-use Rattle.alias_bare_laws.specs.BareLaws.{bare_of_places, bare_of_effects, fits_with_other_places}
-use Rattle.alias_bare_laws.specs.EvolvedLaws.{evolves_self, fits_evolved}
-use Rattle.alias_bare_laws.specs.RangedLaws.{evolves_with_contexts, evolves_alike, tables_alike_fit}
-use Rattle.alias_block_laws.specs.FitLaws.{Wider}
+use Rattle.alias_fitting_laws.specs.bare.Bare.{but_place_effects, without_range, but_ranges_and_contexts, TablesFit}
+use Rattle.alias_fitting_laws.specs.bare.BareLaws.{bare_of_places, bare_of_effects, fits_with_other_places}
+use Rattle.alias_fitting_laws.specs.bare.EvolvedLaws.{evolves_self, fits_evolved}
+use Rattle.alias_fitting_laws.specs.bare.RangedLaws.{evolves_with_contexts, evolves_alike, tables_alike_fit}
+use Rattle.alias_step_laws.specs.blocks.FitLaws.{Wider}
 use Rattle.alias_effects.proofs.RecordedDiffers.{recorded_differs}
 use Rattle.alias_effects.proofs.StillFits.{pass_end_fits}
 use Rattle.alias_effects.specs.Inference.{pass_end, env_after}
@@ -20,24 +20,24 @@ use Rattle.alias_hir.specs.declared.hir.HirFunction.{HirFunction}
 use Rattle.alias_hir.specs.declared.place.Effect.TheVariants.{Read, Capture}
 use Rattle.alias_hir.specs.declared.place.Place.{Place}
 use Rattle.alias_nested.specs.Fitting.{EnvironmentKept, FunctionKept, EnvironmentPruned, SummaryFits}
-use Rattle.alias_nested.specs.Settling.{context_settled, summarized, reset_at, reset, settled}
+use Rattle.alias_nested.specs.Annotating.{context_annotated, summarized, reset_at, reset, annotated}
 use Rattle.alias_nested.specs.Answers.{IsPassed}
 use Rattle.alias_nested.specs.Slots.{emptied}
 use Rattle.alias_nested.proofs.Evolving.{pass_evolves}
 use Rattle.alias_nesting_laws.specs.Slots.{with_function}
 use Rattle.alias_nesting_laws.specs.FittingLaws.{fitted, together}
-use Rattle.alias_function_rules.specs.Rules.{is_among}
+use Rattle.alias_rules.specs.function_rules.Rules.{is_among}
 use Rattle.alias_rules.specs.Nesting.{created_in, created_of}
 use Rattle.alias_nesting_laws.specs.PartLaws.{absent}
 use Rattle.alias_nesting_laws.specs.SubtreeLaws.{created_among}
-use Rattle.alias_pruning_laws.specs.BelowLaws.{created_once}
-use Rattle.alias_pruning_laws.specs.PassLaws.{pass_prunes}
-use Rattle.alias_pruning_laws.specs.Pruning.{FunctionPruned}
-use Rattle.alias_pruning_laws.specs.PruningLaws.{prunes_self, prunes_through, function_through, function_evolved, fits_pruned, function_beside}
-use Rattle.alias_pruning_laws.specs.PutBackLaws.{prunes_back}
-use Rattle.alias_range_inference.specs.KeptLaws.{ranged_bare, ranged_evolves}
+use Rattle.alias_fitting_laws.specs.pruning.BelowLaws.{created_once}
+use Rattle.alias_fitting_laws.specs.pruning.PassLaws.{pass_prunes}
+use Rattle.alias_fitting_laws.specs.pruning.Pruning.{FunctionPruned}
+use Rattle.alias_fitting_laws.specs.pruning.PruningLaws.{prunes_self, prunes_through, function_through, function_evolved, fits_pruned, function_beside}
+use Rattle.alias_fitting_laws.specs.pruning.PutBackLaws.{prunes_back}
+use Rattle.alias_ranges.specs.KeptLaws.{ranged_bare, ranged_evolves}
 use Rattle.alias_range_pass.specs.Laws.{PassKeeps}
-use Rattle.alias_range_places.specs.Keeping.{but_effect}
+use Rattle.alias_range_pass.specs.places.Keeping.{but_effect}
 use Rattle.alias_rules.specs.Fitting.{recorded_within_tables, effects_within_tables, holds_no_call, effects_fit, function_fits}
 use Rattle.alias_rules.specs.RecordedLaws.{fits_with_other_effects}
 use Rattle.alias_tables.specs.GrowingLaws.{grows_self}
@@ -74,7 +74,7 @@ effects_keep func env b e h i = record {
 -- ---- the range pass
 
 -- after the pass the function is the same but for what is inferred, and the inference takes it
-pub ranged_keeps : (f g : HirFunction) (env more : Environment) → function_fits g more ≡ true → but_places g ≡ but_places f → PassKeeps env more → FunctionKept f env g more
+pub ranged_keeps : (f g : HirFunction) (env more : Environment) → function_fits g more ≡ true → but_place_effects g ≡ but_place_effects f → PassKeeps env more → FunctionKept f env g more
 ranged_keeps f g env more fits still kept = record { evolves = ranged_evolves env more kept; still = ranged_bare f g still; fits = fits }
 
 -- ---- what follows from the summary
@@ -82,7 +82,7 @@ ranged_keeps f g env more fits still kept = record { evolves = ranged_evolves en
 context_stays : (c : Bool) (p : Place) → but_effect (record p { effect = if c then Capture else Read }) ≡ but_effect p
 context_stays c p = refl
 
-contexts_stay : (summary : List AliasingEffect) (ps : List Place) → map but_effect (map (context_settled summary) ps) ≡ map but_effect ps
+contexts_stay : (summary : List AliasingEffect) (ps : List Place) → map but_effect (map (context_annotated summary) ps) ≡ map but_effect ps
 contexts_stay summary [] = refl
 contexts_stay summary (p ∷ ps) = ap (λ z. but_effect p ∷ z) (contexts_stay summary ps)
 
@@ -104,15 +104,15 @@ summarized_effects env f summary h s =
     let b = both_true _ (recorded_within_tables env f.aliasing_effects) a.0 in
     together (effects_within_tables env g) (holds_no_call g.aliasing_effects) (together _ (recorded_within_tables env (Some summary)) b.0 s.within) s.no_call
 
-pub settled_keeps : (summary : List AliasingEffect) (f : HirFunction) (env : Environment) → function_fits f env ≡ true → SummaryFits env summary
-    → FunctionKept f env (settled summary (f, env)).0 (settled summary (f, env)).1
-settled_keeps summary f env h s =
+pub annotated_keeps : (summary : List AliasingEffect) (f : HirFunction) (env : Environment) → function_fits f env ≡ true → SummaryFits env summary
+    → FunctionKept f env (annotated summary (f, env)).0 (annotated summary (f, env)).1
+annotated_keeps summary f env h s =
     let g : HirFunction = record f { aliasing_effects = Some summary } in
     let after : HirFunction = summarized summary f in
-    let more : Environment = (settled summary (f, env)).1 in
+    let more : Environment = (annotated summary (f, env)).1 in
     let k : EnvironmentKept env more = environment_alike env more (ap (λ is. record (but_ranges_and_contexts env) { identifiers = is }) (resets_stay after.context env.identifiers)) (tables_of_fitting f env h) in
     let stored : function_fits g env ≡ true = fits_with_other_effects f g env refl h (summarized_effects env f summary (fitted f env h).effects s) in
-    let places : but_places g ≡ but_places after = ap (λ ps. record (but_places g) { context = ps }) (sym (contexts_stay summary f.context)) in
+    let places : but_place_effects g ≡ but_place_effects after = ap (λ ps. record (but_place_effects g) { context = ps }) (sym (contexts_stay summary f.context)) in
     let set : function_fits after env ≡ true = fits_with_other_places g after env places stored in
     record {
       evolves = k.evolves;
@@ -146,13 +146,13 @@ pub more_pruned : (keeps_all : Bool) (f₀ f₁ f₂ : HirFunction) (e₀ e₁ e
 more_pruned keeps_all f₀ f₁ f₂ e₀ e₁ e₂ before passed = function_through f₀ f₁ f₂ e₀ e₁ e₂ before (passed_pruned keeps_all f₁ e₁ f₂ e₂ passed)
 
 -- what is set at the end
-pub settled_pruned : (keeps_all : Bool) (f₀ f₁ f₂ f₃ f₄ f₅ : HirFunction) (e₀ e₁ e₂ e₃ e₄ e₅ : Environment) (summary : List AliasingEffect) → IsPassed keeps_all (f₀, e₀) (f₁, e₁) → FunctionKept f₁ e₁ f₂ e₂ → SummaryFits e₂ summary
-    → IsPassed keeps_all (f₂, e₂) (f₃, e₃) → IsPassed keeps_all (f₃, e₃) (f₄, e₄) → (f₅, e₅) ≡ settled summary (f₄, e₄) → FunctionPruned f₀ e₀ f₅ e₅
-settled_pruned keeps_all f₀ f₁ f₂ f₃ f₄ f₅ e₀ e₁ e₂ e₃ e₄ e₅ summary first ranged s second third set =
+pub annotated_pruned : (keeps_all : Bool) (f₀ f₁ f₂ f₃ f₄ f₅ : HirFunction) (e₀ e₁ e₂ e₃ e₄ e₅ : Environment) (summary : List AliasingEffect) → IsPassed keeps_all (f₀, e₀) (f₁, e₁) → FunctionKept f₁ e₁ f₂ e₂ → SummaryFits e₂ summary
+    → IsPassed keeps_all (f₂, e₂) (f₃, e₃) → IsPassed keeps_all (f₃, e₃) (f₄, e₄) → (f₅, e₅) ≡ annotated summary (f₄, e₄) → FunctionPruned f₀ e₀ f₅ e₅
+annotated_pruned keeps_all f₀ f₁ f₂ f₃ f₄ f₅ e₀ e₁ e₂ e₃ e₄ e₅ summary first ranged s second third set =
     let two : FunctionPruned f₂ e₂ f₄ e₄ = more_pruned keeps_all f₂ f₃ f₄ e₂ e₃ e₄ (passed_pruned keeps_all f₂ e₂ f₃ e₃ second) third in
     let here : SummaryFits e₄ summary = summary_kept e₂ e₄ f₂ two.prunes.effects ranged.fits summary s in
-    let after : HirFunction × Environment = settled summary (f₄, e₄) in
-    let last : FunctionPruned f₄ e₄ after.0 after.1 = kept_pruned f₄ e₄ after.0 after.1 (settled_keeps summary f₄ e₄ two.fits here) in
+    let after : HirFunction × Environment = annotated summary (f₄, e₄) in
+    let last : FunctionPruned f₄ e₄ after.0 after.1 = kept_pruned f₄ e₄ after.0 after.1 (annotated_keeps summary f₄ e₄ two.fits here) in
     let whole : FunctionPruned f₀ e₀ after.0 after.1
     = function_through f₀ f₂ after.0 e₀ e₂ after.1 (range_pruned keeps_all f₀ f₁ f₂ e₀ e₁ e₂ first ranged) (function_through f₂ f₄ after.0 e₂ e₄ after.1 two last) in
     subst (λ (p : HirFunction × Environment). FunctionPruned f₀ e₀ p.0 p.1) (sym set) whole

@@ -12,8 +12,8 @@ use Rattle.alias_hir.specs.declared.hir.HirFunction.{HirFunction}
 use Rattle.alias_effects.specs.Inference.{env_inferred}
 use Rattle.alias_effects.specs.Recording.{with_effects_of}
 use Rattle.alias_effects.specs.declared.solved.Solved.{Solved}
-use Rattle.alias_heap.specs.Reading.{HeapIsCovered}
-use Rattle.alias_range_inference.specs.Ranges.{RangesCover, RangesHaveCauses, ListsFlows}
+use Rattle.alias_ranges.specs.heap.Reading.{HeapIsCovered}
+use Rattle.alias_ranges.specs.Ranges.{RangesCover, RangesHaveCauses, ListsFlows}
 use Rattle.alias_nested.specs.declared.infer.Inferred.{Inferred}
 use Rattle.alias_nested.specs.Analysis.{Analysed, Analysis, analysis}
 use Rattle.alias_nested.specs.Roots.{root_of, with_effects, EndsHaveCauses, RootIsCovered, RootCoversHeap, RootHasCauses, RootListsFlows, RootRanged, IsRanged}

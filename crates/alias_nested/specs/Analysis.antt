@@ -14,7 +14,7 @@ use Rattle.alias_effects.specs.Recording.{with_effects_of}
 use Rattle.alias_effects.specs.Solutions.{IsSolved}
 use Rattle.alias_range_pass.specs.Passes.{range_pass}
 use Rattle.alias_nested.specs.Created.{created_functions}
-use Rattle.alias_nested.specs.Settling.{settled}
+use Rattle.alias_nested.specs.Annotating.{annotated}
 use Rattle.alias_nesting_laws.specs.Slots.{with_function}
 use Rattle.alias_nested.specs.Slots.{emptied}
 
@@ -69,7 +69,7 @@ effects_analysed id f a = do
 abbrev pub completed : FunctionId → HirFunction → Environment → Result (HirFunction × Environment) InferError
 completed id f env = do
   r ← naming id (range_pass true f env)
-  Ok (settled r.summary r.after)
+  Ok (annotated r.summary r.after)
 
 abbrev pub completed_with : FunctionId → HirFunction × Analysis → Result (HirFunction × Analysis) InferError
 completed_with id s = do
@@ -108,7 +108,7 @@ most_levels = 63
 
 -- ---- what calls answer
 
--- an answer that no definition foretells: want of memory, and a fault of a pass of the caller
+-- an answer that no definition foretells: out of memory, and a fault of a pass of the caller
 abbrev pub is_free : InferError → Bool
 is_free (Memory e) = true
 is_free (PassFault f pass) = true

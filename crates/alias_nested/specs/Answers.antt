@@ -13,7 +13,7 @@ use Rattle.alias_inner_passes.specs.Passes.{Keeps}
 use Rattle.alias_range_pass.specs.Passes.{range_pass}
 use Rattle.alias_nested.specs.Analysis.{Analysed, Analysis, analysis, naming, effects_analysed, put_back, is_free, Accounts}
 use Rattle.alias_nested.specs.Created.{created_functions}
-use Rattle.alias_nested.specs.Settling.{settled}
+use Rattle.alias_nested.specs.Annotating.{annotated}
 use Rattle.alias_nested.specs.Slots.{emptied}
 use Rattle.alias_nesting_laws.specs.Slots.{with_function}
 
@@ -56,7 +56,7 @@ Completed keeps_all id s =
     Then (Only (naming id (range_pass true dead.0 dead.1))) (λ r.
     Then (Passed keeps_all id RewriteInstructionKindsBasedOnReassignment r.after) (λ kinds.
     Then (Passed keeps_all id InferReactiveScopeVariables kinds) (λ scopes.
-    Only (Ok (settled r.summary scopes))))))
+    Only (Ok (annotated r.summary scopes))))))
 
 abbrev pub CompletedWith : Bool → FunctionId → HirFunction × Analysis → Answers (HirFunction × Analysis)
 CompletedWith keeps_all id s = Then (Completed keeps_all id (s.0, s.1.env)) (λ c. Only (Ok (c.0, analysis c.1 s.1.functions)))
@@ -85,7 +85,7 @@ AnalysedWith keeps_all (suc n) f a = Each (SlotAnalysed keeps_all (AnalysedWith 
 -- ---- what calls answer
 
 -- The call comes to one of the answers: to an analysis whose solutions it hands out, innermost first, each of which solves the flow of its function as
--- its effects pass began; or to a refusal, or to a fault of a pass of the caller. Want of memory is free.
+-- its effects pass began; or to a refusal, or to a fault of a pass of the caller. Out of memory is free.
 abbrev pub Analyses : Answers Analysis → Result (List Solved) InferError → Environment → Type 0
 Analyses answers (Ok solved) env = (fs : List Analysed) × answers (Ok (analysis env fs)) × Accounts fs solved
 Analyses answers (Err e) env = is_memory e ≡ false → answers (Err e)

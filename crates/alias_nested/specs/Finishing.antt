@@ -6,15 +6,15 @@ use Rattle.alias_hir.specs.declared.env.Environment.{Environment}
 use Rattle.alias_hir.specs.declared.error.InferError.{InferError}
 use Rattle.alias_hir.specs.declared.hir.HirFunction.{HirFunction}
 use Rattle.alias_range_pass.specs.Passes.{range_pass}
-use Rattle.alias_nested.specs.Settling.{settled}
+use Rattle.alias_nested.specs.Annotating.{annotated}
 
 -- the range pass, and what is set once the summary is known
 abbrev pub finished : HirFunction → Environment → Result (HirFunction × Environment) InferError
 finished f env = do
   r ← range_pass true f env
-  Ok (settled r.summary r.after)
+  Ok (annotated r.summary r.after)
 
--- function and environment become what is stated, or stay where the refusal is the one stated. Want of memory is free: it can come in the place of any answer
+-- function and environment become what is stated, or stay where the refusal is the one stated. Out of memory is free: it can come in the place of any answer
 abbrev pub FinishesInto : Result (HirFunction × Environment) InferError → HirFunction → Environment → Result ⊤ InferError → HirFunction → Environment → Type 0
 FinishesInto stated f env (Ok u) new_f new_env = stated ≡ Ok (new_f, new_env)
 FinishesInto stated f env (Err e) new_f new_env = is_memory e ≡ false → (stated ≡ Err e) × (new_f ≡ f) × (new_env ≡ env)

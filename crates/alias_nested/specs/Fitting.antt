@@ -5,9 +5,9 @@ use Rattle.alias_hir.specs.declared.effect.AliasingEffect.{AliasingEffect}
 use Rattle.alias_hir.specs.declared.env.Environment.{Environment}
 use Rattle.alias_hir.specs.declared.hir.HirFunction.{HirFunction}
 use Rattle.alias_rules.specs.Fitting.{effect_within_tables, holds_no_call, function_fits}
-use Rattle.alias_bare_laws.specs.Bare.{bare, TablesFit}
-use Rattle.alias_bare_laws.specs.EvolvedLaws.{Evolves}
-use Rattle.alias_pruning_laws.specs.Pruning.{Prunes}
+use Rattle.alias_fitting_laws.specs.bare.Bare.{bare, TablesFit}
+use Rattle.alias_fitting_laws.specs.bare.EvolvedLaws.{Evolves}
+use Rattle.alias_fitting_laws.specs.pruning.Pruning.{Prunes}
 
 -- what the passes of the inference keep: tables that still keep their rules, and functions that are the same but for what is inferred
 pub record EnvironmentKept (old new : Environment) : Type 0 where

@@ -4,7 +4,7 @@ pub mod Refusals
 pub mod Created
 pub mod Order
 pub mod Fitting
-pub mod Settling
+pub mod Annotating
 pub mod Slots
 pub mod Units
 pub mod Roots

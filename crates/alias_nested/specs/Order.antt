@@ -3,12 +3,12 @@ use Rattle.std.specs.Prelude.{◌≡◌, ◌⊎◌, ℕ, zero, suc, Bool, true, 
 use Rattle.std.specs.List.{flat_map}
 use Rattle.alias_base.specs.declared.ids.FunctionId.{FunctionId}
 use Rattle.alias_effects.specs.declared.solved.Solved.{Solved}
-use Rattle.alias_function_rules.specs.Rules.{is_among}
+use Rattle.alias_rules.specs.function_rules.Rules.{is_among}
 use Rattle.alias_hir.specs.declared.env.Environment.{Environment}
 use Rattle.alias_hir.specs.declared.error.InferError.{InferError}
 use Rattle.alias_hir.specs.declared.error.InferError.TheVariants.{NotSettled, Uninitialized, Reinitialized, AliasBeforeCreate, IncompatibleLibrary, SpreadArgument, UnreplacedApply, EffectsNotInferred, PassFault, TooMany, Memory}
 use Rattle.alias_hir.specs.declared.hir.HirFunction.{HirFunction}
-use Rattle.alias_range_places.specs.Keeping.{but_context}
+use Rattle.alias_range_pass.specs.places.Keeping.{but_context}
 use Rattle.alias_nested.specs.Created.{created_functions}
 
 -- ---- the order

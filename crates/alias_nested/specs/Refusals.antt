@@ -84,7 +84,7 @@ AnalysisRefused keeps_all (suc n) f a e left = OneOfRefused (SlotRefused keeps_a
 
 -- ---- what calls leave
 
--- A refusal is one of these, with what it leaves. Want of memory is free.
+-- A refusal is one of these, with what it leaves. Out of memory is free.
 abbrev pub Leaves : {A S : Type 0} → Refusals S → Result A InferError → S → Type 0
 Leaves refusals (Ok x) left = ⊤
 Leaves refusals (Err e) left = is_memory e ≡ false → refusals e left

@@ -75,7 +75,7 @@ abbrev pub RootLeads : Result RootAnalysis InferError → Result (List AliasingE
 RootLeads stated (Ok summary) func env solved = (fs : List Analysed) × (stated ≡ Ok (record { summary = summary; func = func; analysis = analysis env fs })) × Accounts fs solved
 RootLeads stated (Err e) func env solved = is_free e ≡ false → stated ≡ Err e
 
--- What is handed out is what is stated, and what is solved of each function solves its flow, or the refusal is the one stated. Want of memory is free,
+-- What is handed out is what is stated, and what is solved of each function solves its flow, or the refusal is the one stated. Out of memory is free,
 -- and so is a fault of a pass of the caller.
 abbrev pub InfersUnit : Result UnitAnalysis InferError → Result Inferred InferError → Type 0
 InfersUnit stated (Ok i) = (fs : List Analysed) × (stated ≡ Ok (record { functions = fs; inferred = i })) × AllByRecursion SolvesItsFlow fs

@@ -1,7 +1,7 @@
 //! The functions below a function, innermost first.
 ghost use Rattle.std.specs.Prelude.{◌≡◌, ℕ, ◌<◌, ◌≤◌, true, false, [], ◌∷◌, ◌++◌, Some, IfOk, length, map, slice_get};
-ghost use Rattle.alias_failures.specs.Failures.{HasFailed};
-ghost use Rattle.alias_function_rules.specs.Rules.{is_among};
+ghost use Rattle.alias_base.specs.failures.Failures.{HasFailed};
+ghost use Rattle.alias_rules.specs.function_rules.Rules.{is_among};
 ghost use Rattle.alias_rules.specs.Fitting.{function_fits};
 ghost use Rattle.alias_rules.specs.Nesting.{created_in, times};
 ghost use Rattle.alias_nested.specs.Analysis.{analysis, most_levels, analysed, Accounts, Leads, IsPassFault};
@@ -11,7 +11,7 @@ ghost use Rattle.alias_nested.specs.Order.{below_innermost_first, slot_innermost
 ghost use Rattle.alias_nested.specs.Refusals.{TakenRefused, SlotRefused, AnalysisRefused, Leaves, LeadsToOne, LeadsToOneWith};
 ghost use Rattle.alias_nested.specs.Slots.{emptied};
 ghost use Rattle.alias_nesting_laws.specs.Slots.{with_function};
-ghost use Rattle.alias_pruning_laws.specs.Pruning.{FunctionPruned, SlotsKept};
+ghost use Rattle.alias_fitting_laws.specs.pruning.Pruning.{FunctionPruned, SlotsKept};
 
 use crate::created::created_functions;
 use crate::function::infer_function;
@@ -163,7 +163,7 @@ pub(crate) fn analyse_kept<P: InnerPasses>(
 /// found of the functions before it in the order stays. Those behind it are unchanged, but for the effects of their context
 /// places. `PassFault` names its function and the pass that failed on it, where all that comes before went well, and comes only
 /// where the count of the passes' faults rose, or stands at its last value: beside the same environment, what that pass may
-/// change stays. `Memory` is want of memory, which can come at any time.
+/// change stays. `Memory` is out of memory, which can come at any time.
 pub fn analyse_functions_certified<P: InnerPasses, F: FnMut(&HirFunction, &Environment)>(
     alloc: Global,
     func: &mut HirFunction,

@@ -3,8 +3,8 @@ ghost use Rattle.std.specs.Prelude.{◌≡◌, ◌++◌, option_map, OnOk, IfOk}
 ghost use Rattle.alias_nested.specs.Created.{created_by, created_by_all, created_functions};
 
 use alias_base::{FunctionId, InstructionId, List};
-use alias_function_rules::ids::created;
 use alias_hir::hir::{HirFunction, Instruction};
+use alias_rules::function_rules::ids::created;
 use std::alloc::{AllocError, Global};
 
 fn push_created(

@@ -4,19 +4,19 @@ ghost use Rattle.alias_rules.specs.Fitting.{function_fits};
 ghost use Rattle.alias_nested.specs.Finishing.{finished, FinishesInto};
 ghost use Rattle.alias_nested.specs.Fitting.{FunctionKept};
 ghost use Rattle.alias_nested.specs.Order.{SameInSlots};
-ghost use Rattle.alias_nested.specs.Settling.{settled};
+ghost use Rattle.alias_nested.specs.Annotating.{annotated};
 
-use crate::settling::{reset_context, summarize};
+use crate::annotating::{reset_context, summarize};
 use alias_hir::effect::AliasingEffects;
 use alias_hir::env::Environment;
 use alias_hir::error::InferError;
 use alias_hir::hir::HirFunction;
-use alias_range_inference::infer_mutation_aliasing_ranges;
+use alias_ranges::infer_mutation_aliasing_ranges;
 use std::alloc::Global;
 
 /// Sets what follows from the summary of a nested function.
-fn settle(func: &mut HirFunction, env: &mut Environment, summary: AliasingEffects)
-    ensures { (func.new, env.new) ≡ settled summary (func.old, env.old) }
+fn annotate(func: &mut HirFunction, env: &mut Environment, summary: AliasingEffects)
+    ensures { (func.new, env.new) ≡ annotated summary (func.old, env.old) }
 {
     summarize(func, summary);
     reset_context(func.context.as_slice(), &mut env.identifiers);
@@ -25,7 +25,7 @@ fn settle(func: &mut HirFunction, env: &mut Environment, summary: AliasingEffect
 /// Finishes a nested function whose effects are recorded: the range pass runs on it, its summary is stored, its context places
 /// are captured where the summary captures or mutates them, and the ranges of its context are reset.
 ///
-/// The errors are those of the range pass, and leave function and environment as they were; after want of memory, which can
+/// The errors are those of the range pass, and leave function and environment as they were; after out of memory, which can
 /// come at any time, ranges and effects of places may be set in part.
 pub fn finish_function(
     alloc: Global,
@@ -38,6 +38,6 @@ pub fn finish_function(
     ensures slots { SameInSlots env.old env.new }
 {
     let summary = infer_mutation_aliasing_ranges(alloc, func, env, true)?;
-    settle(func, env, summary);
+    annotate(func, env, summary);
     Ok(())
 }

@@ -1,6 +1,6 @@
 //! One nested function, once those below it are analysed.
 ghost use Rattle.std.specs.Prelude.{◌≡◌, ◌≤◌, true, false, [], ◌∷◌, Some, Err, IfOk, IfErr};
-ghost use Rattle.alias_failures.specs.Failures.{HasFailed};
+ghost use Rattle.alias_base.specs.failures.Failures.{HasFailed};
 ghost use Rattle.alias_hir.specs.Errors.{is_memory};
 ghost use Rattle.alias_hir.specs.declared.error.InferError.TheVariants.{PassFault};
 ghost use Rattle.alias_rules.specs.Fitting.{function_fits};
@@ -10,11 +10,11 @@ ghost use Rattle.alias_nested.specs.Answers.{IsPassed, Completed, FunctionAnalys
 ghost use Rattle.alias_nested.specs.Fitting.{FunctionKept, SummaryFits};
 ghost use Rattle.alias_nested.specs.Order.{SameInSlots, Names, Notes};
 ghost use Rattle.alias_nested.specs.Refusals.{CompletionRefused, FunctionRefused, CompletesOne, LeadsToOneWith};
-ghost use Rattle.alias_nested.specs.Settling.{settled};
-ghost use Rattle.alias_pruning_laws.specs.Pruning.{FunctionPruned};
+ghost use Rattle.alias_nested.specs.Annotating.{annotated};
+ghost use Rattle.alias_fitting_laws.specs.pruning.Pruning.{FunctionPruned};
 
+use crate::annotating::{reset_context, summarize};
 use crate::errors::{named, stopped};
-use crate::settling::{reset_context, summarize};
 use alias_base::{FunctionId, List};
 use alias_effects::{Solved, infer_effects_certified};
 use alias_hir::effect::AliasingEffects;
@@ -22,7 +22,7 @@ use alias_hir::env::Environment;
 use alias_hir::error::{InferError, Pass};
 use alias_hir::hir::HirFunction;
 use alias_inner_passes::{InnerPasses, PassStop};
-use alias_range_inference::infer_mutation_aliasing_ranges;
+use alias_ranges::infer_mutation_aliasing_ranges;
 use std::alloc::Global;
 
 /// The effects pass on the function of the number; what is solved of it is noted.
@@ -122,14 +122,14 @@ fn run_pass<P: InnerPasses>(
 }
 
 /// Sets what follows from the summary of a nested function, and calls the logger in between, once the function is as it stays.
-fn settle_logged<F: FnMut(&HirFunction, &Environment)>(
+fn annotate_logged<F: FnMut(&HirFunction, &Environment)>(
     func: &mut HirFunction,
     env: &mut Environment,
     summary: AliasingEffects,
     debug_logger: &mut F,
 )
     requires { (log : F) (f : _) (e : _) → F.pre log f e }
-    ensures { (func.new, env.new) ≡ settled summary (func.old, env.old) }
+    ensures { (func.new, env.new) ≡ annotated summary (func.old, env.old) }
 {
     summarize(func, summary);
     debug_logger(func, env);
@@ -172,7 +172,7 @@ fn complete<P: InnerPasses, F: FnMut(&HirFunction, &Environment)>(
         env,
         passes,
     )?;
-    settle_logged(func, env, summary, debug_logger);
+    annotate_logged(func, env, summary, debug_logger);
     Ok(())
 }
 

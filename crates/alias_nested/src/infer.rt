@@ -1,6 +1,6 @@
 //! The inference of a unit.
 ghost use Rattle.std.specs.Prelude.{◌≡◌, ◌≤◌, true, [], IfOk, IsOkAnd, OnOk};
-ghost use Rattle.alias_failures.specs.Failures.{HasFailed};
+ghost use Rattle.alias_base.specs.failures.Failures.{HasFailed};
 ghost use Rattle.alias_rules.specs.Fitting.{function_fits};
 ghost use Rattle.alias_validate.specs.Reports.{with_errors};
 ghost use Rattle.alias_nested.specs.Analysis.{analysis, Accounts, IsPassFault};
@@ -16,7 +16,7 @@ use alias_hir::error::InferError;
 use alias_hir::hir::HirFunction;
 use alias_hir::report::Report;
 use alias_inner_passes::InnerPasses;
-use alias_range_inference::infer_mutation_aliasing_ranges;
+use alias_ranges::infer_mutation_aliasing_ranges;
 use alias_rules::check::Checked;
 use alias_validate::{
     validate_locals_not_reassigned_after_render, validate_no_freezing_known_mutable_functions,
@@ -99,7 +99,7 @@ fn take_reports(alloc: Global, env: &mut Environment) -> List<Report>
 ///
 /// A refusal is the first in this order, and names its function: those of `infer_effects_certified`, or `TooMany`, where no
 /// number is left for a position of the alias graph. `PassFault` comes only where the count of the passes' faults
-/// rose, or stands at its last value; `Memory` is want of memory, which can come at any time.
+/// rose, or stands at its last value; `Memory` is out of memory, which can come at any time.
 pub fn infer_unit<P: InnerPasses>(
     alloc: Global,
     unit: Checked,

@@ -2,12 +2,12 @@
 #![tactic(auto)]
 
 pub mod analyse;
+mod annotating;
 pub mod created;
 pub mod errors;
 pub mod finish;
 mod function;
 pub mod infer;
-mod settling;
 pub mod slots;
 
 pub use analyse::{analyse_functions, analyse_functions_certified};

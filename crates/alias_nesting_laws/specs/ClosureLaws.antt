@@ -4,7 +4,7 @@ use Rattle.std.proofs.Common.{zero, suc, sym, ◌∙◌, subst, arith}
 use Rattle.std.proofs.lemmas.Bool.{eqb-true}
 use Rattle.std.proofs.lemmas.List.Folds.{list_any-append}
 use Rattle.alias_hir.specs.declared.env.Environment.{Environment}
-use Rattle.alias_function_rules.specs.Rules.{is_among, first_again}
+use Rattle.alias_rules.specs.function_rules.Rules.{is_among, first_again}
 use Rattle.alias_rules.specs.Nesting.{created_at, next_level, tree_from}
 
 -- the numbers of the second list are in the first

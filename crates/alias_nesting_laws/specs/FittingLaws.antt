@@ -8,7 +8,7 @@ use Rattle.alias_base.specs.Answer.{◌>>=◌, all_pass}
 use Rattle.alias_base.specs.AnswerLaws.{both_true, both_pass}
 use Rattle.alias_hir.specs.declared.env.Environment.{Environment}
 use Rattle.alias_hir.specs.declared.hir.HirFunction.{HirFunction}
-use Rattle.alias_function_rules.specs.Rules.{is_among, tables_fit, types_fit, signatures_fit}
+use Rattle.alias_rules.specs.function_rules.Rules.{is_among, tables_fit, types_fit, signatures_fit}
 use Rattle.alias_rules.specs.Fitting.{effects_fit, effects_fit_at, reports_no_invariant, family_rules, function_rules, function_fits_with, function_fits}
 use Rattle.alias_rules.specs.Functions.{rule_holds, at_function, each_function, FamilyRule, Tables, Types, Signatures, Apart, Each, family_holds}
 use Rattle.alias_rules.specs.Nesting.{tree_below}

@@ -4,7 +4,7 @@ use Rattle.std.specs.List.{flat_map}
 use Rattle.std.proofs.Common.{ap, sym, ◌∙◌, subst}
 use Rattle.std.proofs.lemmas.Bool.{eqb-true}
 use Rattle.std.proofs.lemmas.List.Folds.{list_any-append}
-use Rattle.alias_function_rules.specs.Rules.{is_among, first_again}
+use Rattle.alias_rules.specs.function_rules.Rules.{is_among, first_again}
 use Rattle.alias_rules.specs.TreeLaws.{either}
 use Rattle.alias_nesting_laws.specs.ClosureLaws.{Among}
 use Rattle.alias_nesting_laws.specs.FittingLaws.{first_among, later_among}

@@ -13,9 +13,9 @@ use Rattle.alias_hir.specs.declared.hir.HirFunction.{HirFunction}
 use Rattle.alias_hir.specs.declared.hir.Instruction.{Instruction}
 use Rattle.alias_hir.specs.declared.hir.Phi.{Phi}
 use Rattle.alias_hir.specs.declared.place.Place.{Place}
-use Rattle.alias_function_rules.specs.Rules.{is_block, named_exists, leads_to_blocks, handler_of, missing, first_missing, listed_instructions, twice, first_again, shared, handlers, has_edge, operand_fits, operands_fit, order_fits, repeated, own_identifiers, at_most, argument_count}
-use Rattle.alias_function_rules.specs.declared.fault.Holder.TheVariants as holder
-use Rattle.alias_function_rules.specs.declared.fault.UnitFault.{UnitFault}
+use Rattle.alias_rules.specs.function_rules.Rules.{is_block, named_exists, leads_to_blocks, handler_of, missing, first_missing, listed_instructions, twice, first_again, shared, handlers, has_edge, operand_fits, operands_fit, order_fits, repeated, own_identifiers, at_most, argument_count}
+use Rattle.alias_rules.specs.declared.function_rules.fault.Holder.TheVariants as holder
+use Rattle.alias_rules.specs.declared.function_rules.fault.UnitFault.{UnitFault}
 use Rattle.alias_rules.specs.Functions.{rule_holds}
 use Rattle.alias_rules.specs.declared.rules.Rule.{Rule}
 use Rattle.alias_rules.specs.declared.rules.Rule.TheVariants.{Numbers, Entry, Successors, Listed, ListedOnce, Handlers, Phis, Orders, Distinct, Calls, ContextValues}

@@ -14,7 +14,7 @@ use Rattle.alias_hir.specs.declared.hir.HirFunction.{HirFunction}
 use Rattle.alias_hir.specs.declared.hir.Instruction.{Instruction}
 use Rattle.alias_hir.specs.declared.place.Place.{Place}
 use Rattle.alias_visit.specs.Places.{created_places, instruction_places, block_places, identifiers_in}
-use Rattle.alias_function_rules.specs.Rules.{is_among}
+use Rattle.alias_rules.specs.function_rules.Rules.{is_among}
 use Rattle.alias_rules.specs.ApartLaws.{is_among_each, any_other}
 use Rattle.alias_rules.specs.Nesting.{number_of, created_in, created_of, created_at, next_level, fresh, reached_from}
 use Rattle.alias_rules.specs.Sharing.{identifiers_of, identifiers_at, context_of, context_at, family, inside, others, outside, is_shared, first_shared, first_in_two, in_two, nested_is_apart, identifiers_apart}

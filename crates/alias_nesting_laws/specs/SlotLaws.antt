@@ -11,8 +11,8 @@ use Rattle.alias_hir.specs.Values.{places_of, created}
 use Rattle.alias_hir.specs.declared.env.Environment.{Environment}
 use Rattle.alias_hir.specs.declared.hir.HirFunction.{HirFunction}
 use Rattle.alias_hir.specs.declared.hir.Instruction.{Instruction}
-use Rattle.alias_function_rules.specs.Rules.{is_among, place_fits, created_fits, instruction_fits, numbers_fit}
-use Rattle.alias_function_rules.specs.declared.fault.UnitFault.{UnitFault}
+use Rattle.alias_rules.specs.function_rules.Rules.{is_among, place_fits, created_fits, instruction_fits, numbers_fit}
+use Rattle.alias_rules.specs.declared.function_rules.fault.UnitFault.{UnitFault}
 use Rattle.alias_rules.specs.Fitting.{function_fits}
 use Rattle.alias_rules.specs.Nesting.{number_of, created_in}
 use Rattle.alias_rules.specs.declared.rules.Rule.TheVariants.{Numbers}

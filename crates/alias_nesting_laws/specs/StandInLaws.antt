@@ -7,7 +7,7 @@ use Rattle.alias_base.specs.Answer.{◌>>=◌, all_pass}
 use Rattle.alias_base.specs.AnswerLaws.{both_true}
 use Rattle.alias_base.specs.declared.ids.BlockId.{BlockId}
 use Rattle.alias_base.specs.declared.ids.FunctionId.{FunctionId}
-use Rattle.alias_hir.specs.Diagnostics.{summary}
+use Rattle.alias_hir.specs.ReportNumbers.{summary}
 use Rattle.alias_hir.specs.Effects.{effect_places, error_of, function_of, signature_of}
 use Rattle.alias_hir.specs.Parts.{param_place}
 use Rattle.alias_hir.specs.Terminals.{terminal_effects}
@@ -17,8 +17,8 @@ use Rattle.alias_hir.specs.declared.env.Environment.{Environment}
 use Rattle.alias_hir.specs.declared.hir.BasicBlock.{BasicBlock}
 use Rattle.alias_hir.specs.declared.hir.HirFunction.{HirFunction}
 use Rattle.alias_hir.specs.declared.hir.Instruction.{Instruction}
-use Rattle.alias_function_rules.specs.Rules.{below, place_fits, created_fits, instruction_fits, block_fits, numbers_fit}
-use Rattle.alias_function_rules.specs.declared.fault.Table.TheVariants.{Functions}
+use Rattle.alias_rules.specs.function_rules.Rules.{below, place_fits, created_fits, instruction_fits, block_fits, numbers_fit}
+use Rattle.alias_rules.specs.declared.function_rules.fault.Table.TheVariants.{Functions}
 use Rattle.alias_rules.specs.Fitting.{place_within_tables, error_within_tables, function_within_tables, type_within_tables, named_within_tables, summary_within_tables, effect_within_tables, recorded_within_tables, effects_within_tables, holds_no_call, effects_fit}
 use Rattle.alias_rules.specs.Functions.{rule_holds, of_function, at_function}
 use Rattle.alias_rules.specs.Nesting.{created_of, created_at}

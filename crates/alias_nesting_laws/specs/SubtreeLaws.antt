@@ -6,7 +6,7 @@ use Rattle.std.proofs.lemmas.List.{append-nil}
 use Rattle.alias_base.specs.declared.ids.FunctionId.{FunctionId}
 use Rattle.alias_hir.specs.declared.env.Environment.{Environment}
 use Rattle.alias_hir.specs.declared.hir.HirFunction.{HirFunction}
-use Rattle.alias_function_rules.specs.Rules.{is_among, first_again}
+use Rattle.alias_rules.specs.function_rules.Rules.{is_among, first_again}
 use Rattle.alias_rules.specs.Nesting.{created_in, created_of, created_at, next_level, ended, tree_from, tree_below}
 use Rattle.alias_nesting_laws.specs.ClosureLaws.{Among, among_front, among_neither, tree_closed}
 use Rattle.alias_nesting_laws.specs.FittingLaws.{first_among, later_among}

@@ -3,7 +3,7 @@
 ghost use Rattle.std.specs.Prelude.{◌≡◌, true, ◌<◌, length, slice_get, Some, None};
 ghost use Rattle.alias_base.specs.declared.ids.FunctionId.{FunctionId};
 ghost use Rattle.alias_hir.specs.declared.hir.HirFunction.{HirFunction};
-ghost use Rattle.alias_function_rules.specs.Rules.{is_among};
+ghost use Rattle.alias_rules.specs.function_rules.Rules.{is_among};
 ghost use Rattle.alias_rules.specs.Fitting.{function_fits};
 ghost use Rattle.alias_rules.specs.Nesting.{created_in};
 ghost use Rattle.alias_nesting_laws.specs.Slots.{with_function};

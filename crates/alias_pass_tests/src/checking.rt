@@ -6,7 +6,7 @@ use alias_hir::effect::ValueKind;
 use alias_hir::env::{Environment, Unit};
 use alias_hir::hir::{ContextValue, HirFunction};
 use alias_hir::place::Place;
-use alias_hir::report::{DiagnosticId, ErrorCategory, Report};
+use alias_hir::report::{ErrorCategory, Report, ReportId};
 use alias_rules::check::{Checked, check_unit};
 use alias_rules::fault::{Table, UnitFault};
 use alias_test_units::{environment, place};
@@ -175,7 +175,7 @@ fn impure(alloc: Global) -> Result<Report, AllocError> {
 }
 
 /// Whether the report of the number has the message.
-fn has_message(env: &Environment, number: DiagnosticId, message: &str) -> bool {
+fn has_message(env: &Environment, number: ReportId, message: &str) -> bool {
     if (number.instance as usize) < env.interned.len() {
         env.aliasing_diagnostic(number).message.as_str() == message
     } else {
@@ -185,7 +185,7 @@ fn has_message(env: &Environment, number: DiagnosticId, message: &str) -> bool {
 
 fn intern_in(alloc: Global, env: &mut Environment) -> Result<(u32, bool), AllocError> {
     let report = impure(alloc)?;
-    let Ok(number) = env.intern_aliasing_diagnostic(IdentifierId(0), report) else {
+    let Ok(number) = env.intern_aliasing_report(IdentifierId(0), report) else {
         return Err(AllocError);
     };
     let is_kept = has_message(env, number, "Cannot call impure function during render");

@@ -9,11 +9,11 @@ use Rattle.alias_hir.specs.declared.env.Unit.{Unit as HirUnit}
 use Rattle.alias_hir.specs.declared.hir.HirFunction.{HirFunction}
 use Rattle.alias_tables.specs.Tables.{TableLists}
 use Rattle.alias_plainness.specs.Calls.{no_tables}
-use Rattle.alias_plain_laws.specs.declared.stop.Stop.{Stop}
-use Rattle.alias_plain_laws.specs.Answers.{UnitEnd, AllPlain, StopsIn, reports_of, end_in, then_nested, unit_end}
-use Rattle.alias_plain_laws.specs.RuleFacts.{Looks}
-use Rattle.alias_plain_laws.specs.Scopes.{scope_of}
-use Rattle.alias_plain_laws.specs.Scans.{scan_function}
+use Rattle.alias_plain.specs.declared.laws.stop.Stop.{Stop}
+use Rattle.alias_plain.specs.laws.Answers.{UnitEnd, AllPlain, StopsIn, reports_of, end_in, then_nested, unit_end}
+use Rattle.alias_plain.specs.laws.RuleFacts.{Looks}
+use Rattle.alias_plain.specs.laws.Scopes.{scope_of}
+use Rattle.alias_plain.specs.laws.Scans.{scan_function}
 use Rattle.alias_plain.specs.declared.plain.StoppedIn.{StoppedIn}
 use Rattle.alias_plain.specs.Ends.{EndsAs, EntriesExist}
 

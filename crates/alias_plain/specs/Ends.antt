@@ -8,9 +8,9 @@ use Rattle.alias_tables.specs.declared.faults.EffectFault.TheVariants as tables
 use Rattle.alias_tables.specs.declared.faults.Refusal.TheVariants as refusal
 use Rattle.alias_tables.specs.Tables.{TableLists}
 use Rattle.alias_plainness.specs.Calls.{no_tables}
-use Rattle.alias_plain_laws.specs.declared.stop.Stop.{Stop}
-use Rattle.alias_plain_laws.specs.declared.stop.Stop.TheVariants as stop
-use Rattle.alias_plain_laws.specs.Answers.{UnitEnd, AllPlain, StopsIn}
+use Rattle.alias_plain.specs.declared.laws.stop.Stop.{Stop}
+use Rattle.alias_plain.specs.declared.laws.stop.Stop.TheVariants as stop
+use Rattle.alias_plain.specs.laws.Answers.{UnitEnd, AllPlain, StopsIn}
 use Rattle.alias_plain.specs.declared.plain.StoppedIn.{StoppedIn}
 
 abbrev pub is_memory : Stop → Bool

@@ -1,5 +1,5 @@
 -- What a scope that holds references speaks of.
-use Rattle.alias_plain_laws.specs.Scopes.{Scope, scope_with}
+use Rattle.alias_plain.specs.laws.Scopes.{Scope, scope_with}
 use Rattle.alias_plain.specs.declared.scope.Scope.{Scope as HeldScope}
 
 abbrev pub held : HeldScope → Scope

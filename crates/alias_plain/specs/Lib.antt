@@ -1,3 +1,5 @@
+pub mod unsure
+pub mod laws
 pub mod Held
 pub mod Calls
 pub mod Ends

@@ -1,7 +1,7 @@
 //! The conditions of an instruction.
 ghost use Rattle.std.specs.Prelude.{◌≡◌, ◌&&◌, ◌++◌, true, not, map, option_map, Ok, Err, IfOk, OnOk};
 ghost use Rattle.std.specs.List.{list_all, list_any};
-ghost use Rattle.alias_function_rules.specs.Rules.{is_among};
+ghost use Rattle.alias_rules.specs.function_rules.Rules.{is_among};
 ghost use Rattle.alias_hir.specs.Values.{created};
 ghost use Rattle.alias_tables.specs.declared.temporaries.Temporary.{Temporary};
 ghost use Rattle.alias_calls.specs.Visits.{rest_use, is_refused};
@@ -10,13 +10,12 @@ ghost use Rattle.alias_plainness.specs.Making.{number, needed};
 ghost use Rattle.alias_plainness.specs.Calls.{Called, called_by, row_of, list_of_part};
 ghost use Rattle.alias_plainness.specs.Conditions.{are_distinct, aliases_into, list_is_made_well, is_spread, row_makes_well, row_is_compatible, row_freezes_no_spread, makes_well, is_compatible, freezes_no_spread, first_broken, own_numbers, part_is_made_well, is_refused_part};
 ghost use Rattle.alias_plain.specs.Calls.{held_call, FaultIs};
-ghost use Rattle.alias_plain_laws.specs.Scans.{sure_in, failing_of};
+ghost use Rattle.alias_plain.specs.laws.Scans.{sure_in, failing_of};
 
 use crate::making::{all_made, is_among, needed, push_places};
+use crate::unsure::UnsureSet;
 use alias_base::FunctionId;
 use alias_calls::{CallSite, compute_effects_for_aliasing_signature_config};
-use alias_function_rules::ids::created;
-use alias_function_rules::listing::first_again;
 use alias_hir::effect::{AliasingEffect, AliasingEffects};
 use alias_hir::env::Environment;
 use alias_hir::hir::Instruction;
@@ -24,8 +23,9 @@ use alias_hir::interned::InternedReports;
 use alias_hir::place::{Effect, Place, PlaceOrSpreadOrHole};
 use alias_hir::signature::{AliasingSignatureConfig, FunctionSignature};
 use alias_hir::types::type_of;
+use alias_rules::function_rules::ids::created;
+use alias_rules::function_rules::listing::first_again;
 use alias_tables::{EffectFault, Refusal, Tables, Temporary};
-use alias_unsure::UnsureSet;
 use std::alloc::{AllocError, Global};
 
 // ---- lists of numbers

@@ -8,17 +8,17 @@ ghost use Rattle.alias_hir.specs.declared.hir.HirFunction.{HirFunction};
 ghost use Rattle.alias_hir.specs.Positions.{positions_of, entry_position};
 ghost use Rattle.alias_facts.specs.declared.facts.FunctionFacts.{FunctionFacts};
 ghost use Rattle.alias_plain.specs.Held.{held};
-ghost use Rattle.alias_plain_laws.specs.UnsureFlow.{unsure_flow, out_set};
-ghost use Rattle.alias_plain_laws.specs.FlowLaws.{unsure_laws};
+ghost use Rattle.alias_plain.specs.laws.UnsureFlow.{unsure_flow, out_set};
+ghost use Rattle.alias_plain.specs.laws.FlowLaws.{unsure_laws};
 
+use crate::laws::Stop;
 use crate::scope::Scope;
 use crate::sure::{out_set, unsure_at_first};
+use crate::unsure::UnsureWays;
 use alias_flow::{Flow, StepFault};
 use alias_hir::hir::BasicBlock;
 use alias_hir::positions::{entry_position, positions_of};
 use alias_hir::successors::terminal_successors;
-use alias_plain_laws::Stop;
-use alias_unsure::UnsureWays;
 use smallvec::SmallVec;
 use std::alloc::{AllocError, Global};
 

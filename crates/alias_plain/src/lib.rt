@@ -3,11 +3,13 @@
 
 mod conditions;
 mod flow;
+pub mod laws;
 mod making;
 mod plain;
 mod scan;
 pub mod scope;
 mod sure;
+pub mod unsure;
 
-pub use alias_plain_laws::{PlainFault, Plainness};
+pub use crate::laws::{PlainFault, Plainness};
 pub use plain::plain_unit;

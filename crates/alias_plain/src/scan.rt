@@ -1,18 +1,20 @@
 //! The instructions of reached blocks, gone through until one breaks a condition.
 ghost use Rattle.std.specs.Prelude.{◌≡◌, true, Some, None, is_some, option_map, slice_get, slice_index_or};
 ghost use Rattle.alias_base.specs.Find.{value_at};
-ghost use Rattle.alias_signature.specs.Globals.{told_of as report_of};
+ghost use Rattle.alias_signature.specs.Globals.{instruction_report as report_of};
 ghost use Rattle.alias_plainness.specs.Calls.{called_by};
 ghost use Rattle.alias_plain.specs.Ends.{Scans, IsStopped};
 ghost use Rattle.alias_plain.specs.Calls.{held_call};
-ghost use Rattle.alias_plain_laws.specs.Scopes.{scope_of};
+ghost use Rattle.alias_plain.specs.laws.Scopes.{scope_of};
 ghost use Rattle.alias_plain.specs.Held.{held};
-ghost use Rattle.alias_plain_laws.specs.Scans.{count_told, count_part, count_row, count_call, failing_of, stops_at, check, check_at, scan_instructions, scan_block, scan_from, scan_function};
+ghost use Rattle.alias_plain.specs.laws.Scans.{count_reported, count_part, count_row, count_call, failing_of, stops_at, check, check_at, scan_instructions, scan_block, scan_from, scan_function};
 
 use crate::conditions::{HeldCall, called, first_failing, row_of};
 use crate::flow::UnsureFlow;
+use crate::laws::Stop;
 use crate::scope::Scope;
 use crate::sure::{entered, list_in, through};
+use crate::unsure::{UnsureSet, UnsureWays};
 use alias_base::InstructionId;
 use alias_calls::compute_effects_for_aliasing_signature_config;
 use alias_facts::function_facts;
@@ -22,18 +24,16 @@ use alias_hir::env::Environment;
 use alias_hir::hir::{BasicBlock, HirFunction, Instruction};
 use alias_hir::interned::InternedReports;
 use alias_hir::signature::{AliasingSignatureConfig, FunctionSignature};
-use alias_plain_laws::Stop;
-use alias_signature::told_of;
+use alias_signature::instruction_report;
 use alias_tables::{EffectFault, Refusal, Tables};
-use alias_unsure::{UnsureSet, UnsureWays};
 use std::alloc::{AllocError, Global};
 
 // ---- numbers that lists need
 
-fn count_told(alloc: Global, instruction: &Instruction, tables: &mut Tables) -> Result<(), Stop>
-    ensures { Scans (count_told (report_of instruction.now.value instruction.now.span) tables.old) result tables.new }
+fn count_reported(alloc: Global, instruction: &Instruction, tables: &mut Tables) -> Result<(), Stop>
+    ensures { Scans (count_reported (report_of instruction.now.value instruction.now.span) tables.old) result tables.new }
 {
-    match told_of(alloc, &instruction.value, instruction.span)? {
+    match instruction_report(alloc, &instruction.value, instruction.span)? {
         Some((identifier, report)) => match tables.intern_report(identifier, report) {
             Ok(_) => Ok(()),
             Err(fault) => stopped(alloc, fault, tables),
@@ -138,7 +138,7 @@ fn check(
     ensures { Scans (check (held scope.now) unsure.now id instruction.now tables.old) result tables.new }
 {
     let list = list_in(alloc, scope, instruction)?;
-    count_told(alloc, instruction, tables)?;
+    count_reported(alloc, instruction, tables)?;
     count_call(alloc, scope.env, list.as_slice(), tables)?;
     check_list(
         alloc,
@@ -237,7 +237,7 @@ fn scan_blocks(
 
 // ---- functions
 
-/// The function of which these facts are known. Two to the 32 blocks or more are answered as want of memory.
+/// The function of which these facts are known. Two to the 32 blocks or more are answered as out of memory.
 fn scan_with(alloc: Global, scope: Scope<'_>, tables: &mut Tables) -> Result<(), Stop>
     requires { is_some (value_at scope.func.now.body.blocks scope.func.now.body.entry) ≡ true }
     ensures { Scans (scan_function (held scope.entry) tables.old) result tables.new }

@@ -4,19 +4,19 @@ ghost use Rattle.std.specs.List.{range_with_len};
 ghost use Rattle.alias_hir.specs.Parts.{param_place};
 ghost use Rattle.alias_plainness.specs.Making.{number};
 ghost use Rattle.alias_plainness.specs.Sureness.{first_two, defined_params};
-ghost use Rattle.alias_unsure.specs.Sets.{union, has};
+ghost use Rattle.alias_plain.specs.unsure.Sets.{union, has};
 ghost use Rattle.alias_flow.specs.Machine.{joined};
 ghost use Rattle.alias_plain.specs.Held.{held};
-ghost use Rattle.alias_plain_laws.specs.UnsureFlow.{with_members, without_members, sure_numbers, unsure_at_first, source_of, operand_is_unsure, with_phi, with_phis, entered_from, entered, rows_or_none, list_in, adds_in, through_at, through, through_all, out_set};
+ghost use Rattle.alias_plain.specs.laws.UnsureFlow.{with_members, without_members, sure_numbers, unsure_at_first, source_of, operand_is_unsure, with_phi, with_phis, entered_from, entered, rows_or_none, list_in, adds_in, through_at, through, through_all, out_set};
 
 use crate::making::{all_made, push_places};
 use crate::scope::Scope;
+use crate::unsure::{UnsureSet, UnsureWays};
 use alias_base::{BlockId, BlockMap, InstructionId};
 use alias_hir::effect::AliasingEffects;
 use alias_hir::hir::{BasicBlock, FunctionType, HirFunction, Instruction, ParamPattern, Phi};
 use alias_lattice::{Lattice, LatticeMap};
 use alias_signature::{Known, signature_of};
-use alias_unsure::{UnsureSet, UnsureWays};
 use std::alloc::{AllocError, Global};
 
 // ---- sets
@@ -97,7 +97,7 @@ fn sure_numbers(alloc: Global, func: &HirFunction) -> Result<Vec<u32>, AllocErro
     Ok(numbers)
 }
 
-/// What isn't sure where a path begins. A table of more than 4,294,967,295 identifiers is answered as want of memory.
+/// What isn't sure where a path begins. A table of more than 4,294,967,295 identifiers is answered as out of memory.
 pub(crate) fn unsure_at_first(alloc: Global, scope: &Scope<'_>) -> Result<UnsureSet, AllocError>
     ensures { IfOk result (λ set. set ≡ unsure_at_first (held scope.now)) }
 {
@@ -180,7 +180,7 @@ pub(crate) fn entered(
     ensures { IfOk result (λ set. set ≡ entered blocks.now phis.now state.now) }
 {
     // Does nothing: it tells the prover that this is a proper value.
-    state.known();
+    state.recall_proper();
     let mut so_far = None;
     let mut after = None;
     'ways: while let Some(entry) = state.entry_after(after) {

@@ -3,9 +3,9 @@ use Rattle.std.specs.Prelude.{◌≡◌, ℕ, zero, suc, List, [], ◌∷◌, Op
 use Rattle.std.proofs.Common.{ap, subst}
 use Rattle.std.specs.List.{flat_map}
 use Rattle.alias_base.specs.Answer.{◌>>=◌}
-use Rattle.alias_events.specs.Each.{each}
-use Rattle.alias_accept_laws.specs.Alike.{Paired, none, more, Maybe, nothing, just}
-use Rattle.alias_accept_laws.proofs.Likeness.{paired_append}
+use Rattle.alias_graph.specs.recorded.Each.{each}
+use Rattle.alias_certificate_laws.specs.accepting.Alike.{Paired, none, more, Maybe, nothing, just}
+use Rattle.alias_certificate_laws.proofs.accepting.Likeness.{paired_append}
 
 -- ---- answers
 

@@ -5,8 +5,8 @@ use Rattle.alias_hir.specs.declared.env.Environment.{Environment}
 use Rattle.alias_hir.specs.declared.hir.HirFunction.{HirFunction}
 use Rattle.alias_hir.specs.declared.report.Interned.{Interned}
 use Rattle.alias_hir.specs.declared.report.Report.{Report}
-use Rattle.alias_ranges.specs.Reports.{with_reports}
-use Rattle.alias_accept_laws.specs.Alike.{Paired}
+use Rattle.alias_graph.specs.Reports.{with_reports}
+use Rattle.alias_certificate_laws.specs.accepting.Alike.{Paired}
 use Rattle.alias_range_alike_laws.specs.Ranging.{NearlyAlike, SameContextAt}
 
 -- the functions are seen nearly alike, and where P holds of a position the context places there are the same

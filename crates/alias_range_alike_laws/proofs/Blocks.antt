@@ -15,16 +15,16 @@ use Rattle.alias_hir.specs.declared.hir.Phi.{Phi}
 use Rattle.alias_hir.specs.declared.place.Place.{Place}
 use Rattle.alias_hir.specs.declared.terminal.Terminal.{Terminal}
 use Rattle.alias_hir.specs.declared.terminal.Terminal.TheVariants as terminal
-use Rattle.alias_ranges.specs.declared.types.EdgeKind.TheVariants.{Alias}
-use Rattle.alias_ranges.specs.declared.types.NodeValue.TheVariants.{Phi as PhiNode}
-use Rattle.alias_ranges.specs.declared.events.GraphEvent.{GraphEvent}
-use Rattle.alias_ranges.specs.declared.events.GraphEvent.TheVariants as event
-use Rattle.alias_events.specs.declared.listing.Listing.{Listing}
-use Rattle.alias_events.specs.Each.{each}
-use Rattle.alias_events.specs.Listings.{position_after, instruction_listed}
-use Rattle.alias_events.specs.BlockListings.{pending_more, added_or_pending, link_of, slot_of_block, operand_listed, phi_listed, returns_listed, alias_listed, aliases_in, with_pending, end_listed, block_listed, blocks_listed, first_listing, listed}
-use Rattle.alias_accept_laws.specs.Alike.{Paired, none, more, Maybe, nothing, just, Alike, apply, create_from, immutable_capture, assign, alias, capture, maybe_alias, create, freeze, impure, mutate_frozen, mutate_global, render, mutate, mutate_conditionally, mutate_transitive, mutate_transitive_conditionally, create_function, AlikeEffects}
-use Rattle.alias_accept_laws.proofs.Likeness.{alike_self, paired_self}
+use Rattle.alias_graph.specs.declared.types.EdgeKind.TheVariants.{Alias}
+use Rattle.alias_graph.specs.declared.types.NodeValue.TheVariants.{Phi as PhiNode}
+use Rattle.alias_graph.specs.declared.events.GraphEvent.{GraphEvent}
+use Rattle.alias_graph.specs.declared.events.GraphEvent.TheVariants as event
+use Rattle.alias_graph.specs.declared.recorded.listing.Listing.{Listing}
+use Rattle.alias_graph.specs.recorded.Each.{each}
+use Rattle.alias_graph.specs.recorded.Listings.{position_after, instruction_listed}
+use Rattle.alias_graph.specs.recorded.BlockListings.{pending_more, added_or_pending, link_of, slot_of_block, operand_listed, phi_listed, returns_listed, alias_listed, aliases_in, with_pending, end_listed, block_listed, blocks_listed, first_listing, listed}
+use Rattle.alias_certificate_laws.specs.accepting.Alike.{Paired, none, more, Maybe, nothing, just, Alike, apply, create_from, immutable_capture, assign, alias, capture, maybe_alias, create, freeze, impure, mutate_frozen, mutate_global, render, mutate, mutate_conditionally, mutate_transitive, mutate_transitive_conditionally, create_function, AlikeEffects}
+use Rattle.alias_certificate_laws.proofs.accepting.Likeness.{alike_self, paired_self}
 use Rattle.alias_range_alike_laws.specs.Ranging.{CarryAlike, EndAlike, stays, ended}
 use Rattle.alias_range_alike_laws.proofs.Answers.{answered, both_then, both_after, each_alike, each_same, same_length}
 use Rattle.alias_range_alike_laws.proofs.Listings.{AlikeListing, listing, BothListed, chosen_alike, event_alike, linked_alike, instruction_alike}

@@ -14,12 +14,12 @@ use Rattle.alias_hir.specs.declared.report.Report.{Report}
 use Rattle.alias_hir.specs.declared.value.InstructionValue.{InstructionValue}
 use Rattle.alias_hir.specs.declared.value.InstructionValue.TheVariants as value
 use Rattle.alias_visit.specs.Operands.{operands_of}
-use Rattle.alias_range_places.specs.Instructions.{context_placed, created_placed}
-use Rattle.alias_range_places.specs.Keeping.{but_effect}
-use Rattle.alias_range_places.specs.Ranges.{ranged, all_ranged}
-use Rattle.alias_range_places.specs.Tables.{Table, with_table}
-use Rattle.alias_accept_laws.specs.Alike.{Paired, none, more, Maybe, nothing, just}
-use Rattle.alias_accept_laws.proofs.Likeness.{paired_get}
+use Rattle.alias_range_pass.specs.places.Instructions.{context_placed, created_placed}
+use Rattle.alias_range_pass.specs.places.Keeping.{but_effect}
+use Rattle.alias_range_pass.specs.places.Ranges.{ranged, all_ranged}
+use Rattle.alias_range_pass.specs.places.Tables.{Table, with_table}
+use Rattle.alias_certificate_laws.specs.accepting.Alike.{Paired, none, more, Maybe, nothing, just}
+use Rattle.alias_certificate_laws.proofs.accepting.Likeness.{paired_get}
 use Rattle.alias_range_alike_laws.specs.Ranging.{NearlyAlike, near, SameContextAt}
 use Rattle.alias_range_alike_laws.proofs.Answers.{paired_set}
 use Rattle.alias_range_alike_laws.proofs.Around.{NearAt, around}

@@ -16,11 +16,11 @@ use Rattle.alias_hir.specs.declared.hir.Instruction.{Instruction}
 use Rattle.alias_hir.specs.declared.report.Interned.{Interned}
 use Rattle.alias_hir.specs.declared.terminal.Terminal.{Terminal}
 use Rattle.alias_hir.specs.declared.terminal.Terminal.TheVariants as terminal
-use Rattle.alias_range_places.specs.Blocks.{terminal_placed, ends_placed, order_or, order_of_first, first_order, Placed, with_blocks, ends_at_slot, with_instructions, block_instructions, placed_at, block_placed, blocks_placed, function_placed}
-use Rattle.alias_range_places.specs.Instructions.{instructions_placed, with_identifiers}
-use Rattle.alias_range_places.specs.Ranges.{phis_merged}
-use Rattle.alias_accept_laws.specs.Alike.{Paired, none, more, Maybe, nothing, just, AlikeEffects}
-use Rattle.alias_accept_laws.proofs.Likeness.{paired_get}
+use Rattle.alias_range_pass.specs.places.Blocks.{terminal_placed, ends_placed, order_or, order_of_first, first_order, Placed, with_blocks, ends_at_slot, with_instructions, block_instructions, placed_at, block_placed, blocks_placed, function_placed}
+use Rattle.alias_range_pass.specs.places.Instructions.{instructions_placed, with_identifiers}
+use Rattle.alias_range_pass.specs.places.Ranges.{phis_merged}
+use Rattle.alias_certificate_laws.specs.accepting.Alike.{Paired, none, more, Maybe, nothing, just, AlikeEffects}
+use Rattle.alias_certificate_laws.proofs.accepting.Likeness.{paired_get}
 use Rattle.alias_range_alike_laws.specs.Ranging.{CarryAlike, carried, EndAlike, stays, ended, CarriesAlike, Sets, SetsContext}
 use Rattle.alias_range_alike_laws.proofs.Answers.{same_length}
 use Rattle.alias_range_alike_laws.proofs.Around.{AlikeEnv, of_env, around, weaken}

@@ -8,20 +8,20 @@ use Rattle.alias_hir.specs.declared.effect.MutationReason.{MutationReason}
 use Rattle.alias_hir.specs.declared.error.HirError.{HirError}
 use Rattle.alias_hir.specs.declared.hir.Instruction.{Instruction}
 use Rattle.alias_hir.specs.declared.place.Place.{Place}
-use Rattle.alias_ranges.specs.declared.types.EdgeKind.{EdgeKind}
-use Rattle.alias_ranges.specs.declared.types.EdgeKind.TheVariants.{Capture, Alias, MaybeAlias}
-use Rattle.alias_ranges.specs.declared.types.MutationKind.{MutationKind}
-use Rattle.alias_ranges.specs.declared.types.MutationKind.TheVariants.{Conditional, Definite}
-use Rattle.alias_ranges.specs.declared.types.NodeValue.TheVariants.{Object, Function}
-use Rattle.alias_ranges.specs.declared.events.GraphEvent.{GraphEvent}
-use Rattle.alias_ranges.specs.declared.events.GraphEvent.TheVariants as event
-use Rattle.alias_events.specs.declared.listing.Listing.{Listing}
-use Rattle.alias_events.specs.declared.listing.RecordedMutation.{RecordedMutation}
-use Rattle.alias_events.specs.declared.listing.RecordedRender.{RecordedRender}
-use Rattle.alias_events.specs.IdSets.{has_made}
-use Rattle.alias_events.specs.Listings.{position_after, with_event, made, made_once, positioned, linked, mutated, summarized, rendered, effect_listed, effects_in, recorded_in, instruction_listed}
-use Rattle.alias_accept_laws.specs.Alike.{Paired, none, more, Maybe, nothing, just, moved, Alike, apply, create_from, immutable_capture, assign, alias, capture, maybe_alias, create, freeze, impure, mutate_frozen, mutate_global, render, mutate, mutate_conditionally, mutate_transitive, mutate_transitive_conditionally, create_function, AlikeEffects}
-use Rattle.alias_accept_laws.proofs.Likeness.{paired_append, paired_get}
+use Rattle.alias_graph.specs.declared.types.EdgeKind.{EdgeKind}
+use Rattle.alias_graph.specs.declared.types.EdgeKind.TheVariants.{Capture, Alias, MaybeAlias}
+use Rattle.alias_graph.specs.declared.types.MutationKind.{MutationKind}
+use Rattle.alias_graph.specs.declared.types.MutationKind.TheVariants.{Conditional, Definite}
+use Rattle.alias_graph.specs.declared.types.NodeValue.TheVariants.{Object, Function}
+use Rattle.alias_graph.specs.declared.events.GraphEvent.{GraphEvent}
+use Rattle.alias_graph.specs.declared.events.GraphEvent.TheVariants as event
+use Rattle.alias_graph.specs.declared.recorded.listing.Listing.{Listing}
+use Rattle.alias_graph.specs.declared.recorded.listing.RecordedMutation.{RecordedMutation}
+use Rattle.alias_graph.specs.declared.recorded.listing.RecordedRender.{RecordedRender}
+use Rattle.alias_graph.specs.recorded.IdSets.{has_made}
+use Rattle.alias_graph.specs.recorded.Listings.{position_after, with_event, made, made_once, positioned, linked, mutated, summarized, rendered, effect_listed, effects_in, recorded_in, instruction_listed}
+use Rattle.alias_certificate_laws.specs.accepting.Alike.{Paired, none, more, Maybe, nothing, just, moved, Alike, apply, create_from, immutable_capture, assign, alias, capture, maybe_alias, create, freeze, impure, mutate_frozen, mutate_global, render, mutate, mutate_conditionally, mutate_transitive, mutate_transitive_conditionally, create_function, AlikeEffects}
+use Rattle.alias_certificate_laws.proofs.accepting.Likeness.{paired_append, paired_get}
 use Rattle.alias_range_alike_laws.specs.Ranging.{CarryAlike, carried}
 use Rattle.alias_range_alike_laws.proofs.Answers.{Both, answered, both_after, each_alike}
 

@@ -4,17 +4,17 @@ use Rattle.std.proofs.Common.{ap, ◌∙◌}
 use Rattle.alias_base.specs.declared.ids.IdentifierId.{IdentifierId}
 use Rattle.alias_hir.specs.declared.effect.MutationReason.{MutationReason}
 use Rattle.alias_hir.specs.declared.place.Span.{Span}
-use Rattle.alias_ranges.specs.declared.types.Entry.{Entry}
-use Rattle.alias_ranges.specs.declared.types.MutationInfo.{MutationInfo}
-use Rattle.alias_ranges.specs.declared.types.MutationKind.{MutationKind}
-use Rattle.alias_ranges.specs.declared.types.MutationKind.TheVariants.{Conditional, Definite}
-use Rattle.alias_ranges.specs.declared.types.Origin.{Origin}
-use Rattle.alias_ranges.specs.Graph.{changed}
-use Rattle.alias_ranges.specs.Links.{covers, next, node_exists, led_from, links_of, all_links, walk}
-use Rattle.alias_ranges.specs.Marks.{later, first_reason, higher, remarked, info, marked_by, visited, marked}
-use Rattle.alias_ranges.specs.Nodes.{Node, Nodes, node_at, same_id}
-use Rattle.alias_ranges.specs.Walks.{run}
-use Rattle.alias_accept_laws.specs.Alike.{Paired, none, more, Maybe, nothing, just}
+use Rattle.alias_graph.specs.declared.types.Entry.{Entry}
+use Rattle.alias_graph.specs.declared.types.MutationInfo.{MutationInfo}
+use Rattle.alias_graph.specs.declared.types.MutationKind.{MutationKind}
+use Rattle.alias_graph.specs.declared.types.MutationKind.TheVariants.{Conditional, Definite}
+use Rattle.alias_graph.specs.declared.types.Origin.{Origin}
+use Rattle.alias_graph.specs.Graph.{changed}
+use Rattle.alias_graph.specs.Links.{covers, next, node_exists, led_from, links_of, all_links, walk}
+use Rattle.alias_graph.specs.NodeMarks.{later, first_reason, higher, remarked, info, marked_by, visited, marked}
+use Rattle.alias_graph.specs.Nodes.{Node, Nodes, node_at, same_id}
+use Rattle.alias_graph.specs.Walks.{run}
+use Rattle.alias_certificate_laws.specs.accepting.Alike.{Paired, none, more, Maybe, nothing, just}
 
 -- ---- what is alike
 

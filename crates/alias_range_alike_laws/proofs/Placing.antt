@@ -12,12 +12,12 @@ use Rattle.alias_hir.specs.declared.hir.Instruction.{Instruction}
 use Rattle.alias_hir.specs.declared.report.Interned.{Interned}
 use Rattle.alias_hir.specs.declared.value.InstructionValue.{InstructionValue}
 use Rattle.alias_hir.specs.declared.value.InstructionValue.TheVariants as value
-use Rattle.alias_ranges.specs.Walks.{IsOneOf}
-use Rattle.alias_range_places.specs.Instructions.{value_placed, places_placed, created_placed, surroundings, surrounded, env_assigned, placed_by, instruction_placed, placed_in, instruction_at, instructions_placed}
-use Rattle.alias_range_places.specs.Ranges.{started, assigned, value_stored}
-use Rattle.alias_range_places.specs.Tables.{Table, effect_tabled, effects_tabled, recorded, table_of}
-use Rattle.alias_accept_laws.specs.Alike.{Paired, none, more, Maybe, nothing, just, Alike, apply, create_from, immutable_capture, assign, alias, capture, maybe_alias, create, freeze, impure, mutate_frozen, mutate_global, render, mutate, mutate_conditionally, mutate_transitive, mutate_transitive_conditionally, create_function, AlikeEffects}
-use Rattle.alias_accept_laws.proofs.Likeness.{paired_get}
+use Rattle.alias_graph.specs.Walks.{IsOneOf}
+use Rattle.alias_range_pass.specs.places.Instructions.{value_placed, places_placed, created_placed, surroundings, surrounded, env_assigned, placed_by, instruction_placed, placed_in, instruction_at, instructions_placed}
+use Rattle.alias_range_pass.specs.places.Ranges.{started, assigned, value_stored}
+use Rattle.alias_range_pass.specs.places.Tables.{Table, effect_tabled, effects_tabled, recorded, table_of}
+use Rattle.alias_certificate_laws.specs.accepting.Alike.{Paired, none, more, Maybe, nothing, just, Alike, apply, create_from, immutable_capture, assign, alias, capture, maybe_alias, create, freeze, impure, mutate_frozen, mutate_global, render, mutate, mutate_conditionally, mutate_transitive, mutate_transitive_conditionally, create_function, AlikeEffects}
+use Rattle.alias_certificate_laws.proofs.accepting.Likeness.{paired_get}
 use Rattle.alias_range_alike_laws.specs.Ranging.{CarryAlike, carried, Sets}
 use Rattle.alias_range_alike_laws.proofs.Answers.{paired_set}
 use Rattle.alias_range_alike_laws.proofs.Around.{AlikeEnv, of_env, around, weaken}

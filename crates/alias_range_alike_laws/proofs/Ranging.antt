@@ -11,15 +11,15 @@ use Rattle.alias_hir.specs.declared.hir.HirFunction.{HirFunction}
 use Rattle.alias_hir.specs.declared.hir.Instruction.{Instruction}
 use Rattle.alias_hir.specs.declared.place.Place.{Place}
 use Rattle.alias_hir.specs.declared.report.Interned.{Interned}
-use Rattle.alias_ranges.specs.Nodes.{Nodes}
-use Rattle.alias_events.specs.declared.listing.Listing.{Listing}
-use Rattle.alias_range_places.specs.Blocks.{function_placed}
-use Rattle.alias_range_summary.specs.Marks.{function_captured}
-use Rattle.alias_range_summary.specs.Summaries.{summarized}
-use Rattle.alias_range_summary.specs.Walking.{Walked, mutations_done, renders_done}
+use Rattle.alias_graph.specs.Nodes.{Nodes}
+use Rattle.alias_graph.specs.declared.recorded.listing.Listing.{Listing}
+use Rattle.alias_range_pass.specs.places.Blocks.{function_placed}
+use Rattle.alias_range_pass.specs.summary.MarkedPlaces.{function_captured}
+use Rattle.alias_range_pass.specs.summary.Summaries.{summarized}
+use Rattle.alias_range_pass.specs.summary.Walking.{Walked, mutations_done, renders_done}
 use Rattle.alias_range_pass.specs.Passes.{records, Ranged, ranged_after, range_pass}
 use Rattle.alias_range_pass.specs.Refusals.{recorded}
-use Rattle.alias_accept_laws.specs.Alike.{Paired, none, more, AlikeEffects, AlikeFunction, seen, Elsewhere}
+use Rattle.alias_certificate_laws.specs.accepting.Alike.{Paired, none, more, AlikeEffects, AlikeFunction, seen, Elsewhere}
 use Rattle.alias_range_alike_laws.specs.Ranging.{CarryAlike, EndAlike, CarriesAlike, NearlyAlike, near, Nearby, nearby, SameContextAt, RangesAlike, RangesNearby}
 use Rattle.alias_range_alike_laws.proofs.Answers.{Both, answered, both_then, Beside, beside}
 use Rattle.alias_range_alike_laws.proofs.Around.{NearAt, AlikeEnv, of_env}

@@ -14,12 +14,12 @@ use Rattle.alias_hir.specs.declared.hir.HirFunction.{HirFunction}
 use Rattle.alias_hir.specs.declared.hir.Instruction.{Instruction}
 use Rattle.alias_hir.specs.Errors.{infer_error}
 use Rattle.alias_rules.specs.Fitting.{is_apply}
-use Rattle.alias_events.specs.declared.listing.Listing.{Listing}
-use Rattle.alias_events.specs.BlockListings.{listed}
-use Rattle.alias_range_summary.specs.Summaries.{tracked}
+use Rattle.alias_graph.specs.declared.recorded.listing.Listing.{Listing}
+use Rattle.alias_graph.specs.recorded.BlockListings.{listed}
+use Rattle.alias_range_pass.specs.summary.Summaries.{tracked}
 use Rattle.alias_range_pass.specs.Refusals.{has_apply, carries_apply, first_apply, or_else, first_apply_of, unreplaced, none_unreplaced, listing_or, positions_left, recorded}
-use Rattle.alias_accept_laws.specs.Alike.{Paired, none, more, Maybe, nothing, just, Alike, apply, create_from, immutable_capture, assign, alias, capture, maybe_alias, create, freeze, impure, mutate_frozen, mutate_global, render, mutate, mutate_conditionally, mutate_transitive, mutate_transitive_conditionally, create_function, AlikeEffects}
-use Rattle.alias_accept_laws.proofs.Likeness.{paired_get}
+use Rattle.alias_certificate_laws.specs.accepting.Alike.{Paired, none, more, Maybe, nothing, just, Alike, apply, create_from, immutable_capture, assign, alias, capture, maybe_alias, create, freeze, impure, mutate_frozen, mutate_global, render, mutate, mutate_conditionally, mutate_transitive, mutate_transitive_conditionally, create_function, AlikeEffects}
+use Rattle.alias_certificate_laws.proofs.accepting.Likeness.{paired_get}
 use Rattle.alias_range_alike_laws.specs.Ranging.{CarryAlike, carried, EndAlike, stays, ended}
 use Rattle.alias_range_alike_laws.proofs.Answers.{Both, answered, refused, both_then, both_after}
 use Rattle.alias_range_alike_laws.proofs.Listings.{AlikeListing, listing, BothListed}

@@ -17,27 +17,27 @@ use Rattle.alias_hir.specs.declared.place.Place.{Place}
 use Rattle.alias_hir.specs.declared.report.Report.{Report}
 use Rattle.alias_hir.specs.declared.value.InstructionValue.{InstructionValue}
 use Rattle.alias_visit.specs.Operands.{operands_of}
-use Rattle.alias_ranges.specs.declared.types.Entry.{Entry}
-use Rattle.alias_ranges.specs.declared.types.NodeValue.{NodeValue}
-use Rattle.alias_ranges.specs.declared.types.NodeValue.TheVariants.{Object, Phi as PhiNode, Function}
-use Rattle.alias_ranges.specs.declared.types.Origin.{Origin}
-use Rattle.alias_ranges.specs.Marks.{marked, ranges_after}
-use Rattle.alias_ranges.specs.Nodes.{Node, Nodes, node_at}
-use Rattle.alias_ranges.specs.Renders.{render_reports, rendered}
-use Rattle.alias_ranges.specs.Reports.{value_reports, reported_at, reports_after, with_reports, walked}
-use Rattle.alias_events.specs.declared.listing.Listing.{Listing}
-use Rattle.alias_events.specs.declared.listing.RecordedMutation.{RecordedMutation}
-use Rattle.alias_events.specs.declared.listing.RecordedRender.{RecordedRender}
-use Rattle.alias_events.specs.Recording.{graph_listed}
-use Rattle.alias_range_places.specs.Blocks.{terminal_placed, first_order, Placed, with_blocks, ends_at_slot, with_instructions, block_instructions, placed_at, block_placed, blocks_placed, function_placed, phi_placed}
-use Rattle.alias_range_places.specs.Instructions.{places_placed, with_identifiers, surroundings, surrounded, env_assigned, placed_by, instruction_placed, placed_in, instruction_at, instructions_placed}
-use Rattle.alias_range_places.specs.Ranges.{started, all_ranged, assigned, value_stored, phis_merged}
-use Rattle.alias_range_places.specs.Tables.{Table, table_of}
-use Rattle.alias_range_summary.specs.declared.start.WalkStart.{WalkStart}
-use Rattle.alias_range_summary.specs.Flows.{flows_listed}
-use Rattle.alias_range_summary.specs.Marks.{marks_of_all, function_captured}
-use Rattle.alias_range_summary.specs.Summaries.{context_and_params, tracked, summarized}
-use Rattle.alias_range_summary.specs.Walking.{start_origin, expanded, nodes_after, env_after, mutation_start, Walked, after_mutation, after_mutations, after_render, after_renders, env_reported, mutations_done, renders_done}
+use Rattle.alias_graph.specs.declared.types.Entry.{Entry}
+use Rattle.alias_graph.specs.declared.types.NodeValue.{NodeValue}
+use Rattle.alias_graph.specs.declared.types.NodeValue.TheVariants.{Object, Phi as PhiNode, Function}
+use Rattle.alias_graph.specs.declared.types.Origin.{Origin}
+use Rattle.alias_graph.specs.NodeMarks.{marked, ranges_after}
+use Rattle.alias_graph.specs.Nodes.{Node, Nodes, node_at}
+use Rattle.alias_graph.specs.Renders.{render_reports, rendered}
+use Rattle.alias_graph.specs.Reports.{value_reports, reported_at, reports_after, with_reports, walked}
+use Rattle.alias_graph.specs.declared.recorded.listing.Listing.{Listing}
+use Rattle.alias_graph.specs.declared.recorded.listing.RecordedMutation.{RecordedMutation}
+use Rattle.alias_graph.specs.declared.recorded.listing.RecordedRender.{RecordedRender}
+use Rattle.alias_graph.specs.recorded.Recording.{graph_listed}
+use Rattle.alias_range_pass.specs.places.Blocks.{terminal_placed, first_order, Placed, with_blocks, ends_at_slot, with_instructions, block_instructions, placed_at, block_placed, blocks_placed, function_placed, phi_placed}
+use Rattle.alias_range_pass.specs.places.Instructions.{places_placed, with_identifiers, surroundings, surrounded, env_assigned, placed_by, instruction_placed, placed_in, instruction_at, instructions_placed}
+use Rattle.alias_range_pass.specs.places.Ranges.{started, all_ranged, assigned, value_stored, phis_merged}
+use Rattle.alias_range_pass.specs.places.Tables.{Table, table_of}
+use Rattle.alias_range_pass.specs.declared.summary.start.WalkStart.{WalkStart}
+use Rattle.alias_range_pass.specs.summary.Flows.{flows_listed}
+use Rattle.alias_range_pass.specs.summary.MarkedPlaces.{marks_of_all, function_captured}
+use Rattle.alias_range_pass.specs.summary.Summaries.{context_and_params, tracked, summarized}
+use Rattle.alias_range_pass.specs.summary.Walking.{start_origin, expanded, nodes_after, env_after, mutation_start, Walked, after_mutation, after_mutations, after_render, after_renders, env_reported, mutations_done, renders_done}
 use Rattle.alias_range_pass.specs.Passes.{records, Ranged, ranged, range_pass}
 use Rattle.alias_range_pass.specs.Refusals.{recorded}
 use Rattle.alias_range_alike_laws.specs.Spans.{RangesReadNoSpan}

@@ -22,15 +22,15 @@ use Rattle.alias_hir.specs.declared.types.Ty.{Ty}
 use Rattle.alias_hir.specs.declared.value.InstructionValue.{InstructionValue}
 use Rattle.alias_hir.specs.declared.value.InstructionValue.TheVariants as value
 use Rattle.alias_visit.specs.Operands.{operands_of, lvalues_of}
-use Rattle.alias_ranges.specs.Marks.{raised, ranges_after, range_visited}
-use Rattle.alias_ranges.specs.Reach.{end_of}
-use Rattle.alias_ranges.specs.declared.types.Entry.{Entry}
-use Rattle.alias_range_places.specs.Blocks.{operand_with, phi_placed, with_effect}
-use Rattle.alias_range_places.specs.Ranges.{with_range, ranged, all_ranged, assigned, begun, stored, merged, value_stored, phis_merged}
-use Rattle.alias_range_places.specs.Tables.{Table, set_effect, source_effect, flow_tabled, effect_tabled, effects_tabled, recorded, table_of}
-use Rattle.alias_range_summary.specs.Summaries.{returns_created}
-use Rattle.alias_accept_laws.specs.Alike.{Paired, Maybe, nothing, just}
-use Rattle.alias_accept_laws.proofs.Likeness.{paired_get}
+use Rattle.alias_graph.specs.NodeMarks.{raised, ranges_after, range_visited}
+use Rattle.alias_graph.specs.Reach.{end_of}
+use Rattle.alias_graph.specs.declared.types.Entry.{Entry}
+use Rattle.alias_range_pass.specs.places.Blocks.{operand_with, phi_placed, with_effect}
+use Rattle.alias_range_pass.specs.places.Ranges.{with_range, ranged, all_ranged, assigned, begun, stored, merged, value_stored, phis_merged}
+use Rattle.alias_range_pass.specs.places.Tables.{Table, set_effect, source_effect, flow_tabled, effect_tabled, effects_tabled, recorded, table_of}
+use Rattle.alias_range_pass.specs.summary.Summaries.{returns_created}
+use Rattle.alias_certificate_laws.specs.accepting.Alike.{Paired, Maybe, nothing, just}
+use Rattle.alias_certificate_laws.proofs.accepting.Likeness.{paired_get}
 use Rattle.alias_range_alike_laws.specs.Spans.{Respanned, respanned}
 use Rattle.alias_range_alike_laws.proofs.Answers.{paired_set}
 

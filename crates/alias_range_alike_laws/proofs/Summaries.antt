@@ -11,17 +11,17 @@ use Rattle.alias_hir.specs.declared.hir.ParamPattern.{ParamPattern}
 use Rattle.alias_hir.specs.declared.hir.ParamPattern.TheVariants as param
 use Rattle.alias_hir.specs.declared.place.Effect.TheVariants.{Capture}
 use Rattle.alias_hir.specs.declared.place.Place.{Place}
-use Rattle.alias_ranges.specs.declared.types.MutationInfo.{MutationInfo}
-use Rattle.alias_ranges.specs.declared.types.MutationKind.{MutationKind}
-use Rattle.alias_ranges.specs.declared.types.MutationKind.TheVariants.{Conditional, Definite}
-use Rattle.alias_ranges.specs.Flat.{marks_of}
-use Rattle.alias_ranges.specs.Nodes.{Node, Nodes, node_at}
-use Rattle.alias_range_summary.specs.Flows.{flow_start, ends_at, is_last, flow_effect, flows_into, flows_listed}
-use Rattle.alias_range_summary.specs.Marks.{marks_at, at_mark, local_effect, local_effects, transitive_effect, transitive_effects, node_effects, mark_effects, marks_of_all, is_marked_node, captured, param_captured, function_captured}
-use Rattle.alias_range_summary.specs.Summaries.{context_and_params, tracked, returns_created, summarized}
-use Rattle.alias_range_summary.specs.Walking.{nodes_after}
-use Rattle.alias_accept_laws.specs.Alike.{none, more, Maybe, nothing, just, Alike, mutate, mutate_conditionally, mutate_transitive, mutate_transitive_conditionally, AlikeEffects}
-use Rattle.alias_accept_laws.proofs.Likeness.{alike_self, paired_self, paired_append}
+use Rattle.alias_graph.specs.declared.types.MutationInfo.{MutationInfo}
+use Rattle.alias_graph.specs.declared.types.MutationKind.{MutationKind}
+use Rattle.alias_graph.specs.declared.types.MutationKind.TheVariants.{Conditional, Definite}
+use Rattle.alias_graph.specs.Flat.{marks_of}
+use Rattle.alias_graph.specs.Nodes.{Node, Nodes, node_at}
+use Rattle.alias_range_pass.specs.summary.Flows.{flow_start, ends_at, is_last, flow_effect, flows_into, flows_listed}
+use Rattle.alias_range_pass.specs.summary.MarkedPlaces.{marks_at, at_mark, local_effect, local_effects, transitive_effect, transitive_effects, node_effects, mark_effects, marks_of_all, is_marked_node, captured, param_captured, function_captured}
+use Rattle.alias_range_pass.specs.summary.Summaries.{context_and_params, tracked, returns_created, summarized}
+use Rattle.alias_range_pass.specs.summary.Walking.{nodes_after}
+use Rattle.alias_certificate_laws.specs.accepting.Alike.{none, more, Maybe, nothing, just, Alike, mutate, mutate_conditionally, mutate_transitive, mutate_transitive_conditionally, AlikeEffects}
+use Rattle.alias_certificate_laws.proofs.accepting.Likeness.{alike_self, paired_self, paired_append}
 use Rattle.alias_range_alike_laws.proofs.Answers.{flat_alike}
 use Rattle.alias_range_alike_laws.proofs.Nodes.{AlikeInfo, of_info, AlikeNode, of_node, AlikeNodes, node_alike}
 use Rattle.alias_range_alike_laws.proofs.Walks.{start_self, nodes_after_alike}

@@ -2,26 +2,26 @@
 use Rattle.std.specs.Prelude.{◌≡◌, ℕ, Bool, true, false, cond, List, [], Option}
 use Rattle.std.proofs.Common.{ap, sym, subst}
 use Rattle.alias_base.specs.declared.ids.EvaluationOrder.{EvaluationOrder}
-use Rattle.alias_hir.specs.Diagnostics.{effect_reports}
+use Rattle.alias_hir.specs.ReportNumbers.{effect_reports}
 use Rattle.alias_hir.specs.declared.effect.MutationReason.{MutationReason}
 use Rattle.alias_hir.specs.declared.env.Environment.{Environment}
 use Rattle.alias_hir.specs.declared.place.Place.{Place}
 use Rattle.alias_hir.specs.declared.report.Interned.{Interned}
 use Rattle.alias_hir.specs.declared.report.Report.{Report}
-use Rattle.alias_ranges.specs.declared.types.Entry.{Entry}
-use Rattle.alias_ranges.specs.declared.types.Origin.{Origin}
-use Rattle.alias_ranges.specs.Marks.{marked, with_ranges}
-use Rattle.alias_ranges.specs.Nodes.{Nodes}
-use Rattle.alias_ranges.specs.Renders.{rendered, render_reports}
-use Rattle.alias_ranges.specs.Reports.{walked, with_reports, reports_after}
-use Rattle.alias_ranges.specs.Walks.{Walk}
-use Rattle.alias_events.specs.declared.listing.Listing.{Listing}
-use Rattle.alias_events.specs.declared.listing.RecordedMutation.{RecordedMutation}
-use Rattle.alias_events.specs.declared.listing.RecordedRender.{RecordedRender}
-use Rattle.alias_events.specs.Recording.{graph_listed}
-use Rattle.alias_range_summary.specs.declared.start.WalkStart.{WalkStart}
-use Rattle.alias_range_summary.specs.Walking.{start_entry, start_origin, expanded, nodes_after, env_after, mutation_start, Walked, after_mutation, after_mutations, after_render, after_renders, env_reported, mutations_done, renders_done}
-use Rattle.alias_accept_laws.specs.Alike.{Paired, none, more, moved}
+use Rattle.alias_graph.specs.declared.types.Entry.{Entry}
+use Rattle.alias_graph.specs.declared.types.Origin.{Origin}
+use Rattle.alias_graph.specs.NodeMarks.{marked, with_ranges}
+use Rattle.alias_graph.specs.Nodes.{Nodes}
+use Rattle.alias_graph.specs.Renders.{rendered, render_reports}
+use Rattle.alias_graph.specs.Reports.{walked, with_reports, reports_after}
+use Rattle.alias_graph.specs.Walks.{Walk}
+use Rattle.alias_graph.specs.declared.recorded.listing.Listing.{Listing}
+use Rattle.alias_graph.specs.declared.recorded.listing.RecordedMutation.{RecordedMutation}
+use Rattle.alias_graph.specs.declared.recorded.listing.RecordedRender.{RecordedRender}
+use Rattle.alias_graph.specs.recorded.Recording.{graph_listed}
+use Rattle.alias_range_pass.specs.declared.summary.start.WalkStart.{WalkStart}
+use Rattle.alias_range_pass.specs.summary.Walking.{start_entry, start_origin, expanded, nodes_after, env_after, mutation_start, Walked, after_mutation, after_mutations, after_render, after_renders, env_reported, mutations_done, renders_done}
+use Rattle.alias_certificate_laws.specs.accepting.Alike.{Paired, none, more, moved}
 use Rattle.alias_range_alike_laws.proofs.Around.{AlikeEnv, of_env, reported_alike}
 use Rattle.alias_range_alike_laws.proofs.Listings.{AlikeMutation, of_mutation, AlikeRender, AlikeListing, listing}
 use Rattle.alias_range_alike_laws.proofs.Nodes.{AlikeNodes, nodes_self, marked_alike, walk_same}

@@ -11,10 +11,10 @@ use Rattle.alias_hir.specs.declared.hir.HirFunction.{HirFunction}
 use Rattle.alias_hir.specs.declared.hir.Instruction.{Instruction}
 use Rattle.alias_hir.specs.declared.place.Place.{Place}
 use Rattle.alias_hir.specs.declared.report.Interned.{Interned}
-use Rattle.alias_ranges.specs.Walks.{IsOneOf}
-use Rattle.alias_range_places.specs.Keeping.{but_effect}
+use Rattle.alias_graph.specs.Walks.{IsOneOf}
+use Rattle.alias_range_pass.specs.places.Keeping.{but_effect}
 use Rattle.alias_range_pass.specs.Passes.{Ranged, range_pass, records}
-use Rattle.alias_accept_laws.specs.Alike.{Paired, Maybe, AlikeEffects, Elsewhere, elsewhere}
+use Rattle.alias_certificate_laws.specs.accepting.Alike.{Paired, Maybe, AlikeEffects, Elsewhere, elsewhere}
 
 -- ---- functions that carry effects that are alike
 

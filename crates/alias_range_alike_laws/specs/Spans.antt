@@ -5,7 +5,7 @@ use Rattle.alias_hir.specs.declared.env.Identifier.{Identifier}
 use Rattle.alias_hir.specs.declared.hir.HirFunction.{HirFunction}
 use Rattle.alias_hir.specs.declared.place.Span.{Span}
 use Rattle.alias_range_pass.specs.Passes.{Ranged, range_pass}
-use Rattle.alias_accept_laws.specs.Alike.{Paired}
+use Rattle.alias_certificate_laws.specs.accepting.Alike.{Paired}
 
 -- the same identifier with another span
 pub data Respanned : Identifier → Identifier → Type 0 where

@@ -8,12 +8,12 @@ use Rattle.alias_hir.specs.declared.hir.ParamPattern.TheVariants as param
 use Rattle.alias_hir.specs.declared.place.Effect.TheVariants.{Capture}
 use Rattle.alias_hir.specs.declared.place.Place.{Place}
 use Rattle.alias_hir.specs.declared.report.Report.{Report}
-use Rattle.alias_ranges.specs.Nodes.{Nodes}
-use Rattle.alias_ranges.specs.Reach.{but_end}
-use Rattle.alias_ranges.specs.Renders.{Grown}
-use Rattle.alias_range_places.specs.Keeping.{but_range, but_effect, but_context, but_effects, EnvKept}
-use Rattle.alias_range_summary.specs.Keeping.{but_walks, WalksKeep}
-use Rattle.alias_range_summary.specs.Marks.{is_marked, captured, param_captured, function_captured, IsSameOrCaptured}
+use Rattle.alias_graph.specs.Nodes.{Nodes}
+use Rattle.alias_graph.specs.Reach.{but_end}
+use Rattle.alias_graph.specs.Renders.{Grown}
+use Rattle.alias_range_pass.specs.places.Keeping.{but_range, but_effect, but_context, but_effects, EnvKept}
+use Rattle.alias_range_pass.specs.summary.Keeping.{but_walks, WalksKeep}
+use Rattle.alias_range_pass.specs.summary.MarkedPlaces.{is_marked, captured, param_captured, function_captured, IsSameOrCaptured}
 use Rattle.alias_range_pass.specs.Laws.{but_inferred, PassKeeps, but_param, but_places}
 
 -- ---- the environment

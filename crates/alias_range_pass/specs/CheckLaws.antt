@@ -18,17 +18,17 @@ use Rattle.alias_hir.specs.declared.hir.Phi.{Phi}
 use Rattle.alias_hir.specs.declared.place.Place.{Place}
 use Rattle.alias_hir.specs.Effects.{effect_places, error_of, function_of, signature_of}
 use Rattle.alias_hir.specs.Parts.{param_place}
-use Rattle.alias_function_rules.specs.declared.fault.Table.TheVariants.{Identifiers}
-use Rattle.alias_function_rules.specs.declared.fault.UnitFault.{UnitFault}
-use Rattle.alias_function_rules.specs.declared.fault.UnitFault.TheVariants.{IdOutOfRange, OrderOutOfRange}
-use Rattle.alias_function_rules.specs.Rules.{place_fits, phi_fits, block_fits, instruction_fits, numbers_fit, order_fits, orders_fit, tables_fit, types_fit}
+use Rattle.alias_rules.specs.declared.function_rules.fault.Table.TheVariants.{Identifiers}
+use Rattle.alias_rules.specs.declared.function_rules.fault.UnitFault.{UnitFault}
+use Rattle.alias_rules.specs.declared.function_rules.fault.UnitFault.TheVariants.{IdOutOfRange, OrderOutOfRange}
+use Rattle.alias_rules.specs.function_rules.Rules.{place_fits, phi_fits, block_fits, instruction_fits, numbers_fit, order_fits, orders_fit, tables_fit, types_fit}
 use Rattle.alias_rules.specs.declared.rules.Rule.TheVariants.{Numbers, Entry, Successors, ListedOnce, Handlers, Phis, Orders}
 use Rattle.alias_rules.specs.Functions.{each_function}
 use Rattle.alias_rules.specs.Fitting.{place_within_tables, error_within_tables, function_within_tables, type_within_tables, named_within_tables, summary_within_tables, effect_within_tables, recorded_within_tables, effects_within_tables, holds_no_call, effects_fit, effects_fit_at, reports_no_invariant, function_rules, function_fits}
 use Rattle.alias_rules.specs.RuleLaws.{fitting_tree, fitting_rules}
-use Rattle.alias_events.specs.Fitting.{AllOf, EffectFits, EffectsFit, OrderHasNext, InstructionFits, PhiFits, BlockFits, EventFits, FunctionFits}
-use Rattle.alias_events.specs.FitLaws.{all_append}
-use Rattle.alias_events.specs.BlockListings.{object_of}
+use Rattle.alias_graph.specs.recorded.Fitting.{AllOf, EffectFits, EffectsFit, OrderHasNext, InstructionFits, PhiFits, BlockFits, EventFits, FunctionFits}
+use Rattle.alias_graph.specs.recorded.FitLaws.{all_append}
+use Rattle.alias_graph.specs.recorded.BlockListings.{object_of}
 
 -- ---- places and orders
 

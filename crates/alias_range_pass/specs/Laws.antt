@@ -6,13 +6,13 @@ use Rattle.alias_hir.specs.declared.hir.HirFunction.{HirFunction}
 use Rattle.alias_hir.specs.declared.hir.Instruction.{Instruction}
 use Rattle.alias_hir.specs.declared.hir.ParamPattern.{ParamPattern}
 use Rattle.alias_hir.specs.declared.hir.ParamPattern.TheVariants as param
-use Rattle.alias_ranges.specs.Nodes.{Nodes}
-use Rattle.alias_ranges.specs.Reach.{end_at}
-use Rattle.alias_ranges.specs.Renders.{Grown}
-use Rattle.alias_events.specs.declared.listing.RecordedMutation.{RecordedMutation}
-use Rattle.alias_range_places.specs.Causes.{InstructionCause}
-use Rattle.alias_range_places.specs.Keeping.{but_range, but_effect, but_context, but_effects}
-use Rattle.alias_range_summary.specs.Laws.{MutationCause}
+use Rattle.alias_graph.specs.Nodes.{Nodes}
+use Rattle.alias_graph.specs.Reach.{end_at}
+use Rattle.alias_graph.specs.Renders.{Grown}
+use Rattle.alias_graph.specs.declared.recorded.listing.RecordedMutation.{RecordedMutation}
+use Rattle.alias_range_pass.specs.places.Causes.{InstructionCause}
+use Rattle.alias_range_pass.specs.places.Keeping.{but_range, but_effect, but_context, but_effects}
+use Rattle.alias_range_pass.specs.summary.Laws.{MutationCause}
 
 -- each range end is that of before, or one past a recorded mutation that a legal path joins to the identifier, or one past an instruction that assigns or stores it
 abbrev pub Causes : Nodes → List RecordedMutation → List Instruction → List Identifier → List Identifier → Type 0

@@ -1,3 +1,5 @@
+pub mod places
+pub mod summary
 pub mod Refusals
 pub mod Passes
 pub mod Laws

@@ -6,11 +6,11 @@ use Rattle.alias_hir.specs.declared.env.Environment.{Environment}
 use Rattle.alias_hir.specs.declared.error.InferError.{InferError}
 use Rattle.alias_hir.specs.declared.hir.HirFunction.{HirFunction}
 use Rattle.alias_hir.specs.Errors.{is_memory}
-use Rattle.alias_events.specs.declared.listing.Listing.{Listing}
-use Rattle.alias_range_places.specs.Blocks.{Placed, function_placed}
-use Rattle.alias_range_summary.specs.Marks.{function_captured}
-use Rattle.alias_range_summary.specs.Summaries.{summarized}
-use Rattle.alias_range_summary.specs.Walking.{Walked, mutations_done, renders_done}
+use Rattle.alias_graph.specs.declared.recorded.listing.Listing.{Listing}
+use Rattle.alias_range_pass.specs.places.Blocks.{Placed, function_placed}
+use Rattle.alias_range_pass.specs.summary.MarkedPlaces.{function_captured}
+use Rattle.alias_range_pass.specs.summary.Summaries.{summarized}
+use Rattle.alias_range_pass.specs.summary.Walking.{Walked, mutations_done, renders_done}
 use Rattle.alias_range_pass.specs.Refusals.{recorded}
 
 -- errors are recorded for the root, with validations on

@@ -17,9 +17,9 @@ use Rattle.alias_hir.specs.declared.report.ErrorCategory.TheVariants.{Invariant}
 use Rattle.alias_hir.specs.declared.report.Report.{Report}
 use Rattle.alias_hir.specs.Errors.{infer_error}
 use Rattle.alias_rules.specs.Fitting.{is_apply}
-use Rattle.alias_events.specs.declared.listing.Listing.{Listing}
-use Rattle.alias_events.specs.BlockListings.{listed}
-use Rattle.alias_range_summary.specs.Summaries.{tracked}
+use Rattle.alias_graph.specs.declared.recorded.listing.Listing.{Listing}
+use Rattle.alias_graph.specs.recorded.BlockListings.{listed}
+use Rattle.alias_range_pass.specs.summary.Summaries.{tracked}
 
 -- ---- an Apply that is left
 

@@ -2,6 +2,8 @@
 #![tactic(auto)]
 
 mod pass;
+pub mod places;
 mod refusals;
+pub mod summary;
 
 pub use pass::run_range_pass;

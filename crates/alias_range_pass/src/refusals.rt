@@ -2,11 +2,11 @@
 ghost use Rattle.std.specs.Prelude.{◌≡◌, ◌+◌, nat_le, length, IfOk};
 ghost use Rattle.alias_base.specs.Answer.{Gives};
 ghost use Rattle.alias_hir.specs.Errors.{is_memory};
-ghost use Rattle.alias_range_summary.specs.Summaries.{tracked};
+ghost use Rattle.alias_range_pass.specs.summary.Summaries.{tracked};
 ghost use Rattle.alias_range_pass.specs.Refusals.{carries_apply, first_apply, first_apply_of, unreplaced, apply_left_report, recorded};
 
 use alias_base::{InstructionId, List, Text};
-use alias_events::{Listing, list_function};
+use alias_graph::recorded::{Listing, list_function};
 use alias_hir::error::{Counter, InferError};
 use alias_hir::hir::{HirFunction, Instruction};
 use alias_hir::report::{ErrorCategory, Report};

@@ -1,4 +1,4 @@
--- Which faults of a text are want of memory, and which come from its value.
+-- Which faults of a text are out of memory, and which come from its value.
 use Rattle.std.specs.Prelude.{⊤}
 use Rattle.alias_json.specs.declared.fault.ValueFault.{ValueFault}
 use Rattle.alias_json.specs.declared.fault.ValueFault.TheVariants as value

@@ -14,7 +14,7 @@ pub enum TextFault {
     NotJson,
     /// The text is JSON and no unit: the JSON Pointer of the first value that breaks a rule, and the rule.
     NotUnit { pointer: Text, rule: TextRule },
-    /// Want of memory, which can come at any growth.
+    /// Out of memory, which can come at any growth.
     Memory(AllocError),
 }
 

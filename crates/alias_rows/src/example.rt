@@ -85,7 +85,7 @@ fn detail_of(words: &str) -> Detail {
 }
 
 /// The text of the outcome, by the calls that a host has for it. What the program tells of itself has none.
-fn told(alloc: Global, words: &str, outcome: &Outcome) -> Result<Text, AllocError> {
+fn printed(alloc: Global, words: &str, outcome: &Outcome) -> Result<Text, AllocError> {
     match &outcome.answer {
         Answer::Nothing => print_refusal(alloc, &outcome.status),
         Answer::Inferred(inferred) => print_inferred(alloc, inferred, detail_of(words)),
@@ -106,12 +106,12 @@ pub fn ends(alloc: Global, example: &Example, run: &Run<'_>) -> Result<bool, All
     let mut source = MemorySource::new(bytes, piece, reads);
     let mut sink = MemorySink::new(alloc, piece, writes);
     let outcome = run_alias(alloc, words.as_slice(), &mut source, &mut sink);
-    let told = told(alloc, example.words.as_str(), &outcome);
+    let printed = printed(alloc, example.words.as_str(), &outcome);
     let tells = !matches!(outcome.answer, Answer::Nothing) || (run.status != 0 && run.status != 8);
     // Before the first exit, since an exit that drops an outcome is dear to prove.
     let code = outcome.into_code();
-    let is_told = told?.as_str().as_bytes() == run.written;
-    Ok(sink.bytes() == run.written && code == run.status && (is_told || !tells))
+    let is_printed = printed?.as_str().as_bytes() == run.written;
+    Ok(sink.bytes() == run.written && code == run.status && (is_printed || !tells))
 }
 
 /// Whether the example's own run ends as it says.

@@ -13,10 +13,10 @@ use Rattle.alias_hir.specs.declared.env.Environment.{Environment}
 use Rattle.alias_hir.specs.declared.hir.HirFunction.{HirFunction}
 use Rattle.alias_rules.specs.ApartLaws.{is_among_each}
 use Rattle.alias_rules.specs.Nesting.{fresh}
-use Rattle.alias_function_rules.specs.Rules.{is_among}
+use Rattle.alias_rules.specs.function_rules.Rules.{is_among}
 use Rattle.alias_rules.specs.Sharing.{identifiers_at, context_at, family, inside, others, outside, leaves, is_shared, first_in_two}
 use Rattle.alias_rules.specs.TreeLaws.{either}
-use Rattle.alias_function_rules.specs.NumberSetLaws.{Has}
+use Rattle.alias_rules.specs.function_rules.NumberSetLaws.{Has}
 use Rattle.alias_visit.specs.Places.{identifiers_in}
 
 -- ---- tests

@@ -8,7 +8,7 @@ use Rattle.std.proofs.lemmas.List.Folds.{list_any-append}
 use Rattle.alias_base.specs.Answer.{all_pass}
 use Rattle.alias_hir.specs.declared.env.Environment.{Environment}
 use Rattle.alias_hir.specs.declared.hir.HirFunction.{HirFunction}
-use Rattle.alias_function_rules.specs.Rules.{is_among}
+use Rattle.alias_rules.specs.function_rules.Rules.{is_among}
 use Rattle.alias_rules.specs.Sharing.{identifiers_of, identifiers_at, context_at, family, inside, others, outside, is_shared, first_in_two, in_two, nested_is_apart, identifiers_apart}
 use Rattle.alias_visit.specs.Places.{identifiers_in}
 

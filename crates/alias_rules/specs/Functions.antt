@@ -7,9 +7,9 @@ use Rattle.alias_hir.specs.declared.env.Environment.{Environment}
 use Rattle.alias_hir.specs.declared.env.Unit.{Unit as HirUnit}
 use Rattle.alias_hir.specs.declared.hir.HirFunction.{HirFunction}
 use Rattle.alias_rules.specs.Nesting.{nesting_is_tree, nesting_not_deep}
-use Rattle.alias_function_rules.specs.Rules.{tables_fit, types_fit, signatures_fit, numbers_fit, entry_exists, successors_exist, instructions_listed, none_listed_twice, handlers_distinct, phis_fit, orders_fit, places_distinct, calls_fit, context_values_fit, nothing_inferred}
+use Rattle.alias_rules.specs.function_rules.Rules.{tables_fit, types_fit, signatures_fit, numbers_fit, entry_exists, successors_exist, instructions_listed, none_listed_twice, handlers_distinct, phis_fit, orders_fit, places_distinct, calls_fit, context_values_fit, nothing_inferred}
 use Rattle.alias_rules.specs.Sharing.{identifiers_apart}
-use Rattle.alias_function_rules.specs.declared.fault.UnitFault.{UnitFault}
+use Rattle.alias_rules.specs.declared.function_rules.fault.UnitFault.{UnitFault}
 use Rattle.alias_rules.specs.declared.rules.Rule.{Rule}
 use Rattle.alias_rules.specs.declared.rules.Rule.TheVariants.{Numbers, Entry, Successors, Listed, ListedOnce, Handlers, Phis, Orders, Distinct, Calls, ContextValues}
 

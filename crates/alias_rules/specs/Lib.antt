@@ -1,3 +1,4 @@
+pub mod function_rules
 pub mod Fitting
 pub mod Functions
 pub mod Nesting

@@ -10,7 +10,7 @@ use Rattle.alias_base.specs.Answer.{all_pass}
 use Rattle.alias_base.specs.Find.{same_block, value_at}
 use Rattle.alias_base.specs.AnswerLaws.{both_true, both_pass}
 use Rattle.alias_base.specs.declared.ids.BlockId.{BlockId}
-use Rattle.alias_hir.specs.Diagnostics.{reports_invariant}
+use Rattle.alias_hir.specs.ReportNumbers.{reports_invariant}
 use Rattle.alias_hir.specs.declared.report.Interned.{Interned}
 use Rattle.alias_rules.specs.Fitting.{family_rules, recorded_within_tables, effects_within_tables, holds_no_call, effects_fit, effects_fit_at, function_rules, function_fits_with, function_fits, reports_no_invariant}
 use Rattle.alias_rules.specs.Functions.{rule_holds, of_function, at_function, each_function, nested_in, in_unit, FamilyRule, Tables, Types, Signatures, Apart, Each, family_holds, UnitRule, Family, Tree, Depth, Uninferred, unit_holds, unit_rules, rules_hold}
@@ -21,7 +21,7 @@ use Rattle.alias_rules.specs.TreeLaws.{either, times_cons, times_both, counted, 
 use Rattle.alias_base.specs.declared.ids.FunctionId.{FunctionId}
 use Rattle.alias_hir.specs.Parts.{param_place}
 use Rattle.alias_hir.specs.Values.{created}
-use Rattle.alias_function_rules.specs.Rules.{identifier_is_uninferred, instruction_is_uninferred, terminal_is_uninferred, block_is_uninferred, place_fits, created_fits, instruction_fits, numbers_fit, is_among, tables_fit, types_fit, signatures_fit, is_block, entry_exists, named_exists, leads_to_blocks, successors_exist, environment_is_uninferred, function_is_uninferred}
+use Rattle.alias_rules.specs.function_rules.Rules.{identifier_is_uninferred, instruction_is_uninferred, terminal_is_uninferred, block_is_uninferred, place_fits, created_fits, instruction_fits, numbers_fit, is_among, tables_fit, types_fit, signatures_fit, is_block, entry_exists, named_exists, leads_to_blocks, successors_exist, environment_is_uninferred, function_is_uninferred}
 use Rattle.alias_hir.specs.Terminals.{terminal_effects, successors}
 use Rattle.alias_hir.specs.declared.effect.AliasingEffect.{AliasingEffect}
 use Rattle.alias_hir.specs.declared.env.Environment.{Environment}
@@ -31,8 +31,8 @@ use Rattle.alias_hir.specs.declared.hir.HirFunction.{HirFunction}
 use Rattle.alias_hir.specs.declared.hir.Instruction.{Instruction}
 use Rattle.alias_hir.specs.declared.report.Report.{Report}
 use Rattle.alias_hir.specs.declared.terminal.Terminal.{Terminal}
-use Rattle.alias_function_rules.specs.declared.fault.UnitFault.TheVariants.{IdOutOfRange, NestingNoTree, NestingTooDeep, SuccessorMissing}
-use Rattle.alias_function_rules.specs.declared.fault.Table.TheVariants.{Functions}
+use Rattle.alias_rules.specs.declared.function_rules.fault.UnitFault.TheVariants.{IdOutOfRange, NestingNoTree, NestingTooDeep, SuccessorMissing}
+use Rattle.alias_rules.specs.declared.function_rules.fault.Table.TheVariants.{Functions}
 use Rattle.alias_rules.specs.declared.rules.Rule.{Rule}
 use Rattle.alias_rules.specs.declared.rules.Rule.TheVariants.{Numbers, Entry, Successors, Listed, ListedOnce, Handlers, Phis, Orders, Distinct, Calls, ContextValues}
 

@@ -1,18 +1,18 @@
 //! Whether a unit is well formed.
 ghost use Rattle.std.specs.Prelude.{◌≡◌, true, Ok};
 ghost use Rattle.alias_base.specs.Answer.{Gives};
-ghost use Rattle.alias_function_rules.specs.Fault.{is_memory};
+ghost use Rattle.alias_rules.specs.function_rules.Fault.{is_memory};
 ghost use Rattle.alias_rules.specs.Fitting.{function_fits};
 ghost use Rattle.alias_rules.specs.Functions.{rules_hold, checks};
 
+use crate::function_rules::fault::UnitFault;
+use crate::function_rules::ids::tables_fit;
+use crate::function_rules::lengths::signatures_fit;
+use crate::function_rules::types::types_fit;
+use crate::function_rules::uninferred::nothing_inferred;
 use crate::rules::{Rule, each_function, numbers_below};
 use crate::sharing::identifiers_apart;
 use crate::tree::{nesting_is_tree, nesting_not_deep};
-use alias_function_rules::fault::UnitFault;
-use alias_function_rules::ids::tables_fit;
-use alias_function_rules::lengths::signatures_fit;
-use alias_function_rules::types::types_fit;
-use alias_function_rules::uninferred::nothing_inferred;
 use alias_hir::env::Unit;
 use std::alloc::Global;
 use std::marker::Model;
@@ -62,7 +62,7 @@ impl Checked {
     }
 }
 
-/// The first broken rule, or want of memory.
+/// The first broken rule, or out of memory.
 fn rules_hold(alloc: Global, unit: &Unit) -> Result<(), UnitFault>
     ensures { Gives is_memory (rules_hold unit.now) result }
 {
@@ -97,7 +97,7 @@ fn rules_hold(alloc: Global, unit: &Unit) -> Result<(), UnitFault>
 /// number; nothing is inferred; parameters, context places and the place of what is returned are distinct; no
 /// identifier is both in a nested function, or below it, and outside, but for its context; neither signatures nor
 /// calls are too long; and what is said of context places is said of all those of the root.
-/// `Memory` is for want of memory, and for a table or list of more than 4,294,967,295 entries. After an `Err` the
+/// `Memory` is for lack of memory, and for a table or list of more than 4,294,967,295 entries. After an `Err` the
 /// unit is gone.
 pub fn check_unit(alloc: Global, unit: Unit) -> Result<Checked, UnitFault>
     ensures { Gives is_memory (checks unit) result }

@@ -1,19 +1,19 @@
 //! What the inference asks of a function.
 ghost use Rattle.std.specs.Prelude.{◌≡◌, ◌&&◌, IfOk, map};
 ghost use Rattle.std.specs.List.{list_all};
-ghost use Rattle.alias_hir.specs.Diagnostics.{reports_invariant};
+ghost use Rattle.alias_hir.specs.ReportNumbers.{reports_invariant};
 ghost use Rattle.alias_base.specs.Answer.{Gives};
-ghost use Rattle.alias_function_rules.specs.Fault.{is_memory};
+ghost use Rattle.alias_rules.specs.function_rules.Fault.{is_memory};
 ghost use Rattle.alias_rules.specs.Fitting.{effects_fit, effects_fit_at, reports_no_invariant, function_rules, function_fits_with, function_fits};
 
 use crate::effects::{effects_fit, effects_fit_at};
+use crate::function_rules::fault::UnitFault;
+use crate::function_rules::ids::tables_fit;
+use crate::function_rules::lengths::signatures_fit;
+use crate::function_rules::types::types_fit;
 use crate::nesting::tree_below;
 use crate::rules::{Rule, each_function};
 use crate::sharing::identifiers_apart;
-use alias_function_rules::fault::UnitFault;
-use alias_function_rules::ids::tables_fit;
-use alias_function_rules::lengths::signatures_fit;
-use alias_function_rules::types::types_fit;
 use alias_hir::env::Environment;
 use alias_hir::hir::HirFunction;
 use alias_hir::report::{ErrorCategory, Interned};
@@ -48,7 +48,7 @@ fn all_effects_fit(alloc: Global, env: &Environment, nested: &[u32]) -> Result<b
     Ok(true)
 }
 
-/// Whether the effects of a function and those below it fit. The one error is want of memory.
+/// Whether the effects of a function and those below it fit. The one error is out of memory.
 fn effects_of_all_fit(
     alloc: Global,
     env: &Environment,
@@ -108,7 +108,7 @@ fn function_fits_with(
 /// Whether the inference takes the function: none below it is named twice, or is too deep; it and those below
 /// it keep the rules of a unit, whether they are inferred or not, but that some block lists each instruction; all
 /// that their effects name is in its table, and their reports are interned; no summary holds a call; and no report
-/// that is recorded or interned says that an invariant was broken. The one error is want of memory.
+/// that is recorded or interned says that an invariant was broken. The one error is out of memory.
 pub fn check_function(
     alloc: Global,
     func: &HirFunction,

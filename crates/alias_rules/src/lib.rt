@@ -4,11 +4,12 @@
 pub mod check;
 mod effects;
 pub mod function;
+pub mod function_rules;
 mod holders;
 mod nesting;
 pub mod rules;
 mod sharing;
 mod tree;
 
-pub use alias_function_rules::fault;
+pub use crate::function_rules::fault;
 pub use effects::any_is_apply;

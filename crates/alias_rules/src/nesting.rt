@@ -2,9 +2,9 @@
 ghost use Rattle.std.specs.Prelude.{◌≡◌, ◌++◌, option_map, IfOk, OnOk};
 ghost use Rattle.alias_rules.specs.Nesting.{number_of, created_in, created_at, next_level, ended, tree_from, tree_below};
 
+use crate::function_rules::ids::created;
+use crate::function_rules::listing::first_again;
 use alias_base::FunctionId;
-use alias_function_rules::ids::created;
-use alias_function_rules::listing::first_again;
 use alias_hir::env::Environment;
 use alias_hir::hir::HirFunction;
 use std::alloc::{AllocError, Global};
@@ -97,7 +97,7 @@ fn tree_from(
 }
 
 /// The functions below a function, level by level; or `None` where one is named twice, or is below level 64.
-/// The one error is want of memory.
+/// The one error is out of memory.
 pub fn tree_below(
     alloc: Global,
     env: &Environment,

@@ -5,19 +5,19 @@ ghost use Rattle.std.specs.Ordering.{nat_cmp};
 ghost use Rattle.std.specs.BTreeMap.{get};
 ghost use Rattle.std.specs.BTreeSet.{contains};
 ghost use Rattle.alias_base.specs.Find.{list_at};
-ghost use Rattle.alias_function_rules.specs.Rules.{is_among};
+ghost use Rattle.alias_rules.specs.function_rules.Rules.{is_among};
 ghost use Rattle.alias_rules.specs.Nesting.{unless_there};
 ghost use Rattle.alias_hir.specs.declared.place.Place.{Place};
 ghost use Rattle.alias_base.specs.Answer.{Gives};
-ghost use Rattle.alias_function_rules.specs.Fault.{is_memory};
+ghost use Rattle.alias_rules.specs.function_rules.Fault.{is_memory};
 ghost use Rattle.alias_rules.specs.Sharing.{identifiers_at, context_at, family, inside, others, outside, leaves, first_shared, first_in_two, nested_is_apart, identifiers_apart};
 ghost use Rattle.alias_visit.specs.Places.{identifiers_in};
 
+use crate::function_rules::fault::UnitFault;
+use crate::function_rules::listing::set_of;
 use crate::holders::{any_leaves, holders, once_each};
 use crate::tree::reached_from;
 use alias_base::{FunctionId, IdentifierId, List};
-use alias_function_rules::fault::UnitFault;
-use alias_function_rules::listing::set_of;
 use alias_hir::env::Environment;
 use alias_hir::hir::HirFunction;
 use alias_hir::place::Place;
@@ -175,7 +175,7 @@ fn first_shared(
 }
 
 /// The smallest identifier that is both in the nested function, or below it, and outside, and is not in its
-/// context; or want of memory, also where the table is beyond 32 bits, which no table is.
+/// context; or out of memory, also where the table is beyond 32 bits, which no table is.
 fn first_in_two(
     alloc: Global,
     env: &Environment,
@@ -230,7 +230,7 @@ fn any_shared(
 }
 
 /// Whether the nested function, with those below it, shares no identifier with what is outside, but for its
-/// context; or want of memory. The one that is shared is looked for only where there is one.
+/// context; or out of memory. The one that is shared is looked for only where there is one.
 fn nested_is_apart(
     alloc: Global,
     env: &Environment,
@@ -258,7 +258,7 @@ fn nested_is_apart(
 }
 
 /// The first of the nested functions, in their order, that shares an identifier with what is outside of it; or
-/// want of memory.
+/// out of memory.
 pub fn identifiers_apart(
     alloc: Global,
     env: &Environment,

@@ -16,7 +16,7 @@ use Rattle.alias_cert.specs.Units.{unit_checked}
 use Rattle.alias_cert_text.specs.Certificates.{certificate_of_text}
 use Rattle.alias_cert_text.specs.declared.fault.CertFault.{CertFault}
 use Rattle.alias_cert_text.specs.declared.fault.CertFault.TheVariants as text_fault
-use Rattle.alias_cert_text_laws.specs.Certifying.{certificate_of}
+use Rattle.alias_certificate_laws.specs.text.Certifying.{certificate_of}
 use Rattle.alias_accepted_laws.specs.Complete.{IsAcceptedOrFull, accepted, full}
 use Rattle.alias_accepted_laws.proofs.Accepted.{certificates_are_accepted}
 use Rattle.alias_run.specs.declared.answer.Answer.{Answer}

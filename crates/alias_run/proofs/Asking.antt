@@ -18,12 +18,12 @@ use Rattle.alias_lint.specs.declared.sites.Lint.{Lint}
 use Rattle.alias_nested.specs.declared.infer.Inferred.{Inferred as UnitInference}
 use Rattle.alias_nested.specs.Units.{InfersUnit, unit_analysed}
 use Rattle.alias_rules.specs.Functions.{rules_hold}
-use Rattle.alias_cause_laws.proofs.Caused.{each_has_cause}
-use Rattle.alias_cause_laws.specs.Causes.{EachHasCause}
-use Rattle.alias_inferred_laws.proofs.Explaining.{never_too_many}
-use Rattle.alias_inferred_laws.proofs.Reporting.{unit_lints}
-use Rattle.alias_inferred_laws.specs.Explanations.{NeverTooMany}
-use Rattle.alias_inferred_laws.specs.Reports.{LintsAreReports}
+use Rattle.alias_cause_laws.proofs.causes.Caused.{each_has_cause}
+use Rattle.alias_cause_laws.specs.causes.Causes.{EachHasCause}
+use Rattle.alias_inferred_laws.proofs.inferred.Explaining.{never_too_many}
+use Rattle.alias_inferred_laws.proofs.inferred.Reporting.{unit_lints}
+use Rattle.alias_inferred_laws.specs.inferred.Explanations.{NeverTooMany}
+use Rattle.alias_inferred_laws.specs.inferred.Reports.{LintsAreReports}
 use Rattle.alias_run.specs.declared.answer.Answer.TheVariants.{Nothing, Linted, Explained}
 use Rattle.alias_run.specs.declared.outcome.Outcome.{Outcome}
 use Rattle.alias_run.specs.declared.status.Status.{Status}

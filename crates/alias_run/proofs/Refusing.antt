@@ -4,7 +4,7 @@ use Rattle.std.specs.Prelude.{true, false, Result, Ok, Err}
 use Rattle.alias_base.specs.Answer.{Gives}
 use Rattle.alias_base.specs.declared.ids.FunctionId.{FunctionId}
 use Rattle.alias_base.specs.declared.ids.IdentifierId.{IdentifierId}
-use Rattle.alias_failures.specs.Failures.{HasFailed}
+use Rattle.alias_base.specs.failures.Failures.{HasFailed}
 use Rattle.alias_hir.specs.declared.env.Unit.{Unit as HirUnit}
 use Rattle.alias_hir.specs.declared.error.InferError.{InferError}
 use Rattle.alias_hir.specs.declared.error.InferError.TheVariants as infer
@@ -15,12 +15,12 @@ use Rattle.alias_read.specs.Units.{unit_of, UnitReading}
 use Rattle.alias_rules.specs.Functions.{rules_hold}
 use Rattle.alias_nested.specs.Analysis.{IsFault}
 use Rattle.alias_nested.specs.Units.{InfersUnit, UnitAnalysis, unit_analysed}
-use Rattle.alias_plain_laws.specs.Answers.{answer_of, unit_end, is_fault_memory}
-use Rattle.alias_plain_laws.specs.UnitLaws.{TellsOf}
-use Rattle.alias_plain_laws.specs.declared.answer.PlainFault.{PlainFault}
-use Rattle.alias_plain_laws.specs.declared.answer.PlainFault.TheVariants as fault
-use Rattle.alias_plain_laws.specs.declared.answer.Plainness.{Plainness as PlainAnswer}
-use Rattle.alias_plain_laws.specs.declared.answer.Plainness.TheVariants as plain
+use Rattle.alias_plain.specs.laws.Answers.{answer_of, unit_end, is_fault_memory}
+use Rattle.alias_plain.specs.laws.UnitLaws.{TellsOf}
+use Rattle.alias_plain.specs.declared.laws.answer.PlainFault.{PlainFault}
+use Rattle.alias_plain.specs.declared.laws.answer.PlainFault.TheVariants as fault
+use Rattle.alias_plain.specs.declared.laws.answer.Plainness.{Plainness as PlainAnswer}
+use Rattle.alias_plain.specs.declared.laws.answer.Plainness.TheVariants as plain
 use Rattle.alias_plainness.specs.Plainness.{IsPlainUnit}
 use Rattle.alias_unit_completeness.specs.Complete.{unit_caused}
 use Rattle.alias_unit_completeness.specs.Refusals.{IsCaused, IsForwardUnit, IsTooMany, IsTooManyOrUnsettled, blames_no_plain}
@@ -65,21 +65,21 @@ explanation_refused f id u e h = inl h
 
 -- the outcome of such a call, of a unit of which it is known that it is well formed
 module _ (u v : HirUnit) (same : v ≡ u) (rules : rules_hold v ≡ Ok tt) (e : InferError) (failed : IsFault e → HasFailed 0 0 false) (h : InfersUnit (unit_analysed u) (Err e)) (status : Status) (o : Outcome) (is : o ≡ ended_as status)
-    (told : status ≡ infer_status e) where
-  as_told : o ≡ ended_as (infer_status e)
-  as_told = is ∙ ap ended_as told
+    (stated : status ≡ infer_status e) where
+  as_stated : o ≡ ended_as (infer_status e)
+  as_stated = is ∙ ap ended_as stated
 
   why : IsInferred u (infer_status e) Nothing
   why = refused u e (subst (λ z. rules_hold z ≡ Ok tt) same rules) failed h
 
   pub inferred_fault : IsInferred u o.status o.answer
-  inferred_fault = subst (λ (z : Outcome). IsInferred u z.status z.answer) (sym as_told) why
+  inferred_fault = subst (λ (z : Outcome). IsInferred u z.status z.answer) (sym as_stated) why
 
   pub linted_fault : IsLinted u o.status o.answer
-  linted_fault = subst (λ (z : Outcome). IsLinted u z.status z.answer) (sym as_told) (lints_refused u e why)
+  linted_fault = subst (λ (z : Outcome). IsLinted u z.status z.answer) (sym as_stated) (lints_refused u e why)
 
   pub explained_fault : (f : Option FunctionId) (id : IdentifierId) → IsExplained f id u o.status o.answer
-  explained_fault f id = subst (λ (z : Outcome). IsExplained f id u z.status z.answer) (sym as_told) (explanation_refused f id u e why)
+  explained_fault f id = subst (λ (z : Outcome). IsExplained f id u z.status z.answer) (sym as_stated) (explanation_refused f id u e why)
 
 -- ---- plain units
 
@@ -119,7 +119,7 @@ undecided u (fault.TooMany which) h tells = (h refl, tells, refl)
 undecided u (fault.Memory x) h tells = refl
 
 pub decided_fault : (u : HirUnit) (e : PlainFault) (status : Status) (o : Outcome) → o ≡ ended_as status → status ≡ plain_status e → Gives is_fault_memory (answer_of (unit_end u)) (Err e) → TellsOf u (Err e) → IsDecided u o.status o.answer
-decided_fault u e status o is told h tells = subst (λ (z : Outcome). IsDecided u z.status z.answer) (sym (is ∙ ap ended_as told)) (undecided u e h tells)
+decided_fault u e status o is stated h tells = subst (λ (z : Outcome). IsDecided u z.status z.answer) (sym (is ∙ ap ended_as stated)) (undecided u e h tells)
 
 -- ---- the same bytes
 

@@ -29,10 +29,10 @@ use Rattle.alias_run.specs.declared.query.Query.{Query}
 use Rattle.alias_run.specs.declared.query.Query.TheVariants.{Inference, Acceptance, Lints, Explanation, Plainness}
 use Rattle.alias_run.specs.declared.outcome.Outcome.{Outcome}
 use Rattle.alias_rules.specs.Functions.{rules_hold, checks}
-use Rattle.alias_function_rules.specs.declared.fault.UnitFault.{UnitFault}
+use Rattle.alias_rules.specs.declared.function_rules.fault.UnitFault.{UnitFault}
 use Rattle.alias_run.specs.Findings.{parts_of, EndsInferred, IsAccepted, IsAcceptedOf, Infers, IsExplained, IsExplainedOf, IsInferred, IsChecked, IsAnswered, IsFit, IsJudged, IsRead, IsFound, Leaves, greatest_input}
 use Rattle.alias_run.specs.Inferences.{solved_tell}
-use Rattle.alias_inferred_laws.proofs.Carrying.{solutions_carried}
+use Rattle.alias_inferred_laws.proofs.inferred.Carrying.{solutions_carried}
 use Rattle.alias_run.specs.Runs.{IsRun, IsInferredOf, IsAnsweredOf, IsUnitOf, ArePartsOf, IsDone, IsHeadline}
 use Rattle.alias_run.specs.Statuses.{text_status, write_status}
 use Rattle.alias_run.specs.Texts.{text_of, answer_text}

@@ -32,10 +32,10 @@ use Rattle.alias_explain.specs.Explanations.{explained}
 use Rattle.alias_explain.specs.declared.cause.Cause.TheVariants.{NoCause}
 use Rattle.alias_explain.specs.declared.explain.ExplainFault.TheVariants as explain
 use Rattle.alias_explain.specs.declared.explain.Explanation.{Explanation as RangeExplanation}
-use Rattle.alias_plain_laws.specs.Answers.{answer_of, unit_end}
-use Rattle.alias_plain_laws.specs.UnitLaws.{TellsOf}
-use Rattle.alias_plain_laws.specs.declared.answer.Plainness.{Plainness as PlainAnswer}
-use Rattle.alias_plain_laws.specs.declared.answer.Plainness.TheVariants as plain
+use Rattle.alias_plain.specs.laws.Answers.{answer_of, unit_end}
+use Rattle.alias_plain.specs.laws.UnitLaws.{TellsOf}
+use Rattle.alias_plain.specs.declared.laws.answer.Plainness.{Plainness as PlainAnswer}
+use Rattle.alias_plain.specs.declared.laws.answer.Plainness.TheVariants as plain
 use Rattle.alias_nested.specs.declared.infer.Inferred.{Inferred as UnitInference}
 use Rattle.alias_nested.specs.Analysis.{Analysed, SolvesItsFlow}
 use Rattle.alias_nested.specs.Units.{unit_analysed}

@@ -2,7 +2,7 @@
 use Rattle.std.specs.Prelude.{List, [], ◌∷◌}
 use Rattle.std.specs.List.{AllByRecursion}
 use Rattle.alias_nested.specs.Analysis.{Analysed, SolvesItsFlow}
-use Rattle.alias_write_laws.specs.Solutions.{TellsWrites, solutions_tell}
+use Rattle.alias_effects_laws.specs.writes.Solutions.{TellsWrites, solutions_tell}
 
 -- the definite writes of a function of what isn't to be written stand as error effects
 abbrev pub TellsItsWrites : Analysed → Type 0

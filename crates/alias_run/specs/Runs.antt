@@ -17,7 +17,7 @@ use Rattle.alias_run.specs.declared.answer.Answer.TheVariants.{Nothing, Inferred
 use Rattle.alias_nested.specs.Analysis.{Analysed, SolvesItsFlow}
 use Rattle.alias_nested.specs.Units.{unit_analysed}
 use Rattle.alias_nested.specs.declared.infer.Inferred.{Inferred as UnitInference}
-use Rattle.alias_inferred_laws.specs.Solutions.{SolutionsAreCarried}
+use Rattle.alias_inferred_laws.specs.inferred.Solutions.{SolutionsAreCarried}
 use Rattle.alias_run.specs.declared.query.Query.{Query}
 use Rattle.alias_run.specs.declared.query.Query.TheVariants.{Acceptance, Lints, Explanation, Plainness}
 use Rattle.alias_plainness.specs.Plainness.{IsPlainUnit}

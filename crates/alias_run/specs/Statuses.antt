@@ -6,16 +6,16 @@ use Rattle.alias_cert_text.specs.declared.fault.CertFault.{CertFault}
 use Rattle.alias_cert_text.specs.declared.fault.CertFault.TheVariants as text_fault
 use Rattle.alias_certificate.specs.declared.fault.CheckFault.{CheckFault}
 use Rattle.alias_certificate.specs.declared.fault.CheckFault.TheVariants as check
-use Rattle.alias_cert_lines.specs.CheckLines.{rejected_text}
+use Rattle.alias_cert_text.specs.check_lines.CheckLines.{rejected_text}
 use Rattle.alias_explain.specs.declared.explain.ExplainFault.{ExplainFault}
 use Rattle.alias_explain.specs.declared.explain.ExplainFault.TheVariants as explain
-use Rattle.alias_plain_laws.specs.declared.answer.PlainFault.{PlainFault}
-use Rattle.alias_plain_laws.specs.declared.answer.PlainFault.TheVariants as plain
-use Rattle.alias_plain_text.specs.Lines.{plain_refusal_text}
+use Rattle.alias_plain.specs.declared.laws.answer.PlainFault.{PlainFault}
+use Rattle.alias_plain.specs.declared.laws.answer.PlainFault.TheVariants as plain
+use Rattle.alias_question_text.specs.plain.Lines.{plain_refusal_text}
 use Rattle.alias_read.specs.declared.fault.TextFault.{TextFault}
 use Rattle.alias_read.specs.declared.fault.TextFault.TheVariants as text
-use Rattle.alias_function_rules.specs.declared.fault.UnitFault.{UnitFault}
-use Rattle.alias_function_rules.specs.declared.fault.UnitFault.TheVariants as unit
+use Rattle.alias_rules.specs.declared.function_rules.fault.UnitFault.{UnitFault}
+use Rattle.alias_rules.specs.declared.function_rules.fault.UnitFault.TheVariants as unit
 use Rattle.alias_stream.specs.declared.sink.SinkStop.{SinkStop}
 use Rattle.alias_stream.specs.declared.sink.SinkStop.TheVariants as sink
 use Rattle.alias_stream.specs.declared.whole.ReadStop.{ReadStop}

@@ -11,12 +11,12 @@ use Rattle.alias_run.specs.declared.command.Command.{Command}
 use Rattle.alias_run.specs.declared.command.Command.TheVariants.{Infer, Certify, Check, Lint, Explain, Plain, Made, Help, Version}
 use Rattle.alias_run.specs.declared.status.Status.{Status}
 use Rattle.alias_cert.specs.declared.check.Accepted.{Accepted as AcceptedUnit}
-use Rattle.alias_cert_lines.specs.CheckLines.{accepted_text as functions_accepted}
+use Rattle.alias_cert_text.specs.check_lines.CheckLines.{accepted_text as functions_accepted}
 use Rattle.alias_cert_text.specs.Certificates.{certificate_of_text}
-use Rattle.alias_cert_text_laws.specs.Certifying.{certificate_of}
-use Rattle.alias_lint_text.specs.Lints.{lints_text}
-use Rattle.alias_lint_text.specs.Explanations.{explanation_text}
-use Rattle.alias_plain_text.specs.Lines.{plainness_text}
+use Rattle.alias_certificate_laws.specs.text.Certifying.{certificate_of}
+use Rattle.alias_question_text.specs.lints.Lints.{lints_text}
+use Rattle.alias_question_text.specs.lints.Explanations.{explanation_text}
+use Rattle.alias_question_text.specs.plain.Lines.{plainness_text}
 use Rattle.alias_run.specs.Statuses.{refusal_line}
 
 -- what `--help` writes of the commands

@@ -4,7 +4,7 @@ use alias_cert::Accepted;
 use alias_explain::Explanation;
 use alias_lint::Lint;
 use alias_nested::Inferred;
-use alias_plain_laws::Plainness;
+use alias_plain::laws::Plainness;
 
 /// What a run answers, where it has an answer.
 #[derive(Drop)]

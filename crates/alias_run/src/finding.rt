@@ -1,8 +1,8 @@
 //! What the words and the input lead to, before anything is written.
 ghost use Rattle.std.specs.Prelude.{◌≡◌, ◌≤◌, true, false};
-ghost use Rattle.alias_cause_laws.specs.Causes.{EachHasCause};
-ghost use Rattle.alias_inferred_laws.specs.Explanations.{NeverTooMany};
-ghost use Rattle.alias_inferred_laws.specs.Reports.{LintsAreReports};
+ghost use Rattle.alias_cause_laws.specs.causes.Causes.{EachHasCause};
+ghost use Rattle.alias_inferred_laws.specs.inferred.Explanations.{NeverTooMany};
+ghost use Rattle.alias_inferred_laws.specs.inferred.Reports.{LintsAreReports};
 ghost use Rattle.alias_rules.specs.Fitting.{function_fits};
 ghost use Rattle.alias_stream.specs.Streams.{HasFailed};
 ghost use Rattle.alias_made.specs.Units.{made_unit as unit_of};
@@ -21,7 +21,7 @@ use alias_certificate::Certificate;
 use alias_explain::explain_range;
 use alias_hir::env::Unit;
 use alias_inner_passes::KeepAll;
-use alias_lint_lines::lint_lines;
+use alias_lint::lines::lint_lines;
 use alias_made::made_unit;
 use alias_nested::{Inferred, infer_unit};
 use alias_plain::plain_unit;

@@ -7,11 +7,11 @@ use alias_base::Text;
 use alias_cert_text::CertFault;
 use alias_certificate::CheckFault;
 use alias_explain::ExplainFault;
-use alias_function_rules::fault::UnitFault;
 use alias_hir::error::InferError;
 use alias_json::fault::TextRule;
-use alias_plain_laws::PlainFault;
+use alias_plain::laws::PlainFault;
 use alias_read::TextFault;
+use alias_rules::function_rules::fault::UnitFault;
 use alias_stream::{ReadStop, SinkStop};
 
 /// How a run ends. docs/FORMAT.md has the table of exit statuses and of what each writes.

@@ -20,7 +20,7 @@ use Rattle.alias_hir.specs.declared.place.Place.{Place}
 use Rattle.alias_hir.specs.declared.place.PlaceOrSpread.{PlaceOrSpread}
 use Rattle.alias_hir.specs.declared.place.PlaceOrSpread.TheVariants as arg
 use Rattle.alias_hir.specs.declared.place.Span.{Span}
-use Rattle.alias_hir.specs.declared.report.DiagnosticId.{DiagnosticId}
+use Rattle.alias_hir.specs.declared.report.ReportId.{ReportId}
 use Rattle.alias_hir.specs.declared.value.ArrayElement.{ArrayElement}
 use Rattle.alias_hir.specs.declared.value.ArrayElement.TheVariants as element
 use Rattle.alias_hir.specs.declared.value.ArrayPatternElement.{ArrayPatternElement}
@@ -67,7 +67,7 @@ names_by_kind env (value.ObjectMethod lowered) = (Some lowered.func, None)
 names_by_kind env v = (None, None)
 
 -- the effect speaks of places with P alone, its report has Q, and what else it names has N
-abbrev pub Speaks : (Place → Type 0) → (Option DiagnosticId → Type 0) → (Named → Type 0) → AliasingEffect → Type 0
+abbrev pub Speaks : (Place → Type 0) → (Option ReportId → Type 0) → (Named → Type 0) → AliasingEffect → Type 0
 Speaks P Q N e = AllByRecursion P (effect_places e) × (Q (error_of e) × N (names_of e))
 
 -- ---- lists
@@ -92,7 +92,7 @@ each_part : {A X Y : Type 0} (P : X → Type 0) (S : Y → Type 0) (f : A → Li
 each_part P S f g h [] k = tt
 each_part P S f g h (a ∷ xs) k = both S (g a) (flat_map g xs) (h a (front P (f a) (flat_map f xs) k)) (each_part P S f g h xs (rest P (f a) (flat_map f xs) k))
 
-module _ (P : Place → Type 0) (Q : Option DiagnosticId → Type 0) (none : Q None) (N : Named → Type 0) (nothing : N (None, None)) where
+module _ (P : Place → Type 0) (Q : Option ReportId → Type 0) (none : Q None) (N : Named → Type 0) (nothing : N (None, None)) where
   abbrev S : AliasingEffect → Type 0
   S = Speaks P Q N
 
@@ -202,7 +202,7 @@ module _ (P : Place → Type 0) (Q : Option DiagnosticId → Type 0) (none : Q N
   memoize_speaks : (b : Bool) (l : Place) (xs : List Place) → P l → AllByRecursion P xs → AllByRecursion S ((if b then map frozen xs else []) ++ created l kind.Primitive ∷ [])
   memoize_speaks b l xs p h = both S (if b then map frozen xs else []) (created l kind.Primitive ∷ []) (frozen_speak b xs h) (((p, tt), (none, nothing)), tt)
 
-  global_speaks : (error : Option DiagnosticId) (v : Place) → P v → Q error → AllByRecursion S (global_effects error v)
+  global_speaks : (error : Option ReportId) (v : Place) → P v → Q error → AllByRecursion S (global_effects error v)
   global_speaks None v h q = tt
   global_speaks (Some error) v h q = (((h, tt), (q, nothing)), tt)
 
@@ -274,7 +274,7 @@ places_spoken_of env i = i.lvalue ∷ (places_of i.value ++ created_places env (
 -- the effect speaks of these places alone; it has the report of the instruction or none; and it names what the instruction's kind names, or nothing
 abbrev pub SpeaksOf : Known → Instruction → AliasingEffect → Type 0
 SpeaksOf k i =
-    Speaks (IsOneOf (places_spoken_of k.env i)) (λ (error : Option DiagnosticId). (error ≡ None) ⊎ (error ≡ k.error)) (λ (n : Named). (n ≡ (None, None)) ⊎ (n ≡ names_by_kind k.env i.value))
+    Speaks (IsOneOf (places_spoken_of k.env i)) (λ (error : Option ReportId). (error ≡ None) ⊎ (error ≡ k.error)) (λ (n : Named). (n ≡ (None, None)) ⊎ (n ≡ names_by_kind k.env i.value))
 
 in_front : {X : Type 0} (xs ys : List X) (x : X) → IsOneOf xs x → IsOneOf (xs ++ ys) x
 in_front [] ys x h = absurd h
@@ -293,7 +293,7 @@ pub signature_speaks_of : (k : Known) (i : Instruction) → AllByRecursion (Spea
 signature_speaks_of k i =
     let ps = places_of i.value in
     let cs = created_places k.env (created_function i.value) in
-    signature_speaks (IsOneOf (places_spoken_of k.env i)) (λ (error : Option DiagnosticId). (error ≡ None) ⊎ (error ≡ k.error)) (inl refl) (λ (n : Named). (n ≡ (None, None)) ⊎ (n ≡ names_by_kind k.env i.value)) (inl refl)
+    signature_speaks (IsOneOf (places_spoken_of k.env i)) (λ (error : Option ReportId). (error ≡ None) ⊎ (error ≡ k.error)) (inl refl) (λ (n : Named). (n ≡ (None, None)) ⊎ (n ≡ names_by_kind k.env i.value)) (inl refl)
     k i.lvalue i.span i.value (inl refl)
     (each_is ps (places_spoken_of k.env i) (λ x h. inr (in_front ps cs x h)))
     (each_is cs (places_spoken_of k.env i) (λ x h. inr (in_rest ps cs x h)))

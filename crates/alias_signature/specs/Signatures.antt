@@ -3,14 +3,14 @@ use Rattle.std.specs.Prelude.{true, false, List, ◌++◌, Option, None, Some, R
 use Rattle.alias_base.specs.Answer.{◌>>=◌}
 use Rattle.alias_base.specs.declared.ids.IdentifierId.{IdentifierId}
 use Rattle.alias_facts.specs.declared.facts.FunctionFacts.{FunctionFacts}
-use Rattle.alias_hir.specs.Diagnostics.{diagnostic_of, with_interned}
+use Rattle.alias_hir.specs.ReportNumbers.{report_id_of, with_interned}
 use Rattle.alias_hir.specs.declared.effect.AliasingEffect.{AliasingEffect}
 use Rattle.alias_hir.specs.declared.env.Environment.{Environment}
 use Rattle.alias_hir.specs.declared.error.HirError.{HirError}
 use Rattle.alias_hir.specs.declared.hir.Instruction.{Instruction}
 use Rattle.alias_hir.specs.declared.place.Place.{Place}
 use Rattle.alias_hir.specs.declared.place.Span.{Span}
-use Rattle.alias_hir.specs.declared.report.DiagnosticId.{DiagnosticId}
+use Rattle.alias_hir.specs.declared.report.ReportId.{ReportId}
 use Rattle.alias_hir.specs.declared.report.Interned.{Interned}
 use Rattle.alias_hir.specs.declared.report.Report.{Report}
 use Rattle.alias_hir.specs.declared.value.InstructionValue.{InstructionValue}
@@ -29,7 +29,7 @@ use Rattle.alias_signature.specs.Jsx.{jsx_effects, render_effects}
 use Rattle.alias_signature.specs.Patterns.{destructure_effects}
 use Rattle.alias_signature.specs.Contexts.{load_context_effects, declare_context_effects, store_context_effects}
 use Rattle.alias_signature.specs.Memoization.{memoize_effects}
-use Rattle.alias_signature.specs.Globals.{load_global_effects, store_global_effects, told_of}
+use Rattle.alias_signature.specs.Globals.{load_global_effects, store_global_effects, instruction_report}
 
 -- by the kind of the instruction whose result is l
 abbrev pub signature_of_value : Known → Place → Option Span → InstructionValue → List AliasingEffect
@@ -82,21 +82,21 @@ signature_of k i = signature_of_value k i.lvalue i.span i.value
 
 -- ---- with the report of the instruction
 
--- what is told is interned
-abbrev pub error_of_told : List Interned → Option (IdentifierId × Report) → Result (Option DiagnosticId) HirError
-error_of_told es None = Ok None
-error_of_told es (Some told) = diagnostic_of es told.0 told.1 >>= (λ (d : DiagnosticId). Ok (Some d))
+-- what is reported is interned
+abbrev pub error_of_report : List Interned → Option (IdentifierId × Report) → Result (Option ReportId) HirError
+error_of_report es None = Ok None
+error_of_report es (Some reported) = report_id_of es reported.0 reported.1 >>= (λ (d : ReportId). Ok (Some d))
 
 -- the environment with it
-abbrev pub with_told : Environment → Option (IdentifierId × Report) → Environment
-with_told env None = env
-with_told env (Some told) = record env { interned = with_interned env.interned told.0 told.1 }
+abbrev pub with_report : Environment → Option (IdentifierId × Report) → Environment
+with_report env None = env
+with_report env (Some reported) = record env { interned = with_interned env.interned reported.0 reported.1 }
 
 -- the environment after the instruction's signature
 abbrev pub env_after_signature : Environment → Instruction → Environment
-env_after_signature env i = with_told env (told_of i.value i.span)
+env_after_signature env i = with_report env (instruction_report i.value i.span)
 
 -- the report first, and then the effects, one of which has it
 abbrev pub compute_signature_for_instruction : Environment → FunctionFacts → Instruction → Result (List AliasingEffect) HirError
 compute_signature_for_instruction env facts i =
-    error_of_told env.interned (told_of i.value i.span) >>= (λ (error : Option DiagnosticId). Ok (signature_of (known (env_after_signature env i) facts error) i))
+    error_of_report env.interned (instruction_report i.value i.span) >>= (λ (error : Option ReportId). Ok (signature_of (known (env_after_signature env i) facts error) i))

@@ -1,11 +1,11 @@
-//! Reads and writes of variables outside of the function, and what is told of the writes.
+//! Reads and writes of variables outside of the function, and what is reported of the writes.
 ghost use Rattle.std.specs.Prelude.{◌≡◌, ◌++◌, IfOk, OnOk};
-ghost use Rattle.alias_signature.specs.Globals.{load_global_effects, global_effects, store_global_effects, globals_labels, globals_report, told_of};
+ghost use Rattle.alias_signature.specs.Globals.{load_global_effects, global_effects, store_global_effects, globals_labels, globals_report, instruction_report};
 
 use alias_base::{IdentifierId, List, Text};
 use alias_hir::effect::{AliasingEffect, AliasingEffects, ValueKind, ValueReason};
 use alias_hir::place::{Place, Span};
-use alias_hir::report::{DiagnosticId, ErrorCategory, Label, Report};
+use alias_hir::report::{ErrorCategory, Label, Report, ReportId};
 use alias_hir::value::InstructionValue;
 use std::alloc::{AllocError, Global};
 
@@ -26,7 +26,7 @@ pub(crate) fn push_load_global(
 
 fn push_global(
     effects: &mut AliasingEffects,
-    error: Option<DiagnosticId>,
+    error: Option<ReportId>,
     value: &Place,
 ) -> Result<(), AllocError>
     ensures { OnOk result (effects.new ≡ effects.old ++ global_effects error value.now) }
@@ -44,7 +44,7 @@ fn push_global(
 /// A write of the variable.
 pub(crate) fn push_store_global(
     effects: &mut AliasingEffects,
-    error: Option<DiagnosticId>,
+    error: Option<ReportId>,
     lvalue: &Place,
     value: &Place,
 ) -> Result<(), AllocError>
@@ -79,7 +79,7 @@ fn globals_labels(alloc: Global, name: &str, span: Option<Span>) -> Result<List<
     Ok(labels)
 }
 
-/// What is told of a write of a global variable of that name. The one error is want of memory.
+/// What is reported of a write of a global variable of that name. The one error is out of memory.
 pub fn globals_report(alloc: Global, name: &str, span: Option<Span>) -> Result<Report, AllocError>
     ensures { IfOk result (λ r. r ≡ globals_report name.now span) }
 {
@@ -100,14 +100,14 @@ pub fn globals_report(alloc: Global, name: &str, span: Option<Span>) -> Result<R
     })
 }
 
-/// What is told of the instruction, and of which identifier: a write of a global variable is. The one error is want of
+/// What is reported of the instruction, and of which identifier: a write of a global variable is. The one error is out of
 /// memory.
-pub fn told_of(
+pub fn instruction_report(
     alloc: Global,
     value: &InstructionValue,
     span: Option<Span>,
 ) -> Result<Option<(IdentifierId, Report)>, AllocError>
-    ensures { IfOk result (λ t. t ≡ told_of value.now span) }
+    ensures { IfOk result (λ t. t ≡ instruction_report value.now span) }
 {
     match value {
         InstructionValue::StoreGlobal { name, value } => Ok(Some((

@@ -19,6 +19,6 @@ mod patterns;
 mod signatures;
 mod stores;
 
-pub use globals::{globals_report, told_of};
+pub use globals::{globals_report, instruction_report};
 pub use known::Known;
 pub use signatures::{compute_signature_for_instruction, signature_of};

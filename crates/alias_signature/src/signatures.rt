@@ -2,17 +2,17 @@
 ghost use Rattle.std.specs.Prelude.{◌≡◌, ◌++◌, ◌⊎◌, OnOk, OnErr, IfOk};
 ghost use Rattle.alias_base.specs.Answer.{Gives};
 ghost use Rattle.alias_hir.specs.Errors.{is_hir_memory};
-ghost use Rattle.alias_signature.specs.Globals.{told_of};
+ghost use Rattle.alias_signature.specs.Globals.{instruction_report};
 ghost use Rattle.alias_signature.specs.Known.{known, held};
 ghost use Rattle.std.specs.List.{AllByRecursion};
 ghost use Rattle.alias_signature.specs.SignatureLaws.{SpeaksOf};
-ghost use Rattle.alias_signature.specs.Signatures.{signature_of_value, signature_of, error_of_told, with_told, env_after_signature, compute_signature_for_instruction};
+ghost use Rattle.alias_signature.specs.Signatures.{signature_of_value, signature_of, error_of_report, with_report, env_after_signature, compute_signature_for_instruction};
 
 use crate::arrays::push_array_expression;
 use crate::calls::{Call, push_await, push_call};
 use crate::contexts::{push_declare_context, push_load_context, push_store_context};
 use crate::functions::push_function;
-use crate::globals::{push_load_global, push_store_global, told_of};
+use crate::globals::{instruction_report, push_load_global, push_store_global};
 use crate::iterators::{push_get_iterator, push_iterator_next};
 use crate::jsx::{push_jsx, push_renders};
 use crate::known::Known;
@@ -32,7 +32,7 @@ use alias_hir::env::Environment;
 use alias_hir::error::HirError;
 use alias_hir::hir::Instruction;
 use alias_hir::place::{Place, Span};
-use alias_hir::report::DiagnosticId;
+use alias_hir::report::ReportId;
 use alias_hir::value::InstructionValue;
 use std::alloc::{AllocError, Global};
 
@@ -203,7 +203,7 @@ fn push_signature_of_value(
 
 /// The signature of an instruction whose report is interned, if it has one: the effects that it has whatever the state
 /// is, in order. They speak of the places of the instruction, and of the context of the function that it creates, alone.
-/// The one error is want of memory.
+/// The one error is out of memory.
 #[tactic(auto, using(crate::specs::SignatureLaws::signature_speaks_of))]
 pub fn signature_of(
     alloc: Global,
@@ -225,19 +225,19 @@ pub fn signature_of(
     Ok(effects)
 }
 
-/// Interns what is told of the instruction, if something is. After an `Err` nothing has changed.
-fn intern_told(
+/// Interns what is reported of the instruction, if something is. After an `Err` nothing has changed.
+fn intern_reported(
     alloc: Global,
     env: &mut Environment,
     instruction: &Instruction,
-) -> Result<Option<DiagnosticId>, HirError>
-    ensures error { Gives is_hir_memory (error_of_told env.old.interned (told_of instruction.now.value instruction.now.span)) result }
+) -> Result<Option<ReportId>, HirError>
+    ensures error { Gives is_hir_memory (error_of_report env.old.interned (instruction_report instruction.now.value instruction.now.span)) result }
     ensures ok { OnOk result (env.new ≡ env_after_signature env.old instruction.now) }
     ensures err { OnErr result (env.new ≡ env.old) }
 {
-    match told_of(alloc, &instruction.value, instruction.span)? {
+    match instruction_report(alloc, &instruction.value, instruction.span)? {
         Some((identifier, report)) => {
-            let error = env.intern_aliasing_diagnostic(identifier, report)?;
+            let error = env.intern_aliasing_report(identifier, report)?;
             Ok(Some(error))
         }
         None => Ok(None),
@@ -248,7 +248,7 @@ fn signature_with(
     alloc: Global,
     env: &Environment,
     facts: &FunctionFacts,
-    error: Option<DiagnosticId>,
+    error: Option<ReportId>,
     instruction: &Instruction,
 ) -> Result<AliasingEffects, AllocError>
     ensures { IfOk result (λ effects. effects ≡ signature_of (known env.now facts.now error) instruction.now) }
@@ -258,7 +258,7 @@ fn signature_with(
 }
 
 /// The signature of an instruction: the effects that it has whatever the state is, in order. docs/MODEL.md has a row for
-/// each kind. A write of a global variable is told: its report is interned first, and is one of the effects'.
+/// each kind. A write of a global variable is reported: its report is interned first, and is one of the effects'.
 /// `TooMany` comes exactly where no number is left for that report. After an `Err` the environment is as it was, or has
 /// that report more: memory was wanting after it was interned.
 pub fn compute_signature_for_instruction(
@@ -271,7 +271,7 @@ pub fn compute_signature_for_instruction(
     ensures ok { OnOk result (env.new ≡ env_after_signature env.old instruction.now) }
     ensures err { OnErr result ((env.new ≡ env.old) ⊎ (env.new ≡ env_after_signature env.old instruction.now)) }
 {
-    let error = intern_told(alloc, env, instruction)?;
+    let error = intern_reported(alloc, env, instruction)?;
     let effects = signature_with(alloc, env, facts, error, instruction)?;
     Ok(effects)
 }

@@ -429,7 +429,7 @@ fn write_counter(alloc: Global, env: &mut Environment) -> Result<(), Fail> {
 }
 
 /// Whether the help of the report that is interned first is that of a write of `counter`.
-fn is_told_of_counter(env: &Environment) -> Result<bool, Fail> {
+fn is_counter_reported(env: &Environment) -> Result<bool, Fail> {
     let interned = env.interned.get(0).ok_or("interned")?;
     let help = interned.report.help.as_ref().ok_or("help")?;
     Ok(
@@ -439,10 +439,10 @@ fn is_told_of_counter(env: &Environment) -> Result<bool, Fail> {
     )
 }
 
-fn a_write_is_told_of(alloc: Global) -> Result<bool, Fail> {
+fn a_write_is_reported(alloc: Global) -> Result<bool, Fail> {
     let mut env = environment(alloc)?;
     write_counter(alloc, &mut env)?;
-    is_told_of_counter(&env)
+    is_counter_reported(&env)
 }
 
 #[test]
@@ -450,6 +450,6 @@ fn globals(rt: HostRuntime) -> Result<(), Fail> {
     let alloc = rt.alloc();
     let want = [("MutateGlobal", 2, 0), ("Assign", 2, 0)];
     assert!(rt; gives(alloc, 0, global_store(alloc)?, &want)?);
-    assert!(rt; a_write_is_told_of(alloc)?);
+    assert!(rt; a_write_is_reported(alloc)?);
     Ok(())
 }

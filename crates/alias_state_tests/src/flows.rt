@@ -30,7 +30,7 @@ impl Lattice for Uncopied {
 
     ghost laws = { height_laws };
 
-    fn known(&self) {}
+    fn recall_proper(&self) {}
 
     fn join_from(&mut self, other: &Self) -> Result<bool, AllocError> {
         if other.0 <= self.0 {
@@ -68,7 +68,7 @@ impl Lattice for Height {
 
     ghost laws = { height_laws };
 
-    fn known(&self) {}
+    fn recall_proper(&self) {}
 
     fn join_from(&mut self, other: &Self) -> Result<bool, AllocError> {
         if other.0 <= self.0 {

@@ -6,7 +6,7 @@ use alias_hir::effect::{ValueKind, ValueReason};
 use alias_hir::place::Place;
 use alias_lattice::kinds::merge_value_kinds;
 use alias_lattice::lattice::Lattice;
-use alias_lattice::look::{Look, MissingLook};
+use alias_lattice::lookup::{Lookup, MissingLookup};
 use alias_lattice::reasons::{ReasonSet, is_superset, primary_reason};
 use alias_lattice::site::Site;
 use alias_lattice::site_set::SiteSet;
@@ -133,31 +133,31 @@ fn freeze_assigned(state: &mut InferenceState) -> Result<[bool; 2], AllocError> 
 }
 
 /// Whether each freeze of what was assigned acts, and the looks at 1 and at 3 then.
-fn frozen_assigned(alloc: Global) -> Result<([bool; 2], [Look; 2]), Fail> {
+fn frozen_assigned(alloc: Global) -> Result<([bool; 2], [Lookup; 2]), Fail> {
     let mut state = one_value(alloc)?;
     let acts = freeze_assigned(&mut state)?;
-    let looks = [
+    let lookups = [
         state.kind_with_span(IdentifierId(1), None),
         state.kind_with_span(IdentifierId(3), None),
     ];
-    Ok((acts, looks))
+    Ok((acts, lookups))
 }
 
 #[test]
 fn freezes_what_was_assigned(rt: HostRuntime) -> Result<(), Fail> {
-    let (acts, looks) = frozen_assigned(rt.alloc())?;
+    let (acts, lookups) = frozen_assigned(rt.alloc())?;
     assert!(rt; acts[0]);
     assert!(rt; !acts[1]);
     assert_eq!(rt;
-        looks[0].value,
+        lookups[0].value,
         value(ValueKind::Frozen, ValueReason::JsxCaptured)
     );
-    assert_eq!(rt; looks[0].missing, None);
-    let missing = MissingLook {
+    assert_eq!(rt; lookups[0].missing, None);
+    let missing = MissingLookup {
         identifier: IdentifierId(3),
         span: None,
     };
-    assert_eq!(rt; looks[1].missing, Some(missing));
+    assert_eq!(rt; lookups[1].missing, Some(missing));
     Ok(())
 }
 

@@ -9,7 +9,7 @@ use Rattle.alias_hir.specs.declared.place.Place.{Place}
 use Rattle.alias_hir.specs.declared.place.PlaceOrSpreadOrHole.{PlaceOrSpreadOrHole}
 use Rattle.alias_hir.specs.declared.place.Span.{Span}
 use Rattle.alias_hir.specs.declared.signature.FunctionSignature.{FunctionSignature}
-use Rattle.alias_lattice.specs.declared.look.MissingLook.{MissingLook}
+use Rattle.alias_lattice.specs.declared.lookup.MissingLookup.{MissingLookup}
 use Rattle.alias_tables.specs.declared.faults.Refusal.TheVariants.{IncompatibleLibrary}
 use Rattle.alias_tables.specs.Steps.{◌>>=◌, refuses, each}
 use Rattle.alias_tables.specs.Tables.{Step}
@@ -19,9 +19,9 @@ use Rattle.alias_apply.specs.Contexts.{StepContext}
 use Rattle.alias_apply.specs.Progress.{first_missing}
 use Rattle.alias_apply.specs.Reports.{incompatible_report}
 use Rattle.alias_calls.specs.Copies.{Collected}
-use Rattle.alias_calls.specs.Legacy.{legacy_list}
+use Rattle.alias_calls.specs.Legacy.{legacy_expansion}
 use Rattle.alias_step.specs.Defaults.{apply_by_default}
-use Rattle.alias_step.specs.Lists.{called_function, list_of_called, signature_of_type, list_of_config}
+use Rattle.alias_step.specs.Expansions.{called_function, expansion_of_called, signature_of_type, expansion_of_config}
 use Rattle.alias_step.specs.Operands.{Call}
 
 abbrev pub call_of : Place → Place → Bool → List PlaceOrSpreadOrHole → Place → Option Span → Call
@@ -32,8 +32,8 @@ call_of receiver function mutates args into span = record {
   args = args;
 }
 
--- the first missing look of a list is one of the step
-abbrev pub with_missing : Option MissingLook → StepProgress → StepProgress
+-- the first missing lookup of a list is one of the step
+abbrev pub with_missing : Option MissingLookup → StepProgress → StepProgress
 with_missing m s = record s { missing = first_missing s.missing m }
 
 module _ (c : StepContext) where
@@ -53,7 +53,7 @@ module _ (c : StepContext) where
 
   abbrev pub apply_inner_call : Call → StepProgress → Step StepProgress
   apply_inner_call call s = do
-    list ← list_of_called c.env call (called_function s.state call.function)
+    list ← expansion_of_called c.env call (called_function s.state call.function)
     apply_inner_call_by list call s
 
   abbrev pub apply_inner_effect : AliasingEffect → StepProgress → Step StepProgress
@@ -67,7 +67,7 @@ module _ (c : StepContext) where
 
   abbrev pub apply_by_legacy : FunctionSignature → Call → StepProgress → Step StepProgress
   apply_by_legacy signature call s = do
-    legacy ← legacy_list c.env signature call.site call.args s.state
+    legacy ← legacy_expansion c.env signature call.site call.args s.state
     intern_and_apply_all_plain c legacy.effects (with_missing legacy.missing s)
 
   abbrev pub apply_by_config : Collected → FunctionSignature → Call → StepProgress → Step StepProgress
@@ -82,7 +82,7 @@ module _ (c : StepContext) where
   abbrev pub apply_compatible : Option (List ℕ) → FunctionSignature → Call → StepProgress → Step StepProgress
   apply_compatible (Some text) signature call s = refuses (IncompatibleLibrary (incompatible_report call.site.receiver.span text))
   apply_compatible None signature call s = do
-    list ← list_of_config c.env call signature.aliasing
+    list ← expansion_of_config c.env call signature.aliasing
     apply_by_config list signature call s
 
   abbrev pub apply_by_signature : Option FunctionSignature → Call → StepProgress → Step StepProgress
@@ -98,7 +98,7 @@ module _ (c : StepContext) where
   -- by the summary of the one function that is called, by the signature of its type, or by default
   abbrev pub apply_call : Option TypeId → Call → StepProgress → Step StepProgress
   apply_call signature call s = do
-    list ← list_of_called c.env call (called_function s.state call.function)
+    list ← expansion_of_called c.env call (called_function s.state call.function)
     apply_call_by list signature call s
 
   -- the step of each effect of an instruction

@@ -1,4 +1,4 @@
--- The step of an instruction: what is told of it, what the summary of the function that it creates writes, the effects of its
+-- The step of an instruction: what is reported of it, what the summary of the function that it creates writes, the effects of its
 -- signature, and a value for its result.
 use Rattle.std.specs.Prelude.{Bool, true, false, ◌&&◌, List, [], Option, Some, None, if◌then◌else◌}
 use Rattle.std.specs.List.{list_any}
@@ -10,17 +10,17 @@ use Rattle.alias_hir.specs.declared.effect.AliasingEffect.TheVariants as effect
 use Rattle.alias_hir.specs.declared.env.Environment.{Environment}
 use Rattle.alias_hir.specs.declared.hir.Instruction.{Instruction}
 use Rattle.alias_hir.specs.declared.place.Place.{Place}
-use Rattle.alias_hir.specs.declared.report.DiagnosticId.{DiagnosticId}
+use Rattle.alias_hir.specs.declared.report.ReportId.{ReportId}
 use Rattle.alias_hir.specs.declared.report.Report.{Report}
 use Rattle.alias_hir.specs.Values.{created}
 use Rattle.alias_facts.specs.declared.facts.FunctionFacts.{FunctionFacts}
-use Rattle.alias_signature.specs.Globals.{told_of}
+use Rattle.alias_signature.specs.Globals.{instruction_report}
 use Rattle.alias_signature.specs.Known.{known}
 use Rattle.alias_signature.specs.Signatures.{signature_of}
 use Rattle.alias_lattice.specs.declared.site.Site.TheVariants.{Default}
 use Rattle.alias_lattice.specs.declared.value.AbstractValue.{AbstractValue}
-use Rattle.alias_lattice.specs.States.{State, look, sites_of, given, mutable_other}
-use Rattle.alias_freezing.specs.Contexts.{context_of}
+use Rattle.alias_lattice.specs.States.{State, lookup, sites_of, given, mutable_other}
+use Rattle.alias_apply.specs.freezing.Contexts.{context_of}
 use Rattle.alias_tables.specs.Steps.{◌>>=◌, gives, each}
 use Rattle.alias_tables.specs.Tables.{Step, intern_report}
 use Rattle.alias_apply.specs.declared.progress.StepProgress.{StepProgress}
@@ -42,7 +42,7 @@ written_by e = None
 -- it is a context place, and frozen here
 abbrev pub is_frozen_context : List Place → State → Place → Bool
 is_frozen_context context u v =
-    list_any (λ (p : Place). same_place p v) context && is_some (sites_of u v.identifier) && is_frozen (look u v.identifier).kind
+    list_any (λ (p : Place). same_place p v) context && is_some (sites_of u v.identifier) && is_frozen (lookup u v.identifier).kind
 
 -- the report is interned, and the effect is recorded as it is
 abbrev pub record_mutate_frozen : Report → Place → StepProgress → Step StepProgress
@@ -59,7 +59,7 @@ module _ (c : StepContext) where
 
   abbrev pub check_write : List Place → Option Place → StepProgress → Step StepProgress
   check_write context None s = gives s
-  check_write context (Some v) s = record_write_if (is_frozen_context context s.state v) (look s.state v.identifier) v s
+  check_write context (Some v) s = record_write_if (is_frozen_context context s.state v) (lookup s.state v.identifier) v s
 
   abbrev pub check_effect : List Place → AliasingEffect → StepProgress → Step StepProgress
   check_effect context e s = check_write context (written_by e) s
@@ -94,22 +94,22 @@ apply_instruction c f effects x s = do
   u ← apply_effects c effects t
   gives (with_result (is_some (sites_of u.state x)) x u)
 
--- the report of what is told is interned
-abbrev pub intern_told : Option (IdentifierId × Report) → Step (Option DiagnosticId)
-intern_told None = gives None
-intern_told (Some told) = do
-  error ← intern_report told.0 told.1
+-- the report is interned
+abbrev pub intern_reported : Option (IdentifierId × Report) → Step (Option ReportId)
+intern_reported None = gives None
+intern_reported (Some reported) = do
+  error ← intern_report reported.0 reported.1
   gives (Some error)
 
 abbrev pub context_with : Environment → FunctionFacts → StepContext
 context_with env facts = record { env = env; hoisted = facts.hoisted }
 
--- the step with the report of what is told, if something is
-abbrev pub apply_signature_with : Environment → FunctionFacts → Instruction → Option DiagnosticId → StepProgress → Step StepProgress
+-- the step with the report of what is reported, if something is
+abbrev pub apply_signature_with : Environment → FunctionFacts → Instruction → Option ReportId → StepProgress → Step StepProgress
 apply_signature_with env facts i error s =
     apply_instruction (context_with env facts) (created i.value) (signature_of (known env facts error) i) i.lvalue.identifier s
 
 abbrev pub apply_signature : Environment → FunctionFacts → Instruction → StepProgress → Step StepProgress
 apply_signature env facts i s = do
-  error ← intern_told (told_of i.value i.span)
+  error ← intern_reported (instruction_report i.value i.span)
   apply_signature_with env facts i error s

@@ -1,7 +1,8 @@
 pub mod Operands
 pub mod Defaults
-pub mod Lists
+pub mod Expansions
 pub mod Calls
 pub mod Instructions
 pub mod ReplayLaws
 pub mod ProperLaws
+pub mod block

@@ -13,18 +13,18 @@ use Rattle.alias_hir.specs.declared.env.Environment.{Environment}
 use Rattle.alias_hir.specs.declared.hir.HirFunction.{HirFunction}
 use Rattle.alias_hir.specs.declared.hir.Instruction.{Instruction}
 use Rattle.alias_hir.specs.declared.place.Place.{Place}
-use Rattle.alias_hir.specs.declared.report.DiagnosticId.{DiagnosticId}
+use Rattle.alias_hir.specs.declared.report.ReportId.{ReportId}
 use Rattle.alias_hir.specs.declared.report.Report.{Report}
 use Rattle.alias_hir.specs.declared.signature.AliasingSignatureConfig.{AliasingSignatureConfig}
 use Rattle.alias_hir.specs.declared.signature.FunctionSignature.{FunctionSignature}
 use Rattle.alias_hir.specs.Types.{is_builtin_collection_at}
 use Rattle.alias_hir.specs.Values.{created}
 use Rattle.alias_facts.specs.declared.facts.FunctionFacts.{FunctionFacts}
-use Rattle.alias_signature.specs.Globals.{told_of}
+use Rattle.alias_signature.specs.Globals.{instruction_report}
 use Rattle.alias_signature.specs.Known.{known}
 use Rattle.alias_signature.specs.Signatures.{signature_of}
-use Rattle.alias_lattice.specs.States.{look, sites_of}
-use Rattle.alias_freezing.specs.Contexts.{context_of}
+use Rattle.alias_lattice.specs.States.{lookup, sites_of}
+use Rattle.alias_apply.specs.freezing.Contexts.{context_of}
 use Rattle.alias_tables.specs.declared.faults.Refusal.TheVariants.{IncompatibleLibrary}
 use Rattle.alias_tables.specs.GrowingLaws.{Again, again_gives, again_refuses, again_then, again_if, again_each}
 use Rattle.alias_tables.specs.ReportLaws.{again_report}
@@ -34,31 +34,31 @@ use Rattle.alias_apply.specs.Progress.{record_of}
 use Rattle.alias_apply.specs.ReplayLaws.{again_intern_and_apply_simple, again_intern_and_apply_plain, again_intern_and_apply_all_plain}
 use Rattle.alias_apply.specs.Reports.{write_report, incompatible_report}
 use Rattle.alias_calls.specs.Copies.{Collected}
-use Rattle.alias_calls.specs.ReplayLaws.{again_config_list, again_summary_list, again_legacy_list}
+use Rattle.alias_calls.specs.ReplayLaws.{again_config_expansion, again_summary_expansion, again_legacy_expansion}
 use Rattle.alias_step.specs.declared.call.Operand.{Operand}
 use Rattle.alias_step.specs.Calls.{call_of, with_missing, apply_by_summary, apply_inner_call_by, apply_inner_call, apply_inner_effect, apply_inner_effects, apply_by_legacy, apply_by_config, incompatible, apply_compatible, apply_by_signature, apply_call_by, apply_call, apply_effect, apply_effects}
 use Rattle.alias_step.specs.Defaults.{mutate_operand, iterate_operand, capture_operand, apply_operand, apply_by_default}
-use Rattle.alias_step.specs.Instructions.{written_by, is_frozen_context, record_mutate_frozen, check_write, check_effect, check_summary, check_created, begun, with_result, apply_instruction, intern_told, context_with, apply_signature_with, apply_signature}
-use Rattle.alias_step.specs.Lists.{called_function, list_of_summary, list_of_function, list_of_called, signature_of_type, list_of_config}
+use Rattle.alias_step.specs.Instructions.{written_by, is_frozen_context, record_mutate_frozen, check_write, check_effect, check_summary, check_created, begun, with_result, apply_instruction, intern_reported, context_with, apply_signature_with, apply_signature}
+use Rattle.alias_step.specs.Expansions.{called_function, expansion_of_summary, expansion_of_function, expansion_of_called, signature_of_type, expansion_of_config}
 use Rattle.alias_step.specs.Operands.{Call, same_place, operands}
 
 -- ---- lists
 
-again_list_of_summary : (env : Environment) (call : Call) (f : FunctionId) (function : HirFunction) (o : Option (List AliasingEffect)) → Again (list_of_summary env call f function o)
+again_list_of_summary : (env : Environment) (call : Call) (f : FunctionId) (function : HirFunction) (o : Option (List AliasingEffect)) → Again (expansion_of_summary env call f function o)
 again_list_of_summary env call f function None = again_gives None
-again_list_of_summary env call f function (Some effects) = again_summary_list env f function effects call.site.into call.args
+again_list_of_summary env call f function (Some effects) = again_summary_expansion env f function effects call.site.into call.args
 
-again_list_of_function : (env : Environment) (call : Call) (f : FunctionId) (o : Option HirFunction) → Again (list_of_function env call f o)
+again_list_of_function : (env : Environment) (call : Call) (f : FunctionId) (o : Option HirFunction) → Again (expansion_of_function env call f o)
 again_list_of_function env call f None = again_gives None
 again_list_of_function env call f (Some function) = again_list_of_summary env call f function function.aliasing_effects
 
-again_list_of_called : (env : Environment) (call : Call) (o : Option FunctionId) → Again (list_of_called env call o)
+again_list_of_called : (env : Environment) (call : Call) (o : Option FunctionId) → Again (expansion_of_called env call o)
 again_list_of_called env call None = again_gives None
 again_list_of_called env call (Some f) = again_list_of_function env call f (slice_get env.functions f.0)
 
-again_list_of_config : (env : Environment) (call : Call) (o : Option AliasingSignatureConfig) → Again (list_of_config env call o)
+again_list_of_config : (env : Environment) (call : Call) (o : Option AliasingSignatureConfig) → Again (expansion_of_config env call o)
 again_list_of_config env call None = again_gives None
-again_list_of_config env call (Some config) = again_config_list env config call.site call.args
+again_list_of_config env call (Some config) = again_config_expansion env config call.site call.args
 
 module _ (c : StepContext) where
   -- ---- by default
@@ -106,7 +106,7 @@ module _ (c : StepContext) where
   -- ---- by a signature
 
   again_by_legacy : (signature : FunctionSignature) (call : Call) (s : StepProgress) → Again (apply_by_legacy c signature call s)
-  again_by_legacy signature call s = again_then _ _ (again_legacy_list c.env signature call.site call.args s.state) (λ l. again_intern_and_apply_all_plain c l.effects (with_missing l.missing s))
+  again_by_legacy signature call s = again_then _ _ (again_legacy_expansion c.env signature call.site call.args s.state) (λ l. again_intern_and_apply_all_plain c l.effects (with_missing l.missing s))
 
   again_by_config : (o : Collected) (signature : FunctionSignature) (call : Call) (s : StepProgress) → Again (apply_by_config c o signature call s)
   again_by_config (Some list) signature call s = again_inner_effects list s
@@ -145,7 +145,7 @@ module _ (c : StepContext) where
   again_check_write : (context : List Place) (o : Option Place) (s : StepProgress) → Again (check_write c context o s)
   again_check_write context None s = again_gives s
   again_check_write context (Some v) s =
-      again_if (is_frozen_context context s.state v) _ _ (again_record_mutate_frozen (write_report c.env v.identifier v.span (look s.state v.identifier).reason) v s) (again_gives s)
+      again_if (is_frozen_context context s.state v) _ _ (again_record_mutate_frozen (write_report c.env v.identifier v.span (lookup s.state v.identifier).reason) v s) (again_gives s)
 
   again_check_summary : (context : List Place) (o : Option (List AliasingEffect)) (s : StepProgress) → Again (check_summary c context o s)
   again_check_summary context None s = again_gives s
@@ -159,12 +159,12 @@ module _ (c : StepContext) where
   again_instruction o es x s =
       again_then _ _ (again_check_created o (begun s)) (λ t. again_then _ _ (again_apply_effects c es t) (λ u. again_gives (with_result (is_some (sites_of u.state x)) x u)))
 
-again_intern_told : (o : Option (IdentifierId × Report)) → Again (intern_told o)
-again_intern_told None = again_gives None
-again_intern_told (Some told) = again_then _ _ (again_report told.0 told.1) (λ d. again_gives (Some d))
+again_intern_reported : (o : Option (IdentifierId × Report)) → Again (intern_reported o)
+again_intern_reported None = again_gives None
+again_intern_reported (Some reported) = again_then _ _ (again_report reported.0 reported.1) (λ d. again_gives (Some d))
 
-again_apply_signature_with : (env : Environment) (facts : FunctionFacts) (i : Instruction) (error : Option DiagnosticId) (s : StepProgress) → Again (apply_signature_with env facts i error s)
+again_apply_signature_with : (env : Environment) (facts : FunctionFacts) (i : Instruction) (error : Option ReportId) (s : StepProgress) → Again (apply_signature_with env facts i error s)
 again_apply_signature_with env facts i error s = again_instruction (context_with env facts) (created i.value) (signature_of (known env facts error) i) i.lvalue.identifier s
 
 pub again_apply_signature : (env : Environment) (facts : FunctionFacts) (i : Instruction) (s : StepProgress) → Again (apply_signature env facts i s)
-again_apply_signature env facts i s = again_then _ _ (again_intern_told (told_of i.value i.span)) (λ error. again_apply_signature_with env facts i error s)
+again_apply_signature env facts i s = again_then _ _ (again_intern_reported (instruction_report i.value i.span)) (λ error. again_apply_signature_with env facts i error s)

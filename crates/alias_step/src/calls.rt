@@ -10,7 +10,9 @@ ghost use Rattle.alias_step.specs.Calls.{with_missing, apply_by_summary, apply_i
 
 use crate::call::Call;
 use crate::defaults::apply_by_default;
-use crate::lists::{called_function, list_of_called, list_of_config, signature_of_type};
+use crate::expansions::{
+    called_function, expansion_of_called, expansion_of_config, signature_of_type,
+};
 use alias_apply::reports::incompatible_report;
 use alias_apply::{
     StepContext, StepProgress, intern_and_apply_all_plain, intern_and_apply_plain,
@@ -20,11 +22,11 @@ use alias_base::{Text, TypeId};
 use alias_calls::{CallSite, compute_effects_for_legacy_signature};
 use alias_hir::effect::{AliasingEffect, AliasingEffects};
 use alias_hir::signature::FunctionSignature;
-use alias_lattice::MissingLook;
+use alias_lattice::MissingLookup;
 use alias_tables::{EffectFault, Refusal, Tables};
 
-/// The first missing look of a list is one of the step.
-fn note_missing(step: &mut StepProgress, missing: Option<MissingLook>)
+/// The first missing lookup of a list is one of the step.
+fn note_missing(step: &mut StepProgress, missing: Option<MissingLookup>)
     ensures { step.new ≡ with_missing missing step.old }
 {
     if step.missing.is_none() {
@@ -78,7 +80,7 @@ fn apply_inner_call(
     ensures { Follows (apply_inner_call (held context.now) (held_call call.now) step.old tables.old) result step.new tables.new }
 {
     let called = called_function(&step.state, call.function);
-    let list = list_of_called(context.env, tables, call, called)?;
+    let list = expansion_of_called(context.env, tables, call, called)?;
     apply_inner_call_by(context, step, tables, list, call)
 }
 
@@ -198,7 +200,7 @@ fn apply_compatible(
             report: incompatible_report(tables.alloc(), call.site.receiver.span, text)?,
         })),
         None => {
-            let list = list_of_config(context.env, tables, call, signature.aliasing.as_ref())?;
+            let list = expansion_of_config(context.env, tables, call, signature.aliasing.as_ref())?;
             apply_by_config(context, step, tables, list, signature, call)
         }
     }
@@ -254,12 +256,12 @@ fn apply_call(
     ensures { Follows (apply_call (held context.now) signature (held_call call.now) step.old tables.old) result step.new tables.new }
 {
     let called = called_function(&step.state, call.function);
-    let list = list_of_called(context.env, tables, call, called)?;
+    let list = expansion_of_called(context.env, tables, call, called)?;
     apply_call_by(context, step, tables, list, signature, call)
 }
 
 /// The step of an effect of an instruction. Where it is refused, the progress and the tables may have come some way;
-/// want of memory is the one other fault, and can come at any growth.
+/// out of memory is the one other fault, and can come at any growth.
 pub fn apply_effect(
     context: &StepContext<'_>,
     step: &mut StepProgress,

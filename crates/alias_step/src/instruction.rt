@@ -1,38 +1,38 @@
-//! The step of an instruction: what is told of it, what the summary of the function that it creates writes, the
+//! The step of an instruction: what is reported of it, what the summary of the function that it creates writes, the
 //! effects of its signature, and a value for its result.
 
 ghost use Rattle.std.specs.Prelude.{◌≡◌, Option, None, option_map, IfOk, OnOk};
 ghost use Rattle.std.specs.List.{list_any};
 ghost use Rattle.std.specs.Option.{is_some};
 ghost use Rattle.alias_hir.specs.declared.place.Place.{Place};
-ghost use Rattle.alias_lattice.specs.States.{look, sites_of};
-ghost use Rattle.alias_signature.specs.Globals.{told_of};
+ghost use Rattle.alias_lattice.specs.States.{lookup, sites_of};
+ghost use Rattle.alias_signature.specs.Globals.{instruction_report};
 ghost use Rattle.alias_signature.specs.Known.{known};
 ghost use Rattle.alias_signature.specs.Signatures.{signature_of};
 ghost use Rattle.alias_tables.specs.Tables.{Leaves};
 ghost use Rattle.alias_apply.specs.Contexts.{held};
 ghost use Rattle.alias_apply.specs.Progress.{Follows};
-ghost use Rattle.alias_step.specs.Instructions.{written_by, is_frozen_context, record_mutate_frozen, record_write, record_write_if, check_write, check_effects, check_summary, check_created, begun, with_result, apply_instruction, intern_told, apply_signature_with, apply_signature};
+ghost use Rattle.alias_step.specs.Instructions.{written_by, is_frozen_context, record_mutate_frozen, record_write, record_write_if, check_write, check_effects, check_summary, check_created, begun, with_result, apply_instruction, intern_reported, apply_signature_with, apply_signature};
 ghost use Rattle.alias_step.specs.Operands.{same_place};
 
 use crate::calls::apply_effects;
 use crate::operands::same_place;
 use alias_apply::context::summary_of;
+use alias_apply::freezing::context_of;
 use alias_apply::kinds::{is_frozen, value_with};
 use alias_apply::progress::record;
 use alias_apply::reports::write_report;
 use alias_apply::{MadeIdentifiers, StepContext, StepProgress};
 use alias_base::{FunctionId, IdentifierId, List};
 use alias_facts::FunctionFacts;
-use alias_freezing::context_of;
-use alias_function_rules::ids::created;
 use alias_hir::effect::{AliasingEffect, AliasingEffects, ValueKind, ValueReason};
 use alias_hir::env::Environment;
 use alias_hir::hir::Instruction;
 use alias_hir::place::Place;
-use alias_hir::report::{DiagnosticId, Report};
+use alias_hir::report::{Report, ReportId};
 use alias_lattice::{AbstractValue, InferenceState, Site};
-use alias_signature::{Known, signature_of, told_of};
+use alias_rules::function_rules::ids::created;
+use alias_signature::{Known, instruction_report, signature_of};
 use alias_tables::{EffectFault, Tables};
 use std::alloc::{AllocError, Global};
 
@@ -99,20 +99,20 @@ fn record_write_if(
     context: &StepContext<'_>,
     step: &mut StepProgress,
     tables: &mut Tables,
-    is_told: bool,
+    is_reported: bool,
     there: AbstractValue,
     place: Place,
 ) -> Result<(), EffectFault>
-    ensures { Follows (record_write_if (held context.now) is_told there place step.old tables.old) result step.new tables.new }
+    ensures { Follows (record_write_if (held context.now) is_reported there place step.old tables.old) result step.new tables.new }
 {
-    if is_told {
+    if is_reported {
         return record_write(context, step, tables, there, place);
     }
     Ok(())
 }
 
 fn value_at(state: &InferenceState, place: Place) -> AbstractValue
-    ensures { result ≡ look state.now place.identifier }
+    ensures { result ≡ lookup state.now place.identifier }
 {
     state.kind_with_span(place.identifier, None).value
 }
@@ -128,9 +128,9 @@ fn check_write(
 {
     match place {
         Some(place) => {
-            let is_told = is_frozen_context(places, &step.state, place);
+            let is_reported = is_frozen_context(places, &step.state, place);
             let there = value_at(&step.state, place);
-            record_write_if(context, step, tables, is_told, there, place)
+            record_write_if(context, step, tables, is_reported, there, place)
         }
         None => Ok(()),
     }
@@ -224,14 +224,14 @@ fn apply_instruction(
     Ok(())
 }
 
-/// Interns the report of what is told of the instruction, if something is.
-fn intern_told(
+/// Interns the report of the instruction, if something is.
+fn intern_reported(
     tables: &mut Tables,
     instruction: &Instruction,
-) -> Result<Option<DiagnosticId>, EffectFault>
-    ensures { Leaves (intern_told (told_of instruction.now.value instruction.now.span) tables.old) result tables.new }
+) -> Result<Option<ReportId>, EffectFault>
+    ensures { Leaves (intern_reported (instruction_report instruction.now.value instruction.now.span) tables.old) result tables.new }
 {
-    match told_of(tables.alloc(), &instruction.value, instruction.span)? {
+    match instruction_report(tables.alloc(), &instruction.value, instruction.span)? {
         Some((identifier, report)) => {
             let error = tables.intern_report(identifier, report)?;
             Ok(Some(error))
@@ -244,7 +244,7 @@ fn signature_with(
     alloc: Global,
     env: &Environment,
     facts: &FunctionFacts,
-    error: Option<DiagnosticId>,
+    error: Option<ReportId>,
     instruction: &Instruction,
 ) -> Result<AliasingEffects, AllocError>
     ensures { IfOk result (λ effects. effects ≡ signature_of (known env.now facts.now error) instruction.now) }
@@ -253,12 +253,12 @@ fn signature_with(
     signature_of(alloc, &known, instruction)
 }
 
-/// The step of the instruction with the report of what is told of it, if something is.
+/// The step of the instruction with the report of it, if something is.
 fn apply_signature_with(
     env: &Environment,
     facts: &FunctionFacts,
     instruction: &Instruction,
-    error: Option<DiagnosticId>,
+    error: Option<ReportId>,
     step: &mut StepProgress,
     tables: &mut Tables,
 ) -> Result<(), EffectFault>
@@ -279,10 +279,10 @@ fn apply_signature_with(
     )
 }
 
-/// The step of an instruction: the report of what is told of it is interned, each write of a frozen context place by
+/// The step of an instruction: the report of it is interned, each write of a frozen context place by
 /// the function that it creates is recorded as an error, the effects of its signature are stepped in order, and a
 /// result without a value gets one. What it records stands in `step.recorded`, and nothing of the instruction before.
-/// Refused as its effects are, and where no number is left for a report; want of memory can come at any growth.
+/// Refused as its effects are, and where no number is left for a report; out of memory can come at any growth.
 pub fn apply_signature(
     env: &Environment,
     facts: &FunctionFacts,
@@ -292,6 +292,6 @@ pub fn apply_signature(
 ) -> Result<(), EffectFault>
     ensures { Follows (apply_signature env.now facts.now instruction.now step.old tables.old) result step.new tables.new }
 {
-    let error = intern_told(tables, instruction)?;
+    let error = intern_reported(tables, instruction)?;
     apply_signature_with(env, facts, instruction, error, step, tables)
 }

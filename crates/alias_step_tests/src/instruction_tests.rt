@@ -112,8 +112,8 @@ fn store_records(alloc: Global, want: &[Described]) -> Result<bool, AllocError> 
 }
 
 #[test]
-fn a_write_of_a_global_variable_is_told(rt: HostRuntime) -> Result<(), Fail> {
-    let told = [("MutateGlobal", 2, 0), ("Assign", 2, 3)];
-    assert!(rt; store_records(rt.alloc(), &told)?);
+fn a_write_of_a_global_variable_is_reported(rt: HostRuntime) -> Result<(), Fail> {
+    let reported = [("MutateGlobal", 2, 0), ("Assign", 2, 3)];
+    assert!(rt; store_records(rt.alloc(), &reported)?);
     Ok(())
 }

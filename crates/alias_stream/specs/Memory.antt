@@ -1,6 +1,6 @@
 -- The source and the sink in memory.
 use Rattle.std.specs.Prelude.{ℕ, List}
-use Rattle.alias_failures.specs.Failures.{Plan}
+use Rattle.alias_base.specs.failures.Failures.{Plan}
 
 -- a source: what is left, and how much a read takes at most
 pub record Feed : Type 0 where

@@ -1,6 +1,6 @@
 -- Bytes that come from a source and go into a sink.
 use Rattle.std.specs.Prelude.{ℕ, ◌≡◌, List, [], ◌++◌, Option, None, Some}
-pub use Rattle.alias_failures.specs.Failures.{HasFailed}
+pub use Rattle.alias_base.specs.failures.Failures.{HasFailed}
 
 -- piece is first in what was left before, and the rest is left after
 abbrev pub Takes : Option (List ℕ) → List ℕ → Option (List ℕ) → Type 0

@@ -2,13 +2,13 @@
 ghost use Rattle.std.specs.Prelude.{ℕ, ◌≡◌, ◌+◌, ◌<◌, ◌≤◌, ◌↔◌, ◌++◌, min, Bool, false, List, [], Option, Some, Err, length, take, IfOk, OnErr, IsTrue, is_err};
 ghost use Rattle.alias_stream.specs.declared.sink.SinkStop.{SinkStop};
 ghost use Rattle.alias_stream.specs.Streams.{Takes, IsAtEnd, Adds, HasFailed};
-ghost use Rattle.alias_failures.specs.Failures.{new_plan, fails_now, called};
+ghost use Rattle.alias_base.specs.failures.Failures.{new_plan, fails_now, called};
 ghost use Rattle.alias_stream.specs.Memory.{Feed, Store};
 
 use crate::sink::{Sink, SinkStop};
 use crate::source::{Failed, Source};
 use alias_base::List as Items;
-use alias_failures::PlannedFailures;
+use alias_base::failures::PlannedFailures;
 use std::alloc::Global;
 use std::marker::Model;
 
@@ -33,7 +33,7 @@ impl Model for MemorySource {
 }
 
 impl MemorySource {
-    ghost use Rattle.alias_failures.specs.Failures.{new_plan};
+    ghost use Rattle.alias_base.specs.failures.Failures.{new_plan};
 
     /// A source of these bytes. A read takes at most `piece` of them. The reads whose number is in `fails`
     /// fail, where the first read has number 1.
@@ -100,7 +100,7 @@ impl Model for MemorySink {
 }
 
 impl MemorySink {
-    ghost use Rattle.alias_failures.specs.Failures.{new_plan};
+    ghost use Rattle.alias_base.specs.failures.Failures.{new_plan};
 
     /// A sink that holds nothing. A write adds at most `piece` bytes. The writes whose number is in `fails`
     /// fail, where the first write has number 1. Takes no memory.

@@ -10,7 +10,7 @@ use std::alloc::AllocError;
 pub enum SinkStop {
     /// It failed outside the program.
     Failed,
-    /// Want of memory, which can come at any growth.
+    /// Out of memory, which can come at any growth.
     Memory(AllocError),
 }
 

@@ -22,7 +22,7 @@ pub enum ReadStop {
     Failed,
     /// There are more than `LIMIT` bytes.
     TooLong,
-    /// Want of memory, which can come at any growth.
+    /// Out of memory, which can come at any growth.
     Memory(AllocError),
 }
 

@@ -16,7 +16,7 @@ use Rattle.alias_tables.specs.declared.temp_key.TempKey.{TempKey}
 use Rattle.alias_tables.specs.declared.temporaries.Temporary.{Temporary}
 use Rattle.alias_tables.specs.Steps.{gives, refuses, ◌>>=◌, each, if_some, collect}
 use Rattle.alias_tables.specs.ReplayLaws.{Replays, tables_are, first_is, not_given, replays_gives as any_gives, replays_refuses as any_refuses, replays_then as any_then, replays_if as any_if, replays_each as any_each}
-use Rattle.alias_tables.specs.FirstEffects.{same_key, keys_are_told_apart, first_like}
+use Rattle.alias_tables.specs.InternedEffects.{same_key, keys_are_told_apart, first_like}
 use Rattle.alias_tables.specs.Temporaries.{same_temp, temps_are_told_apart, key_in, temp_like, temporary_of}
 use Rattle.alias_tables.specs.Tables.{TableLists, Step, intern, intern_by, intern_after, has_room, new_place, temporary, temporary_after}
 

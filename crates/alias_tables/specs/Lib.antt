@@ -3,7 +3,7 @@ pub mod CaptureOrder
 pub mod KeyHashes
 pub mod Keys
 pub mod KeySets
-pub mod FirstEffects
+pub mod InternedEffects
 pub mod Reads
 pub mod NameOrder
 pub mod Temporaries
@@ -13,3 +13,4 @@ pub mod KeyHashLaws
 pub mod ReadLaws
 pub mod GrowingLaws
 pub mod ReportLaws
+pub mod write_back

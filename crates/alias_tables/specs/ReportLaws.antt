@@ -7,13 +7,13 @@ use Rattle.std.specs.Option.{option_eq}
 use Rattle.std.specs.Cmp.Lexicographic.{pointwise}
 use Rattle.alias_base.specs.declared.ids.IdentifierId.{IdentifierId}
 use Rattle.alias_hir.specs.declared.error.Counter.TheVariants.{Diagnostics}
-use Rattle.alias_hir.specs.declared.report.DiagnosticId.{DiagnosticId}
+use Rattle.alias_hir.specs.declared.report.ReportId.{ReportId}
 use Rattle.alias_hir.specs.declared.report.ErrorCategory.{ErrorCategory}
 use Rattle.alias_hir.specs.declared.report.ErrorCategory.TheVariants.{Invariant, Todo, Immutability, Globals, Purity, IncompatibleLibrary}
 use Rattle.alias_hir.specs.declared.report.Interned.{Interned}
 use Rattle.alias_hir.specs.declared.report.Label.{Label}
 use Rattle.alias_hir.specs.declared.report.Report.{Report}
-use Rattle.alias_hir.specs.Diagnostics.{same_category, same_text, same_span, same_label, same_words, same_report, same_identity, same_instance, number_of, interned, with_interned}
+use Rattle.alias_hir.specs.ReportNumbers.{same_category, same_text, same_span, same_label, same_words, same_report, same_identity, same_instance, number_of, interned, with_interned}
 use Rattle.alias_tables.specs.declared.reads.ContextRead.{ContextRead}
 use Rattle.alias_tables.specs.declared.faults.Refusal.TheVariants.{TooMany}
 use Rattle.alias_tables.specs.Reads.{same_read, is_noted}
@@ -184,7 +184,7 @@ module _ (id : IdentifierId) (r : Report) where
   pub grows_by_report : (l : List Interned) → Grows l (with_interned l id r)
   grows_by_report l = grows_if (number_of inst l == length l) l
 
-  abbrev answer_if : Bool → ℕ → ℕ → List Interned → Step DiagnosticId
+  abbrev answer_if : Bool → ℕ → ℕ → List Interned → Step ReportId
   answer_if b i j reports t = if b then Ok (record { identity = i; instance = j }, with_reports t reports) else Err (TooMany Diagnostics)
 
   abbrev few : ℕ → ℕ → Bool
@@ -193,8 +193,8 @@ module _ (id : IdentifierId) (r : Report) where
   added : (t : TableLists) → Extends t (with_reports t (with_interned t.reports id r))
   added t = record { first = grows_self t.first; temporaries = grows_self t.temporaries; reports = grows_by_report t.reports; reads = grows_self t.reads }
 
-  module _ (t u : TableLists) (y : DiagnosticId) where
-    abbrev d : DiagnosticId
+  module _ (t u : TableLists) (y : ReportId) where
+    abbrev d : ReportId
     d = record { identity = number_of ident t.reports; instance = number_of inst t.reports }
 
     abbrev kept : TableLists

@@ -5,10 +5,10 @@ use Rattle.alias_hir.specs.declared.error.Counter.TheVariants.{Diagnostics, Iden
 use Rattle.alias_hir.specs.declared.place.Effect.TheVariants.{Unknown}
 use Rattle.alias_hir.specs.declared.place.Place.{Place}
 use Rattle.alias_hir.specs.declared.place.Span.{Span}
-use Rattle.alias_hir.specs.declared.report.DiagnosticId.{DiagnosticId}
+use Rattle.alias_hir.specs.declared.report.ReportId.{ReportId}
 use Rattle.alias_hir.specs.declared.report.Interned.{Interned}
 use Rattle.alias_hir.specs.declared.report.Report.{Report}
-use Rattle.alias_hir.specs.Diagnostics.{same_identity, same_instance, number_of, with_interned}
+use Rattle.alias_hir.specs.ReportNumbers.{same_identity, same_instance, number_of, with_interned}
 use Rattle.alias_hir.specs.declared.effect.AliasingEffect.{AliasingEffect}
 use Rattle.alias_hir.specs.declared.env.Environment.{Environment}
 use Rattle.alias_tables.specs.declared.key.EffectKey.{EffectKey}
@@ -20,12 +20,12 @@ use Rattle.alias_tables.specs.declared.faults.EffectFault.{EffectFault}
 use Rattle.alias_tables.specs.declared.faults.EffectFault.TheVariants.{Refused, Memory}
 use Rattle.alias_tables.specs.declared.temp_key.TempKey.{TempKey}
 use Rattle.alias_tables.specs.declared.temporaries.Temporary.{Temporary}
-use Rattle.alias_tables.specs.FirstEffects.{first_like}
+use Rattle.alias_tables.specs.InternedEffects.{first_like}
 use Rattle.alias_tables.specs.Reads.{is_noted}
 use Rattle.alias_tables.specs.Temporaries.{temp_like, temporary_of}
 
 pub record TableLists : Type 0 where
-  -- the first effect of each key
+  -- the interned effect of each key
   pub first : List AliasingEffect
   -- the identifiers that calls add
   pub temporaries : List Temporary
@@ -54,7 +54,7 @@ abbrev pub intern_by : Option EffectKey → AliasingEffect → Step AliasingEffe
 intern_by None e t = Ok (e, t)
 intern_by (Some k) e t = intern_after (first_like k t.first) e t
 
--- the first effect of its key, which it becomes itself where there is none, with its own error. A call has no key
+-- the interned effect of its key, which it becomes itself where there is none, with its own error. A call has no key
 abbrev pub intern : AliasingEffect → Step AliasingEffect
 intern e = intern_by (key_of e) e
 
@@ -85,7 +85,7 @@ abbrev pub with_reports : TableLists → List Interned → TableLists
 with_reports t reports = record t { reports = reports }
 
 -- the numbers of the first report of the identifier that says the same, and of the one that is equal; a new one takes the next number, of which there are 4,294,967,295
-abbrev pub intern_report : IdentifierId → Report → Step DiagnosticId
+abbrev pub intern_report : IdentifierId → Report → Step ReportId
 intern_report id r t =
     let identity = number_of (same_identity id r) t.reports in
     let instance = number_of (same_instance id r) t.reports in

@@ -8,7 +8,7 @@ use alias_hir::place::Span;
 use alias_hir::report::Report;
 use std::alloc::{AllocError, AllocFailed};
 
-/// Why the step of an effect is refused, besides want of memory.
+/// Why the step of an effect is refused, besides lack of memory.
 #[derive(Drop)]
 pub enum Refusal {
     /// The instruction made the identifier before.
@@ -27,7 +27,7 @@ pub enum Refusal {
 #[derive(Drop)]
 pub enum EffectFault {
     Refused(Refusal),
-    /// Want of memory, which can come at any growth.
+    /// Out of memory, which can come at any growth.
     Memory(AllocError),
 }
 

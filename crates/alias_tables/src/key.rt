@@ -146,7 +146,7 @@ fn captures_of(alloc: Global, places: &[Place]) -> Result<Captures, AllocError>
     Ok(Captures { ids })
 }
 
-/// The key of an effect. A call has none. The one error is want of memory.
+/// The key of an effect. A call has none. The one error is out of memory.
 pub fn effect_key(alloc: Global, effect: &AliasingEffect) -> Result<Option<EffectKey>, AllocError>
     ensures { IfOk result (λ k. k ≡ key_of effect.now) }
 {
@@ -216,7 +216,7 @@ pub fn effect_key(alloc: Global, effect: &AliasingEffect) -> Result<Option<Effec
     }
 }
 
-/// The first effect of a key with the report of a later one, where it has a report.
+/// The interned effect of a key with the report of a later one, where it has a report.
 pub fn with_error_of(first: AliasingEffect, effect: &AliasingEffect) -> AliasingEffect
     ensures { result ≡ with_error_of first effect.now }
 {

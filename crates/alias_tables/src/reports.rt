@@ -1,7 +1,7 @@
 //! The reports that effects name.
 
 ghost use Rattle.std.specs.Prelude.{◌≡◌, OnOk, OnErr};
-ghost use Rattle.alias_hir.specs.Diagnostics.{same_instance, number_of, with_interned};
+ghost use Rattle.alias_hir.specs.ReportNumbers.{same_instance, number_of, with_interned};
 ghost use Rattle.alias_tables.specs.GrowingLaws.{Grows};
 ghost use Rattle.alias_tables.specs.Tables.{Leaves, TableLists, intern_report, with_reports};
 
@@ -9,7 +9,7 @@ use crate::faults::{EffectFault, Refusal};
 use alias_base::IdentifierId;
 use alias_hir::error::Counter;
 use alias_hir::interned::InternedReports;
-use alias_hir::report::{DiagnosticId, Interned, Report};
+use alias_hir::report::{Interned, Report, ReportId};
 use std::alloc::AllocError;
 
 /// Keeps the report, unless an equal one is kept. `instance` is the number of that one, or of a new one. After an `Err`
@@ -37,7 +37,7 @@ pub fn intern_report(
     reports: &mut InternedReports,
     identifier: IdentifierId,
     report: Report,
-) -> Result<DiagnosticId, EffectFault>
+) -> Result<ReportId, EffectFault>
     ensures answer { (t : TableLists) → Leaves (intern_report identifier report (with_reports t reports.old)) result (with_reports t reports.new) }
     ensures err { OnErr result (reports.new ≡ reports.old) }
     ensures grown { Grows reports.old reports.new }
@@ -45,7 +45,7 @@ pub fn intern_report(
     let (identity, instance) = reports.numbers_of(identifier, &report);
     if identity < 4294967295 && instance < 4294967295 {
         keep_report(reports, instance, identifier, report)?;
-        Ok(DiagnosticId {
+        Ok(ReportId {
             identity: identity as u32,
             instance: instance as u32,
         })

@@ -5,7 +5,7 @@ ghost use Rattle.alias_tables.specs.GrowingLaws.{Grows};
 ghost use Rattle.alias_tables.specs.Tables.{TableLists, Leaves, has_room, new_place, intern, temporary, intern_report, note_read};
 
 use crate::faults::{EffectFault, Refusal};
-use crate::first_effects::FirstEffects;
+use crate::interned_effects::InternedEffects;
 use crate::key::{effect_key, with_error_of};
 use crate::reads::{ContextRead, ContextReads};
 use crate::reports::intern_report;
@@ -17,16 +17,16 @@ use alias_hir::env::Environment;
 use alias_hir::error::Counter;
 use alias_hir::interned::InternedReports;
 use alias_hir::place::{Effect, Place, Span};
-use alias_hir::report::{DiagnosticId, Interned, Report};
+use alias_hir::report::{Interned, Report, ReportId};
 use std::alloc::{AllocError, Global};
 use std::marker::Model;
 
-/// What the steps of effects add to: the first effect of each key, temporaries, interned reports, and the context
+/// What the steps of effects add to: the interned effect of each key, temporaries, interned reports, and the context
 /// places that were found to be only read.
 #[derive(Drop)]
 pub struct Tables {
     alloc: Global,
-    first: FirstEffects,
+    first: InternedEffects,
     temporaries: Temporaries,
     reports: InternedReports,
     reads: ContextReads,
@@ -69,7 +69,7 @@ impl Tables {
     {
         Tables {
             alloc,
-            first: FirstEffects::new(alloc),
+            first: InternedEffects::new(alloc),
             temporaries: Temporaries::new(alloc),
             reports,
             reads: ContextReads::new(alloc),
@@ -81,7 +81,7 @@ impl Tables {
         self.alloc
     }
 
-    /// The first effects, in order.
+    /// The interned effects, in order.
     pub fn first(&self) -> &[AliasingEffect]
         ensures { result.now ≡ self.now.first }
     {
@@ -131,7 +131,7 @@ impl Tables {
         }
     }
 
-    /// The first effect of the same key with the effect's own error. Where there is none the effect becomes it.
+    /// The interned effect of the same key with the effect's own error. Where there is none the effect becomes it.
     pub fn intern(&mut self, effect: AliasingEffect) -> Result<AliasingEffect, AllocError>
         ensures { IfOk result (λ e. intern effect self.old ≡ Ok (e, self.new)) }
     {
@@ -178,7 +178,7 @@ impl Tables {
         &mut self,
         identifier: IdentifierId,
         report: Report,
-    ) -> Result<DiagnosticId, EffectFault>
+    ) -> Result<ReportId, EffectFault>
         ensures answer { Leaves (intern_report identifier report self.old) result self.new }
         ensures grown { Grows self.old.reports self.new.reports }
     {

@@ -6,7 +6,7 @@ use alias_hir::env::Environment;
 use alias_hir::hir::{FunctionType, HirFunction};
 use alias_hir::interned::InternedReports;
 use alias_hir::place::{Place, Span};
-use alias_hir::report::{DiagnosticId, ErrorCategory, Report};
+use alias_hir::report::{ErrorCategory, Report, ReportId};
 use alias_lattice::{AbstractValue, InferenceState, ReasonSet, Site};
 use alias_tables::{ContextRead, EffectKey, Tables, TempKey, effect_key};
 use alias_test_units::{add_identifiers, place};
@@ -103,11 +103,7 @@ fn an_effect_becomes_the_first_of_its_key(rt: HostRuntime) -> Result<(), Fail> {
 }
 
 /// The name of a report of the identifier, or `None` where it is refused.
-fn named(
-    alloc: Global,
-    tables: &mut Tables,
-    number: u32,
-) -> Result<Option<DiagnosticId>, AllocError> {
+fn named(alloc: Global, tables: &mut Tables, number: u32) -> Result<Option<ReportId>, AllocError> {
     let report = report(alloc, "one")?;
     match tables.intern_report(IdentifierId(number), report) {
         Ok(id) => Ok(Some(id)),
@@ -116,16 +112,13 @@ fn named(
 }
 
 /// The names of reports of two identifiers, and how many reports there are then.
-fn name_two(
-    alloc: Global,
-    tables: &mut Tables,
-) -> Result<(DiagnosticId, DiagnosticId, usize), Fail> {
+fn name_two(alloc: Global, tables: &mut Tables) -> Result<(ReportId, ReportId, usize), Fail> {
     let one = named(alloc, tables, 1)?.ok_or("refused")?;
     let two = named(alloc, tables, 2)?.ok_or("refused")?;
     Ok((one, two, tables.reports().len()))
 }
 
-fn names_of_reports(alloc: Global) -> Result<(DiagnosticId, DiagnosticId, usize), Fail> {
+fn names_of_reports(alloc: Global) -> Result<(ReportId, ReportId, usize), Fail> {
     let mut tables = tables(alloc);
     name_two(alloc, &mut tables)
 }
@@ -134,13 +127,13 @@ fn names_of_reports(alloc: Global) -> Result<(DiagnosticId, DiagnosticId, usize)
 fn reports_have_numbers(rt: HostRuntime) -> Result<(), Fail> {
     let (one, two, count) = names_of_reports(rt.alloc())?;
     assert!(rt;
-        one == DiagnosticId {
+        one == ReportId {
             identity: 0,
             instance: 0
         }
     );
     assert!(rt;
-        two == DiagnosticId {
+        two == ReportId {
             identity: 1,
             instance: 1
         }

@@ -1,4 +1,4 @@
--- The lines of `certify` that `infer` doesn't print: visits, entry states, first effects and temporaries.
+-- The lines of `certify` that `infer` doesn't print: visits, entry states, interned effects and temporaries.
 use Rattle.std.specs.Prelude.{ℕ, List, [], ◌∷◌, ◌++◌, codes}
 use Rattle.std.specs.List.{flat_map, join_by}
 use Rattle.std.specs.Fmt.{decimal}
@@ -85,6 +85,6 @@ key_text (Rest f) = form_text (codes "Rest") (decimal f.0)
 abbrev pub temporary_line : Temporary → List ℕ
 temporary_line t = codes "temporary" ++ spaced t.place.identifier.0 ++ codes " " ++ key_text t.key ++ codes "\n"
 
--- the first effects and then the temporaries, each in the order in which they came
+-- the interned effects and then the temporaries, each in the order in which they came
 abbrev pub table_lines : Solved → List ℕ
 table_lines s = flat_map first_line s.first ++ flat_map temporary_line s.temporaries

@@ -1,7 +1,7 @@
 -- The lines that are printed of a unit's size, and of what was inferred of it.
 use Rattle.std.specs.Prelude.{ℕ, ◌+◌, List, ◌++◌, codes, length, sum_by, count_by}
-use Rattle.alias_block.specs.declared.recorded.InstructionEffects.{InstructionEffects}
-use Rattle.alias_block.specs.declared.recorded.TerminalEffects.{TerminalEffects}
+use Rattle.alias_step.specs.declared.block.recorded.InstructionEffects.{InstructionEffects}
+use Rattle.alias_step.specs.declared.block.recorded.TerminalEffects.{TerminalEffects}
 use Rattle.alias_hir.specs.declared.env.Identifier.{Identifier}
 use Rattle.alias_hir.specs.declared.env.Unit.{Unit as HirUnit}
 use Rattle.alias_hir.specs.declared.report.Report.{Report}

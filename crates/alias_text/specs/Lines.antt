@@ -8,7 +8,7 @@ use Rattle.alias_base.specs.declared.ids.InstructionId.{InstructionId}
 use Rattle.alias_hir.specs.Terminals.{terminal_effects}
 use Rattle.alias_hir.specs.declared.effect.AliasingEffect.{AliasingEffect}
 use Rattle.alias_hir.specs.declared.effect.AliasingEffect.TheVariants.{Apply, CreateFrom, ImmutableCapture, Assign, Alias, Capture, MaybeAlias, Create, Freeze, Impure, MutateFrozen, MutateGlobal, Render, Mutate, MutateConditionally, MutateTransitive, MutateTransitiveConditionally, CreateFunction}
-use Rattle.alias_hir.specs.declared.report.DiagnosticId.{DiagnosticId}
+use Rattle.alias_hir.specs.declared.report.ReportId.{ReportId}
 use Rattle.alias_hir.specs.declared.effect.MutationReason.{MutationReason}
 use Rattle.alias_hir.specs.declared.effect.MutationReason.TheVariants.{AssignCurrentProperty}
 use Rattle.alias_hir.specs.declared.effect.ValueKind.{ValueKind}
@@ -71,7 +71,7 @@ abbrev pub mutate_text : Place → Option MutationReason → List ℕ
 mutate_text value reason = one_text (codes "Mutate") value ++ mutation_text reason
 
 -- an error is printed as the number of its report
-abbrev pub error_text : List ℕ → Place → DiagnosticId → List ℕ
+abbrev pub error_text : List ℕ → Place → ReportId → List ℕ
 error_text name place error = one_text name place ++ spaced error.instance
 
 -- an argument that is left out has no identifier

@@ -1,4 +1,4 @@
-//! Visits, entry states, first effects and temporaries, as lines.
+//! Visits, entry states, interned effects and temporaries, as lines.
 ghost use Rattle.std.specs.Prelude.{◌≡◌, ◌++◌, OnOk, codes};
 ghost use Rattle.std.specs.List.{AllByRecursion, flat_map};
 ghost use Rattle.std.specs.Fmt.{decimal};
@@ -104,7 +104,7 @@ fn push_reasons(out: &mut Text, reasons: ReasonSet) -> Result<(), AllocError>
     ensures fits { ReasonBits reasons }
 {
     // Does nothing: it tells the prover that this is a proper value.
-    reasons.known();
+    reasons.recall_proper();
     let mut members = reasons.iter();
     match members.next() {
         Some(first) => {
@@ -134,7 +134,7 @@ fn push_values(out: &mut Text, state: &InferenceState) -> Result<(), AllocError>
     ensures fits { OnOk result (AllByRecursion FittingValue state.now.values) }
 {
     // Does nothing: it tells the prover that this is a proper value.
-    state.known();
+    state.recall_proper();
     let mut after = None;
     'values: while let Some((site, value)) = state.next_value(after) {
         push_value_line(out, site, value)?;
@@ -157,7 +157,7 @@ fn push_sites(out: &mut Text, sites: &SiteSet) -> Result<(), AllocError>
     ensures fits { OnOk result (AllByRecursion SmallEntry sites.now) }
 {
     // Does nothing: it tells the prover that this is a proper value.
-    sites.known();
+    sites.recall_proper();
     let mut after = None;
     'sites: while let Some(site) = sites.next_site(after) {
         push_spaced_site(out, site)?;
@@ -182,7 +182,7 @@ fn push_variables(out: &mut Text, state: &InferenceState) -> Result<(), AllocErr
     ensures fits { OnOk result (AllByRecursion SmallVariable state.now.variables) }
 {
     // Does nothing: it tells the prover that this is a proper value.
-    state.known();
+    state.recall_proper();
     let mut after = None;
     'variables: while let Some((id, sites)) = state.next_variable(after) {
         push_variable_line(out, id, sites)?;
@@ -200,7 +200,7 @@ pub(crate) fn push_state(out: &mut Text, state: &InferenceState) -> Result<(), A
     push_values(out, state)?;
     push_variables(out, state)?;
     // Does nothing: it tells the prover that this is a proper value.
-    state.known();
+    state.recall_proper();
     Ok(())
 }
 
@@ -230,7 +230,7 @@ fn push_first_line(out: &mut Text, effect: &AliasingEffect) -> Result<(), AllocE
     out.push_str("\n")
 }
 
-fn push_first_effects(out: &mut Text, first: &[AliasingEffect]) -> Result<(), AllocError>
+fn push_interned_effects(out: &mut Text, first: &[AliasingEffect]) -> Result<(), AllocError>
     ensures { OnOk result (out.new ≡ out.old ++ flat_map first_line first.now) }
 {
     for effect in first {
@@ -295,12 +295,12 @@ fn push_temporaries(
     Ok(())
 }
 
-/// Appends a line for each first effect, and then for each temporary. An `Err` is out of memory: `out` may
+/// Appends a line for each interned effect, and then for each temporary. An `Err` is out of memory: `out` may
 /// then hold a part of it.
 pub(crate) fn push_tables(alloc: Global, out: &mut Text, solved: &Solved) -> Result<(), AllocError>
     ensures text { OnOk result (out.new ≡ out.old ++ table_lines solved.now) }
     ensures fits { OnOk result (AllByRecursion SmallTemporary solved.now.temporaries) }
 {
-    push_first_effects(out, solved.first.as_slice())?;
+    push_interned_effects(out, solved.first.as_slice())?;
     push_temporaries(alloc, out, solved.temporaries.as_slice())
 }

@@ -5,10 +5,10 @@ ghost use Rattle.alias_text.specs.Counts.{instruction_effects, terminal_effects,
 use crate::effects::push_spaced;
 use crate::ranges::has_range;
 use alias_base::Text;
-use alias_block::{InstructionEffects, TerminalEffects};
 use alias_effects::Solved;
 use alias_hir::env::{Identifier, Unit};
 use alias_hir::report::Report;
+use alias_step::block::{InstructionEffects, TerminalEffects};
 use std::alloc::AllocError;
 
 /// The sum of two counts. Where it needs more than 64 bits, as many things aren't in memory.

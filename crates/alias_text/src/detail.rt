@@ -5,7 +5,7 @@
 pub enum Detail {
     /// Effects, summaries, mutable ranges and reports.
     Infer,
-    /// Besides these all that the result can be checked by: visits, entry states, first effects and temporaries.
+    /// Besides these all that the result can be checked by: visits, entry states, interned effects and temporaries.
     Certify,
     /// How many there are of each alone.
     Counts,

@@ -6,7 +6,7 @@ ghost use Rattle.alias_text.specs.Lines.{kind_word, reason_word, mutation_text, 
 use alias_base::{FunctionId, Text};
 use alias_hir::effect::{AliasingEffect, MutationReason, ValueKind, ValueReason};
 use alias_hir::place::{Place, PlaceOrSpreadOrHole};
-use alias_hir::report::DiagnosticId;
+use alias_hir::report::ReportId;
 use std::alloc::{AllocError, Global};
 
 pub(crate) fn kind_word(kind: ValueKind) -> &'static str
@@ -109,12 +109,7 @@ fn push_mutate(
 }
 
 /// Appends a name, an identifier, and the number of the report of an effect that is an error.
-fn push_error(
-    out: &mut Text,
-    name: &str,
-    place: &Place,
-    error: DiagnosticId,
-) -> Result<(), AllocError>
+fn push_error(out: &mut Text, name: &str, place: &Place, error: ReportId) -> Result<(), AllocError>
     ensures { OnOk result (out.new ≡ out.old ++ error_text name.now place.now error) }
 {
     push_one(out, name, place)?;

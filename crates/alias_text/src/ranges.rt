@@ -36,7 +36,7 @@ fn push_range(out: &mut Text, number: usize, range: MutableRange) -> Result<(), 
     }
 }
 
-/// Appends a line for the range of each of the identifiers in order, but for those of 0..0. An `Err` is want of
+/// Appends a line for the range of each of the identifiers in order, but for those of 0..0. An `Err` is out of
 /// memory: `out` may then hold a part of it.
 pub fn push_ranges(out: &mut Text, identifiers: &[Identifier]) -> Result<(), AllocError>
     ensures { OnOk result (out.new ≡ out.old ++ ranges_text identifiers.now) }

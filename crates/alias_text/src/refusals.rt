@@ -7,9 +7,9 @@ use crate::effects::push_spaced;
 use crate::functions::push_function_name;
 use crate::quoting::quoted;
 use alias_base::{FunctionId, IdentifierId, InstructionId, Text};
-use alias_function_rules::fault::{Holder, Table, UnitFault};
 use alias_hir::error::{Counter, InferError, Pass};
 use alias_json::fault::TextRule;
+use alias_rules::function_rules::fault::{Holder, Table, UnitFault};
 use std::alloc::{AllocError, Global};
 
 /// Appends what is refused, and the function.
@@ -307,7 +307,7 @@ fn push_unfit_data(out: &mut Text, fault: UnitFault) -> Result<(), AllocError>
     }
 }
 
-/// Appends the line of a unit that does not fit: the number of the rule that it breaks, and where. Want of
+/// Appends the line of a unit that does not fit: the number of the rule that it breaks, and where. Out of
 /// memory has no line. An `Err` is out of memory: `out` may then hold a part of it.
 pub fn push_unfit(out: &mut Text, fault: UnitFault) -> Result<(), AllocError>
     ensures { OnOk result (out.new ≡ out.old ++ unfit_text fault) }

@@ -87,7 +87,7 @@ fn push_report_lines(alloc: Global, out: &mut Text, reports: &[Report]) -> Resul
     Ok(())
 }
 
-/// Appends a line with the number of the reports, and then a line for each in order. An `Err` is want of
+/// Appends a line with the number of the reports, and then a line for each in order. An `Err` is out of
 /// memory: `out` may then hold a part of it.
 pub fn push_reports(alloc: Global, out: &mut Text, reports: &[Report]) -> Result<(), AllocError>
     ensures { OnOk result (out.new ≡ out.old ++ reports_text reports.now) }

@@ -173,7 +173,7 @@ fn push_listing(
 /// Appends what was inferred of a unit, where it is recorded on the unit: function by function a line for the
 /// function, for each block that is reached a line and those of its effects, and those of the summary, of which
 /// `summary` is the root's; then the mutable ranges, and the reports. `Certify` has besides the visits, the entry
-/// states, the first effects and the temporaries, and `Counts` only how many there are. docs/FORMAT.md has the form of
+/// states, the interned effects and the temporaries, and `Counts` only how many there are. docs/FORMAT.md has the form of
 /// the lines. An `Err` is out of memory: `out` may then hold a part of it.
 pub fn push_result(
     alloc: Global,

@@ -36,7 +36,7 @@ fn labels(alloc: Global) -> Result<List<Label>, AllocError> {
     Ok(labels)
 }
 
-fn told(alloc: Global) -> Result<Report, AllocError> {
+fn reported(alloc: Global) -> Result<Report, AllocError> {
     let message = Text::from_str(alloc, "Use of incompatible library")?;
     Ok(Report {
         category: ErrorCategory::IncompatibleLibrary,
@@ -80,7 +80,7 @@ fn prints_an_effect(rt: HostRuntime) -> Result<(), Fail> {
 }
 
 fn report_text(alloc: Global) -> Result<Text, AllocError> {
-    let report = told(alloc)?;
+    let report = reported(alloc)?;
     print_report(alloc, &report)
 }
 

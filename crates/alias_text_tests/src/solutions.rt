@@ -1,10 +1,10 @@
 //! Solutions that are made by hand.
 
 use alias_base::{BlockId, FunctionId, IdentifierId, InstructionId, List, Text};
-use alias_block::{InstructionEffects, TerminalEffects};
 use alias_effects::{BlockEntry, Solved};
 use alias_hir::effect::{AliasingEffect, AliasingEffects, ValueKind, ValueReason};
 use alias_lattice::{AbstractValue, InferenceState, ReasonSet, Site};
+use alias_step::block::{InstructionEffects, TerminalEffects};
 use alias_tables::temp_key::Name;
 use alias_tables::{TempKey, Temporaries};
 use alias_test_units::place;

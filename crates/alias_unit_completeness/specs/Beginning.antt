@@ -9,8 +9,8 @@ use Rattle.alias_base.specs.declared.ids.BlockId.{BlockId}
 use Rattle.alias_base.specs.declared.ids.DeclarationId.{DeclarationId}
 use Rattle.alias_base.specs.declared.ids.FunctionId.{FunctionId}
 use Rattle.alias_base.specs.declared.ids.TypeId.{TypeId}
-use Rattle.alias_block_laws.specs.ContextLaws.{numbers_of}
-use Rattle.alias_function_rules.specs.Rules.{place_fits, created_fits, identifier_fits, instruction_fits, phi_fits, block_fits, numbers_fit, tables_fit, is_block}
+use Rattle.alias_step_laws.specs.blocks.ContextLaws.{numbers_of}
+use Rattle.alias_rules.specs.function_rules.Rules.{place_fits, created_fits, identifier_fits, instruction_fits, phi_fits, block_fits, numbers_fit, tables_fit, is_block}
 use Rattle.alias_hir.specs.Terminals.{terminal_places}
 use Rattle.alias_hir.specs.Types.{type_at}
 use Rattle.alias_hir.specs.Values.{places_of, created}
@@ -26,7 +26,7 @@ use Rattle.alias_rules.specs.RuleLaws.{parts_of_rules, root_of_rules, nested_of_
 use Rattle.alias_rules.specs.declared.rules.Rule.TheVariants.{Numbers, Entry}
 use Rattle.alias_visit.specs.Places.{created_places}
 use Rattle.alias_completeness.specs.Agreeing.{Agrees}
-use Rattle.alias_summary_laws.specs.KeptTables.{bound_to, TablesKept}
+use Rattle.alias_completeness.specs.summaries.KeptTables.{bound_to, TablesKept}
 use Rattle.alias_completeness.specs.AgreeingFacts.{InTable, IsInside, AllInside}
 use Rattle.alias_unit_completeness.specs.Moments.{asked}
 

@@ -7,17 +7,17 @@ use Rattle.std.proofs.Common.{ap, sym, subst, arith}
 use Rattle.alias_base.specs.declared.ids.FunctionId.{FunctionId}
 use Rattle.alias_base.specs.declared.ids.IdentifierId.{IdentifierId}
 use Rattle.alias_base.specs.declared.ids.InstructionId.{InstructionId}
-use Rattle.alias_answer_laws.specs.Avoiding.{Avoids, Answered, avoids_then}
-use Rattle.alias_answer_laws.specs.KnownUnitLaws.{unit_always_known}
-use Rattle.alias_answer_laws.specs.UnitLaws.{unit_never_left}
-use Rattle.alias_answer_laws.specs.ValidationLaws.{validated_says}
+use Rattle.alias_answer_laws.specs.answers.Avoiding.{Avoids, Answered, avoids_then}
+use Rattle.alias_answer_laws.specs.answers.KnownUnitLaws.{unit_always_known}
+use Rattle.alias_answer_laws.specs.answers.UnitLaws.{unit_never_left}
+use Rattle.alias_answer_laws.specs.answers.ValidationLaws.{validated_says}
 use Rattle.alias_effects.specs.Inference.{pass_end, env_after}
 use Rattle.alias_effects.specs.Recording.{with_effects_of}
 use Rattle.alias_effects.specs.declared.output.PassEnd.{PassEnd}
 use Rattle.alias_effects.specs.declared.solved.Solved.{Solved}
-use Rattle.alias_events.specs.BlockListings.{listed}
-use Rattle.alias_events.specs.declared.listing.Listing.{Listing}
-use Rattle.alias_function_rules.specs.Rules.{tables_fit}
+use Rattle.alias_graph.specs.recorded.BlockListings.{listed}
+use Rattle.alias_graph.specs.declared.recorded.listing.Listing.{Listing}
+use Rattle.alias_rules.specs.function_rules.Rules.{tables_fit}
 use Rattle.alias_hir.specs.Values.{created}
 use Rattle.alias_hir.specs.Errors.{is_memory}
 use Rattle.alias_hir.specs.declared.env.Environment.{Environment}
@@ -36,13 +36,13 @@ use Rattle.alias_nested.specs.Created.{created_functions}
 use Rattle.alias_nested.specs.Order.{created_by_slot, innermost_first, numbers}
 use Rattle.alias_nested.specs.Units.{RootAnalysis, validated, root_analysed, all_analysed, UnitAnalysis, unit_analysed, InfersUnit}
 use Rattle.alias_nested.specs.declared.infer.Inferred.{Inferred}
-use Rattle.alias_order_laws.proofs.Levels.{fits_within}
-use Rattle.alias_order_laws.proofs.Solving.{root_apart}
-use Rattle.alias_order_laws.proofs.Unit.{slots_as_often}
+use Rattle.alias_answer_laws.proofs.order.Levels.{fits_within}
+use Rattle.alias_answer_laws.proofs.order.Solving.{root_apart}
+use Rattle.alias_answer_laws.proofs.order.Unit.{slots_as_often}
 use Rattle.alias_range_pass.specs.Passes.{Ranged, ranged, range_pass}
 use Rattle.alias_range_pass.specs.Refusals.{unreplaced, none_unreplaced, listing_or, positions_left, recorded}
-use Rattle.alias_range_places.specs.Keeping.{but_context}
-use Rattle.alias_range_summary.specs.Summaries.{tracked}
+use Rattle.alias_range_pass.specs.places.Keeping.{but_context}
+use Rattle.alias_range_pass.specs.summary.Summaries.{tracked}
 use Rattle.alias_rules.specs.Functions.{rules_hold}
 use Rattle.alias_rules.specs.Nesting.{created_in, created_of, created_at, times}
 use Rattle.alias_rules.specs.RuleLaws.{parts_of_rules, rules_make_function_fit}
@@ -55,7 +55,7 @@ use Rattle.alias_completeness.specs.Calling.{AreCallable}
 use Rattle.alias_completeness.specs.Completeness.{with_context, grown_pass}
 use Rattle.alias_completeness.specs.Grown.{forward_alike}
 use Rattle.alias_completeness.specs.Passing.{IsPlainAnswer}
-use Rattle.alias_summary_laws.specs.Faces.{HasPlaces, HaveFaces, faces_callable, context_ids}
+use Rattle.alias_completeness.specs.summaries.Faces.{HasPlaces, HaveFaces, faces_callable, context_ids}
 use Rattle.alias_unit_completeness.specs.Answering.{Meets, AllMeet, meets_then, caused_meets, meets_error, One, Below, AsStated, below_with, below_stated}
 use Rattle.alias_unit_completeness.specs.Beginning.{agrees_kept, root_inside, nested_inside, root_entry, nested_entry}
 use Rattle.alias_unit_completeness.specs.Counted.{IsCounted, listed_counted}

@@ -1,4 +1,4 @@
--- What the effects of a function record is refused for want of positions alone, and never for want of memory.
+-- What the effects of a function record is refused for want of positions alone, and never for lack of memory.
 use Rattle.std.specs.Prelude.{ℕ, ◌+◌, Bool, true, false, List, [], ◌∷◌, Option, Some, None, Result, Ok, Err, ⊤, if◌then◌else◌, nat_lt, slice_get}
 use Rattle.alias_base.specs.Answer.{◌>>=◌}
 use Rattle.alias_base.specs.declared.ids.BlockId.{BlockId}
@@ -17,11 +17,11 @@ use Rattle.alias_hir.specs.declared.hir.Phi.{Phi}
 use Rattle.alias_hir.specs.declared.place.Place.{Place}
 use Rattle.alias_hir.specs.declared.terminal.Terminal.{Terminal}
 use Rattle.alias_hir.specs.declared.terminal.Terminal.TheVariants as terminal
-use Rattle.alias_ranges.specs.declared.types.NodeValue.TheVariants.{Phi as PhiNode}
-use Rattle.alias_events.specs.BlockListings.{operand_listed, phi_listed, returns_listed, alias_listed, aliases_in, with_pending, end_listed, block_listed, blocks_listed, first_listing, listed}
-use Rattle.alias_events.specs.Each.{each}
-use Rattle.alias_events.specs.Listings.{position_after, made, made_once, effect_listed, effects_in, recorded_in, instruction_listed}
-use Rattle.alias_events.specs.declared.listing.Listing.{Listing}
+use Rattle.alias_graph.specs.declared.types.NodeValue.TheVariants.{Phi as PhiNode}
+use Rattle.alias_graph.specs.recorded.BlockListings.{operand_listed, phi_listed, returns_listed, alias_listed, aliases_in, with_pending, end_listed, block_listed, blocks_listed, first_listing, listed}
+use Rattle.alias_graph.specs.recorded.Each.{each}
+use Rattle.alias_graph.specs.recorded.Listings.{position_after, made, made_once, effect_listed, effects_in, recorded_in, instruction_listed}
+use Rattle.alias_graph.specs.declared.recorded.listing.Listing.{Listing}
 
 -- where it is refused, a counter is at its last value
 abbrev pub IsCounted : {A : Type 0} → Result A HirError → Type 0

@@ -6,8 +6,8 @@ use Rattle.std.specs.List.{AllByRecursion, list_all}
 use Rattle.alias_base.specs.Answer.{◌>>=◌, all_pass}
 use Rattle.alias_base.specs.AnswerLaws.{both_true, both_pass}
 use Rattle.alias_base.specs.declared.ids.FunctionId.{FunctionId}
-use Rattle.alias_function_rules.specs.Rules.{first_again, own_identifiers, repeated, place_fits, numbers_fit, function_is_uninferred}
-use Rattle.alias_function_rules.specs.declared.fault.UnitFault.{UnitFault}
+use Rattle.alias_rules.specs.function_rules.Rules.{first_again, own_identifiers, repeated, place_fits, numbers_fit, function_is_uninferred}
+use Rattle.alias_rules.specs.declared.function_rules.fault.UnitFault.{UnitFault}
 use Rattle.alias_hir.specs.Parts.{param_place}
 use Rattle.alias_hir.specs.declared.effect.AliasingEffect.{AliasingEffect}
 use Rattle.alias_hir.specs.declared.env.Environment.{Environment}
@@ -22,29 +22,29 @@ use Rattle.alias_rules.specs.declared.rules.Rule.TheVariants.{Numbers, Distinct}
 use Rattle.alias_effects.specs.Inference.{pass_end, end_tables, env_after}
 use Rattle.alias_hir.specs.Tables.{with_identifier}
 use Rattle.alias_tables.specs.declared.temporaries.Temporary.{Temporary}
-use Rattle.alias_write_back.specs.WriteBack.{with_identifiers}
+use Rattle.alias_tables.specs.write_back.WriteBack.{with_identifiers}
 use Rattle.alias_nested.proofs.Evolving.{passed_contexts}
 use Rattle.alias_effects.specs.Recording.{with_effects_of}
 use Rattle.alias_effects.specs.declared.output.PassEnd.{PassEnd}
-use Rattle.alias_events.specs.declared.listing.Listing.{Listing}
-use Rattle.alias_bare_laws.specs.Bare.{without_range}
-use Rattle.alias_range_places.specs.Blocks.{Placed, function_placed}
-use Rattle.alias_range_places.specs.StayLaws.{set_stays}
-use Rattle.alias_range_summary.specs.Marks.{function_captured}
-use Rattle.alias_range_summary.specs.Walking.{mutations_done}
+use Rattle.alias_graph.specs.declared.recorded.listing.Listing.{Listing}
+use Rattle.alias_fitting_laws.specs.bare.Bare.{without_range}
+use Rattle.alias_range_pass.specs.places.Blocks.{Placed, function_placed}
+use Rattle.alias_range_pass.specs.places.StayLaws.{set_stays}
+use Rattle.alias_range_pass.specs.summary.MarkedPlaces.{function_captured}
+use Rattle.alias_range_pass.specs.summary.Walking.{mutations_done}
 use Rattle.alias_range_pass.specs.Passes.{Ranged, range_pass}
-use Rattle.alias_range_laws.specs.AnswerLaws.{pass_is}
+use Rattle.alias_ranges.specs.laws.AnswerLaws.{pass_is}
 use Rattle.alias_nesting_laws.specs.Slots.{with_function}
 use Rattle.alias_nested.specs.Analysis.{naming, Analysed, Analysis, analysis, each, effects_analysed, completed, completed_with, function_analysed, taken_analysed, found_analysed, slot_analysed, analysed}
 use Rattle.alias_nested.specs.Created.{created_functions}
-use Rattle.alias_nested.specs.Settling.{context_settled, summarized, reset_at, reset, settled}
+use Rattle.alias_nested.specs.Annotating.{context_annotated, summarized, reset_at, reset, annotated}
 use Rattle.alias_nested.specs.Slots.{emptied}
 use Rattle.alias_completeness.specs.Calling.{AreCallable}
 use Rattle.alias_completeness.specs.Going.{all_both}
 use Rattle.alias_completeness.specs.Summarizing.{IsSummary}
-use Rattle.alias_summary_laws.specs.Faces.{HasPlaces, HasFace, HaveFaces, faces_callable, same_ids, SameOwn, same_own_then, places_alike, faces_alike, Stays, stays_then, mutations_stay, PlacedStays, function_stays, captured_own}
-use Rattle.alias_summary_laws.specs.KeptTables.{bound_to, TablesKept, tables_self, tables_then, tables_alike, tables_more}
-use Rattle.alias_summary_laws.specs.SummaryOrder.{summary_in_order}
+use Rattle.alias_completeness.specs.summaries.Faces.{HasPlaces, HasFace, HaveFaces, faces_callable, same_ids, SameOwn, same_own_then, places_alike, faces_alike, Stays, stays_then, mutations_stay, PlacedStays, function_stays, captured_own}
+use Rattle.alias_completeness.specs.summaries.KeptTables.{bound_to, TablesKept, tables_self, tables_then, tables_alike, tables_more}
+use Rattle.alias_completeness.specs.summaries.SummaryOrder.{summary_in_order}
 
 -- ---- answers
 
@@ -92,18 +92,18 @@ pub record Finished (env : Environment) (f : HirFunction) (c : HirFunction × En
   pub face : HasFace (length c.1.identifiers) c.0
   pub stays : Stays env c.1
 
-pub settled_finished : (env : Environment) (f : HirFunction) (summary : List AliasingEffect) (s : HirFunction × Environment) → SameOwn f s.0 → Stays env s.1 → HasPlaces (length env.identifiers) f → IsSummary f.returns.identifier.0 summary
-    → Finished env f (settled summary s)
-settled_finished env f summary s own stays places order =
+pub annotated_finished : (env : Environment) (f : HirFunction) (summary : List AliasingEffect) (s : HirFunction × Environment) → SameOwn f s.0 → Stays env s.1 → HasPlaces (length env.identifiers) f → IsSummary f.returns.identifier.0 summary
+    → Finished env f (annotated summary s)
+annotated_finished env f summary s own stays places order =
     let g : HirFunction = summarized summary s.0 in
-    let same : SameOwn s.0 g = record { params = refl; context = same_ids (context_settled summary) (λ p. refl) s.0.context; returns = refl } in
+    let same : SameOwn s.0 g = record { params = refl; context = same_ids (context_annotated summary) (λ p. refl) s.0.context; returns = refl } in
     let all : SameOwn f g = same_own_then f s.0 g own same in
-    let reset_kept : TablesKept s.1 (settled summary s).1 = tables_alike s.1 (settled summary s).1 (all_reset g.context s.1.identifiers) refl refl refl in
-    let after : Stays env (settled summary s).1 = stays_then env s.1 (settled summary s).1 stays (record { functions = refl; tables = reset_kept }) in
+    let reset_kept : TablesKept s.1 (annotated summary s).1 = tables_alike s.1 (annotated summary s).1 (all_reset g.context s.1.identifiers) refl refl refl in
+    let after : Stays env (annotated summary s).1 = stays_then env s.1 (annotated summary s).1 stays (record { functions = refl; tables = reset_kept }) in
     record {
       own = all;
       face = record {
-        places = places_alike (length env.identifiers) (length (settled summary s).1.identifiers) f g all after.tables.longer places;
+        places = places_alike (length env.identifiers) (length (annotated summary s).1.identifiers) f g all after.tables.longer places;
         summary = λ es e. let is : summary ≡ es = cc in subst (IsSummary g.returns.identifier.0) is (subst (λ (p : Place). IsSummary p.identifier.0 summary) (sym all.returns) order);
       };
       stays = after;
@@ -130,8 +130,8 @@ ranges_done f env r places h =
       order = summary_in_order None true f env r places.distinct h;
     }
 
-pub ranged_finished : (f : HirFunction) (env : Environment) (r : Ranged) → HasPlaces (length env.identifiers) f → range_pass true f env ≡ Ok r → Finished env f (settled r.summary r.after)
-ranged_finished f env r places h = let d : RangesDone env f r = ranges_done f env r places h in settled_finished env f r.summary r.after d.own d.stays places d.order
+pub ranged_finished : (f : HirFunction) (env : Environment) (r : Ranged) → HasPlaces (length env.identifiers) f → range_pass true f env ≡ Ok r → Finished env f (annotated r.summary r.after)
+ranged_finished f env r places h = let d : RangesDone env f r = ranges_done f env r places h in annotated_finished env f r.summary r.after d.own d.stays places d.order
 
 pub completed_finished : (id : FunctionId) (f : HirFunction) (env : Environment) → HasPlaces (length env.identifiers) f → OnAnswer (Finished env f) (completed id f env)
 completed_finished id f env places =

@@ -6,10 +6,10 @@ use Rattle.alias_base.specs.Find.{value_at}
 use Rattle.alias_base.specs.declared.ids.BlockId.{BlockId}
 use Rattle.alias_base.specs.declared.ids.FunctionId.{FunctionId}
 use Rattle.alias_base.specs.declared.ids.InstructionId.{InstructionId}
-use Rattle.alias_block.specs.Contexts.{context_of}
-use Rattle.alias_block.specs.declared.faults.BlockRefusal.{BlockRefusal}
-use Rattle.alias_block.specs.declared.faults.BlockRefusal.TheVariants as block
-use Rattle.alias_block.specs.declared.recorded.BlockEffects.{BlockEffects}
+use Rattle.alias_step.specs.block.Contexts.{context_of}
+use Rattle.alias_step.specs.declared.block.faults.BlockRefusal.{BlockRefusal}
+use Rattle.alias_step.specs.declared.block.faults.BlockRefusal.TheVariants as block
+use Rattle.alias_step.specs.declared.block.recorded.BlockEffects.{BlockEffects}
 use Rattle.alias_effects.specs.Inference.{instruction_refusal, refusal, block_at, answer_of, pass_end}
 use Rattle.alias_effects.specs.Numbered.{numbered, visits_end}
 use Rattle.alias_effects.specs.PassLaws.{pass_laws}
@@ -31,7 +31,7 @@ use Rattle.alias_tables.specs.GrowingLaws.{Extends}
 use Rattle.alias_tables.specs.Tables.{TableLists}
 use Rattle.alias_tables.specs.declared.faults.Refusal.{Refusal}
 use Rattle.alias_tables.specs.declared.faults.Refusal.TheVariants as refused
-use Rattle.alias_write_back.specs.WriteBack.{tables_of}
+use Rattle.alias_tables.specs.write_back.WriteBack.{tables_of}
 use Rattle.alias_plainness.specs.Plainness.{IsPlain}
 use Rattle.alias_completeness.specs.Forward.{GoesForward}
 use Rattle.alias_completeness.specs.Passing.{IsPlainAnswer}
@@ -100,7 +100,7 @@ forward_is_settled env func b entry forward e q i = settled_case env func (visit
 
 -- ---- who is blamed
 
--- the refusal has its cause in the unit, and is neither want of memory nor a fault of a pass of the caller
+-- the refusal has its cause in the unit, and is neither out of memory nor a fault of a pass of the caller
 abbrev pub Caused : HirUnit → InferError → Type 0
 Caused u e = BlamesRightly u e × (is_free e ≡ false)
 

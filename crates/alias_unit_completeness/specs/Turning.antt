@@ -20,15 +20,15 @@ use Rattle.alias_hir.specs.declared.hir.ParamPattern.{ParamPattern}
 use Rattle.alias_hir.specs.declared.place.Place.{Place}
 use Rattle.alias_inner_passes.specs.Passes.{declaration_name_and_type, Keeps}
 use Rattle.alias_range_pass.specs.Passes.{Ranged, range_pass}
-use Rattle.alias_range_places.specs.Keeping.{but_context}
+use Rattle.alias_range_pass.specs.places.Keeping.{but_context}
 use Rattle.alias_nested.specs.Analysis.{named, naming, Analysis, analysis, effects_analysed, completed, completed_with, function_analysed}
 use Rattle.alias_nested.specs.Answers.{Only, Passed, Completed, CompletedWith, FunctionAnalysed}
-use Rattle.alias_nested.specs.Settling.{settled}
+use Rattle.alias_nested.specs.Annotating.{annotated}
 use Rattle.alias_completeness.specs.Summarizing.{IsSummary}
-use Rattle.alias_summary_laws.specs.Faces.{HasPlaces, SameOwn, same_own_then, places_alike, Stays, stays_then}
-use Rattle.alias_summary_laws.specs.KeptTables.{bound_to, tables_alike}
+use Rattle.alias_completeness.specs.summaries.Faces.{HasPlaces, SameOwn, same_own_then, places_alike, Stays, stays_then}
+use Rattle.alias_completeness.specs.summaries.KeptTables.{bound_to, tables_alike}
 use Rattle.alias_unit_completeness.specs.Answering.{Meets, AllMeet, meets_then, meets_naming, only_meets, then_meets, AsStated}
-use Rattle.alias_unit_completeness.specs.Moments.{pass_stays, Finished, settled_finished, RangesDone, ranges_done, ranged_finished}
+use Rattle.alias_unit_completeness.specs.Moments.{pass_stays, Finished, annotated_finished, RangesDone, ranges_done, ranged_finished}
 use Rattle.alias_unit_completeness.specs.Walking.{Turned}
 
 -- a function's own places stay, and its environment
@@ -109,7 +109,7 @@ module _ (E : InferError → Type 0) where
         let second : Kept f env kinds = kept_then f r.after.0 env r.after.1 kinds after.own after.stays k in
         then_meets E (Kept kinds.0 kinds.1) (Finished env f) (Passed b id InferReactiveScopeVariables kinds) _ (passed_keeps id faults b InferReactiveScopeVariables kinds) (λ scopes s.
         let third : Kept f env scopes = kept_then f kinds.0 env kinds.1 scopes second.own second.stays s in
-        only_meets E (Finished env f) (Ok (settled r.summary scopes)) (settled_finished env f r.summary scopes third.own third.stays places order)))))
+        only_meets E (Finished env f) (Ok (annotated r.summary scopes)) (annotated_finished env f r.summary scopes third.own third.stays places order)))))
 
     module _ (g : HirFunction) (a : Analysis) (places : HasPlaces (length a.env.identifiers) g) (caused : (e : InferError) → pass_end a.env g true ≡ Err e → E (named id e)) where
       finished_turned : (s : HirFunction × Analysis) → Kept g a.env (s.0, s.1.env) → (c : HirFunction × Environment) → Finished s.1.env s.0 c → Turned g a (c.0, analysis c.1 s.1.functions)

@@ -10,7 +10,7 @@ use Rattle.std.specs.Option.{option_map_or}
 use Rattle.alias_base.specs.declared.ids.BlockId.{BlockId}
 use Rattle.alias_base.specs.declared.ids.FunctionId.{FunctionId}
 use Rattle.alias_base.specs.declared.ids.InstructionId.{InstructionId}
-use Rattle.alias_function_rules.specs.Rules.{is_among, tables_fit}
+use Rattle.alias_rules.specs.function_rules.Rules.{is_among, tables_fit}
 use Rattle.alias_hir.specs.Values.{created}
 use Rattle.alias_hir.specs.declared.env.Environment.{Environment}
 use Rattle.alias_hir.specs.declared.error.InferError.{InferError}
@@ -28,8 +28,8 @@ use Rattle.alias_nested.specs.Slots.{emptied}
 use Rattle.alias_nesting_laws.specs.PartLaws.{absent}
 use Rattle.alias_nesting_laws.specs.SlotLaws.{length_set, set_other}
 use Rattle.alias_nesting_laws.specs.Slots.{with_function}
-use Rattle.alias_order_laws.proofs.Ordering.{neither, both_false, differs}
-use Rattle.alias_range_places.specs.Keeping.{but_context}
+use Rattle.alias_answer_laws.proofs.order.Ordering.{neither, both_false, differs}
+use Rattle.alias_range_pass.specs.places.Keeping.{but_context}
 use Rattle.alias_rules.specs.Nesting.{number_of, created_in, times}
 use Rattle.alias_rules.specs.TreeLaws.{times_cons, times_both, counted}
 use Rattle.alias_validate.specs.Levels.{function_within, created_within, is_within}
@@ -38,8 +38,8 @@ use Rattle.alias_plainness.specs.Making.{number}
 use Rattle.alias_completeness.specs.Calling.{AreCallable}
 use Rattle.alias_completeness.specs.Fitting.{among_both}
 use Rattle.alias_completeness.specs.Going.{all_both}
-use Rattle.alias_summary_laws.specs.Faces.{HasPlaces, HasFace, HaveFaces, faces_callable, SameOwn, context_ids, in_slot, places_alike, faces_alike, Stays}
-use Rattle.alias_summary_laws.specs.KeptTables.{TablesKept, tables_self, tables_then}
+use Rattle.alias_completeness.specs.summaries.Faces.{HasPlaces, HasFace, HaveFaces, faces_callable, SameOwn, context_ids, in_slot, places_alike, faces_alike, Stays}
+use Rattle.alias_completeness.specs.summaries.KeptTables.{TablesKept, tables_self, tables_then}
 use Rattle.alias_completeness.specs.AgreeingFacts.{AgreesOn}
 use Rattle.alias_unit_completeness.specs.Beginning.{agrees_kept}
 use Rattle.alias_unit_completeness.specs.Answering.{AllMeet, meets_on, only_meets, then_meets, One, Taken, Found, InSlot, Below}

@@ -27,7 +27,7 @@ pub fn callable_laws(unit: &Unit)
 
 /// Each refusal of the inference of a unit that keeps the rules has its cause in the unit: a function that it blames
 /// for what it does isn't plain, one that isn't settled isn't forward, and else a counter was at its last value. So
-/// has a refusal of a call that infers the unit, but for want of memory and a fault of a pass of the caller; and what
+/// has a refusal of a call that infers the unit, but for lack of memory and a fault of a pass of the caller; and what
 /// has such a cause blames no plain unit. Does nothing.
 pub fn complete_laws(unit: &Unit)
     ensures unit { rules_hold unit.now ≡ Ok tt → (e : InferError) → unit_analysed unit.now ≡ Err e → IsCaused unit.now e }

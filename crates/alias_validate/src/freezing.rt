@@ -195,7 +195,7 @@ fn visit_operand(
 }
 
 /// Appends reports of the marked operands that are frozen.
-pub fn visit_operands(
+pub fn report_operands(
     alloc: Global,
     env: &Environment,
     marks: &Marks<ContextMutation>,
@@ -220,7 +220,7 @@ fn visit_value_operands(
     ensures { OnOk result (reports.new ≡ reports.old ++ reports_at env.now marks.now (operands_of env.now value.now)) }
 {
     let operands = each_instruction_value_operand(alloc, value, env)?;
-    visit_operands(alloc, env, marks, operands.as_slice(), reports)
+    report_operands(alloc, env, marks, operands.as_slice(), reports)
 }
 
 /// Appends the reports of an instruction.
@@ -306,7 +306,7 @@ fn walk_block(
         reports,
     )?;
     let operands = each_terminal_operand(alloc, &block.terminal)?;
-    visit_operands(alloc, env, marks, operands.as_slice(), reports)
+    report_operands(alloc, env, marks, operands.as_slice(), reports)
 }
 
 /// The reports of the function.
@@ -325,7 +325,7 @@ fn frozen_reports(
     Ok(reports)
 }
 
-/// Reports each operand that is frozen while it is a function that writes a local. The one error is want of
+/// Reports each operand that is frozen while it is a function that writes a local. The one error is out of
 /// memory; some reports may be recorded then.
 pub fn validate_no_freezing_known_mutable_functions(
     alloc: Global,

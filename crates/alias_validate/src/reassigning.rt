@@ -239,7 +239,7 @@ fn reassigned_reports(
 
 /// Reports each local that an async function reassigns, and then the place that some function reassigns once
 /// rendering is over. `EffectsNotInferred` names the first operand of the walk that has no effect yet; nothing
-/// is recorded then. The other error is want of memory, where some reports may be recorded. Where functions are nested
+/// is recorded then. The other error is out of memory, where some reports may be recorded. Where functions are nested
 /// in at most 64 levels, the reports are those of a walk with no such bound.
 pub fn validate_locals_not_reassigned_after_render(
     alloc: Global,

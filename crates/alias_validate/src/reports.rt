@@ -1,4 +1,4 @@
-//! The reports of the validations. The one error is want of memory.
+//! The reports of the validations. The one error is out of memory.
 ghost use Rattle.std.specs.Prelude.{◌≡◌, ◌++◌, take, length, IfOk, OnOk};
 ghost use Rattle.alias_validate.specs.Reports.{quoted_or, variable_or, label, async_report, reassigned_report, frozen_labels, frozen_report};
 

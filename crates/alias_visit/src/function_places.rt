@@ -122,7 +122,7 @@ fn push_params(places: &mut PlaceList, params: &[ParamPattern]) -> Result<(), Al
 }
 
 /// All places that stand in the function, in the order of its parts; the context places of a function that it
-/// creates stand where it is created. The one error is want of memory.
+/// creates stand where it is created. The one error is out of memory.
 pub fn each_place(
     alloc: Global,
     env: &Environment,

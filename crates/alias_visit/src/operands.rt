@@ -156,7 +156,7 @@ fn push_operands(
 }
 
 /// The places that the value reads, in order. A value that creates a function reads the context places of
-/// that. The one error is want of memory.
+/// that. The one error is out of memory.
 pub fn each_instruction_value_operand(
     alloc: Global,
     value: &InstructionValue,

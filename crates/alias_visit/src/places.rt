@@ -114,7 +114,7 @@ pub(crate) fn push_value(places: &mut PlaceList, value: &InstructionValue) -> Re
 }
 
 /// The places of what an instruction computes, in the order of its fields. That of its result isn't among
-/// them, nor are the context places of a function that it creates. The one error is want of memory.
+/// them, nor are the context places of a function that it creates. The one error is out of memory.
 pub fn places_of(alloc: Global, value: &InstructionValue) -> Result<PlaceList, AllocError>
     ensures { IfOk result (λ places. places.items ≡ places_of value.now) }
 {
@@ -185,7 +185,7 @@ fn push_effect(places: &mut PlaceList, effect: &AliasingEffect) -> Result<(), Al
     }
 }
 
-/// The places of the effect, in the order of its fields. The one error is want of memory.
+/// The places of the effect, in the order of its fields. The one error is out of memory.
 pub fn effect_places(alloc: Global, effect: &AliasingEffect) -> Result<PlaceList, AllocError>
     ensures { IfOk result (λ places. places.items ≡ effect_places effect.now) }
 {

@@ -1,5 +1,5 @@
 use Rattle.std.proofs.Common.{◌≡◌, length}
-use Rattle.alias_freezing.specs.Sites.{in_order, above}
+use Rattle.alias_apply.specs.freezing.Sites.{in_order, above}
 use Rattle.alias_calls.specs.Immutable.{has_writing_site}
 use Rattle.alias_calls.proofs.immutable.has_writing_site.Given as goal
 

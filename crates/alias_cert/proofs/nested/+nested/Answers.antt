@@ -9,7 +9,7 @@ use Rattle.alias_nested.proofs.Keeping.{pruned_self, pruned_through, pruned_fits
 use Rattle.alias_nested.proofs.Leading.{item_at}
 use Rattle.alias_nesting_laws.specs.NestingLaws.{taken_out_fits}
 use Rattle.alias_nesting_laws.specs.SlotLaws.{created_exists}
-use Rattle.alias_pruning_laws.specs.PruningLaws.{function_through}
+use Rattle.alias_fitting_laws.specs.pruning.PruningLaws.{function_through}
 use Rattle.alias_cert.specs.Functions.{checking}
 use Rattle.alias_cert.specs.Units.{taken_checked, slot_checked, below_checked}
 use Rattle.alias_cert.proofs.Coming.{comes_fault, comes_with_fault}

@@ -5,8 +5,8 @@ use Rattle.alias_lattice.specs.ProperStates.{StateProper}
 use Rattle.alias_flow.specs.Machine.{solution}
 use Rattle.alias_flow.specs.Solutions.{entry_at, RecordsSteps, KeepsOthers, IsForward}
 use Rattle.alias_rules.specs.RuleLaws.{fitting_entry, fitting_successors}
-use Rattle.alias_block.specs.Contexts.{context_of}
-use Rattle.alias_write_back.specs.WriteBack.{tables_of}
+use Rattle.alias_step.specs.block.Contexts.{context_of}
+use Rattle.alias_tables.specs.write_back.WriteBack.{tables_of}
 use Rattle.alias_effects.specs.Numbered.{numbered, tables_at, tables_left}
 use Rattle.alias_effects.specs.Output.{solver_state_with}
 use Rattle.alias_effects.specs.Solutions.{IsSolved}

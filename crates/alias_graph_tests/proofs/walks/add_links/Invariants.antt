@@ -1,4 +1,4 @@
-use Rattle.alias_ranges.specs.Nodes.{Within}
+use Rattle.alias_graph.specs.Nodes.{Within}
 use Rattle.alias_graph_tests.proofs.walks.add_links.Given as goal
 
 abbrev pub invariant-loop-link : goal.invariant-loop-link

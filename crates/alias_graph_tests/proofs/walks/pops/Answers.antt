@@ -1,8 +1,8 @@
 use Rattle.std.proofs.Common.{◌+◌, false, length, ap, sym, ◌∙◌, subst}
-use Rattle.alias_ranges.specs.declared.types.MutationKind.TheVariants.{Definite}
-use Rattle.alias_ranges.specs.declared.types.Direction.TheVariants.{Backwards}
-use Rattle.alias_ranges.specs.Links.{entry, walk}
-use Rattle.alias_ranges.specs.Nodes.{Within}
+use Rattle.alias_graph.specs.declared.types.MutationKind.TheVariants.{Definite}
+use Rattle.alias_graph.specs.declared.types.Direction.TheVariants.{Backwards}
+use Rattle.alias_graph.specs.Links.{entry, walk}
+use Rattle.alias_graph.specs.Nodes.{Within}
 use Rattle.alias_graph_tests.proofs.TwoPhis.{two_phis_pops, two_phis_within}
 use Rattle.alias_graph_tests.proofs.walks.pops.Goals as goal
 

@@ -1,10 +1,10 @@
 use Rattle.std.specs.Prelude.{◌+◌, ◌*◌}
-use Rattle.alias_ranges.specs.Links.{all_links, covers, next, node_exists}
-use Rattle.alias_ranges.specs.Nodes.{same_id}
-use Rattle.alias_ranges.specs.Renders.{lit, sources}
-use Rattle.alias_ranges.proofs.Ending.{walk_empties}
-use Rattle.alias_ranges.proofs.Endings.{run_empties, run_ends}
-use Rattle.alias_ranges.proofs.Lighting.{renders_few}
+use Rattle.alias_graph.specs.Links.{all_links, covers, next, node_exists}
+use Rattle.alias_graph.specs.Nodes.{same_id}
+use Rattle.alias_graph.specs.Renders.{lit, sources}
+use Rattle.alias_graph.proofs.Ending.{walk_empties}
+use Rattle.alias_graph.proofs.Endings.{run_empties, run_ends}
+use Rattle.alias_graph.proofs.Lighting.{renders_few}
 use Rattle.alias_key_laws.proofs.walks.walks_end.Goals as goal
 
 pub returns-clause-walk : goal.returns-clause-walk

@@ -16,7 +16,7 @@ use Rattle.alias_nested.proofs.Keeping.{pruned_self, pruned_through, pruned_fits
 use Rattle.alias_nested.proofs.Leading.{item_at, stops_here, all_done, continues_all, continues_on, analysed_none, analysed_more, refused_more, leads_error}
 use Rattle.alias_nesting_laws.specs.NestingLaws.{taken_out_fits}
 use Rattle.alias_nesting_laws.specs.SlotLaws.{created_exists}
-use Rattle.alias_pruning_laws.specs.PruningLaws.{function_through}
+use Rattle.alias_fitting_laws.specs.pruning.PruningLaws.{function_through}
 use Rattle.alias_nested.proofs.analyse.+nested.Goals as goal
 
 pub analyse_created-returns-then-levels-eq0-clause-run : goal.analyse_created-returns-then-levels-eq0-clause-run

@@ -1,7 +1,7 @@
 use Rattle.std.proofs.Common.{◌≡◌, ◌∙◌, Err, true, rules}
 use Rattle.alias_hir.specs.declared.error.InferError.{InferError}
-use Rattle.alias_range_laws.specs.SummaryLaws.{summary_fits}
-use Rattle.alias_nested.proofs.Changing.{ranged_slots, settled_slots}
+use Rattle.alias_ranges.specs.laws.SummaryLaws.{summary_fits}
+use Rattle.alias_nested.proofs.Changing.{ranged_slots, annotated_slots}
 use Rattle.alias_nested.proofs.Finished.{finishes, finish_refused, finish_keeps}
 use Rattle.alias_nested.proofs.Keeping.{ranged_keeps, summary_kept}
 use Rattle.alias_nested.proofs.finish.finish_function.Goals as goal
@@ -24,17 +24,17 @@ returns-in_err-summary-clause-slots c = let p = c.infer_mutation_aliasing_ranges
 pub returns-clause-answer : goal.returns-clause-answer
 returns-clause-answer c =
     let p = c.infer_mutation_aliasing_ranges in
-    finishes c.args.func.now p.new.func c.settle.new.func c.args.env.now p.new.env c.settle.new.env c.in_ok-summary.summary c.in_ok-summary.ensures.pass c.settle.ensures
+    finishes c.args.func.now p.new.func c.annotate.new.func c.args.env.now p.new.env c.annotate.new.env c.in_ok-summary.summary c.in_ok-summary.ensures.pass c.annotate.ensures
 
 pub returns-clause-kept : goal.returns-clause-kept
 returns-clause-kept c =
     let p = c.infer_mutation_aliasing_ranges in
     let ranged = ranged_keeps c.args.func.now p.new.func c.args.env.now p.new.env p.ensures.fits p.ensures.still p.ensures.kept in
     let fits = summary_fits true c.args.func.now c.args.env.now _ c.in_ok-summary.ensures.pass c.requires in
-    let told = summary_kept c.args.env.now p.new.env c.args.func.now ranged.evolves.effects c.requires c.in_ok-summary.summary (record { within = fits.0; no_call = fits.1 }) in
-    finish_keeps c.args.func.now p.new.func c.settle.new.func c.args.env.now p.new.env c.settle.new.env c.in_ok-summary.summary ranged told c.settle.ensures
+    let summarized = summary_kept c.args.env.now p.new.env c.args.func.now ranged.evolves.effects c.requires c.in_ok-summary.summary (record { within = fits.0; no_call = fits.1 }) in
+    finish_keeps c.args.func.now p.new.func c.annotate.new.func c.args.env.now p.new.env c.annotate.new.env c.in_ok-summary.summary ranged summarized c.annotate.ensures
 
 pub returns-clause-slots : goal.returns-clause-slots
 returns-clause-slots c =
     let p = c.infer_mutation_aliasing_ranges in
-    settled_slots c.in_ok-summary.summary p.new.func p.new.env c.settle.new.func c.settle.new.env c.settle.ensures ∙ ranged_slots c.args.env.now p.new.env p.ensures.kept
+    annotated_slots c.in_ok-summary.summary p.new.func p.new.env c.annotate.new.func c.annotate.new.env c.annotate.ensures ∙ ranged_slots c.args.env.now p.new.env p.ensures.kept

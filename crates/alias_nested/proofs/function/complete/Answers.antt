@@ -3,8 +3,8 @@ use Rattle.alias_hir.specs.declared.error.InferError.{InferError}
 use Rattle.alias_nested.specs.Answers.{Completed}
 use Rattle.alias_nested.specs.Refusals.{CompletionRefused}
 use Rattle.alias_nested.proofs.Answering.{completes, completes_refused, completes_error, first_refused, second_refused, third_refused}
-use Rattle.alias_nested.proofs.Changing.{names_on, passed_slots, settled_slots}
-use Rattle.alias_nested.proofs.Keeping.{passed_pruned, range_pruned, more_pruned, settled_pruned}
+use Rattle.alias_nested.proofs.Changing.{names_on, passed_slots, annotated_slots}
+use Rattle.alias_nested.proofs.Keeping.{passed_pruned, range_pruned, more_pruned, annotated_pruned}
 use Rattle.alias_nested.proofs.function.complete.Goals as goal
 
 pub returns-in_err-run_pass-clause-kept : goal.returns-in_err-run_pass-clause-kept
@@ -41,13 +41,13 @@ returns-in_err-run_pass-3-clause-kept g c =
 pub returns-clause-run : goal.returns-clause-run
 returns-clause-run g c =
     completes g.P.InnerPasses.keeps_all c.args.id c.args.func.now c.run_pass.new.func c.args.env.now c.run_pass.new.env c.run_pass.ensures.passed
-    c.infer_ranges.new.func c.run_pass-2.new.func c.run_pass-3.new.func c.settle_logged.new.func c.infer_ranges.new.env c.run_pass-2.new.env c.run_pass-3.new.env c.settle_logged.new.env c.in_ok-summary.summary
-    c.in_ok-summary.ensures.run c.run_pass-2.ensures.passed c.run_pass-3.ensures.passed c.settle_logged.ensures
+    c.infer_ranges.new.func c.run_pass-2.new.func c.run_pass-3.new.func c.annotate_logged.new.func c.infer_ranges.new.env c.run_pass-2.new.env c.run_pass-3.new.env c.annotate_logged.new.env c.in_ok-summary.summary
+    c.in_ok-summary.ensures.run c.run_pass-2.ensures.passed c.run_pass-3.ensures.passed c.annotate_logged.ensures
 
 pub returns-clause-kept : goal.returns-clause-kept
 returns-clause-kept g c =
-    settled_pruned g.P.InnerPasses.keeps_all c.args.func.now c.run_pass.new.func c.infer_ranges.new.func c.run_pass-2.new.func c.run_pass-3.new.func c.settle_logged.new.func c.args.env.now c.run_pass.new.env c.infer_ranges.new.env c.run_pass-2.new.env c.run_pass-3.new.env c.settle_logged.new.env c.in_ok-summary.summary
-    c.run_pass.ensures.passed c.infer_ranges.ensures.kept c.in_ok-summary.ensures.summary c.run_pass-2.ensures.passed c.run_pass-3.ensures.passed c.settle_logged.ensures
+    annotated_pruned g.P.InnerPasses.keeps_all c.args.func.now c.run_pass.new.func c.infer_ranges.new.func c.run_pass-2.new.func c.run_pass-3.new.func c.annotate_logged.new.func c.args.env.now c.run_pass.new.env c.infer_ranges.new.env c.run_pass-2.new.env c.run_pass-3.new.env c.annotate_logged.new.env c.in_ok-summary.summary
+    c.run_pass.ensures.passed c.infer_ranges.ensures.kept c.in_ok-summary.ensures.summary c.run_pass-2.ensures.passed c.run_pass-3.ensures.passed c.annotate_logged.ensures
 
 pub returns-in_err-run_pass-clause-slots : goal.returns-in_err-run_pass-clause-slots
 returns-in_err-run_pass-clause-slots g c =
@@ -100,7 +100,7 @@ returns-clause-slots g c =
     let first = passed_slots g.P.InnerPasses.keeps_all c.args.func.now c.args.env.now c.run_pass.new.func c.run_pass.new.env c.run_pass.ensures.passed in
     let second = passed_slots g.P.InnerPasses.keeps_all c.infer_ranges.new.func c.infer_ranges.new.env c.run_pass-2.new.func c.run_pass-2.new.env c.run_pass-2.ensures.passed in
     let third = passed_slots g.P.InnerPasses.keeps_all c.run_pass-2.new.func c.run_pass-2.new.env c.run_pass-3.new.func c.run_pass-3.new.env c.run_pass-3.ensures.passed in
-    settled_slots c.in_ok-summary.summary c.run_pass-3.new.func c.run_pass-3.new.env c.settle_logged.new.func c.settle_logged.new.env c.settle_logged.ensures ∙ third ∙ second ∙ c.infer_ranges.ensures.slots ∙ first
+    annotated_slots c.in_ok-summary.summary c.run_pass-3.new.func c.run_pass-3.new.env c.annotate_logged.new.func c.annotate_logged.new.env c.annotate_logged.ensures ∙ third ∙ second ∙ c.infer_ranges.ensures.slots ∙ first
 
 pub returns-in_err-run_pass-clause-run : goal.returns-in_err-run_pass-clause-run
 returns-in_err-run_pass-clause-run g c =

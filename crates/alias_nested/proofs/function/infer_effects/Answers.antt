@@ -1,7 +1,7 @@
 use Rattle.std.proofs.Common.{◌≡◌, true, false, Err, map, ap, sym, subst}
 use Rattle.alias_hir.specs.Errors.{is_memory}
 use Rattle.alias_hir.specs.declared.env.Environment.{Environment}
-use Rattle.alias_range_places.specs.Keeping.{but_context}
+use Rattle.alias_range_pass.specs.places.Keeping.{but_context}
 use Rattle.alias_nested.specs.Analysis.{analysis, named, effects_analysed}
 use Rattle.alias_nested.proofs.Changing.{names_named}
 use Rattle.alias_nested.proofs.Ending.{ended, ended_keeps, ended_slots, effects_lead, accounts_numbered, notes_one, not_memory, effects_refused}

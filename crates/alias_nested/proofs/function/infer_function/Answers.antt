@@ -7,7 +7,7 @@ use Rattle.alias_nested.proofs.Answering.{function_refused, function_leads, lead
 use Rattle.alias_nested.specs.Order.{Notes}
 use Rattle.alias_nested.proofs.Changing.{names_on, always_ok}
 use Rattle.alias_nested.proofs.Keeping.{kept_pruned}
-use Rattle.alias_pruning_laws.specs.PruningLaws.{function_through}
+use Rattle.alias_fitting_laws.specs.pruning.PruningLaws.{function_through}
 use Rattle.alias_nested.proofs.function.infer_function.Goals as goal
 
 pub returns-in_err-infer_effects-clause-run : goal.returns-in_err-infer_effects-clause-run

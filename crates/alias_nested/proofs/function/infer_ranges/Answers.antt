@@ -1,6 +1,6 @@
 use Rattle.std.proofs.Common.{◌≡◌, ◌∙◌, true, false, Err, ap, sym, subst}
 use Rattle.alias_hir.specs.Errors.{is_memory}
-use Rattle.alias_range_laws.specs.SummaryLaws.{summary_fits}
+use Rattle.alias_ranges.specs.laws.SummaryLaws.{summary_fits}
 use Rattle.alias_nested.specs.Analysis.{named, naming}
 use Rattle.alias_nested.proofs.Changing.{names_named, ranged_slots}
 use Rattle.alias_nested.proofs.Ending.{not_memory}

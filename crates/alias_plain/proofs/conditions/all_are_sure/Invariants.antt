@@ -1,6 +1,6 @@
 use Rattle.std.proofs.Common.{◌≡◌, drop}
 use Rattle.std.specs.List.{list_all}
-use Rattle.alias_plain_laws.specs.Scans.{sure_in}
+use Rattle.alias_plain.specs.laws.Scans.{sure_in}
 use Rattle.alias_plain.proofs.conditions.all_are_sure.Given as goal
 
 -- what is left decides

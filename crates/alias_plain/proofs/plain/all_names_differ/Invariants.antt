@@ -1,6 +1,6 @@
 use Rattle.std.proofs.Common.{drop}
 use Rattle.std.specs.List.{AllByRecursion}
-use Rattle.alias_plain_laws.specs.FunctionLaws.{NamesDiffer}
+use Rattle.alias_plain.specs.laws.FunctionLaws.{NamesDiffer}
 use Rattle.alias_plain.proofs.plain.all_names_differ.Given as goal
 
 -- what is left decides

@@ -2,9 +2,9 @@ use Rattle.std.proofs.Common.{subst}
 use Rattle.std.specs.List.{AllByRecursion}
 use Rattle.alias_base.specs.Answer.{Gives}
 use Rattle.alias_hir.specs.declared.env.Unit.{Unit as HirUnit}
-use Rattle.alias_plain_laws.specs.Answers.{unit_end, answer_of, is_fault_memory}
-use Rattle.alias_plain_laws.specs.FunctionLaws.{NamesDiffer}
-use Rattle.alias_plain_laws.specs.UnitLaws.{TellsOf, given_tells}
+use Rattle.alias_plain.specs.laws.Answers.{unit_end, answer_of, is_fault_memory}
+use Rattle.alias_plain.specs.laws.FunctionLaws.{NamesDiffer}
+use Rattle.alias_plain.specs.laws.UnitLaws.{TellsOf, given_tells}
 use Rattle.alias_plain.proofs.plain.plain_unit.Goals as goal
 
 pub returns-clause-answer : goal.returns-clause-answer

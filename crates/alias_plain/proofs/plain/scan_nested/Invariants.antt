@@ -1,5 +1,5 @@
 use Rattle.std.proofs.Common.{◌≡◌, drop}
-use Rattle.alias_plain_laws.specs.Answers.{AllPlain, then_nested}
+use Rattle.alias_plain.specs.laws.Answers.{AllPlain, then_nested}
 use Rattle.alias_plain.proofs.plain.scan_nested.Given as goal
 
 -- the functions that are left lead where all of them do

@@ -1,6 +1,6 @@
 use Rattle.std.proofs.Common.{◌≡◌, rules}
 use Rattle.alias_plainness.specs.Calls.{no_tables}
-use Rattle.alias_plain_laws.specs.RuleFacts.{functions_look}
+use Rattle.alias_plain.specs.laws.RuleFacts.{functions_look}
 use Rattle.alias_plain.proofs.Stops.{root_stops, entries_exist}
 use Rattle.alias_plain.proofs.plain.scan_unit.Goals as goal
 

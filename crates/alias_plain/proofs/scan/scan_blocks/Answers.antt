@@ -4,12 +4,12 @@ use Rattle.alias_base.specs.declared.ids.BlockId.{BlockId}
 use Rattle.alias_hir.specs.declared.hir.BasicBlock.{BasicBlock}
 use Rattle.alias_tables.specs.Steps.{and_then}
 use Rattle.alias_tables.specs.Tables.{TableLists}
-use Rattle.alias_plain_laws.specs.declared.stop.Stop.{Stop}
+use Rattle.alias_plain.specs.declared.laws.stop.Stop.{Stop}
 use Rattle.alias_plain.specs.Ends.{Scans}
-use Rattle.alias_plain_laws.specs.Scopes.{Scope}
+use Rattle.alias_plain.specs.laws.Scopes.{Scope}
 use Rattle.alias_plain.specs.Held.{held}
-use Rattle.alias_unsure.specs.Ways.{UnsureState}
-use Rattle.alias_plain_laws.specs.Scans.{scan_block, scan_from}
+use Rattle.alias_plain.specs.unsure.Ways.{UnsureState}
+use Rattle.alias_plain.specs.laws.Scans.{scan_block, scan_from}
 use Rattle.alias_plain.proofs.Drops.{drop_here}
 use Rattle.alias_plain.proofs.scan.scan_blocks.Goals as goal
 

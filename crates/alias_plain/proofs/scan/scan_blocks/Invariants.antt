@@ -1,6 +1,6 @@
 use Rattle.std.proofs.Common.{◌≡◌, drop}
 use Rattle.alias_plain.specs.Held.{held}
-use Rattle.alias_plain_laws.specs.Scans.{scan_from}
+use Rattle.alias_plain.specs.laws.Scans.{scan_from}
 use Rattle.alias_plain.proofs.scan.scan_blocks.Given as goal
 
 -- the blocks that are left lead where all of them do

@@ -1,6 +1,6 @@
 use Rattle.std.proofs.Common.{◌≡◌, ◌-◌, []}
 use Rattle.std.specs.List.{range_with_len}
-use Rattle.alias_plain_laws.specs.UnsureFlow.{with_members}
+use Rattle.alias_plain.specs.laws.UnsureFlow.{with_members}
 use Rattle.alias_plain.proofs.sure.all_below.Given as goal
 
 -- those that are left lead where all of them do

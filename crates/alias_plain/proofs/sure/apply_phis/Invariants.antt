@@ -1,5 +1,5 @@
 use Rattle.std.proofs.Common.{◌≡◌, drop}
-use Rattle.alias_plain_laws.specs.UnsureFlow.{with_phis}
+use Rattle.alias_plain.specs.laws.UnsureFlow.{with_phis}
 use Rattle.alias_plain.proofs.sure.apply_phis.Given as goal
 
 -- the phis that are left lead where all of them do

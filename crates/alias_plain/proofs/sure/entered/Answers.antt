@@ -4,8 +4,8 @@ use Rattle.std.specs.Ordering.{nat_cmp}
 use Rattle.std.proofs.lemmas.Cmp.{nat_cmp_total}
 use Rattle.alias_base.specs.declared.ids.BlockId.{BlockId}
 use Rattle.alias_flow.specs.Machine.{joined}
-use Rattle.alias_unsure.specs.Sets.{Rows, union}
-use Rattle.alias_plain_laws.specs.UnsureFlow.{source_of, with_phis, entered_from, rows_or_none}
+use Rattle.alias_plain.specs.unsure.Sets.{Rows, union}
+use Rattle.alias_plain.specs.laws.UnsureFlow.{source_of, with_phis, entered_from, rows_or_none}
 use Rattle.alias_lattice.specs.WalkLaws.{left_after, left-none, left-some, left_fewer, left-end}
 use Rattle.alias_plain.proofs.sure.entered.Goals as goal
 
@@ -13,7 +13,7 @@ pub ways-init : goal.ways-init
 ways-init c = ap (entered_from c.args.blocks.now c.args.phis.now None) (left-none nat_cmp c.args.state.now)
 
 pub ways-smaller : goal.ways-smaller
-ways-smaller c = left_fewer nat_cmp nat_cmp_total c.ways.after c.args.state.now c.in-Some.entry.now c.in-Some.ensures c.known.ensures.0
+ways-smaller c = left_fewer nat_cmp nat_cmp_total c.ways.after c.args.state.now c.in-Some.entry.now c.in-Some.ensures c.recall_proper.ensures.0
 
 pub ways-preserved : goal.ways-preserved
 ways-preserved c =
@@ -26,7 +26,7 @@ ways-preserved c =
     ∙ ap (λ (s : Option BlockId). with_phis s phis c.in_ok-set.set) c.source_of.ensures
     ∙ ap (with_phis (source_of blocks e.0) phis) c.in_ok-set.ensures in
     ap (λ (s : Rows). entered_from blocks phis (Some s) rest) (c.in_ok-taken_in.ensures ∙ ap (joined union c.ways.so_far) phied)
-    ∙ sym (ap (entered_from blocks phis c.ways.so_far) (left-some nat_cmp nat_cmp_total c.ways.after t e c.in-Some.ensures c.known.ensures.0))
+    ∙ sym (ap (entered_from blocks phis c.ways.so_far) (left-some nat_cmp nat_cmp_total c.ways.after t e c.in-Some.ensures c.recall_proper.ensures.0))
     ∙ c.ways.invariant
 
 pub returns-in-Some-so_far : goal.returns-in-Some-so_far

@@ -1,7 +1,7 @@
 use Rattle.std.proofs.Common.{◌≡◌, length}
 use Rattle.std.specs.Prelude.{None}
 use Rattle.std.specs.Ordering.{nat_cmp}
-use Rattle.alias_plain_laws.specs.UnsureFlow.{entered_from}
+use Rattle.alias_plain.specs.laws.UnsureFlow.{entered_from}
 use Rattle.alias_lattice.specs.WalkLaws.{left_after}
 use Rattle.alias_plain.proofs.sure.entered.Given as goal
 

@@ -1,5 +1,5 @@
 use Rattle.std.proofs.Common.{◌≡◌, drop}
-use Rattle.alias_plain_laws.specs.UnsureFlow.{without_members}
+use Rattle.alias_plain.specs.laws.UnsureFlow.{without_members}
 use Rattle.alias_plain.proofs.sure.take_out.Given as goal
 
 -- those that are left lead where all of them do

@@ -1,6 +1,6 @@
 use Rattle.std.proofs.Common.{◌≡◌, drop}
 use Rattle.alias_plain.specs.Held.{held}
-use Rattle.alias_plain_laws.specs.UnsureFlow.{through_all}
+use Rattle.alias_plain.specs.laws.UnsureFlow.{through_all}
 use Rattle.alias_plain.proofs.sure.through_all.Given as goal
 
 -- the instructions that are left lead where all of them do

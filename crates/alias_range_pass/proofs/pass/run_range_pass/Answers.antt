@@ -1,11 +1,11 @@
 use Rattle.std.proofs.Common.{◌+◌, ◌≤◌, List, length, subst, sym, ◌∙◌}
 use Rattle.alias_hir.specs.declared.place.Place.{Place}
-use Rattle.alias_events.specs.declared.listing.Listing.{Listing}
-use Rattle.alias_events.specs.FitLaws.{listed_fits}
-use Rattle.alias_events.specs.Recording.{graph_listed}
-use Rattle.alias_range_summary.specs.Laws.{Covers, SeesDefinite, EndsWithFlows}
-use Rattle.alias_range_summary.specs.Summaries.{tracked}
-use Rattle.alias_range_summary.specs.Walking.{mutations_done}
+use Rattle.alias_graph.specs.declared.recorded.listing.Listing.{Listing}
+use Rattle.alias_graph.specs.recorded.FitLaws.{listed_fits}
+use Rattle.alias_graph.specs.recorded.Recording.{graph_listed}
+use Rattle.alias_range_pass.specs.summary.Laws.{Covers, SeesDefinite, EndsWithFlows}
+use Rattle.alias_range_pass.specs.summary.Summaries.{tracked}
+use Rattle.alias_range_pass.specs.summary.Walking.{mutations_done}
 use Rattle.alias_range_pass.specs.Laws.{Causes}
 use Rattle.alias_range_pass.specs.Passes.{records}
 use Rattle.alias_range_pass.proofs.Refused.{recorded_is, recorded_once, orders_fit}

@@ -1,7 +1,7 @@
 use Rattle.std.proofs.Common.{subst, []}
 use Rattle.alias_made.specs.Units.{made_unit}
-use Rattle.alias_made_counts.specs.MadeCounts.{made_is_inferred}
-use Rattle.alias_made_laws.specs.MadeLaws.{made_unit_keeps_rules}
+use Rattle.alias_made_result_laws.specs.counts.MadeCounts.{made_is_inferred}
+use Rattle.alias_made.specs.laws.MadeLaws.{made_unit_keeps_rules}
 use Rattle.alias_run.specs.Findings.{IsChecked}
 use Rattle.alias_run.specs.declared.query.Query.TheVariants.{Inference}
 use Rattle.alias_run.proofs.Refusing.{inferred_ends}

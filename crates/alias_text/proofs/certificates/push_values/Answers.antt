@@ -17,14 +17,14 @@ values-init c =
 pub values-smaller : goal.values-smaller
 values-smaller c =
     let next : next_entry site_cmp c.values.after c.args.state.now.values ≡ Some (c.in-Some.site, c.in-Some.value) = cc in
-    left_fewer site_cmp sites_total c.values.after c.args.state.now.values (c.in-Some.site, c.in-Some.value) next c.known.ensures.values.0
+    left_fewer site_cmp sites_total c.values.after c.args.state.now.values (c.in-Some.site, c.in-Some.value) next c.recall_proper.ensures.values.0
 
 pub values-preserved : goal.values-preserved
 values-preserved c =
     let all = c.args.out.now ++ flat_map value_line c.args.state.now.values in
     let next : next_entry site_cmp c.values.after c.args.state.now.values ≡ Some (c.in-Some.site, c.in-Some.value) = cc in (
-      still_complete site_cmp sites_total value_line all c.values.out c.push_value_line.new.out c.values.after c.args.state.now.values (c.in-Some.site, c.in-Some.value) next c.known.ensures.values.0 c.in_ok-push_value_line.ensures.text c.values.invariant.0,
-      still_all site_cmp sites_total FittingValue c.values.after c.args.state.now.values (c.in-Some.site, c.in-Some.value) next c.known.ensures.values.0 c.in_ok-push_value_line.ensures.fits c.values.invariant.1,
+      still_complete site_cmp sites_total value_line all c.values.out c.push_value_line.new.out c.values.after c.args.state.now.values (c.in-Some.site, c.in-Some.value) next c.recall_proper.ensures.values.0 c.in_ok-push_value_line.ensures.text c.values.invariant.0,
+      still_all site_cmp sites_total FittingValue c.values.after c.args.state.now.values (c.in-Some.site, c.in-Some.value) next c.recall_proper.ensures.values.0 c.in_ok-push_value_line.ensures.fits c.values.invariant.1,
     )
 
 pub returns-clause-text : goal.returns-clause-text

@@ -1,9 +1,0 @@
--- A certificate that says a solution is accepted.
-use Rattle.alias_rules.specs.RuleLaws.{fitting_entry}
-use Rattle.alias_accept_laws.proofs.Certifying.{accepted_as_said}
-use Rattle.alias_accept_laws.proofs.laws.certificate_law.Goals as goal
-
-pub returns : goal.returns
-returns c =
-    λ tables entries recorded s.
-    accepted_as_said c.args.env.now c.args.func.now c.args.is_function_expression (fitting_entry c.args.func.now c.args.env.now c.requires) tables entries recorded s

@@ -1,4 +1,0 @@
-//! That checks accept what inferences hand out.
-#![tactic(auto)]
-
-pub mod laws;

@@ -1,5 +1,0 @@
-use Rattle.alias_answer_laws.specs.UnitLaws.{unit_never_left, no_call_answers}
-use Rattle.alias_answer_laws.proofs.laws.unit_laws.Goals as goal
-
-pub returns : goal.returns
-returns c = record { unit = unit_never_left c.args.unit.now; calls = no_call_answers c.args.unit.now }

@@ -1,4 +1,0 @@
-//! No rule of a well-formed unit looks at what is inferred of functions.
-#![tactic(auto)]
-
-pub mod laws;

@@ -1,7 +1,0 @@
-use Rattle.std.proofs.Common.{◌≡◌, drop}
-use Rattle.alias_block.specs.Actions.{catch_calls}
-use Rattle.alias_block.proofs.actions.catch_calls.Given as goal
-
--- the calls that are left go where all of them do
-abbrev pub invariant-loop-id : goal.invariant-loop-id
-invariant-loop-id l = catch_calls l.func.instructions l.binding (drop l.id-index l.ids) l.step l.tables ≡ catch_calls l.func.instructions l.binding l.ids l.initial.step l.initial.tables

@@ -1,8 +1,0 @@
-use Rattle.std.proofs.Common.{◌≡◌, drop}
-use Rattle.alias_block.specs.Blocks.{apply_signatures}
-use Rattle.alias_block.specs.Contexts.{held}
-use Rattle.alias_block.proofs.block.apply_signatures.Given as goal
-
--- the steps that are left go where all of them do
-abbrev pub invariant-loop-id : goal.invariant-loop-id
-invariant-loop-id l = apply_signatures (held l.context) (drop l.id-index l.ids) l.progress l.tables ≡ apply_signatures (held l.context) l.ids l.initial.progress l.initial.tables

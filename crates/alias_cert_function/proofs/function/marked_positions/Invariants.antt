@@ -1,6 +1,0 @@
-use Rattle.std.proofs.Common.{◌≡◌, ◌++◌, drop}
-use Rattle.alias_cert_function.specs.Functions.{marked_positions}
-use Rattle.alias_cert_function.proofs.function.marked_positions.Given as goal
-
-abbrev pub invariant-loop-index : goal.invariant-loop-index
-invariant-loop-index l = l.positions ++ marked_positions l.index (drop l.index l.marks) ≡ marked_positions 0 l.marks

@@ -1,0 +1,3 @@
+pub mod naming
+pub mod writes
+pub mod entries

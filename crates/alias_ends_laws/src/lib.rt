@@ -1,4 +1,0 @@
-//! Which ranges the range pass ends.
-#![tactic(auto)]
-
-pub mod laws;

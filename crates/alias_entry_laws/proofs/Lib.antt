@@ -1,8 +1,0 @@
-pub mod States
-pub mod Leading
-pub mod Effects
-pub mod Lists
-pub mod Stepping
-pub mod Keeping
-pub mod Blocks
-pub mod Entries

@@ -1,7 +1,0 @@
-use Rattle.std.proofs.Common.{◌≡◌}
-use Rattle.alias_events.specs.Each.{each}
-use Rattle.alias_events.specs.BlockListings.{operand_listed, phi_listed}
-use Rattle.alias_events.proofs.block_listing.list_phi.Given as goal
-
-abbrev pub invariant-loop-block : goal.invariant-loop-block
-invariant-loop-block l = each (operand_listed l.blocks l.done l.phi.place) l.block-iterator l.listing ≡ phi_listed l.blocks l.done l.phi l.fn.listing

@@ -1,7 +1,0 @@
-use Rattle.std.proofs.Common.{◌≡◌, drop}
-use Rattle.alias_events.specs.Each.{each}
-use Rattle.alias_events.specs.Listings.{effect_listed}
-use Rattle.alias_events.proofs.listing.list_effects.Given as goal
-
-abbrev pub invariant-loop-effect : goal.invariant-loop-effect
-invariant-loop-effect l = each (effect_listed l.instruction l.order) (drop l.effect-index l.effects) l.listing ≡ each (effect_listed l.instruction l.order) l.effects l.initial.listing

@@ -1,0 +1,2 @@
+pub mod bare
+pub mod pruning

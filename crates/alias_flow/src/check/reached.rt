@@ -1,0 +1,105 @@
+//! Which blocks of a flow are reached.
+ghost use Rattle.std.specs.Prelude.{◌≡◌, ◌<◌, true, false, IfOk, OnOk, length, replicate, slice_index_or, slice_set, vec_len};
+ghost use Rattle.alias_lattice.specs.Flows.{IsReached};
+ghost use Rattle.alias_flow.specs.Machine.{up};
+ghost use Rattle.alias_flow.specs.check.Reached.{marked_all, marked_from, marked_round, marked_rounds, reached_marks};
+
+use crate::Flow;
+use std::alloc::{AllocError, Global};
+
+/// Marks the blocks, and answers whether one of them was not marked before.
+fn mark_all(marks: &mut [bool], blocks: &[u32]) -> bool
+    ensures marks { marks.new ≡ marked_all marks.old blocks.now }
+    ensures same { result ≡ false → marks.new ≡ marks.old }
+{
+    let mut grew = false;
+    for block in blocks {
+        let at = *block as usize;
+        if at < marks.len() && !marks[at] {
+            marks[at] = true;
+            grew = true;
+        }
+    }
+    grew
+}
+
+/// Where the block is marked, marks those that its edges lead to, and answers whether one of them was not marked before.
+fn mark_from<F: Flow>(marks: &mut [bool], flow: &F, block: u32) -> Result<bool, AllocError>
+    requires block { block < (F.rules flow.now).blocks }
+    requires length { length marks.old ≡ (F.rules flow.now).blocks }
+    ensures marks { OnOk result (marks.new ≡ marked_from (F.rules flow.now).flow.edges marks.old block) }
+    ensures same { IfOk result (λ grew. grew ≡ false → marks.new ≡ marks.old) }
+{
+    if !marks[block as usize] {
+        return Ok(false);
+    }
+    let edges = flow.edges(block)?;
+    Ok(mark_all(marks, edges.as_slice()))
+}
+
+/// Goes over the blocks once, in stored order.
+#[tactic(auto, using(crate::proofs::check::Rounds::up_next))]
+fn mark_round<F: Flow>(marks: &mut [bool], flow: &F, count: u32) -> Result<bool, AllocError>
+    requires count { count ≡ (F.rules flow.now).blocks }
+    requires length { length marks.old ≡ (F.rules flow.now).blocks }
+    ensures marks { OnOk result (marks.new ≡ marked_round (F.rules flow.now).flow.edges marks.old (up 0 count)) }
+    ensures same { IfOk result (λ grew. grew ≡ false → marks.new ≡ marks.old) }
+{
+    let mut grew = false;
+    for block in 0..count {
+        if mark_from(marks, flow, block)? {
+            grew = true;
+        }
+    }
+    Ok(grew)
+}
+
+/// Goes over the blocks as often as there are blocks, or until a round marks nothing.
+fn mark_rounds<F: Flow>(marks: &mut [bool], flow: &F, count: u32) -> Result<(), AllocError>
+    requires count { count ≡ (F.rules flow.now).blocks }
+    requires length { length marks.old ≡ (F.rules flow.now).blocks }
+    ensures { OnOk result (marks.new ≡ marked_rounds (F.rules flow.now).flow.edges count count marks.old) }
+{
+    'rounds: for _ in 0..count {
+        if !mark_round(marks, flow, count)? {
+            return Ok(());
+        }
+    }
+    Ok(())
+}
+
+/// Marks for so many blocks, of which the entry is marked.
+fn entry_marked(alloc: Global, count: u32, entry: u32) -> Result<Vec<bool>, AllocError>
+    requires { entry < count }
+    ensures marks { IfOk result (λ marks. marks.items ≡ slice_set (replicate count false) entry true) }
+    ensures count { IfOk result (λ marks. vec_len marks ≡ count) }
+{
+    let mut marks = Vec::new(alloc);
+    for _ in 0..count {
+        marks.push(false)?;
+    }
+    marks[entry as usize] = true;
+    Ok(marks)
+}
+
+/// The marks that are left once nothing more is marked.
+fn marks_left<F: Flow>(alloc: Global, flow: &F) -> Result<Vec<bool>, AllocError>
+    ensures marks { IfOk result (λ marks. marks.items ≡ reached_marks (F.rules flow.now)) }
+    ensures count { IfOk result (λ marks. vec_len marks ≡ (F.rules flow.now).blocks) }
+{
+    let count = flow.blocks();
+    let mut marks = entry_marked(alloc, count, flow.entry())?;
+    mark_rounds(marks.as_mut_slice(), flow, count)?;
+    Ok(marks)
+}
+
+/// Whether each block of the flow is reached, in stored order. The one error is out of memory.
+pub fn reached_blocks<F: Flow>(alloc: Global, flow: &F) -> Result<Vec<bool>, AllocError>
+    ensures marks { IfOk result (λ marks. marks.items ≡ reached_marks (F.rules flow.now)) }
+    ensures reached { IfOk result (λ marks. (b : _) → IsReached (F.rules flow.now).flow b → slice_index_or marks.items b false ≡ true) }
+    ensures only_reached { IfOk result (λ marks. (b : _) → slice_index_or marks.items b false ≡ true → IsReached (F.rules flow.now).flow b) }
+    ensures count { IfOk result (λ marks. vec_len marks ≡ (F.rules flow.now).blocks) }
+{
+    let marks = marks_left(alloc, flow)?;
+    Ok(marks)
+}

@@ -1,9 +1,0 @@
-use Rattle.std.proofs.Common.{◌≡◌, ◌≤◌, ◌++◌, length, drop}
-use Rattle.alias_freezing.specs.Tasks.{stacked_places}
-use Rattle.alias_freezing.proofs.tasks.push_places.Given as goal
-
-abbrev pub invariant-places : goal.invariant-places
-invariant-places l = (l.left ≤ length l.places) × (l.stack.items ≡ l.initial.stack.items ++ stacked_places (drop l.left l.places))
-
-abbrev pub decreases-places : goal.decreases-places
-decreases-places l = l.left

@@ -1,8 +1,0 @@
-use Rattle.alias_handed_laws.proofs.Handing.{earlier_stay, solved_over}
-use Rattle.alias_handed_laws.proofs.laws.handed_laws.Goals as goal
-
-pub returns-clause-earlier : goal.returns-clause-earlier
-returns-clause-earlier c = λ a rules h. earlier_stay c.args.unit.now a rules h
-
-pub returns-clause-solved : goal.returns-clause-solved
-returns-clause-solved c = λ i rules h. solved_over c.args.unit.now i rules h

@@ -1,5 +1,0 @@
-use Rattle.alias_inferred_laws.proofs.Explaining.{never_too_many}
-use Rattle.alias_inferred_laws.proofs.laws.explain_laws.Goals as goal
-
-pub returns : goal.returns
-returns c = never_too_many c.args.unit.now

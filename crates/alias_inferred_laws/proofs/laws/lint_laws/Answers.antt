@@ -1,5 +1,0 @@
-use Rattle.alias_inferred_laws.proofs.Reporting.{unit_lints}
-use Rattle.alias_inferred_laws.proofs.laws.lint_laws.Goals as goal
-
-pub returns : goal.returns
-returns c = unit_lints c.args.unit.now

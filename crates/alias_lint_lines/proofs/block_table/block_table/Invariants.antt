@@ -1,5 +1,0 @@
-use Rattle.alias_lint_lines.proofs.Noting.{Tabling}
-use Rattle.alias_lint_lines.proofs.block_table.block_table.Given as goal
-
-abbrev pub invariant-loop-id : goal.invariant-loop-id
-invariant-loop-id l = Tabling l.func l.id-iterator l.table.items

@@ -1,4 +1,0 @@
-//! No counter comes to its last value for a made unit.
-#![tactic(auto)]
-
-pub mod laws;

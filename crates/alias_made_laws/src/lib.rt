@@ -1,4 +1,0 @@
-//! Made units keep the rules.
-#![tactic(auto)]
-
-pub mod laws;

@@ -1,4 +1,0 @@
-pub mod LookLaws
-pub mod ConditionLaws
-pub mod PlainLaws
-pub mod ForwardLaws

@@ -1,4 +1,0 @@
-//! Made units are plain and forward.
-#![tactic(auto)]
-
-pub mod laws;

@@ -1,0 +1,4 @@
+pub mod LookupLaws
+pub mod ConditionLaws
+pub mod PlainLaws
+pub mod ForwardLaws

@@ -1,5 +1,0 @@
-use Rattle.alias_naming_laws.specs.PassLaws.{tested_names}
-use Rattle.alias_naming_laws.proofs.laws.naming_laws.Goals as goal
-
-pub returns : goal.returns
-returns c = λ has b e fresh places i. tested_names c.args.env.now c.args.func.now has b e fresh places i

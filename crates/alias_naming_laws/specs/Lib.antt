@@ -1,7 +1,0 @@
-pub mod Owning
-pub mod TableLaws
-pub mod EffectLaws
-pub mod ListLaws
-pub mod StepLaws
-pub mod BlockLaws
-pub mod PassLaws

@@ -1,5 +1,0 @@
-use Rattle.alias_nested_range_laws.proofs.Ranging.{nested_are_ranged}
-use Rattle.alias_nested_range_laws.proofs.laws.nested_range_laws.Goals as goal
-
-pub returns : goal.returns
-returns c = λ a rules is. nested_are_ranged c.args.unit.now a rules is

@@ -1,9 +1,0 @@
-//! How plainness is decided: which identifiers aren't sure, as a flow over the blocks of a function, what its solution says of paths,
-//! and the instructions, gone through until one breaks a condition.
-#![tactic(auto)]
-
-pub mod answer;
-pub mod stop;
-
-pub use answer::{PlainFault, Plainness};
-pub use stop::Stop;

@@ -1,9 +1,0 @@
-use Rattle.alias_pruning_laws.specs.PassLaws.{pass_prunes}
-use Rattle.alias_pruning_laws.specs.PruningLaws.{fits_pruned}
-use Rattle.alias_pruning_laws.proofs.laws.pruning_laws.Goals as goal
-
-pub returns : goal.returns
-returns c = record {
-  fits = λ p t g h. fits_pruned c.args.env.now c.args.more.now p t g h;
-  passes = λ f g k. pass_prunes f c.args.env.now g c.args.more.now k;
-}

@@ -1,0 +1,5 @@
+//! What `lint`, `explain` and `plain` print.
+#![tactic(auto)]
+
+pub mod lints;
+pub mod plain;

@@ -1,0 +1,13 @@
+pub mod Walking
+pub mod MarkedPlaces
+pub mod Flows
+pub mod Summaries
+pub mod Keeping
+pub mod Sweeping
+pub mod Laws
+pub mod KeepingLaws
+pub mod LegalLaws
+pub mod WalkLaws
+pub mod FlowLaws
+pub mod SweepLaws
+pub mod PartLaws

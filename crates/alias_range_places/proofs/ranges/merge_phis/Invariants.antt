@@ -1,6 +1,0 @@
-use Rattle.std.proofs.Common.{◌≡◌, drop}
-use Rattle.alias_range_places.specs.Ranges.{phis_merged}
-use Rattle.alias_range_places.proofs.ranges.merge_phis.Given as goal
-
-abbrev pub invariant-loop-phi : goal.invariant-loop-phi
-invariant-loop-phi l = phis_merged l.first (drop l.phi-index l.phis) l.identifiers ≡ phis_merged l.first l.phis l.initial.identifiers

@@ -1,9 +1,0 @@
-//! The effects of a function's places, and its mutable ranges by default, from what is recorded of its instructions.
-#![tactic(auto)]
-
-mod blocks;
-mod instructions;
-mod ranges;
-mod table;
-
-pub use blocks::place_function;

@@ -1,6 +1,0 @@
-use Rattle.std.proofs.Common.{◌≡◌, ◌++◌, drop, take, map}
-use Rattle.alias_range_summary.specs.Marks.{param_captured}
-use Rattle.alias_range_summary.proofs.marks.capture_params.Given as goal
-
-abbrev pub invariant-loop-param : goal.invariant-loop-param
-invariant-loop-param l = l.params ≡ map (param_captured l.graph) (take l.param-index l.initial.params) ++ drop l.param-index l.initial.params

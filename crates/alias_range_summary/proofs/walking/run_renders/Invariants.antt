@@ -1,8 +1,0 @@
-use Rattle.std.proofs.Common.{◌≡◌, drop}
-use Rattle.alias_range_summary.specs.Keeping.{WalksKeep}
-use Rattle.alias_range_summary.specs.Walking.{after_renders}
-use Rattle.alias_range_summary.proofs.walking.run_renders.Given as goal
-
-abbrev pub invariant-loop-render : goal.invariant-loop-render
-invariant-loop-render l =
-    (after_renders l.graph (drop l.render-index l.renders) l.env ≡ after_renders l.graph l.renders l.initial.env) × WalksKeep l.initial.env l.env

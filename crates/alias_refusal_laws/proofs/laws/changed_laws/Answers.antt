@@ -1,5 +1,0 @@
-use Rattle.alias_refusal_laws.proofs.Refusing.{never_unknown}
-use Rattle.alias_refusal_laws.proofs.laws.changed_laws.Goals as goal
-
-pub returns : goal.returns
-returns c = record { known = λ keeps_all n fs e h. never_unknown keeps_all n c.args.func.now c.args.env.now fs e h }

@@ -1,0 +1,11 @@
+pub mod FunctionSites
+pub mod Within
+pub mod InternLaws
+pub mod FunctionSiteLaws
+pub mod FreezingLaws
+pub mod TableLaws
+pub mod EffectLaws
+pub mod StandingLaws
+pub mod ExpansionLaws
+pub mod StepLaws
+pub mod KeepingLaws

@@ -1,5 +1,0 @@
-use Rattle.alias_summary_laws.specs.SummaryOrder.{summary_in_order}
-use Rattle.alias_summary_laws.proofs.laws.summary_laws.Goals as goal
-
-pub returns : goal.returns
-returns c = λ f r distinct h. summary_in_order f c.args.is_function_expression c.args.func.now c.args.env.now r distinct h
