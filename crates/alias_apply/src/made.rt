@@ -56,7 +56,7 @@ impl MadeIdentifiers {
         ensures there { OnOk result (is_made identifier self.old ≡ true → self.new ≡ self.old) }
         ensures err { OnErr result (self.new ≡ self.old) }
     {
-        add(&mut self.made, self.alloc, identifier)
+        add(self.alloc, &mut self.made, identifier)
     }
 }
 
@@ -72,7 +72,7 @@ fn is_among(made: &Made, identifier: IdentifierId) -> bool
 }
 
 /// Adds the identifier to what was made.
-fn add(made: &mut Made, alloc: Global, identifier: IdentifierId) -> Result<(), AllocError>
+fn add(alloc: Global, made: &mut Made, identifier: IdentifierId) -> Result<(), AllocError>
     ensures ok { OnOk result (is_made identifier (made_in made.old) ≡ false → made_in made.new ≡ made_in made.old ++ identifier ∷ []) }
     ensures there { OnOk result (is_made identifier (made_in made.old) ≡ true → made_in made.new ≡ made_in made.old) }
     ensures err { OnErr result (made_in made.new ≡ made_in made.old) }

@@ -135,7 +135,7 @@ fn step_from(
 ) -> Result<Ending, AllocError> {
     let entered = with_values(alloc, defined)?;
     let mut tables = Tables::new(alloc, InternedReports::new(alloc));
-    let answer = infer_block(alloc, context, BlockId(1), block, &mut tables, entered);
+    let answer = infer_block(context, BlockId(1), block, &mut tables, entered);
     Ok(ending_of(&answer))
 }
 

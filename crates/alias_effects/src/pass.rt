@@ -250,14 +250,7 @@ impl<'a> Flow for EffectsFlow<'a> {
             unreachable!()
         };
         let entered = mem::replace(state, InferenceState::empty(self.alloc));
-        match infer_block(
-            self.alloc,
-            &self.context,
-            *name,
-            at,
-            &mut self.tables,
-            entered,
-        ) {
+        match infer_block(&self.context, *name, at, &mut self.tables, entered) {
             Ok((after, effects)) => {
                 *state = after;
                 self.recorded[block as usize] = Some(effects);

@@ -33,3 +33,4 @@ pub mod Unseen
 pub mod Ends
 pub mod Cutting
 pub mod KnownLinks
+pub mod FitLaws

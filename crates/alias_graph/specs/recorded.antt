@@ -4,4 +4,3 @@ pub mod Listings
 pub mod BlockListings
 pub mod Recording
 pub mod Fitting
-pub mod FitLaws

@@ -112,9 +112,10 @@ impl NodeMap {
         self.get(id)
     }
 
-    /// Where the nodes of both identifiers are, where both have one.
+    /// Where the nodes of both identifiers are, where both have one. The slots are hints: the clause says only whether they
+    /// are there.
     #[tactic(auto, using(crate::proofs::Slots::slot_there, crate::proofs::Slots::slot_nowhere))]
-    pub fn slots_of(&self, from: IdentifierId, into: IdentifierId) -> Option<(usize, usize)>
+    pub(crate) fn slots_of(&self, from: IdentifierId, into: IdentifierId) -> Option<(usize, usize)>
         ensures { is_some result ≡ (has_node self.now from && has_node self.now into) }
     {
         let from = self.slot_of(from)?;

@@ -15,7 +15,7 @@ use Rattle.alias_hir.specs.Errors.{is_memory, is_hir_memory, infer_error}
 use Rattle.alias_graph.specs.declared.recorded.listing.Listing.{Listing}
 use Rattle.alias_graph.specs.recorded.BlockListings.{listed}
 use Rattle.alias_graph.specs.recorded.Fitting.{AllOf, InstructionFits}
-use Rattle.alias_graph.specs.recorded.FitLaws.{went_on}
+use Rattle.alias_graph.proofs.FitLaws.{went_on}
 use Rattle.alias_range_pass.specs.places.Keeping.{OrdersFit}
 use Rattle.alias_range_pass.specs.summary.Summaries.{tracked}
 use Rattle.alias_range_pass.specs.Refusals.{unreplaced, none_unreplaced, listing_or, positions_left, recorded}

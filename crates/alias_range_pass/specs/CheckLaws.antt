@@ -27,7 +27,7 @@ use Rattle.alias_rules.specs.Functions.{each_function}
 use Rattle.alias_rules.specs.Fitting.{place_within_tables, error_within_tables, function_within_tables, type_within_tables, named_within_tables, summary_within_tables, effect_within_tables, recorded_within_tables, effects_within_tables, holds_no_call, effects_fit, effects_fit_at, reports_no_invariant, function_rules, function_fits}
 use Rattle.alias_rules.specs.RuleLaws.{fitting_tree, fitting_rules}
 use Rattle.alias_graph.specs.recorded.Fitting.{AllOf, EffectFits, EffectsFit, OrderHasNext, InstructionFits, PhiFits, BlockFits, EventFits, FunctionFits}
-use Rattle.alias_graph.specs.recorded.FitLaws.{all_append}
+use Rattle.alias_graph.proofs.FitLaws.{all_append}
 use Rattle.alias_graph.specs.recorded.BlockListings.{object_of}
 
 -- ---- places and orders

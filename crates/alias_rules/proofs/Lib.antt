@@ -2,3 +2,5 @@ mod Apart
 mod Holding
 mod Levels
 mod Reached
+mod Parting
+mod Below

@@ -41,7 +41,7 @@ use Rattle.alias_graph.specs.declared.recorded.listing.Listing.{Listing}
 use Rattle.alias_graph.specs.recorded.BlockListings.{pending_at, pending_more, added_or_pending, link_of, slot_of_block, operand_listed, phi_listed, returns_listed, alias_listed, aliases_in, with_pending, end_listed, block_listed, blocks_listed, object_of, first_listing, listed}
 use Rattle.alias_graph.specs.recorded.Each.{each}
 use Rattle.alias_graph.specs.recorded.Fitting.{AllOf, effect_makes}
-use Rattle.alias_graph.specs.recorded.FitLaws.{all_append, all_push, all_at, all_set, went_on, each_keeps}
+use Rattle.alias_graph.proofs.FitLaws.{all_append, all_push, all_at, all_set, went_on, each_keeps}
 use Rattle.alias_graph.specs.recorded.IdSets.{made_id, has_made}
 use Rattle.alias_graph.specs.recorded.Listings.{position_after, with_event, made, made_once, positioned, linked, mutated, summarized, rendered, effect_listed, effects_in, recorded_in, instruction_listed}
 use Rattle.alias_graph.specs.recorded.Recording.{graph_listed}

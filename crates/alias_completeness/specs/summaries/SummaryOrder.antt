@@ -33,7 +33,7 @@ use Rattle.alias_graph.specs.declared.types.NodeValue.TheVariants.{Object, Phi a
 use Rattle.alias_graph.specs.Nodes.{Node, Nodes}
 use Rattle.alias_graph.specs.declared.recorded.listing.Listing.{Listing}
 use Rattle.alias_graph.specs.recorded.Each.{each}
-use Rattle.alias_graph.specs.recorded.FitLaws.{went_on}
+use Rattle.alias_graph.proofs.FitLaws.{went_on}
 use Rattle.alias_graph.specs.recorded.IdSets.{has_made}
 use Rattle.alias_graph.specs.recorded.Listings.{position_after, with_event, made, made_once, positioned, linked, mutated, summarized as summarized_more, rendered, effect_listed, effects_in, recorded_in, instruction_listed}
 use Rattle.alias_graph.specs.recorded.BlockListings.{pending_more, added_or_pending, link_of, slot_of_block, operand_listed, phi_listed, returns_listed, alias_listed, aliases_in, with_pending, end_listed, block_listed, blocks_listed, first_listing, listed}

@@ -11,7 +11,7 @@ use Rattle.alias_graph.specs.declared.recorded.listing.Listing.{Listing}
 use Rattle.alias_graph.specs.declared.recorded.listing.RecordedMutation.{RecordedMutation}
 use Rattle.alias_graph.specs.declared.recorded.listing.RecordedRender.{RecordedRender}
 use Rattle.alias_graph.specs.recorded.BlockListings.{listed}
-use Rattle.alias_graph.specs.recorded.FitLaws.{listed_fits}
+use Rattle.alias_graph.proofs.FitLaws.{listed_fits}
 use Rattle.alias_graph.specs.recorded.Recording.{graph_listed}
 use Rattle.alias_inferred_laws.proofs.lints.Placing.{listed_alike}
 use Rattle.alias_answer_laws.proofs.order.Staying.{placed_still}

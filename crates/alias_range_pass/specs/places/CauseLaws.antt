@@ -6,7 +6,7 @@ use Rattle.alias_base.specs.declared.ids.EvaluationOrder.{EvaluationOrder}
 use Rattle.alias_base.specs.declared.ids.IdentifierId.{IdentifierId}
 use Rattle.alias_base.specs.declared.ids.InstructionId.{InstructionId}
 use Rattle.alias_graph.specs.recorded.Fitting.{AllOf}
-use Rattle.alias_graph.specs.recorded.FitLaws.{all_at, all_set}
+use Rattle.alias_graph.proofs.FitLaws.{all_at, all_set}
 use Rattle.alias_hir.specs.Parts.{pattern_places}
 use Rattle.alias_hir.specs.declared.effect.AliasingEffect.{AliasingEffect}
 use Rattle.alias_hir.specs.declared.env.Environment.{Environment}

@@ -31,7 +31,7 @@ use Rattle.alias_graph.specs.declared.recorded.listing.Listing.{Listing}
 use Rattle.alias_graph.specs.declared.recorded.listing.RecordedMutation.{RecordedMutation}
 use Rattle.alias_graph.specs.declared.recorded.listing.RecordedRender.{RecordedRender}
 use Rattle.alias_graph.specs.recorded.Fitting.{ListingFits}
-use Rattle.alias_graph.specs.recorded.FitLaws.{graph_within}
+use Rattle.alias_graph.proofs.FitLaws.{graph_within}
 use Rattle.alias_graph.specs.recorded.Recording.{graph_listed}
 use Rattle.alias_range_pass.specs.summary.KeepingLaws.{within_kept}
 use Rattle.alias_range_pass.specs.summary.Laws.{Covers, MutationCauses}

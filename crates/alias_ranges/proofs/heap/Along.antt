@@ -19,7 +19,7 @@ use Rattle.alias_graph.specs.declared.types.NodeValue.TheVariants.{Object}
 use Rattle.alias_graph.specs.recorded.BlockListings.{with_pending, block_listed, blocks_listed, object_of, first_listing, listed}
 use Rattle.alias_graph.specs.declared.recorded.listing.Listing.{Listing}
 use Rattle.alias_graph.specs.recorded.Each.{each}
-use Rattle.alias_graph.specs.recorded.FitLaws.{went_on}
+use Rattle.alias_graph.proofs.FitLaws.{went_on}
 use Rattle.alias_graph.specs.recorded.Listings.{made, effect_listed}
 use Rattle.alias_graph.specs.recorded.Recording.{graph_listed}
 use Rattle.alias_ranges.specs.heap.Heap.{History}

@@ -23,7 +23,7 @@ use Rattle.alias_graph.specs.declared.types.NodeValue.TheVariants.{Object}
 use Rattle.alias_graph.specs.recorded.BlockListings.{phi_listed, returns_listed, alias_listed, aliases_in, with_pending, end_listed, block_listed}
 use Rattle.alias_graph.specs.declared.recorded.listing.Listing.{Listing}
 use Rattle.alias_graph.specs.recorded.Each.{each}
-use Rattle.alias_graph.specs.recorded.FitLaws.{went_on}
+use Rattle.alias_graph.proofs.FitLaws.{went_on}
 use Rattle.alias_graph.specs.recorded.Listings.{made, linked, effect_listed, effects_in, recorded_in, instruction_listed}
 use Rattle.alias_ranges.specs.heap.Heap.{History}
 use Rattle.alias_ranges.specs.heap.Items.{Item, Starts, Enters, Does, Ends, effect_items, recorded_items, instruction_items, body_items, returned, alias_items, recorded_aliases, end_items}

@@ -13,7 +13,7 @@ use Rattle.alias_graph.proofs.Covering.{eqb_is}
 use Rattle.alias_graph.specs.recorded.BlockListings.{slot_of_block, pending_more, link_of, added_or_pending, operand_listed, phi_listed}
 use Rattle.alias_graph.specs.declared.recorded.listing.Listing.{Listing}
 use Rattle.alias_graph.specs.recorded.Each.{each}
-use Rattle.alias_graph.specs.recorded.FitLaws.{went_on}
+use Rattle.alias_graph.proofs.FitLaws.{went_on}
 use Rattle.alias_graph.specs.recorded.Listings.{with_event, made}
 use Rattle.alias_graph.specs.recorded.Recording.{graph_listed}
 use Rattle.alias_ranges.specs.heap.Heap.{History}

@@ -17,7 +17,7 @@ use Rattle.alias_graph.proofs.Within.{created_more}
 use Rattle.alias_graph.specs.recorded.BlockListings.{pending_at, pending_more}
 use Rattle.alias_graph.specs.declared.recorded.listing.Listing.{Listing}
 use Rattle.alias_graph.specs.recorded.Fitting.{AllOf}
-use Rattle.alias_graph.specs.recorded.FitLaws.{all_at, all_set, all_push, next_is, went_on}
+use Rattle.alias_graph.proofs.FitLaws.{all_at, all_set, all_push, next_is, went_on}
 use Rattle.alias_graph.specs.recorded.Listings.{position_after}
 use Rattle.alias_graph.specs.recorded.Recording.{graph_listed}
 use Rattle.alias_ranges.specs.heap.Making.{is_among}

@@ -8,7 +8,7 @@ use Rattle.alias_hir.specs.declared.error.InferError.{InferError}
 use Rattle.alias_hir.specs.declared.hir.HirFunction.{HirFunction}
 use Rattle.alias_graph.specs.declared.recorded.listing.Listing.{Listing}
 use Rattle.alias_graph.specs.recorded.BlockListings.{listed}
-use Rattle.alias_graph.specs.recorded.FitLaws.{went_on}
+use Rattle.alias_graph.proofs.FitLaws.{went_on}
 use Rattle.alias_range_pass.specs.summary.Summaries.{tracked}
 use Rattle.alias_range_pass.specs.Refusals.{unreplaced, none_unreplaced, listing_or, positions_left, recorded}
 use Rattle.alias_range_pass.specs.Passes.{Ranged, ranged, range_pass}

@@ -189,7 +189,6 @@ fn finished(
 
 /// The step of a block from a state: the state after it, and what was recorded. The tables grow at their ends.
 pub fn infer_block(
-    alloc: Global,
     context: &BlockContext<'_>,
     name: BlockId,
     block: &BasicBlock,
@@ -202,7 +201,7 @@ pub fn infer_block(
     infer_phis(&block.phis, &mut state)?;
     let progress = BlockProgress {
         state,
-        effects: no_effects(alloc),
+        effects: no_effects(tables.alloc()),
         missing: None,
     };
     let progress = apply_signatures(context, block.instructions.as_slice(), progress, tables)?;

@@ -1,7 +1,7 @@
 use Rattle.std.proofs.Common.{◌+◌, ◌≤◌, List, length, subst, sym, ◌∙◌}
 use Rattle.alias_hir.specs.declared.place.Place.{Place}
 use Rattle.alias_graph.specs.declared.recorded.listing.Listing.{Listing}
-use Rattle.alias_graph.specs.recorded.FitLaws.{listed_fits}
+use Rattle.alias_graph.proofs.FitLaws.{listed_fits}
 use Rattle.alias_graph.specs.recorded.Recording.{graph_listed}
 use Rattle.alias_range_pass.specs.summary.Laws.{Covers, SeesDefinite, EndsWithFlows}
 use Rattle.alias_range_pass.specs.summary.Summaries.{tracked}

@@ -1,5 +1,5 @@
 use Rattle.std.proofs.Common.{length}
-use Rattle.alias_graph.specs.recorded.FitLaws.{listed_fits}
+use Rattle.alias_graph.proofs.FitLaws.{listed_fits}
 use Rattle.alias_lint.proofs.lines.lints.lint_root.Goals as goal
 
 pub push_walked-requires-clause-fits : goal.push_walked-requires-clause-fits

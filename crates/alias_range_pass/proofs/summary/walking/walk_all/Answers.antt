@@ -4,7 +4,7 @@ use Rattle.alias_hir.specs.declared.env.Identifier.{Identifier}
 use Rattle.alias_graph.specs.Nodes.{Nodes, Within}
 use Rattle.alias_graph.specs.Raising.{Raised}
 use Rattle.alias_graph.specs.declared.recorded.listing.RecordedMutation.{RecordedMutation}
-use Rattle.alias_graph.specs.recorded.FitLaws.{graph_within}
+use Rattle.alias_graph.proofs.FitLaws.{graph_within}
 use Rattle.alias_range_pass.specs.summary.Sweeping.{range_walk}
 use Rattle.alias_range_pass.specs.summary.SweepLaws.{step_part, step_env, step_within}
 use Rattle.alias_range_pass.proofs.summary.walking.walk_all.Goals as goal
