@@ -1,5 +1,5 @@
 """Random units as JSON, by form: `unit(seed)` is a unit of all kinds of instruction and terminal, with nested functions, shapes with
-signatures of both sorts, loops and handlers. Most keep the rules and are inferred. `text(seed)` is the text of a unit, which is damaged in
+signatures of both sorts, loops and handlers. Most are well formed and are inferred. `text(seed)` is the text of a unit, which is damaged in
 about a fifth: in its bytes, in a key or a value, or so that a rule of a well-formed unit is broken.
 
 The same seed always gives the same text."""
@@ -515,7 +515,7 @@ def successors(t):
 
 
 def unit(seed):
-    """A unit that mostly keeps the rules."""
+    """A unit that is mostly well formed."""
     return Maker(random.Random(seed)).unit()
 
 

@@ -32,7 +32,7 @@ pub fn apply_laws(env: &Environment)
     let _env = env;
 }
 
-/// What is inferred of a unit that keeps the rules is never refused with `UnreplacedApply`, and so no call that infers it answers
+/// What is inferred of a unit that is well formed is never refused with `UnreplacedApply`, and so no call that infers it answers
 /// that. Does nothing.
 pub fn unit_laws(unit: &Unit)
     ensures unit { rules_hold unit.now ≡ Ok tt → (i : InstructionId) (report : Report) → unit_analysed unit.now ≢ Err (UnreplacedApply i report) }

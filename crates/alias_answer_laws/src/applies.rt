@@ -33,7 +33,7 @@ pub fn call_laws(func: &HirFunction, env: &Environment)
     let _env = env;
 }
 
-/// In a unit that keeps the rules nothing is inferred yet, so no instruction of a nested function carries an `Apply`. Does nothing.
+/// In a unit that is well formed nothing is inferred yet, so no instruction of a nested function carries an `Apply`. Does nothing.
 pub fn unit_laws(unit: &Unit)
     ensures { rules_hold unit.now ≡ Ok tt → NestedLackApply unit.now.env }
 {

@@ -13,7 +13,7 @@ ghost use Rattle.alias_nested.specs.Units.{UnitAnalysis, unit_analysed};
 ghost use Rattle.alias_nested.specs.Order.{numbers, functions_of};
 ghost use Rattle.alias_answer_laws.specs.order.Order.{nested_innermost_first};
 
-/// What is inferred of a unit that keeps the rules has a solution for each function in the order of the unit, and then one for
+/// What is inferred of a unit that is well formed has a solution for each function in the order of the unit, and then one for
 /// the root. In that order each nested function of the unit is there once, nothing else is, and a function comes after those
 /// that it creates. Does nothing.
 pub fn order_laws()
@@ -23,7 +23,7 @@ pub fn order_laws()
     ensures innermost { (u : HirUnit) (xs ys : List ℕ) (k j : ℕ) → rules_hold u ≡ Ok tt → numbers (nested_innermost_first u) ≡ xs ++ k ∷ ys → is_among (created_at u.env k) j ≡ true → is_among xs j ≡ true }
 {}
 
-/// A function that keeps the rules with those below it, which is what `check_function` asks, is nested on at most 64 levels with them, so the first
+/// A function that is well formed with those below it, which is what `check_function` asks, is nested on at most 64 levels with them, so the first
 /// validation, which walks 64 levels, walks all of them. Does nothing.
 pub fn level_laws()
     ensures levels { (f : HirFunction) (env : Environment) → function_fits f env ≡ true → is_within 64 env f ≡ true }

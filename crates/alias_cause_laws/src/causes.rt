@@ -1,4 +1,4 @@
-//! What holds of the causes of ranges, in what is inferred of a unit that keeps the rules.
+//! What holds of the causes of ranges, in what is inferred of a unit that is well formed.
 
 ghost use Rattle.std.specs.Prelude.{◌≡◌, Ok};
 ghost use Rattle.alias_cause_laws.specs.causes.Causes.{EachHasCause};
@@ -7,7 +7,7 @@ ghost use Rattle.alias_rules.specs.Functions.{rules_hold};
 
 use alias_hir::env::Unit;
 
-/// In what is inferred of a unit that keeps the rules no explanation says that a range ends without a cause: of each identifier that stands
+/// In what is inferred of a unit that is well formed no explanation says that a range ends without a cause: of each identifier that stands
 /// in a function and is none of its context places, the end was unset as the function's range pass began, and is the one that
 /// this pass left. Does nothing.
 pub fn cause_laws(unit: &Unit)

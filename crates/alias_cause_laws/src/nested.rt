@@ -1,5 +1,5 @@
 //! What holds of ranges and summaries, of a function that the range pass ran on, and of the nested functions of what is inferred of a unit that
-//! keeps the rules.
+//! is well formed.
 
 ghost use Rattle.std.specs.Prelude.{◌≡◌, Bool, true, Ok};
 ghost use Rattle.alias_nested.specs.Units.{UnitAnalysis, unit_analysed};
@@ -22,7 +22,7 @@ pub fn range_pass_laws(env: &Environment, func: &HirFunction)
     let _func = func;
 }
 
-/// Of each nested function of what is inferred of a unit that keeps the rules, in the unit that is handed out: but for its context places, whose
+/// Of each nested function of what is inferred of a unit that is well formed, in the unit that is handed out: but for its context places, whose
 /// ranges are those of the functions around it, ranges end past the recorded mutations that legal paths join to their identifiers, and cover the
 /// heap, and each end is unset or has a cause; and the summary ends with the function's flows. Does nothing.
 pub fn nested_range_laws(unit: &Unit)

@@ -54,7 +54,7 @@ module _ (u : HirUnit) (rules : rules_hold u ≡ Ok tt) where
   nested_at (Ok i) h = nested_of (record { functions = h.0; inferred = i }) h.1
   nested_at (Err e) h = tt
 
--- the unit as a call hands it out that tells that it keeps the rules
+-- the unit as a call hands it out that tells that it is well formed
 module _ (u v : HirUnit) (same : v ≡ u) (rules : rules_hold v ≡ Ok tt) (r : Result Inferred InferError) (h : InfersUnit (unit_analysed u) r) where
   keeps : rules_hold u ≡ Ok tt
   keeps = subst (λ z. rules_hold z ≡ Ok tt) same rules

@@ -26,7 +26,7 @@ use std::alloc::Global;
 /// with all that is ensured there.
 ///
 /// Besides: that an operand has no effect is never answered. Where the function and its environment are a unit that
-/// keeps the rules, a function that a refusal blames for what it does isn't plain in that unit, and one that isn't
+/// is well formed, a function that a refusal blames for what it does isn't plain in that unit, and one that isn't
 /// settled isn't forward, whatever the passes of the caller change; and where these keep everything, each refusal has
 /// its cause in the unit.
 pub fn analyse_functions_certified<P: InnerPasses, F: FnMut(&HirFunction, &Environment)>(

@@ -18,7 +18,7 @@ use alias_nested::Inferred;
 use alias_rules::check::Checked;
 use std::alloc::Global;
 
-/// Infers a unit that keeps the rules, as `alias_nested::infer_unit` does it, with all that is ensured there.
+/// Infers a unit that is well formed, as `alias_nested::infer_unit` does it, with all that is ensured there.
 ///
 /// Besides: each refusal has its cause in the unit, so that a plain unit is refused only where a counter was at its
 /// last value or a function isn't settled, and one that is forward as well for the counter alone; that an Apply is left,

@@ -1,4 +1,4 @@
-//! What holds of what is handed out of a unit that keeps the rules.
+//! What holds of what is handed out of a unit that is well formed.
 
 ghost use Rattle.std.specs.Prelude.{◌≡◌, Ok};
 ghost use Rattle.alias_rules.specs.Functions.{rules_hold};
@@ -8,7 +8,7 @@ ghost use Rattle.alias_inferred_laws.specs.handed.Handed.{EarlierStay, IsSolvedI
 
 use alias_hir::env::Unit;
 
-/// What a call hands out that infers a unit that keeps the rules: a solution of each function once, innermost first, and of the root last. As the effects
+/// What a call hands out that infers a unit that is well formed: a solution of each function once, innermost first, and of the root last. As the effects
 /// pass on a function began, each function that was analysed before it, among them those that it creates, was what it is in the unit that is handed out,
 /// its summary and its parameters too, but for the effects of its context places. Does nothing.
 pub fn handed_laws(unit: &Unit)

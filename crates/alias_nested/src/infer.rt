@@ -86,7 +86,7 @@ fn take_reports(alloc: Global, env: &mut Environment) -> List<Report>
     mem::replace(&mut env.errors, List::new(alloc))
 }
 
-/// Infers a unit that keeps the rules: its nested functions, innermost first, and then its root. The passes of the
+/// Infers a unit that is well formed: its nested functions, innermost first, and then its root. The passes of the
 /// caller keep everything, as `KeepAll` and `FailingPasses` do. The unit is dropped on `Err`.
 ///
 /// Nested functions are analysed as `analyse_functions_certified` does it, with no logger. On the root the effects pass, the range

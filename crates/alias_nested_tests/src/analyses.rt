@@ -18,7 +18,7 @@ enum Analysis {
     Done(usize, u32),
     /// It stopped; the logger was called so often, and this is left in the slots.
     Stopped(u32, Standing),
-    /// The text is no unit that keeps the rules.
+    /// The text is no unit that is well formed.
     NotChecked,
 }
 

@@ -48,7 +48,7 @@ fn change_of<P: InnerPasses>(alloc: Global, unit: Checked, passes: &mut P) -> Ch
     }
 }
 
-/// What comes of the unit that the text spells; `None` where it is no unit that keeps the rules.
+/// What comes of the unit that the text spells; `None` where it is no unit that is well formed.
 fn change_in<P: InnerPasses>(alloc: Global, text: &str, passes: &mut P) -> Option<Change> {
     match checked(alloc, text) {
         Some(unit) => Some(change_of(alloc, unit, passes)),

@@ -21,7 +21,7 @@ pub(crate) enum Ending {
     Uninitialized(Option<FunctionId>),
     /// It is refused for another reason.
     Refused,
-    /// The text is no unit that keeps the rules.
+    /// The text is no unit that is well formed.
     NotChecked,
     /// Memory ran out.
     Memory,
@@ -37,7 +37,7 @@ pub(crate) fn refused(error: &InferError) -> Ending {
     }
 }
 
-/// The ending of a unit that keeps the rules.
+/// The ending of a unit that is well formed.
 fn inferred<P: InnerPasses>(alloc: Global, unit: Checked, passes: &mut P) -> Ending
     requires { P.keeps_all ≡ true }
 {

@@ -29,7 +29,7 @@ fn handed_out(checked: Checked) -> (usize, usize) {
     (identifiers, unit.function.body.blocks.len())
 }
 
-/// As `handed_out`, of a unit that keeps the rules.
+/// As `handed_out`, of a unit that is well formed.
 fn counts(alloc: Global) -> Result<(usize, usize), AllocError> {
     let unit = unit(alloc, 1)?;
     Ok(match check_unit(alloc, unit) {

@@ -1,4 +1,4 @@
--- What the functions of a unit that keeps the rules begin with, and that tables which are kept agree with those of the unit.
+-- What the functions of a unit that is well formed begin with, and that tables which are kept agree with those of the unit.
 use Rattle.std.specs.Prelude.{◌≡◌, ℕ, ◌<◌, true, List, [], ◌∷◌, Option, Some, None, Ok, option_map, nat_lt, length, slice_get, refl}
 use Rattle.std.proofs.Common.{ap, sym, ◌∙◌, ltb-true}
 use Rattle.std.specs.List.{AllByRecursion}

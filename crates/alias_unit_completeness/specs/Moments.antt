@@ -295,7 +295,7 @@ module _ (u : HirUnit) (rules : rules_hold u ≡ Ok tt) where
         summary = λ es i. no_summary f.returns.identifier.0 es f.aliasing_effects (uninferred_summary f (all_at function_is_uninferred u.env.functions k f uninferred e)) i;
       }
 
-  -- a unit that keeps the rules begins so
+  -- a unit that is well formed begins so
   pub unit_holds : Holds (analysis u.env [])
   unit_holds = record { faces = all_faces (length u.env.identifiers) u.env.functions nested_face; moments = tt }
 

@@ -16,7 +16,7 @@ ghost use Rattle.alias_unit_completeness.specs.Refusals.{BlamesRightly, IsCaused
 
 use alias_hir::env::Unit;
 
-/// Of a unit that keeps the rules: where the functions on some levels below the root are analysed, all functions of the table are
+/// Of a unit that is well formed: where the functions on some levels below the root are analysed, all functions of the table are
 /// callable, and were so as the effects pass of each of those began. Does nothing.
 pub fn callable_laws(unit: &Unit)
     ensures { rules_hold unit.now ≡ Ok tt → (levels : ℕ) (a : Analysis) → analysed levels unit.now.function (analysis unit.now.env []) ≡ Ok a → AreCallable a.env × AllByRecursion BeganCallable a.functions }
@@ -25,7 +25,7 @@ pub fn callable_laws(unit: &Unit)
     let _unit = unit;
 }
 
-/// Each refusal of the inference of a unit that keeps the rules has its cause in the unit: a function that it blames
+/// Each refusal of the inference of a unit that is well formed has its cause in the unit: a function that it blames
 /// for what it does isn't plain, one that isn't settled isn't forward, and else a counter was at its last value. So
 /// has a refusal of a call that infers the unit, but for lack of memory and a fault of a pass of the caller; and what
 /// has such a cause blames no plain unit. Does nothing.
@@ -37,7 +37,7 @@ pub fn complete_laws(unit: &Unit)
     let _unit = unit;
 }
 
-/// Of a unit that keeps the rules: where the functions below its root are analysed over passes of the caller,
+/// Of a unit that is well formed: where the functions below its root are analysed over passes of the caller,
 /// whatever their law lets these change, a function that a refusal blames for what it does isn't plain in the unit as
 /// it was handed in, and one that isn't settled isn't forward. So it is of both forms of `analyse_functions`. Does
 /// nothing.

@@ -241,7 +241,7 @@ impl fmt::Display for UnitFault {
     }
 }
 
-/// Why the inference refuses a unit that keeps the rules.
+/// Why the inference refuses a well-formed unit.
 #[derive(Clone, Copy, Debug, PartialEq, Eq, Hash)]
 pub enum InferError {
     /// The effects of an instruction make an identifier twice.

@@ -186,6 +186,6 @@ functions_without (f ∷ fs) h =
     let b = both_true (function_is_uninferred f) _ h in
     (instructions_without f.instructions (both_true _ (list_all instruction_is_uninferred f.instructions) (both_true _ _ b.0).0).1, functions_without fs b.1)
 
--- which a unit is that keeps the rules
+-- which a unit is that is well formed
 pub uninferred_without : (u : HirUnit) → rules_hold u ≡ Ok tt → NestedLackApply u.env
 uninferred_without u rules = functions_without u.env.functions (both_true _ (list_all function_is_uninferred u.env.functions) (parts_of_rules u rules).environment).1

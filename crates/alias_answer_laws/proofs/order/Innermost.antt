@@ -130,7 +130,7 @@ unfolding Ends
 tree_ends zero env found level ks e = let p = ended_parts found level ks (sym (tree_end env found level) ∙ e) in λ j. ap (λ zs. times zs j) p.0
 tree_ends (suc n) env found level ks e = let p = tree_parts n env found level ks e in tree_ends n env (found ++ level) (next_level env level) ks p.1
 
--- in the order of a unit that keeps the rules a function comes after those that it creates
+-- in the order of a unit that is well formed a function comes after those that it creates
 pub order_innermost : (u : HirUnit) → rules_hold u ≡ Ok tt → (xs ys : List ℕ) (k j : ℕ) → numbers (nested_innermost_first u) ≡ xs ++ k ∷ ys → is_among (created_at u.env k) j ≡ true → is_among xs j ≡ true
 order_innermost u rules xs ys k j e h =
     let c = created_numbers u.env.functions in

@@ -1,4 +1,4 @@
--- A function that keeps the rules with those below it is within 64 levels.
+-- A function that is well formed with those below it is within 64 levels.
 use Rattle.std.specs.Prelude.{◌≡◌, ℕ, true, List, [], ◌∷◌, ◌++◌, Option, Some, None, slice_get, refl}
 use Rattle.std.specs.List.{AllByRecursion, flat_map, list_all}
 use Rattle.std.proofs.Common.{zero, suc, sym, ◌∙◌, subst}

@@ -56,7 +56,7 @@ solved_functions : (fs : List Analysed) → functions_of (map (λ (x : Analysed)
 solved_functions [] = refl
 solved_functions (x ∷ xs) = ap (λ zs. x.solved.function ∷ zs) (solved_functions xs)
 
--- in the order of a unit that keeps the rules functions are apart
+-- in the order of a unit that is well formed functions are apart
 pub root_apart : (u : HirUnit) → rules_hold u ≡ Ok tt → Apart u.env.functions [] (nested_innermost_first u)
 root_apart u rules = record {
   once = λ j.

@@ -1,4 +1,4 @@
--- The order of a unit that keeps the rules has each nested function once.
+-- The order of a unit that is well formed has each nested function once.
 use Rattle.std.specs.Prelude.{◌≡◌, ℕ, true, false, List, [], ◌∷◌, ◌++◌, Option, Some, None, Ok, length, slice_get, if◌then◌else◌}
 use Rattle.std.specs.List.{flat_map}
 use Rattle.std.proofs.Common.{zero, suc, refl, ap, ◌∙◌, subst, arith, ◌+◌, ◌<◌, ◌≤◌}

@@ -1,4 +1,4 @@
--- No inference of a unit that keeps the rules says that an Apply is left.
+-- No inference of a unit that is well formed says that an Apply is left.
 use Rattle.std.specs.Prelude.{◌≡◌, ◌≢◌, ℕ, true, false, List, [], ◌∷◌, Option, Some, None, Result, Ok, Err, is_none, map, slice_get, refl}
 use Rattle.std.specs.List.{AllByRecursion, list_all}
 use Rattle.std.proofs.Common.{zero, suc, sym, subst}
@@ -145,7 +145,7 @@ unit_says u rules =
     (avoids_then is_unreplaced Nested (Answered {A = RootAnalysis}) (analysed most_levels u.function (analysis u.env [])) (root_analysed u.function) (analysed_leads most_levels u.function (analysis u.env []) (environment_lacks u.env p.environment))
     (λ a n. root_says u.function a (function_lacks u.function p.function) n)) (λ r s. tt)
 
--- the inference of a unit that keeps the rules never says that an Apply is left
+-- the inference of a unit that is well formed never says that an Apply is left
 pub unit_never_left : (u : HirUnit) → rules_hold u ≡ Ok tt → (i : InstructionId) (report : Report) → unit_analysed u ≢ Err (UnreplacedApply i report)
 unit_never_left u rules = never_left (Answered {A = UnitAnalysis}) (unit_analysed u) (unit_says u rules)
 

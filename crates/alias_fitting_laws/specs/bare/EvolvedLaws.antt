@@ -1,4 +1,4 @@
--- What analysing nested functions changes of an environment keeps the rules: a function that the inference takes is taken again.
+-- What analysing nested functions changes of an environment breaks no rule: a function that the inference takes is taken again.
 use Rattle.std.specs.Prelude.{◌≡◌, ℕ, ◌+◌, ◌-◌, ◌≤◌, true, false, ◌&&◌, List, [], ◌∷◌, ◌++◌, length, slice_get, Option, Some, None, option_map, Ok, is_ok, is_none, refl, if◌then◌else◌}
 use Rattle.std.specs.List.{list_all}
 use Rattle.std.specs.Option.{option_map_or}

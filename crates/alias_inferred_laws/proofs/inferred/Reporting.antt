@@ -101,7 +101,7 @@ finished_reports g begun fs ra none h =
     let ls = lints_there begun g e.ranged e.ran e.reassigned e.reported none in
     subst (λ (z : RootAnalysis). LintsAreReports (handed_out z).inferred) e.is (record { lints = ls.0; are = ls.1; reports = lints_recorded begun g e.ranged e.ran e.reassigned e.reported none ls.0 ls.1 })
 
--- the lints of what is inferred of a unit that keeps the rules are there, and are its reports
+-- the lints of what is inferred of a unit that is well formed are there, and are its reports
 pub unit_lints : (u : HirUnit) (a : UnitAnalysis) → rules_hold u ≡ Ok tt → unit_analysed u ≡ Ok a → LintsAreReports a.inferred
 unit_lints u a rules h =
     let parts = parts_of_rules u rules in

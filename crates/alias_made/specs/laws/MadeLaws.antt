@@ -1,4 +1,4 @@
--- Made units keep the rules.
+-- Made units are well formed.
 use Rattle.std.proofs.Common.{◌≡◌, refl, ap, sym, ◌∙◌, ℕ, ◌+◌, ◌-◌, ◌*◌, ◌<◌, ◌≤◌, true, ◌&&◌, [], length, map, not, None, Ok, arith}
 use Rattle.std.specs.Prelude.{find, if◌then◌else◌, nat_le}
 use Rattle.std.specs.List.{list_all, range_with_len}

@@ -163,7 +163,7 @@ module _ (seed size : ℕ) (limit : size ≤ 1000) where
   too_many_is (error.TooMany which) q h = never_too_many which q
   too_many_is e q h = absurd h
 
-  -- the inference of a unit that keeps the rules, is plain and goes forward is refused for nothing else
+  -- the inference of a unit that is well formed, is plain and goes forward is refused for nothing else
   answer_is : 1 ≤ size → (r : Result UnitAnalysis InferError) → unit_analysed (made_unit seed size) ≡ r → (a : UnitAnalysis) × (unit_analysed (made_unit seed size) ≡ Ok a)
   answer_is some (Ok a) q = (a, q)
   answer_is some (Err e) q =
