@@ -18,12 +18,12 @@ then_answers : {A B : Type 0} (step : Step A) (f : A → Step B) (t : TableLists
 then_answers step f t x more answer left e h = subst (λ r. Leaves (and_then r f) answer left) (sym e) h
 
 pub whole_part :
-  (env : Environment) (config : AliasingSignatureConfig) (site : CallSite) (args : List PlaceOrSpreadOrHole) (names : List (List ℕ)) (places : List Place) (t more : TableLists) (answer : Result Collected EffectFault) (left : TableLists)
-  → (has_further config.params args 0 && not (is_some config.rest)) ≡ false
-  → names ≡ config.temporaries
-  → each (with_temporary env site) names [] t ≡ Ok (places, more)
-  → Leaves (with_config_effects env (config_call (record config { temporaries = names }) site args places) config.effects [] more) answer left
-  → Leaves (config_expansion env config site args t) answer left
+    (env : Environment) (config : AliasingSignatureConfig) (site : CallSite) (args : List PlaceOrSpreadOrHole) (names : List (List ℕ)) (places : List Place) (t more : TableLists) (answer : Result Collected EffectFault) (left : TableLists)
+    → (has_further config.params args 0 && not (is_some config.rest)) ≡ false
+    → names ≡ config.temporaries
+    → each (with_temporary env site) names [] t ≡ Ok (places, more)
+    → Leaves (with_config_effects env (config_call (record config { temporaries = names }) site args places) config.effects [] more) answer left
+    → Leaves (config_expansion env config site args t) answer left
 whole_part env config site args names places t more answer left further named made h =
     let rest : List Place → Step Collected = λ ps. with_config_effects env (config_call config site args ps) config.effects [] in
     let part : (record config { temporaries = names }) ≡ config = ap (λ z. record config { temporaries = z }) named in
