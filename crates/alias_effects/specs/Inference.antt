@@ -2,6 +2,7 @@
 use Rattle.std.specs.Prelude.{ℕ, Bool, List, [], ◌∷◌, map, slice_get, Option, Some, None, Result, Ok, Err}
 use Rattle.std.specs.List.{flat_map}
 use Rattle.std.specs.Option.{option_map_or}
+use Rattle.alias_base.specs.Answer.{◌>>=◌}
 use Rattle.alias_base.specs.declared.ids.BlockId.{BlockId}
 use Rattle.alias_base.specs.declared.ids.InstructionId.{InstructionId}
 use Rattle.alias_hir.specs.declared.env.Environment.{Environment}
