@@ -18,11 +18,14 @@ use Rattle.alias_hir.specs.declared.report.Interned.{Interned}
 use Rattle.alias_hir.specs.declared.signature.FunctionSignature.{FunctionSignature}
 use Rattle.alias_lattice.specs.declared.lookup.MissingLookup.{MissingLookup}
 use Rattle.alias_lattice.specs.States.{State}
+use Rattle.alias_tables.specs.declared.faults.EffectFault.{EffectFault}
+use Rattle.alias_tables.specs.declared.faults.EffectFault.TheVariants.{Refused}
+use Rattle.alias_tables.specs.declared.faults.EffectFault.TheVariants as fault
 use Rattle.alias_tables.specs.declared.faults.Refusal.{Refusal}
 use Rattle.alias_tables.specs.declared.faults.Refusal.TheVariants.{SpreadArgument}
 use Rattle.alias_tables.specs.declared.faults.Refusal.TheVariants as refusal
 use Rattle.alias_tables.specs.Steps.{◌>>=◌, and_then, gives}
-use Rattle.alias_tables.specs.Tables.{TableLists, intern_report}
+use Rattle.alias_tables.specs.Tables.{TableLists, Leaves, intern_report}
 use Rattle.alias_apply.specs.Reports.{impure_report, spread_report}
 use Rattle.alias_calls.specs.declared.call.CallSite.{CallSite}
 use Rattle.alias_calls.specs.declared.immutable.Checked.{Checked}
@@ -32,7 +35,7 @@ use Rattle.alias_calls.specs.Legacy.{legacy, is_capture, with_receiver, visits_o
 use Rattle.alias_calls.specs.Visits.{iterated, visit, rest_use, or_effect, spread_effect, is_refused, with_refused, visit_argument, visit_arguments}
 use Rattle.alias_call_effects.specs.declared.error.SignatureError.{SignatureError}
 use Rattle.alias_call_effects.specs.declared.error.SignatureError.TheVariants.{TooMany}
-use Rattle.alias_call_effects.specs.Answers.{signature_error, given_alone, has_numbers, tables_with, with_reports}
+use Rattle.alias_call_effects.specs.Answers.{is_memory, signature_error, fault_error, given_alone, has_numbers, tables_with, with_reports}
 use Rattle.alias_call_effects.specs.Legacy.{is_reported, legacy_called, list_without_reports}
 
 -- ---- effects ahead of those that come
@@ -213,6 +216,12 @@ module _ (env : Environment) (s : FunctionSignature) (site : CallSite) (args : L
 
     pub reported_full : is_reported env s ≡ true → has_numbers site.receiver.identifier (impure_report s.canonical_name site.span) env.interned ≡ false → legacy_called s site args u env ≡ Err (TooMany Diagnostics)
     reported_full tells full = ap (with_reports env) (untellable tells (tables_with env.interned) (refusal.TooMany Diagnostics) (full_if _ _ _ full))
+
+    -- where the report is refused, so is the call
+    pub reported_refused : is_reported env s ≡ true → (f : EffectFault) (more : TableLists) → Leaves (report_step (tables_with env.interned)) (Err f) more → is_memory (fault_error f) ≡ false
+        → legacy_called s site args u env ≡ Err (fault_error f)
+    reported_refused tells (Refused c) more is m = ap (with_reports env) (untellable tells (tables_with env.interned) c is)
+    reported_refused tells (fault.Memory e) more is m = cc
 
     same_ok : (o : Result Legacy Refusal) (l : Legacy) → given_alone (leaving (tables_with []) o) ≡ Ok l → with_reports env (leaving (tables_with env.interned) o) ≡ Ok (l, env)
     same_ok (Ok x) l h = ap (λ (y : Legacy). Ok (y, env)) (given_is x l h)
