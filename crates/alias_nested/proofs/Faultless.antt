@@ -1,24 +1,44 @@
--- The first validation answers no fault of a pass of the caller.
-use Rattle.std.specs.Prelude.{◌≡◌, ℕ, Bool, true, false, cond, List, [], ◌∷◌, Option, Some, None, Result, Ok, Err, ⊤, slice_get, refl}
+-- No pass of the inference, and no validation, answers a fault of a pass of the caller.
+use Rattle.std.specs.Prelude.{◌≡◌, ℕ, ◌+◌, Bool, true, false, cond, nat_le, if◌then◌else◌, List, [], ◌∷◌, Option, Some, None, Result, Ok, Err, ⊤, length, slice_get, refl}
 use Rattle.std.proofs.Common.{zero, suc, subst}
 use Rattle.alias_base.specs.Answer.{◌>>=◌}
 use Rattle.alias_base.specs.declared.ids.BlockId.{BlockId}
 use Rattle.alias_base.specs.declared.ids.FunctionId.{FunctionId}
 use Rattle.alias_base.specs.declared.ids.IdentifierId.{IdentifierId}
 use Rattle.alias_base.specs.declared.ids.InstructionId.{InstructionId}
+use Rattle.alias_effects.specs.Inference.{instruction_refusal, refusal, block_at, answer_of, pass_end, inferred}
+use Rattle.alias_effects.specs.Numbered.{visits_end}
+use Rattle.alias_flow.specs.Machine.{VisitLog, End as SolverEnd}
+use Rattle.alias_flow.specs.Machine as end
+use Rattle.alias_graph.specs.declared.recorded.listing.Listing.{Listing}
+use Rattle.alias_graph.specs.recorded.BlockListings.{listed}
+use Rattle.alias_hir.specs.declared.error.Counter.TheVariants.{GraphPositions}
+use Rattle.alias_hir.specs.declared.error.HirError.{HirError}
+use Rattle.alias_hir.specs.declared.error.HirError.TheVariants as hir
 use Rattle.alias_hir.specs.Terminals.{terminal_places}
 use Rattle.alias_hir.specs.Values.{created}
 use Rattle.alias_hir.specs.declared.env.Environment.{Environment}
 use Rattle.alias_hir.specs.Errors.{is_memory}
 use Rattle.alias_hir.specs.declared.error.InferError.{InferError}
-use Rattle.alias_hir.specs.declared.error.InferError.TheVariants.{Memory, PassFault, EffectsNotInferred}
+use Rattle.alias_hir.specs.declared.error.InferError.TheVariants.{NotSettled, Uninitialized, Reinitialized, AliasBeforeCreate, IncompatibleLibrary, SpreadArgument, TooMany, Memory, PassFault, EffectsNotInferred}
 use Rattle.alias_hir.specs.declared.hir.BasicBlock.{BasicBlock}
 use Rattle.alias_hir.specs.declared.hir.HirFunction.{HirFunction}
 use Rattle.alias_hir.specs.declared.hir.Instruction.{Instruction}
 use Rattle.alias_hir.specs.declared.place.Place.{Place}
 use Rattle.alias_hir.specs.declared.value.InstructionValue.{InstructionValue}
 use Rattle.alias_hir.specs.declared.value.InstructionValue.TheVariants.{LoadLocal, StoreLocal, DeclareContext, StoreContext}
-use Rattle.alias_nested.specs.Analysis.{IsFault}
+use Rattle.alias_lattice.specs.States.{State}
+use Rattle.alias_nested.specs.Analysis.{IsFault, named}
+use Rattle.alias_range_pass.specs.Passes.{range_pass}
+use Rattle.alias_range_pass.specs.Refusals.{none_unreplaced, unreplaced, listing_or, positions_left, recorded}
+use Rattle.alias_range_pass.specs.summary.Summaries.{tracked}
+use Rattle.alias_step.specs.block.Contexts.{context_of}
+use Rattle.alias_step.specs.declared.block.faults.BlockRefusal.{BlockRefusal}
+use Rattle.alias_step.specs.declared.block.faults.BlockRefusal.TheVariants as block
+use Rattle.alias_step.specs.declared.block.recorded.BlockEffects.{BlockEffects}
+use Rattle.alias_tables.specs.declared.faults.Refusal.{Refusal}
+use Rattle.alias_tables.specs.declared.faults.Refusal.TheVariants as refused
+use Rattle.alias_tables.specs.Tables.{TableLists}
 use Rattle.alias_validate.specs.InstructionSteps.{plain_step}
 use Rattle.alias_validate.specs.OperandMarks.{ReassigningFunctions, Seen, first_mark, marked_operand, operand, checked, other_step}
 use Rattle.alias_validate.specs.Marking.{mark_of, is_unknown}
@@ -75,12 +95,12 @@ module _ (env : Environment) (below : Below) (below_faultless : (async : Bool) (
   value_faultless s i None = plain_faultless env b s i.lvalue.identifier (lvalue_ids i) i.value
   value_faultless s i (Some f) = created_faultless i.lvalue.identifier s (slice_get env.functions f.0)
 
-  instruction_faultless : (s : Seen) (o : Option Instruction) → Faultless (instruction_step env below b async s o)
-  instruction_faultless s None = tt
-  instruction_faultless s (Some i) = value_faultless s i (created i.value)
+  step_faultless : (s : Seen) (o : Option Instruction) → Faultless (instruction_step env below b async s o)
+  step_faultless s None = tt
+  step_faultless s (Some i) = value_faultless s i (created i.value)
 
   instructions_faultless : (func : HirFunction) (s : Seen) (is : List InstructionId) → Faultless (instruction_steps env below b async func s is)
-  instructions_faultless func s is = each_faultless (λ t (i : InstructionId). instruction_step env below b async t (slice_get func.instructions i.0)) (λ t i. instruction_faultless t (slice_get func.instructions i.0)) s is
+  instructions_faultless func s is = each_faultless (λ t (i : InstructionId). instruction_step env below b async t (slice_get func.instructions i.0)) (λ t i. step_faultless t (slice_get func.instructions i.0)) s is
 
   block_faultless : (func : HirFunction) (s : Seen) (x : BasicBlock) → Faultless (block_step env below b async func s x)
   block_faultless func s x =
@@ -110,8 +130,70 @@ no_fault_of (Err z) e h is = subst (λ y. IsFault y → ⊥) (err_is z e is) h
     err_is : {A : Type 0} (x y : InferError) → ◌≡◌ {A = Result A InferError} (Err x) (Err y) → x ≡ y
     err_is x y q = cc
 
--- nor is what the validation answers one, out of memory included
+-- nor is what a call answers one, out of memory included
+pub refused_faultless : {A : Type 0} (r : Result A InferError) → Faultless r → (e : InferError) → (is_memory e ≡ false → r ≡ Err e) → IsFault e → ⊥
+refused_faultless r h (Memory m) is f = f
+refused_faultless r h (PassFault g p) is f = no_fault_of r (PassFault g p) h (is refl) f
+refused_faultless r h e is f = f
+
+-- the validation
 pub faultless_error : (env : Environment) (func : HirFunction) (e : InferError) → (is_memory e ≡ false → with_reassigned env (reassigned_reports env func) ≡ Err e) → IsFault e → ⊥
-faultless_error env func (Memory m) h f = f
-faultless_error env func (PassFault g p) h f = no_fault_of (with_reassigned env (reassigned_reports env func)) (PassFault g p) (reassigned_faultless env func) (h refl) f
-faultless_error env func e h f = f
+faultless_error env func e h = refused_faultless (with_reassigned env (reassigned_reports env func)) (reassigned_faultless env func) e h
+
+-- ---- the effects pass
+
+instruction_faultless : (i : InstructionId) (c : Refusal) → IsFault (instruction_refusal i c) → ⊥
+instruction_faultless i (refused.Reinitialized x) h = h
+instruction_faultless i (refused.AliasBeforeCreate x) h = h
+instruction_faultless i (refused.IncompatibleLibrary report) h = h
+instruction_faultless i (refused.SpreadArgument span report) h = h
+instruction_faultless i (refused.TooMany which) h = h
+
+refusal_faultless : (env : Environment) (b : BlockId) (c : BlockRefusal) → IsFault (refusal env b c) → ⊥
+refusal_faultless env b (block.Instruction i c) h = instruction_faultless i c h
+refusal_faultless env b (block.Uninitialized m) h = h
+
+end_faultless : (env : Environment) (func : HirFunction) (w : SolverEnd (VisitLog State) TableLists BlockEffects BlockRefusal) → Faultless (answer_of env func w)
+end_faultless env func (end.Solved w) = tt
+end_faultless env func (end.Fault n c) = refusal_faultless env (block_at func.body.blocks n) c
+end_faultless env func (end.NotSettled visits) = λ (h : ⊥). h
+
+pub effects_faultless : (env : Environment) (func : HirFunction) (b : Bool) → Faultless (inferred env func b)
+effects_faultless env func b = bind_faultless (pass_end env func b) _ (end_faultless env func (visits_end (context_of env func b))) (λ e. tt)
+
+-- ---- the range pass
+
+unreplaced_faultless : (o : Option InstructionId) → Faultless (none_unreplaced o)
+unreplaced_faultless None = tt
+unreplaced_faultless (Some i) = λ (h : ⊥). h
+
+listing_faultless : (r : Result Listing HirError) → Faultless (listing_or r)
+listing_faultless (Ok l) = tt
+listing_faultless (Err (hir.TooMany which)) = λ (h : ⊥). h
+listing_faultless (Err (hir.Memory e)) = λ (h : ⊥). h
+
+left_if : (b : Bool) → Faultless {A = ⊤} (if b then Ok tt else Err (TooMany GraphPositions))
+left_if true = tt
+left_if false = λ (h : ⊥). h
+
+left_faultless : (next n : ℕ) → Faultless (positions_left next n)
+left_faultless next n = left_if (nat_le (next + n) 4294967295)
+
+recorded_faultless : (func : HirFunction) → Faultless (recorded func)
+recorded_faultless func =
+    bind_faultless (none_unreplaced (unreplaced func)) _ (unreplaced_faultless (unreplaced func))
+    (λ u. bind_faultless (listing_or (listed func)) _ (listing_faultless (listed func)) (λ l. bind_faultless (positions_left l.next (length (tracked func))) _ (left_faultless l.next (length (tracked func))) (λ v. tt)))
+
+pub ranges_faultless : (b : Bool) (func : HirFunction) (env : Environment) → Faultless (range_pass b func env)
+ranges_faultless b func env = bind_faultless (recorded func) _ (recorded_faultless func) (λ l. tt)
+
+-- ---- errors that name their function
+
+pub named_faultless : (id : FunctionId) (e : InferError) → (IsFault e → ⊥) → IsFault (named id e) → ⊥
+named_faultless id (NotSettled f visits report) free h = h
+named_faultless id (Uninitialized f block identifier span report) free h = h
+named_faultless id (Reinitialized f instruction identifier) free h = h
+named_faultless id (AliasBeforeCreate f instruction identifier) free h = h
+named_faultless id (IncompatibleLibrary f instruction report) free h = h
+named_faultless id (SpreadArgument f instruction span report) free h = h
+named_faultless id e free h = free h

@@ -2,9 +2,11 @@ use Rattle.std.proofs.Common.{◌≡◌, true, false, Err, map, ap, sym, subst}
 use Rattle.alias_hir.specs.Errors.{is_memory}
 use Rattle.alias_hir.specs.declared.env.Environment.{Environment}
 use Rattle.alias_range_pass.specs.places.Keeping.{but_context}
-use Rattle.alias_nested.specs.Analysis.{analysis, named, effects_analysed}
+use Rattle.alias_effects.specs.Inference.{inferred}
+use Rattle.alias_nested.specs.Analysis.{analysis, named, effects_analysed, IsFault}
 use Rattle.alias_nested.proofs.Changing.{names_named}
 use Rattle.alias_nested.proofs.Ending.{ended, ended_keeps, ended_slots, effects_lead, accounts_numbered, notes_one, not_memory, effects_refused}
+use Rattle.alias_nested.proofs.Faultless.{effects_faultless, named_faultless, refused_faultless}
 use Rattle.alias_nested.proofs.Keeping.{kept_unchanged}
 use Rattle.alias_nested.proofs.function.infer_effects.Goals as goal
 
@@ -50,6 +52,12 @@ returns-in_ok-push-in-Ok-clause-slots c =
 
 pub returns-in-Err-clause-slots : goal.returns-in-Err-clause-slots
 returns-in-Err-clause-slots c = ap (λ (e : Environment). map but_context e.functions) c.in-Err.ensures.err.1
+
+pub returns-in-Err-clause-no_fault : goal.returns-in-Err-clause-no_fault
+returns-in-Err-clause-no_fault c = λ f.
+    let env = c.args.env.now in
+    let func = c.args.func.now in
+    named_faultless c.args.id c.in-Err.error (refused_faultless (inferred env func true) (effects_faultless env func true) c.in-Err.error c.in-Err.ensures.answer) (subst IsFault c.named.ensures f)
 
 pub returns-in-Err-clause-names : goal.returns-in-Err-clause-names
 returns-in-Err-clause-names c = λ no. names_named c.args.id c.in-Err.error c.named.result c.named.ensures no

@@ -1,11 +1,13 @@
 use Rattle.std.specs.Prelude.{[]}
 use Rattle.std.proofs.Common.{◌≡◌, ◌∙◌, ap, sym, subst, false, rules, Err}
+use Rattle.alias_effects.specs.Inference.{inferred}
 use Rattle.alias_hir.specs.declared.env.Environment.{Environment}
 use Rattle.alias_hir.specs.declared.error.InferError.{InferError}
+use Rattle.alias_range_pass.specs.Passes.{range_pass}
 use Rattle.alias_validate.specs.Reports.{with_errors}
 use Rattle.alias_nested.specs.Analysis.{IsPassFault}
 use Rattle.alias_nested.proofs.Ending.{ended, root_begins, root_refused, root_error, unranged, unvalidated, finished, unfree, accounts_more}
-use Rattle.alias_nested.proofs.Faultless.{faultless_error}
+use Rattle.alias_nested.proofs.Faultless.{effects_faultless, faultless_error, ranges_faultless, refused_faultless}
 use Rattle.alias_nested.proofs.Keeping.{unreported_fits}
 use Rattle.alias_nested.proofs.Ranging.{root_is_ranged}
 use Rattle.alias_nested.proofs.infer.infer_root.Goals as goal
@@ -35,6 +37,21 @@ returns-in_err-validate_locals_not_reassigned_after_render-clause-run c =
     λ fs a. root_error _ _ e _ _ _ same
     (λ free. root_begins c.args.env.now c.args.func.now c.in_ok-found.found p.new.env x p.new.func c.in_ok-found.ensures.recorded fs
     ∙ unvalidated p.new.func p.new.env _ (record { summary = c.in_ok-summary.summary; after = (c.infer_mutation_aliasing_ranges.new.func, c.infer_mutation_aliasing_ranges.new.env) }) e c.in_ok-summary.ensures.pass (c.in_err-validate_locals_not_reassigned_after_render.ensures.reports (unfree e free)))
+
+pub returns-in_err-found-clause-no_fault : goal.returns-in_err-found-clause-no_fault
+returns-in_err-found-clause-no_fault c =
+    let e : InferError = c.in_err-found.field-0.0 in
+    let same : c.from_residual.result ≡ Err e = search rules in
+    let stated = inferred c.args.env.now c.args.func.now false in
+    subst (λ r. IsPassFault r → ⊥) (sym same) (refused_faultless stated (effects_faultless c.args.env.now c.args.func.now false) e c.in_err-found.ensures.answer)
+
+pub returns-in_err-summary-clause-no_fault : goal.returns-in_err-summary-clause-no_fault
+returns-in_err-summary-clause-no_fault c =
+    let e : InferError = c.in_err-summary.field-0.0 in
+    let same : c.from_residual-in_err-summary.result ≡ Err e = search rules in
+    let p = c.infer_effects_certified in
+    subst (λ r. IsPassFault r → ⊥) (sym same)
+    (refused_faultless (range_pass false p.new.func p.new.env) (ranges_faultless false p.new.func p.new.env) e (λ free. (c.in_err-summary.ensures.pass free).0))
 
 pub returns-in_err-validate_locals_not_reassigned_after_render-clause-no_fault : goal.returns-in_err-validate_locals_not_reassigned_after_render-clause-no_fault
 returns-in_err-validate_locals_not_reassigned_after_render-clause-no_fault c =
