@@ -1,5 +1,5 @@
 -- From what a layer finds to what the run comes to.
-use Rattle.std.proofs.Common.{◌≡◌, ℕ, ◌≤◌, ⊎_elim, inr, List, [], length, take, Option, Some, None, refl, sym, ◌∙◌, ap, subst}
+use Rattle.std.proofs.Common.{◌≡◌, false, ℕ, ◌≤◌, ⊎_elim, inr, List, [], length, take, Option, Some, None, refl, sym, ◌∙◌, ap, subst}
 use Rattle.std.specs.Prelude.{Result, Ok, Err, ⊤}
 use Rattle.std.proofs.lemmas.List.{append-nil}
 use Rattle.std.proofs.Math.Seq.{take-length}
@@ -29,12 +29,14 @@ use Rattle.alias_run.specs.declared.query.Query.{Query}
 use Rattle.alias_run.specs.declared.query.Query.TheVariants.{Inference, Acceptance, Lints, Explanation, Plainness}
 use Rattle.alias_run.specs.declared.outcome.Outcome.{Outcome}
 use Rattle.alias_rules.specs.Functions.{rules_hold, checks}
+use Rattle.alias_rules.specs.function_rules.Fault.{is_memory}
 use Rattle.alias_rules.specs.declared.function_rules.fault.UnitFault.{UnitFault}
+use Rattle.alias_rules.specs.declared.function_rules.fault.UnitFault.TheVariants as unit
 use Rattle.alias_run.specs.Findings.{parts_of, EndsInferred, IsAccepted, IsAcceptedOf, Infers, IsExplained, IsExplainedOf, IsInferred, IsChecked, IsAnswered, IsFit, IsJudged, IsRead, IsFound, Leaves, greatest_input}
 use Rattle.alias_run.specs.Inferences.{solved_tell}
 use Rattle.alias_inferred_laws.proofs.inferred.Carrying.{solutions_carried}
 use Rattle.alias_run.specs.Runs.{IsRun, IsInferredOf, IsAnsweredOf, IsUnitOf, ArePartsOf, IsDone, IsHeadline}
-use Rattle.alias_run.specs.Statuses.{text_status, write_status}
+use Rattle.alias_run.specs.Statuses.{text_status, unit_status, write_status}
 use Rattle.alias_run.specs.Texts.{text_of, answer_text}
 
 -- an outcome with nothing inferred
@@ -92,6 +94,21 @@ pub judged_answered : (q : Query) (certificate : List ℕ) (u v : HirUnit) (stat
 judged_answered q certificate u v status a h k =
     let p = rules_passed (rules_hold u) u v h in
     answered_checked q certificate u status a p.0 (subst (λ z. IsAnswered q certificate z status a) (sym p.1) k)
+
+rules_refused : (r : Result ⊤ UnitFault) (u : HirUnit) (e : UnitFault) → ◌≡◌ {A = Result HirUnit UnitFault} (r >>= (λ _. Ok u)) (Err e) → r ≡ Err e
+rules_refused (Ok tt) u e h = cc
+rules_refused (Err z) u e h = let same : z ≡ e = cc in ap (λ (x : UnitFault). Err x) same
+
+-- the unit breaks a rule, or memory ran out
+unfit_checked : (q : Query) (certificate : List ℕ) (u : HirUnit) (e : UnitFault) → (is_memory e ≡ false → checks u ≡ Err e) → IsChecked q certificate u (unit_status e) Nothing
+unfit_checked q certificate u (unit.Memory m) h = refl
+unfit_checked q certificate u e h = (rules_refused (rules_hold u) u e (h refl), refl)
+
+pub judged_unfit : (q : Query) (certificate : List ℕ) (u : HirUnit) (e : UnitFault) (status : Status) (o : Outcome) → o ≡ ended_as status → status ≡ unit_status e → (is_memory e ≡ false → checks u ≡ Err e)
+    → IsChecked q certificate u o.status o.answer
+judged_unfit q certificate u e status o is s h =
+    let both : o ≡ ended_as (unit_status e) = is ∙ ap ended_as s in
+    subst (λ (z : Outcome). IsChecked q certificate u z.status z.answer) (sym both) (unfit_checked q certificate u e h)
 
 -- ---- bytes
 
@@ -279,3 +296,8 @@ module _ (known : Option (List ℕ)) (read_failed write_failed : Type 0) (held h
   unfolding IsHeadline
   headline asked Done i f a = done asked i f a
   headline asked status i f a = tt
+
+-- what the unit of a seed and a size leads to is found, where that is what is asked
+pub found_made : (asked : Option Command) (seed size : ℕ) (known : Option (List ℕ)) (failed : Type 0) (status : Status) (a : Answer) → asked ≡ Some (Made seed size) → IsFit (made_unit seed size) status a → IsFound asked known failed status a
+unfolding IsFound
+found_made asked seed size known failed status a e h = subst (λ (o : Option Command). IsFound o known failed status a) (sym e) h
