@@ -169,7 +169,7 @@ def build(names, wanted):
     if shutil.which('rt') is None:
         say('the command rt of the Rattle kit is not there: see README.md')
         return False
-    say('proving and building the program, which takes about an hour the first time on four processors')
+    say('proving and building the program, which takes an hour or more the first time on four processors')
     for path in (STAMP, BUILT):
         if os.path.exists(path):
             os.remove(path)

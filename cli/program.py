@@ -7,7 +7,7 @@ from cli.building import say
 from cli.sources import BUILT, crates_in_order, digest, is_built
 from cli.trying import tried
 
-UNPROVED = 'not proved on this machine: `./jirrambeo build` proves and builds it, half an hour to an hour; until then each call takes a minute'
+UNPROVED = 'not proved on this machine: `./jirrambeo build` proves and builds it, in an hour or more; until then each call takes minutes'
 
 
 def is_proved():
