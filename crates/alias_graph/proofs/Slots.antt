@@ -40,7 +40,7 @@ module _ {V : Type 0} where
       let one : key ≡ id = ap (λ (k : ℕ). let z : IdentifierId = record { 0 = k } in z) same in
       sym (index-first (same_id id) g i (own_first same_id same_laws g i id n distinct (sym at ∙ ap (λ k. Some (k, n)) one)))
 
-  -- a lookup-up of the same identifier
+  -- a lookup of the same identifier
   pub same_key : (g : Entries V) (id key : IdentifierId) (n : V) → node_at g key ≡ Some n → key.0 ≡ id.0 → Some n ≡ node_at g id
   same_key g id key n at same = sym at ∙ ap (λ (k : ℕ). let z : IdentifierId = record { 0 = k } in node_at g z) same
 
