@@ -14,10 +14,10 @@ import tempfile
 import threading
 import time
 
-from cli.sources import BUILT, CRATES, HERE, OUT, PARTS, PROGRAM, STAMP, crates_in_order, digest, is_built, stands_on
+from cli.sources import BUILT, CRATES, HERE, OUT, PARTS, PROGRAM, STAMP, crates_in_order, digest, is_built, stands_on, texts_of
 
 SILENCE = 8  # seconds until the next line of progress
-WORKERS = max(1, min(4, len(os.sched_getaffinity(0))))
+PROCESSORS = max(1, min(4, len(os.sched_getaffinity(0))))
 
 
 def say(line):
@@ -68,32 +68,40 @@ class Copies:
 class Build:
     """A build that goes on: which crates are proved, which are being proved, and which failed."""
 
-    def __init__(self, names):
-        self.names, self.begun = names, time.monotonic()
+    def __init__(self, names, workers):
+        self.names, self.workers, self.begun = names, workers, time.monotonic()
         below = stands_on()
         self.below = {name: [low for low in below[name] if low in names] for name in names}
+        self.lengths = {name: sum(os.path.getsize(path) for path in texts_of([name], ('src',))) for name in names}
         self.proved, self.running, self.failed = set(), {}, []
         self.changed = threading.Condition()
         self.heights = {}
 
     def height(self, name):
-        """How many crates stand on each other above this one, at most: the longest chain goes first."""
+        """How long the longest chain of crates from this one upwards is, in bytes of their code, which the times of their proofs follow."""
         if name not in self.heights:
             above = [other for other in self.names if name in self.below[other]]
-            self.heights[name] = 1 + max((self.height(other) for other in above), default=0)
+            self.heights[name] = self.lengths[name] + max((self.height(other) for other in above), default=0)
         return self.heights[name]
 
+    def jobs(self, name, ready):
+        """On how many processors a crate is proved: those that no other crate takes, and on the longest chain, which ends last, two at least."""
+        others = [other for other in ready if other != name]
+        beside = len(self.running) + min(len(others), self.workers - len(self.running) - 1)
+        is_longest = self.height(name) >= max(map(self.height, [*self.running, *others]), default=0)
+        return min(PROCESSORS, max(PROCESSORS - beside, 2 if is_longest else 1))
+
     def next_crate(self):
-        """A crate that can be proved now, or None where no more will be."""
+        """A crate that can be proved now, that with the longest chain above it first, and its processors; or None where no more will be."""
         with self.changed:
             while not self.failed:
                 left = [name for name in self.names if name not in self.proved and name not in self.running]
                 ready = [name for name in left if all(low in self.proved for low in self.below[name])]
                 if ready:
                     name = max(ready, key=self.height)
-                    alone = len(ready) == 1 and not self.running
+                    jobs = self.jobs(name, ready)
                     self.running[name] = None
-                    return name, (WORKERS if alone else 1)
+                    return name, jobs
                 if not left:
                     return None
                 self.changed.wait()
@@ -173,8 +181,8 @@ def build(names, wanted):
     for path in (STAMP, BUILT):
         if os.path.exists(path):
             os.remove(path)
-    copies = Copies(names, WORKERS if kit_shares() else 1)
-    going = Build(names)
+    copies = Copies(names, PROCESSORS if kit_shares() else 1)
+    going = Build(names, len(copies.tops))
     if not going.run(copies.tops):
         for name in going.failed:
             say('%s was not proved: see crates/%s/out/build.log' % (name, name))

@@ -37,11 +37,11 @@ def crates_in_order(top=PROGRAM):
     return order
 
 
-def texts_of(names):
-    """The paths of all that the proofs of the crates are made of, in order."""
+def texts_of(names, parts=PARTS):
+    """The paths of all that the proofs of the crates are made of, or of some parts of that, in order."""
     paths = []
     for name in names:
-        for part in PARTS:
+        for part in parts:
             for root, folders, files in os.walk(os.path.join(CRATES, name, part)):
                 folders.sort()
                 paths += [os.path.join(root, file) for file in sorted(files)]
