@@ -1,17 +1,19 @@
 """Builds the library for hosts, hosts/lib/libjirrambeo.a: its crate proved and compiled, with what the kit's heap needs.
 
 Where `rt ci` has passed in this folder, by `./check`, the proved libraries below the crate stand in crates/*/out, and the crate is proved and compiled over
-them, in a minute; else `rt lib` proves all of them first. Either way nothing is compiled that isn't proved."""
+them, in a minute; else all of them are proved first, as `./jirrambeo build` does, which takes over what it proved. Either way nothing is compiled that isn't
+proved."""
 import os
 import shutil
 import subprocess
 import sys
 
-from cli.building import say
+from cli.building import FIRST_BUILD, alone, called, proved, say
 from cli.sources import CRATES, HERE, crates_in_order, digest
 
 LIBRARY = 'jirrambeo'
 OUT = os.path.join(CRATES, LIBRARY, 'out')
+MADE = os.path.join(OUT, 'libjirrambeo.a')  # the crate's archive
 PASSED = os.path.join(OUT, 'passed')  # the digest of the sources over which rt ci passed here
 FOLDER = os.path.join(HERE, 'hosts', 'lib')
 ARCHIVE = os.path.join(FOLDER, 'libjirrambeo.a')
@@ -58,29 +60,30 @@ def over_libraries(names, kit):
     return words
 
 
-def ran(command):
-    """Whether a command in the crate's folder made the archive; what it said stands in out/build.log."""
-    made = os.path.join(OUT, 'libjirrambeo.a')
-    if os.path.exists(made):
-        os.remove(made)
+def compiled_over_libraries(names, kit):
+    """Whether the crate's archive was made over the proved libraries; what the compiler said stands in out/build.log."""
     with open(os.path.join(OUT, 'build.log'), 'wb') as log:
-        done = subprocess.run(command, cwd=os.path.join(CRATES, LIBRARY), stdin=subprocess.DEVNULL, stdout=log, stderr=subprocess.STDOUT, check=False)
-    return done.returncode == 0 and os.path.isfile(made)
+        done = subprocess.run(over_libraries(names, kit), cwd=os.path.join(CRATES, LIBRARY), stdin=subprocess.DEVNULL, stdout=log,
+                              stderr=subprocess.STDOUT, check=False)
+    return done.returncode == 0 and os.path.isfile(MADE)
 
 
 def compiled(names, wanted, kit):
     """Whether the crate's archive was made, over what rt ci proved where it stands."""
     os.makedirs(OUT, exist_ok=True)
-    if read(PASSED) == wanted and all(map(os.path.isdir, map(library_of, names[:-1]))) and ran(over_libraries(names, kit)):
+    if os.path.exists(MADE):
+        os.remove(MADE)
+    if read(PASSED) == wanted and all(map(os.path.isdir, map(library_of, names[:-1]))) and compiled_over_libraries(names, kit):
         return True
-    say('proving the library and the crates below it, which takes an hour where nothing is kept')
-    return ran(['rt', 'lib'])
+    say('proving the library and the crates below it, which takes %s the first time on four processors' % FIRST_BUILD)
+    with alone():
+        return proved(names, ['lib']) and os.path.isfile(MADE)
 
 
 def merged(kit):
     """Puts the crate's archive and the kit's heap into one. Answers whether that was done."""
     os.makedirs(FOLDER, exist_ok=True)
-    parts = [('archive.a', os.path.join(OUT, 'libjirrambeo.a')), ('heap.a', os.path.join(kit, 'c', 'liblibc_c.a'))]
+    parts = [('archive.a', MADE), ('heap.a', os.path.join(kit, 'c', 'liblibc_c.a'))]
     for name, path in parts:
         shutil.copyfile(path, os.path.join(FOLDER, name))
     script = 'create libjirrambeo.a\n%ssave\nend\n' % ''.join('addlib %s\n' % name for name, _ in parts)
@@ -95,6 +98,9 @@ def main():
     wanted = digest(names)
     if read(STAMP) == wanted and os.path.isfile(ARCHIVE):
         return 0
+    if shutil.which('rt') is None:
+        say('the command rt of the Rattle kit is not there: see README.md')
+        return 1
     kit = kit_folder()
     for path in (STAMP, ARCHIVE):
         if os.path.exists(path):
@@ -110,4 +116,4 @@ def main():
 
 
 if __name__ == '__main__':
-    sys.exit(main())
+    sys.exit(called(main))

@@ -1,8 +1,9 @@
-"""Proves and builds the program: crates side by side, as far as they don't stand on each other.
+"""Proves and builds the program, or the library for hosts: crates side by side, as far as they don't stand on each other.
 
 One checkout lets one proof go on at a time, since each run locks the crates below its own. So several copies of the sources are proved
 side by side, which take from each other what one of them has proved; this is a matter of the kit. The copies stand outside the
 repository, and go when the program is built; where a build is interrupted they stay, and the next one goes on from there."""
+import contextlib
 import fcntl
 import hashlib
 import os
@@ -17,6 +18,7 @@ import time
 from cli.sources import BUILT, CRATES, HERE, OUT, PARTS, PROGRAM, STAMP, crates_in_order, digest, is_built, stands_on, texts_of
 
 SILENCE = 8  # seconds until the next line of progress
+FIRST_BUILD = 'some 45 minutes'  # docs/GATE.md has what was measured
 PROCESSORS = max(1, min(4, len(os.sched_getaffinity(0))))
 
 
@@ -66,10 +68,11 @@ class Copies:
 
 
 class Build:
-    """A build that goes on: which crates are proved, which are being proved, and which failed."""
+    """A build that goes on: which crates are proved, which are being proved, and which failed. The last crate, which stands on all others, is built by
+    words of rt: a verb, and what comes after the flags."""
 
-    def __init__(self, names, workers):
-        self.names, self.workers, self.begun = names, workers, time.monotonic()
+    def __init__(self, names, workers, last):
+        self.names, self.workers, self.last, self.begun = names, workers, last, time.monotonic()
         below = stands_on()
         self.below = {name: [low for low in below[name] if low in names] for name in names}
         self.lengths = {name: sum(os.path.getsize(path) for path in texts_of([name], ('src',))) for name in names}
@@ -108,14 +111,15 @@ class Build:
             return None
 
     def prove(self, top, name, jobs):
-        """Proves one crate in a copy, and answers whether that was done. The program is built by this too."""
-        folder = os.path.join(top, 'crates', name)
+        """Proves one crate in a copy, or the last one in the repository, over what the copies proved. Answers whether that was done."""
+        is_last = name == self.names[-1]
+        verb, *words = self.last if is_last else ['lib']
+        folder = os.path.join(HERE if is_last else top, 'crates', name)
         os.makedirs(os.path.join(folder, 'out'), exist_ok=True)
-        command = ['rt', 'check' if name == PROGRAM else 'lib', '--jobs', str(jobs)]
         os.makedirs(os.path.join(CRATES, name, 'out'), exist_ok=True)
         with open(os.path.join(CRATES, name, 'out', 'build.log'), 'wb') as log:
-            process = subprocess.Popen(command, cwd=folder, stdin=subprocess.DEVNULL, stdout=log, stderr=subprocess.STDOUT,
-                                       start_new_session=True)
+            process = subprocess.Popen(['rt', verb, '--jobs', str(jobs), *words], cwd=folder, stdin=subprocess.DEVNULL, stdout=log,
+                                       stderr=subprocess.STDOUT, start_new_session=True)
             with self.changed:
                 self.running[name] = process
             return process.wait() == 0
@@ -164,12 +168,16 @@ class Build:
         return not self.failed
 
 
-def link(names):
-    """Builds the program in the repository, from what was proved. Answers whether that was done."""
-    with open(os.path.join(OUT, 'build.log'), 'ab') as log:
-        subprocess.run(['rt', 'run', '--', '--version'], cwd=os.path.join(CRATES, PROGRAM), stdin=subprocess.DEVNULL, stdout=log,
-                       stderr=subprocess.STDOUT, check=False)
-    return os.access(BUILT, os.X_OK)
+def proved(names, last):
+    """Proves the crates side by side, the last of them by these words of rt. Answers whether that was done, and says what was refused."""
+    copies = Copies(names, PROCESSORS if kit_shares() else 1)
+    going = Build(names, len(copies.tops), last)
+    if not going.run(copies.tops):
+        for name in going.failed:
+            say('%s was not proved: see crates/%s/out/build.log' % (name, name))
+        return False
+    copies.remove()
+    return True
 
 
 def build(names, wanted):
@@ -177,17 +185,13 @@ def build(names, wanted):
     if shutil.which('rt') is None:
         say('the command rt of the Rattle kit is not there: see README.md')
         return False
-    say('proving and building the program, which takes an hour or more the first time on four processors')
+    say('proving and building the program, which takes %s the first time on four processors' % FIRST_BUILD)
     for path in (STAMP, BUILT):
         if os.path.exists(path):
             os.remove(path)
-    copies = Copies(names, PROCESSORS if kit_shares() else 1)
-    going = Build(names, len(copies.tops))
-    if not going.run(copies.tops):
-        for name in going.failed:
-            say('%s was not proved: see crates/%s/out/build.log' % (name, name))
+    if not proved(names, ['run', '--', '--version']):
         return False
-    if not link(names):
+    if not os.access(BUILT, os.X_OK):
         say('the program was not built: see crates/%s/out/build.log' % PROGRAM)
         return False
     if digest(names) != wanted:
@@ -195,21 +199,25 @@ def build(names, wanted):
         return False
     with open(STAMP, 'w', encoding='ascii') as stamp:
         stamp.write(wanted)
-    copies.remove()
     return True
 
 
-def lock_of(file):
-    """Takes the lock on the build, and says now and then that it waits."""
-    begun = said = time.monotonic()
-    while True:
-        try:
-            return fcntl.flock(file, fcntl.LOCK_EX | fcntl.LOCK_NB)
-        except BlockingIOError:
-            if said == begun or time.monotonic() - said > SILENCE:
-                say('another call is building, %s' % minutes(int(time.monotonic() - begun)))
-                said = time.monotonic()
-            time.sleep(0.1)
+@contextlib.contextmanager
+def alone():
+    """While no other call builds here; says now and then that it waits for one."""
+    os.makedirs(OUT, exist_ok=True)
+    with open(os.path.join(OUT, 'build.lock'), 'w', encoding='ascii') as file:
+        begun = said = time.monotonic()
+        while True:
+            try:
+                fcntl.flock(file, fcntl.LOCK_EX | fcntl.LOCK_NB)
+                break
+            except BlockingIOError:
+                if said == begun or time.monotonic() - said > SILENCE:
+                    say('another call is building, %s' % minutes(int(time.monotonic() - begun)))
+                    said = time.monotonic()
+                time.sleep(0.1)
+        yield
 
 
 def make_ready():
@@ -217,8 +225,21 @@ def make_ready():
     names = crates_in_order()
     if is_built(digest(names)):
         return True
-    os.makedirs(OUT, exist_ok=True)
-    with open(os.path.join(OUT, 'build.lock'), 'w', encoding='ascii') as file:
-        lock_of(file)
+    with alone():
         wanted = digest(names)
         return is_built(wanted) or build(names, wanted)
+
+
+def interrupted(number, frame):
+    raise KeyboardInterrupt
+
+
+def called(call):
+    """What a call answers; 130 where a signal ends it first, and then each proof that goes on has been ended too."""
+    for number in (signal.SIGTERM, signal.SIGHUP):
+        signal.signal(number, interrupted)
+    try:
+        return call()
+    except KeyboardInterrupt:
+        say('interrupted; what was proved is kept, and the next call goes on')
+        return 130

@@ -3,11 +3,11 @@ import os
 import subprocess
 import sys
 
-from cli.building import say
+from cli.building import FIRST_BUILD, say
 from cli.sources import BUILT, crates_in_order, digest, is_built
 from cli.trying import tried
 
-UNPROVED = 'not proved on this machine: `./jirrambeo build` proves and builds it, in an hour or more; until then each call takes minutes'
+UNPROVED = 'not proved on this machine: `./jirrambeo build` proves and builds it, in %s; until then each call takes a minute or more' % FIRST_BUILD
 
 
 def is_proved():
