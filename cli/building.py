@@ -18,7 +18,7 @@ import time
 from cli.sources import BUILT, CRATES, HERE, OUT, PARTS, PROGRAM, STAMP, crates_in_order, digest, is_built, stands_on, texts_of
 
 SILENCE = 8  # seconds until the next line of progress
-FIRST_BUILD = 'some 45 minutes'  # docs/GATE.md has what was measured
+FIRST_BUILD = 'some 50 minutes'  # docs/GATE.md has what was measured
 PROCESSORS = max(1, min(4, len(os.sched_getaffinity(0))))
 
 
