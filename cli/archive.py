@@ -8,7 +8,7 @@ import shutil
 import subprocess
 import sys
 
-from cli.building import FIRST_BUILD, alone, called, proved, say
+from cli.building import FIRST_BUILD, alone, called, has_kit, proved, say
 from cli.sources import CRATES, HERE, crates_in_order, digest
 
 LIBRARY = 'jirrambeo'
@@ -98,8 +98,7 @@ def main():
     wanted = digest(names)
     if read(STAMP) == wanted and os.path.isfile(ARCHIVE):
         return 0
-    if shutil.which('rt') is None:
-        say('the command rt of the Rattle kit is not there: see README.md')
+    if not has_kit():
         return 1
     kit = kit_folder()
     for path in (STAMP, ARCHIVE):

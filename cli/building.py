@@ -30,6 +30,14 @@ def minutes(seconds):
     return '%d:%02d' % (seconds // 60, seconds % 60)
 
 
+def has_kit():
+    """Whether the kit is there. Says so where it isn't."""
+    if shutil.which('rt') is None:
+        say('the command rt of the Rattle kit is not there: see README.md')
+        return False
+    return True
+
+
 def kit_shares():
     """Whether copies of a repository take from each other what was proved: kits that can prove crates by name do."""
     told = subprocess.run(['rt', 'help'], stdout=subprocess.PIPE, stderr=subprocess.STDOUT, check=False).stdout
@@ -182,8 +190,7 @@ def proved(names, last):
 
 def build(names, wanted):
     """Proves and builds the program. Answers whether it stands, built from the sources of the digest."""
-    if shutil.which('rt') is None:
-        say('the command rt of the Rattle kit is not there: see README.md')
+    if not has_kit():
         return False
     say('proving and building the program, which takes %s the first time on four processors' % FIRST_BUILD)
     for path in (STAMP, BUILT):

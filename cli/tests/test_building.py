@@ -1,5 +1,8 @@
 """The order in which a build proves crates, and what it ends with where one is refused. Nothing is proved here."""
 import unittest
+from tempfile import TemporaryDirectory
+from threading import Thread
+from unittest.mock import patch
 
 from cli import building
 from cli.building import PROCESSORS, Build
@@ -54,17 +57,14 @@ class BuildingTest(unittest.TestCase):
                 self.assertGreater(going.height(low), going.height(name))
 
     def test_a_build_waits_for_another(self):
-        lines, said = [], building.say
-        building.say = lines.append
-        try:
+        lines = []
+        with TemporaryDirectory() as folder, patch.object(building, 'OUT', folder), patch.object(building, 'say', lines.append):
             with building.alone():
-                waiting = building.threading.Thread(target=self.enter)
+                waiting = Thread(target=self.enter)
                 waiting.start()
                 waiting.join(1)
                 self.assertTrue(waiting.is_alive())
             waiting.join()
-        finally:
-            building.say = said
         self.assertEqual(lines, ['another call is building, 0:00'])
 
     @staticmethod
