@@ -16,8 +16,8 @@ use alias_hir::env::{Config, Environment, Unit};
 use alias_hir::hir::{ContextValue, HirFunction};
 use alias_hir::interned::InternedReports;
 use alias_json::{
-    Path, Scratch, TextRule, Tree, TreeFault, ValueFault, array_of, known_keys, object, read_tree,
-    refused,
+    Bump, Path, Scratch, TextRule, Tree, TreeFault, ValueFault, array_of, known_keys, object,
+    read_tree, refused,
 };
 use std::alloc::Global;
 
@@ -198,7 +198,8 @@ pub fn read_unit(alloc: Global, bytes: &[u8]) -> Result<Unit, TextFault>
     ensures none { IfErr result (λ e. ¬ IsMemory e → NoUnit bytes.now) }
 {
     let mut scratch = Scratch::new(alloc);
-    match read_tree(alloc, bytes, &mut scratch) {
+    let arena = Bump::new(alloc);
+    match read_tree(alloc, bytes, &mut scratch, &arena) {
         Ok(tree) => Ok(Unit::from_json(alloc, &Path::Root, &tree)?),
         Err(TreeFault::NotJson) => Err(TextFault::NotJson),
         Err(TreeFault::Memory(e)) => Err(TextFault::Memory(e)),
