@@ -2,12 +2,12 @@
 use Rattle.std.proofs.Common.{ℕ, ◌≡◌, List, [], Option, Some, None, false, IsTrue, arith, refl, sym, subst, inl, inr}
 use Rattle.alias_stream.specs.Streams.{HasFailed}
 use Rattle.alias_run.specs.declared.command.Command.{Command}
-use Rattle.alias_run.specs.declared.command.Command.TheVariants.{Infer, Certify, Check, Lint, Explain, Plain, Made, Help, Version}
+use Rattle.alias_run.specs.declared.command.Command.TheVariants.{Infer, Certify, Check, Lint, Explain, ExplainFunction, Plain, Made, Help, Version}
 use Rattle.alias_run.specs.declared.status.Status.{Status}
 use Rattle.alias_run.specs.declared.status.Status.TheVariants.{Done, Words, NotJson, NotUnit, Unfit, BadLine, Rejected, PlainRefused, Refused, NotHere, ReadFault, WriteFault, TooLong, Memory}
 use Rattle.alias_run.specs.declared.answer.Answer.{Answer}
 use Rattle.alias_run.specs.declared.query.Query.{Query}
-use Rattle.alias_run.specs.declared.query.Query.TheVariants.{Inference, Acceptance, Lints, Explanation, Plainness}
+use Rattle.alias_run.specs.declared.query.Query.TheVariants.{Inference, Acceptance, Lints, Explanation, FunctionExplanation, Plainness}
 use Rattle.alias_run.specs.Findings.{IsFound, IsRead}
 use Rattle.alias_run.specs.Runs.{IsRun, IsHeadline}
 use Rattle.alias_run.specs.Statuses.{status_code}
@@ -45,6 +45,7 @@ found known F unfailing (Some Certify) status i f = unread Inference known F unf
 found known F unfailing (Some Check) status i f = unread Acceptance known F unfailing status i f
 found known F unfailing (Some Lint) status i f = unread Lints known F unfailing status i f
 found known F unfailing (Some (Explain function identifier)) status i f = unread (Explanation function identifier) known F unfailing status i f
+found known F unfailing (Some (ExplainFunction function)) status i f = unread (FunctionExplanation function) known F unfailing status i f
 found known F unfailing (Some Plain) status i f = unread Plainness known F unfailing status i f
 found known F unfailing (Some (Made seed size)) status i f = f
 found known F unfailing (Some Help) status i f = f
@@ -101,6 +102,7 @@ never_read_fault known (Some Certify) i f = f.0
 never_read_fault known (Some Check) i f = f.0
 never_read_fault known (Some Lint) i f = f.0
 never_read_fault known (Some (Explain function identifier)) i f = f.0
+never_read_fault known (Some (ExplainFunction function)) i f = f.0
 never_read_fault known (Some Plain) i f = f.0
 never_read_fault known (Some (Made seed size)) i f = f.1
 never_read_fault known (Some Help) i f = let e : ReadFault ≡ Done = f.0 in cc

@@ -2,8 +2,8 @@
 
 use alias_base::{List, Text};
 use alias_run::{
-    Answer, Detail, Outcome, print_accepted, print_explanation, print_inferred, print_lints,
-    print_plainness, print_refusal, run_alias,
+    Answer, Detail, Outcome, print_accepted, print_explanation, print_function_explanation,
+    print_inferred, print_lints, print_plainness, print_refusal, run_alias,
 };
 use alias_stream::{MemorySink, MemorySource};
 use std::alloc::{AllocError, Global};
@@ -92,6 +92,9 @@ fn printed(alloc: Global, words: &str, outcome: &Outcome) -> Result<Text, AllocE
         Answer::Accepted(accepted) => print_accepted(alloc, accepted),
         Answer::Linted(lints) => print_lints(alloc, lints.as_slice()),
         Answer::Explained(explanation) => print_explanation(alloc, explanation),
+        Answer::FunctionExplained(explained) => {
+            print_function_explanation(alloc, explained.as_slice())
+        }
         Answer::Decided(plainness) => print_plainness(alloc, *plainness),
     }
 }

@@ -32,7 +32,7 @@ use Rattle.alias_run.specs.declared.outcome.Outcome.{Outcome}
 use Rattle.alias_run.specs.declared.query.Query.TheVariants.{Inference}
 use Rattle.alias_run.specs.declared.status.Status.{Status}
 use Rattle.alias_run.specs.declared.status.Status.TheVariants.{Done, NotJson, NotUnit, Unfit, Refused, ReadFault, WriteFault, TooLong, Memory}
-use Rattle.alias_run.specs.Findings.{greatest_input, IsInferred, IsLinted, IsExplained, EndsUnblamed, EndsInferred, Settles, EndsWherePlain, IsDecided, IsChecked, IsJudged, IsRead, IsFound}
+use Rattle.alias_run.specs.Findings.{greatest_input, IsInferred, EndsUnblamed, EndsInferred, Settles, EndsWherePlain, IsDecided, IsChecked, IsJudged, IsRead, IsFound}
 use Rattle.alias_run.specs.Runs.{IsRun, IsComplete}
 use Rattle.alias_run.specs.Statuses.{infer_status, plain_status}
 use Rattle.alias_run.proofs.Running.{ended_as}
@@ -55,31 +55,12 @@ refused u (infer.Memory x) rules failed h = refl
 refused u (infer.PassFault f pass) rules failed h = absurd (never_fails (failed tt))
 refused u e rules failed h = (h refl, unit_caused u rules e (h refl), refl)
 
-lints_refused : (u : HirUnit) (e : InferError) → IsInferred u (infer_status e) Nothing → IsLinted u (infer_status e) Nothing
-lints_refused u (infer.Memory x) h = h
-lints_refused u e h = inl h
+-- the status of such a call, of a unit of which it is known that it is well formed
+pub inference_refused : (u v : HirUnit) (e : InferError) (status : Status) → v ≡ u → rules_hold v ≡ Ok tt → (IsFault e → HasFailed 0 0 false) → InfersUnit (unit_analysed u) (Err e) → status ≡ infer_status e → IsInferred u status Nothing
+inference_refused u v e status same rules failed h is = subst (λ s. IsInferred u s Nothing) (sym is) (refused u e (subst (λ z. rules_hold z ≡ Ok tt) same rules) failed h)
 
-explanation_refused : (f : Option FunctionId) (id : IdentifierId) (u : HirUnit) (e : InferError) → IsInferred u (infer_status e) Nothing → IsExplained f id u (infer_status e) Nothing
-explanation_refused f id u (infer.Memory x) h = h
-explanation_refused f id u e h = inl h
-
--- the outcome of such a call, of a unit of which it is known that it is well formed
-module _ (u v : HirUnit) (same : v ≡ u) (rules : rules_hold v ≡ Ok tt) (e : InferError) (failed : IsFault e → HasFailed 0 0 false) (h : InfersUnit (unit_analysed u) (Err e)) (status : Status) (o : Outcome) (is : o ≡ ended_as status)
-    (stated : status ≡ infer_status e) where
-  as_stated : o ≡ ended_as (infer_status e)
-  as_stated = is ∙ ap ended_as stated
-
-  why : IsInferred u (infer_status e) Nothing
-  why = refused u e (subst (λ z. rules_hold z ≡ Ok tt) same rules) failed h
-
-  pub inferred_fault : IsInferred u o.status o.answer
-  inferred_fault = subst (λ (z : Outcome). IsInferred u z.status z.answer) (sym as_stated) why
-
-  pub linted_fault : IsLinted u o.status o.answer
-  linted_fault = subst (λ (z : Outcome). IsLinted u z.status z.answer) (sym as_stated) (lints_refused u e why)
-
-  pub explained_fault : (f : Option FunctionId) (id : IdentifierId) → IsExplained f id u o.status o.answer
-  explained_fault f id = subst (λ (z : Outcome). IsExplained f id u z.status z.answer) (sym as_stated) (explanation_refused f id u e why)
+pub inferred_ended : (u : HirUnit) (status : Status) (o : Outcome) → o ≡ ended_as status → IsInferred u status Nothing → IsInferred u o.status o.answer
+inferred_ended u status o is h = subst (λ (z : Outcome). IsInferred u z.status z.answer) (sym is) h
 
 -- ---- plain units
 

@@ -18,21 +18,21 @@ use Rattle.alias_read.specs.Units.{UnitReading, ReadsUnit}
 use Rattle.alias_read.specs.declared.fault.TextFault.{TextFault}
 use Rattle.alias_read.specs.declared.fault.TextFault.TheVariants as text
 use Rattle.alias_run.specs.declared.command.Command.{Command}
-use Rattle.alias_run.specs.declared.command.Command.TheVariants.{Infer, Certify, Check, Lint, Explain, Plain, Made, Help, Version}
+use Rattle.alias_run.specs.declared.command.Command.TheVariants.{Infer, Certify, Check, Lint, Explain, ExplainFunction, Plain, Made, Help, Version}
 use Rattle.alias_run.specs.declared.status.Status.{Status}
 use Rattle.alias_run.specs.declared.status.Status.TheVariants.{Done, Words, NotJson, NotUnit, Unfit, BadLine, Rejected, PlainRefused, Refused, NotHere, ReadFault, WriteFault, TooLong, Memory}
 use Rattle.alias_text.specs.declared.detail.Detail.{Detail}
 use Rattle.alias_text.specs.declared.detail.Detail.TheVariants as detail
 use Rattle.alias_run.specs.declared.answer.Answer.{Answer}
-use Rattle.alias_run.specs.declared.answer.Answer.TheVariants.{Nothing, Inferred, Accepted, Linted, Explained, Decided}
+use Rattle.alias_run.specs.declared.answer.Answer.TheVariants.{Nothing, Inferred, Accepted, Linted, Explained, FunctionExplained, Decided}
 use Rattle.alias_run.specs.declared.query.Query.{Query}
-use Rattle.alias_run.specs.declared.query.Query.TheVariants.{Inference, Acceptance, Lints, Explanation, Plainness}
+use Rattle.alias_run.specs.declared.query.Query.TheVariants.{Inference, Acceptance, Lints, Explanation, FunctionExplanation, Plainness}
 use Rattle.alias_run.specs.declared.outcome.Outcome.{Outcome}
 use Rattle.alias_rules.specs.Functions.{rules_hold, checks}
 use Rattle.alias_rules.specs.function_rules.Fault.{is_memory}
 use Rattle.alias_rules.specs.declared.function_rules.fault.UnitFault.{UnitFault}
 use Rattle.alias_rules.specs.declared.function_rules.fault.UnitFault.TheVariants as unit
-use Rattle.alias_run.specs.Findings.{parts_of, EndsInferred, IsAccepted, IsAcceptedOf, Infers, IsExplained, IsExplainedOf, IsInferred, IsChecked, IsAnswered, IsFit, IsJudged, IsRead, IsFound, Leaves, greatest_input}
+use Rattle.alias_run.specs.Findings.{parts_of, EndsInferred, IsAccepted, IsAcceptedOf, Infers, IsOfInference, IsInferred, IsChecked, IsAnswered, IsFit, IsJudged, IsRead, IsFound, Leaves, greatest_input}
 use Rattle.alias_run.specs.Inferences.{solved_tell}
 use Rattle.alias_inferred_laws.proofs.inferred.Carrying.{solutions_carried}
 use Rattle.alias_run.specs.Runs.{IsRun, IsInferredOf, IsAnsweredOf, IsUnitOf, ArePartsOf, IsDone, IsHeadline}
@@ -55,10 +55,19 @@ checked_fit certificate u status i k ends h = (h.0, h.1, ends status i h.1)
 pub ran_out_fit : (u : HirUnit) (o : Outcome) → o ≡ ended_as Memory → rules_hold u ≡ Ok tt → IsFit u o.status o.answer
 ran_out_fit u o is k = subst (λ (z : Outcome). IsFit u z.status z.answer) (sym is) (k, refl, tt)
 
--- what is explained of what is inferred of a unit is explained of the unit
-pub explained_of : (f : Option FunctionId) (id : IdentifierId) (u : HirUnit) (i : UnitInference) (status : Status) (a : Answer) → Infers u i → IsExplainedOf f id i status a → IsExplained f id u status a
-explained_of f id u i Memory a inf h = h
-explained_of f id u i status a inf h = inr (i, inf, h)
+-- what is so of what is inferred of a unit
+pub of_inferred : (IsSo : UnitInference → Status → Answer → Type 0) → ((i : UnitInference) (a : Answer) → IsSo i Memory a → a ≡ Nothing) → (u : HirUnit) (i : UnitInference) (status : Status) (a : Answer) → Infers u i → IsSo i status a → IsOfInference IsSo u status a
+of_inferred IsSo memory u i Memory a inf h = memory i a h
+of_inferred IsSo memory u i status a inf h = inr (i, inf, h)
+
+-- the inference is refused
+of_refused : (IsSo : UnitInference → Status → Answer → Type 0) (u : HirUnit) (status : Status) → IsInferred u status Nothing → IsOfInference IsSo u status Nothing
+of_refused IsSo u (Refused e) h = inl h
+of_refused IsSo u Memory h = h
+of_refused IsSo u status h = absurd h
+
+pub of_ended : (IsSo : UnitInference → Status → Answer → Type 0) (u : HirUnit) (status : Status) (o : Outcome) → o ≡ ended_as status → IsInferred u status Nothing → IsOfInference IsSo u o.status o.answer
+of_ended IsSo u status o is h = subst (λ (z : Outcome). IsOfInference IsSo u z.status z.answer) (sym is) (of_refused IsSo u status h)
 
 -- the check of the certificate that a text is
 pub accepted_of : (text : List ℕ) (u : HirUnit) (c : Certificate) (status : Status) (a : Answer) → certificate_of_text text ≡ Ok c → IsAcceptedOf c u status a → IsAccepted text u status a
@@ -72,6 +81,7 @@ not_unfit Inference certificate u fault a h = h
 not_unfit Acceptance certificate u fault a h = h.2
 not_unfit Lints certificate u fault a h = ⊎_elim (λ x. x) (λ y. y.2) h
 not_unfit (Explanation f id) certificate u fault a h = ⊎_elim (λ x. x) (λ y. y.2) h
+not_unfit (FunctionExplanation f) certificate u fault a h = ⊎_elim (λ x. x) (λ y. y.2) h
 not_unfit Plainness certificate u fault a h = h
 
 memory_answered : (q : Query) (certificate : List ℕ) (u : HirUnit) (a : Answer) → IsAnswered q certificate u Memory a → a ≡ Nothing
@@ -79,6 +89,7 @@ memory_answered Inference certificate u a h = h
 memory_answered Acceptance certificate u a h = h
 memory_answered Lints certificate u a h = h
 memory_answered (Explanation f id) certificate u a h = h
+memory_answered (FunctionExplanation f) certificate u a h = h
 memory_answered Plainness certificate u a h = h
 
 pub answered_checked : (q : Query) (certificate : List ℕ) (u : HirUnit) (status : Status) (a : Answer) → rules_hold u ≡ Ok tt → IsAnswered q certificate u status a → IsChecked q certificate u status a
@@ -131,6 +142,7 @@ not_read Inference certificate u a h = h
 not_read Acceptance certificate u a h = h.2
 not_read Lints certificate u a h = ⊎_elim (λ x. x) (λ y. y.2) h
 not_read (Explanation f id) certificate u a h = ⊎_elim (λ x. x) (λ y. y.2) h
+not_read (FunctionExplanation f) certificate u a h = ⊎_elim (λ x. x) (λ y. y.2) h
 not_read Plainness certificate u a h = h
 
 not_long : (q : Query) (certificate : List ℕ) (u : HirUnit) (a : Answer) → IsAnswered q certificate u TooLong a → ⊥
@@ -138,6 +150,7 @@ not_long Inference certificate u a h = h
 not_long Acceptance certificate u a h = h.2
 not_long Lints certificate u a h = ⊎_elim (λ x. x) (λ y. y.2) h
 not_long (Explanation f id) certificate u a h = ⊎_elim (λ x. x) (λ y. y.2) h
+not_long (FunctionExplanation f) certificate u a h = ⊎_elim (λ x. x) (λ y. y.2) h
 not_long Plainness certificate u a h = h
 
 pub read_bytes : (q : Query) (known : Option (List ℕ)) (failed : Type 0) (bytes : List ℕ) (status : Status) (a : Answer) → IsAllOf known bytes → length bytes ≤ greatest_input → IsJudged q (parts_of q bytes) status a → IsRead q known failed status a
@@ -223,6 +236,7 @@ module _ (known : Option (List ℕ)) (read_failed : Type 0) where
   memory_alone (Some Check) i f = f
   memory_alone (Some Lint) i f = f
   memory_alone (Some (Explain g id)) i f = f
+  memory_alone (Some (ExplainFunction g)) i f = f
   memory_alone (Some Plain) i f = f
   memory_alone (Some (Made seed size)) i f = f.1
   memory_alone (Some Help) i f = f.1
@@ -233,6 +247,7 @@ module _ (known : Option (List ℕ)) (read_failed : Type 0) where
   not_written Acceptance certificate u a h = h.2
   not_written Lints certificate u a h = ⊎_elim (λ x. x) (λ y. y.2) h
   not_written (Explanation f id) certificate u a h = ⊎_elim (λ x. x) (λ y. y.2) h
+  not_written (FunctionExplanation f) certificate u a h = ⊎_elim (λ x. x) (λ y. y.2) h
   not_written Plainness certificate u a h = h
 
   pub no_write_fault : (asked : Option Command) (a : Answer) → IsFound asked known read_failed WriteFault a → ⊥
@@ -243,6 +258,7 @@ module _ (known : Option (List ℕ)) (read_failed : Type 0) where
   no_write_fault (Some Check) a f = not_written Acceptance (parts_of Acceptance f.0).1 f.3.0 a f.3.2.1
   no_write_fault (Some Lint) a f = not_written Lints (parts_of Lints f.0).1 f.3.0 a f.3.2.1
   no_write_fault (Some (Explain g id)) a f = not_written (Explanation g id) (parts_of (Explanation g id) f.0).1 f.3.0 a f.3.2.1
+  no_write_fault (Some (ExplainFunction g)) a f = not_written (FunctionExplanation g) (parts_of (FunctionExplanation g) f.0).1 f.3.0 a f.3.2.1
   no_write_fault (Some Plain) a f = not_written Plainness (parts_of Plainness f.0).1 f.3.0 a f.3.2.1
   no_write_fault (Some (Made seed size)) a f = f.1
   no_write_fault (Some Help) a f = let e : WriteFault ≡ Done = f.0 in cc
@@ -262,6 +278,7 @@ module _ (known : Option (List ℕ)) (read_failed write_failed : Type 0) (held h
   done_read printed (Accepted x) f t = f.3.2.1
   done_read printed (Linted ls) f t = f.3.2.1
   done_read printed (Explained e) f t = f.3.2.1
+  done_read printed (FunctionExplained xs) f t = f.3.2.1
   done_read printed (Decided p) f t = f.3.2.1
   done_read printed (Inferred x) f t =
       let j = f.3 in
@@ -273,6 +290,7 @@ module _ (known : Option (List ℕ)) (read_failed write_failed : Type 0) (held h
   done_made made (Accepted x) f t = f.1
   done_made made (Linted ls) f t = f.1
   done_made made (Explained e) f t = f.1
+  done_made made (FunctionExplained xs) f t = f.1
   done_made made (Decided p) f t = f.1
   done_made made (Inferred x) f t = let k = f.1 in (made, k.0, refl, f.0, k.1, k.2, solved_tell k.0 k.2, solutions_carried made (record { functions = k.0; inferred = x }) f.0 k.1, t)
 
@@ -287,6 +305,7 @@ module _ (known : Option (List ℕ)) (read_failed write_failed : Type 0) (held h
   done (Some Check) i f a = done_asked Acceptance i f a
   done (Some Lint) i f a = done_asked Lints i f a
   done (Some (Explain g id)) i f a = done_asked (Explanation g id) i f a
+  done (Some (ExplainFunction g)) i f a = done_asked (FunctionExplanation g) i f a
   done (Some Plain) i f a = done_asked Plainness i f a
   done (Some (Made seed size)) i f a = done_made (made_unit seed size) i f a
   done (Some Help) i f a = (f.1, a)

@@ -1,5 +1,5 @@
 -- Why a run comes to a status.
-use Rattle.std.specs.Prelude.{◌≡◌, ◌≢◌, ℕ, ◌<◌, ◌≤◌, ◌⊎◌, List, [], length, Option, Some, None, Ok, Err}
+use Rattle.std.specs.Prelude.{◌≡◌, ◌≢◌, ℕ, ◌<◌, ◌≤◌, ◌⊎◌, true, List, [], length, Option, Some, None, Result, Ok, Err}
 use Rattle.std.specs.List.{AllByRecursion}
 use Rattle.alias_rules.specs.Functions.{rules_hold}
 use Rattle.alias_hir.specs.declared.env.Unit.{Unit as HirUnit}
@@ -11,13 +11,13 @@ use Rattle.alias_read.specs.Units.{UnitReading, ReadsUnit}
 use Rattle.alias_read.specs.declared.fault.TextFault.TheVariants as text
 use Rattle.alias_stream.specs.Streams.{IsAllOf, IsAtEnd, IfKnown}
 use Rattle.alias_run.specs.declared.command.Command.{Command}
-use Rattle.alias_run.specs.declared.command.Command.TheVariants.{Infer, Certify, Check, Lint, Explain, Plain, Made, Help, Version}
+use Rattle.alias_run.specs.declared.command.Command.TheVariants.{Infer, Certify, Check, Lint, Explain, ExplainFunction, Plain, Made, Help, Version}
 use Rattle.alias_run.specs.declared.query.Query.{Query}
-use Rattle.alias_run.specs.declared.query.Query.TheVariants.{Inference, Acceptance, Lints, Explanation, Plainness}
+use Rattle.alias_run.specs.declared.query.Query.TheVariants.{Inference, Acceptance, Lints, Explanation, FunctionExplanation, Plainness}
 use Rattle.alias_run.specs.declared.status.Status.{Status}
 use Rattle.alias_run.specs.declared.status.Status.TheVariants.{Done, Words, NotJson, NotUnit, Unfit, BadLine, Rejected, PlainRefused, Refused, NotHere, ReadFault, WriteFault, TooLong, Memory}
 use Rattle.alias_run.specs.declared.answer.Answer.{Answer}
-use Rattle.alias_run.specs.declared.answer.Answer.TheVariants.{Nothing, Inferred, Accepted, Linted, Explained, Decided}
+use Rattle.alias_run.specs.declared.answer.Answer.TheVariants.{Nothing, Inferred, Accepted, Linted, Explained, FunctionExplained, Decided}
 use Rattle.alias_cert.specs.Units.{unit_checked, Accepts}
 use Rattle.alias_cert_text.specs.Certificates.{certificate_of_text}
 use Rattle.alias_cert_text.specs.Input.{input_parts}
@@ -29,13 +29,19 @@ use Rattle.alias_base.specs.declared.ids.IdentifierId.{IdentifierId}
 use Rattle.alias_lint.specs.Lints.{lints_of}
 use Rattle.alias_lint.specs.Sites.{reports_of}
 use Rattle.alias_explain.specs.Explanations.{explained}
+use Rattle.alias_explain.specs.Functions.{function_explained}
 use Rattle.alias_explain.specs.declared.cause.Cause.TheVariants.{NoCause}
 use Rattle.alias_explain.specs.declared.explain.ExplainFault.TheVariants as explain
 use Rattle.alias_explain.specs.declared.explain.Explanation.{Explanation as RangeExplanation}
+use Rattle.alias_explain.specs.declared.function.IdentifierExplanation.{IdentifierExplanation}
 use Rattle.alias_plain.specs.laws.Answers.{answer_of, unit_end}
 use Rattle.alias_plain.specs.laws.UnitLaws.{TellsOf}
 use Rattle.alias_plain.specs.declared.laws.answer.Plainness.{Plainness as PlainAnswer}
 use Rattle.alias_plain.specs.declared.laws.answer.Plainness.TheVariants as plain
+use Rattle.alias_rules.specs.Fitting.{function_fits}
+use Rattle.alias_cause_laws.specs.causes.Causes.{EachHasCause}
+use Rattle.alias_inferred_laws.specs.inferred.Explanations.{NeverTooMany}
+use Rattle.alias_inferred_laws.specs.inferred.Reports.{LintsAreReports}
 use Rattle.alias_nested.specs.declared.infer.Inferred.{Inferred as UnitInference}
 use Rattle.alias_nested.specs.Analysis.{Analysed, SolvesItsFlow}
 use Rattle.alias_nested.specs.Units.{unit_analysed}
@@ -57,6 +63,18 @@ IsInferred u status a = ⊥
 abbrev pub IsRefusedAs : HirUnit → Status → Answer → Type 0
 IsRefusedAs u (Refused e) a = (unit_analysed u ≡ Err e) × IsCaused u e × (a ≡ Nothing)
 IsRefusedAs u status a = ⊥
+
+-- what is asked about an inference has its answer: the reports have places, and each explanation a cause
+pub record IsAskable (i : UnitInference) : Type 0 where
+  pub fits : function_fits i.unit.function i.unit.env ≡ true
+  pub lints : LintsAreReports i
+  pub numbered : NeverTooMany i
+  pub caused : EachHasCause i
+
+-- what the inference of a unit that is well formed answers
+abbrev pub IsInference : HirUnit → Result UnitInference Status → Type 0
+IsInference u (Ok i) = IsInferred u Done (Inferred i) × IsAskable i
+IsInference u (Err status) = IsInferred u status Nothing
 
 -- this is inferred of it
 abbrev pub Infers : HirUnit → UnitInference → Type 0
@@ -81,10 +99,14 @@ IsLintedOf i Done (Linted ls) = (lints_of i.unit ≡ Ok ls) × (reports_of ls �
 IsLintedOf i Memory a = a ≡ Nothing
 IsLintedOf i status a = ⊥
 
--- the inference refuses the unit, or what it hands out has these reports
+-- the inference refuses the unit, or this is so of what it hands out
+abbrev pub IsOfInference : (UnitInference → Status → Answer → Type 0) → HirUnit → Status → Answer → Type 0
+IsOfInference IsSo u Memory a = a ≡ Nothing
+IsOfInference IsSo u status a = IsRefusedAs u status a ⊎ ((i : UnitInference) × Infers u i × IsSo i status a)
+
+-- what it hands out has these reports
 abbrev pub IsLinted : HirUnit → Status → Answer → Type 0
-IsLinted u Memory a = a ≡ Nothing
-IsLinted u status a = IsRefusedAs u status a ⊎ ((i : UnitInference) × Infers u i × IsLintedOf i status a)
+IsLinted u status a = IsOfInference IsLintedOf u status a
 
 -- a range that is explained has a cause, or no end at all
 abbrev pub HasCause : RangeExplanation → Type 0
@@ -97,10 +119,24 @@ IsExplainedOf f id i NotHere a = (explained i.unit f id ≡ Err explain.NotHere)
 IsExplainedOf f id i Memory a = a ≡ Nothing
 IsExplainedOf f id i status a = ⊥
 
--- the inference refuses the unit, or this is so in what it hands out
+-- so it is in what it hands out
 abbrev pub IsExplained : Option FunctionId → IdentifierId → HirUnit → Status → Answer → Type 0
-IsExplained f id u Memory a = a ≡ Nothing
-IsExplained f id u status a = IsRefusedAs u status a ⊎ ((i : UnitInference) × Infers u i × IsExplainedOf f id i status a)
+IsExplained f id u status a = IsOfInference (IsExplainedOf f id) u status a
+
+-- each has a cause
+abbrev pub AllHaveCause : List IdentifierExplanation → Type 0
+AllHaveCause xs = AllByRecursion (λ (x : IdentifierExplanation). HasCause x.explanation) xs
+
+-- why the ranges of all identifiers of a function end where they do in what was inferred
+abbrev pub IsFunctionExplainedOf : Option FunctionId → UnitInference → Status → Answer → Type 0
+IsFunctionExplainedOf f i Done (FunctionExplained xs) = (function_explained i.unit f ≡ Ok xs) × AllHaveCause xs
+IsFunctionExplainedOf f i NotHere a = (function_explained i.unit f ≡ Err explain.NotHere) × (a ≡ Nothing)
+IsFunctionExplainedOf f i Memory a = a ≡ Nothing
+IsFunctionExplainedOf f i status a = ⊥
+
+-- so it is in what it hands out
+abbrev pub IsFunctionExplained : Option FunctionId → HirUnit → Status → Answer → Type 0
+IsFunctionExplained f u status a = IsOfInference (IsFunctionExplainedOf f) u status a
 
 -- the inference isn't refused, unless a counter is at its last value
 abbrev pub EndsUnblamed : Status → Type 0
@@ -144,6 +180,7 @@ IsAnswered Inference certificate u status a = IsInferred u status a
 IsAnswered Acceptance certificate u status a = IsAccepted certificate u status a
 IsAnswered Lints certificate u status a = IsLinted u status a
 IsAnswered (Explanation f id) certificate u status a = IsExplained f id u status a
+IsAnswered (FunctionExplanation f) certificate u status a = IsFunctionExplained f u status a
 IsAnswered Plainness certificate u status a = IsDecided u status a
 
 -- what a unit leads to: it breaks this rule first, or it breaks none and the query is answered
@@ -185,6 +222,7 @@ IsFound (Some Certify) known failed status a = IsRead Inference known failed sta
 IsFound (Some Check) known failed status a = IsRead Acceptance known failed status a
 IsFound (Some Lint) known failed status a = IsRead Lints known failed status a
 IsFound (Some (Explain f id)) known failed status a = IsRead (Explanation f id) known failed status a
+IsFound (Some (ExplainFunction f)) known failed status a = IsRead (FunctionExplanation f) known failed status a
 IsFound (Some Plain) known failed status a = IsRead Plainness known failed status a
 IsFound (Some (Made seed size)) known failed status a = IsFit (made_unit seed size) status a
 IsFound (Some Help) known failed status a = (status ≡ Done) × (a ≡ Nothing)

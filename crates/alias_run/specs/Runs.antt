@@ -9,7 +9,7 @@ use Rattle.alias_read.specs.Units.{UnitReading}
 use Rattle.alias_text.specs.declared.detail.Detail.{Detail}
 use Rattle.alias_text.specs.declared.detail.Detail.TheVariants as detail
 use Rattle.alias_run.specs.declared.command.Command.{Command}
-use Rattle.alias_run.specs.declared.command.Command.TheVariants.{Infer, Certify, Check, Lint, Explain, Plain, Made, Help, Version}
+use Rattle.alias_run.specs.declared.command.Command.TheVariants.{Infer, Certify, Check, Lint, Explain, ExplainFunction, Plain, Made, Help, Version}
 use Rattle.alias_run.specs.declared.status.Status.{Status}
 use Rattle.alias_run.specs.declared.status.Status.TheVariants.{Done, WriteFault, Memory}
 use Rattle.alias_run.specs.declared.answer.Answer.{Answer}
@@ -19,7 +19,7 @@ use Rattle.alias_nested.specs.Units.{unit_analysed}
 use Rattle.alias_nested.specs.declared.infer.Inferred.{Inferred as UnitInference}
 use Rattle.alias_inferred_laws.specs.inferred.Solutions.{SolutionsAreCarried}
 use Rattle.alias_run.specs.declared.query.Query.{Query}
-use Rattle.alias_run.specs.declared.query.Query.TheVariants.{Acceptance, Lints, Explanation, Plainness}
+use Rattle.alias_run.specs.declared.query.Query.TheVariants.{Acceptance, Lints, Explanation, FunctionExplanation, Plainness}
 use Rattle.alias_plainness.specs.Plainness.{IsPlainUnit}
 use Rattle.alias_run.specs.Findings.{greatest_input, parts_of, EndsUnblamed, EndsAccepted, EndsInferred, Settles, IsFound, Infers, IsAnswered}
 use Rattle.alias_run.specs.Inferences.{TellsItsWrites}
@@ -67,6 +67,7 @@ IsDone (Some Certify) known held held' a = IsInferredOf (IsUnitOf known) detail.
 IsDone (Some Check) known held held' a = IsAnsweredOf Acceptance known held held' a
 IsDone (Some Lint) known held held' a = IsAnsweredOf Lints known held held' a
 IsDone (Some (Explain f id)) known held held' a = IsAnsweredOf (Explanation f id) known held held' a
+IsDone (Some (ExplainFunction f)) known held held' a = IsAnsweredOf (FunctionExplanation f) known held held' a
 IsDone (Some Plain) known held held' a = IsAnsweredOf Plainness known held held' a
 IsDone (Some (Made seed size)) known held held' a = IsInferredOf (λ u. u ≡ made_unit seed size) detail.Counts held held' a
 IsDone (Some Help) known held held' a = (a ≡ Nothing) × Adds held help_text held'

@@ -6,16 +6,16 @@ use Rattle.alias_text.specs.Results.{result_text}
 use Rattle.alias_text.specs.Fitting.{IfCertify}
 use Rattle.alias_nested.specs.declared.infer.Inferred.{Inferred as UnitInference}
 use Rattle.alias_run.specs.declared.answer.Answer.{Answer}
-use Rattle.alias_run.specs.declared.answer.Answer.TheVariants.{Nothing, Inferred, Accepted, Linted, Explained, Decided}
+use Rattle.alias_run.specs.declared.answer.Answer.TheVariants.{Nothing, Inferred, Accepted, Linted, Explained, FunctionExplained, Decided}
 use Rattle.alias_run.specs.declared.command.Command.{Command}
-use Rattle.alias_run.specs.declared.command.Command.TheVariants.{Infer, Certify, Check, Lint, Explain, Plain, Made, Help, Version}
+use Rattle.alias_run.specs.declared.command.Command.TheVariants.{Infer, Certify, Check, Lint, Explain, ExplainFunction, Plain, Made, Help, Version}
 use Rattle.alias_run.specs.declared.status.Status.{Status}
 use Rattle.alias_cert.specs.declared.check.Accepted.{Accepted as AcceptedUnit}
 use Rattle.alias_cert_text.specs.check_lines.CheckLines.{accepted_text as functions_accepted}
 use Rattle.alias_cert_text.specs.Certificates.{certificate_of_text}
 use Rattle.alias_certificate_laws.specs.text.Certifying.{certificate_of}
 use Rattle.alias_question_text.specs.lints.Lints.{lints_text}
-use Rattle.alias_question_text.specs.lints.Explanations.{explanation_text}
+use Rattle.alias_question_text.specs.lints.Explanations.{explanation_text, function_text}
 use Rattle.alias_question_text.specs.plain.Lines.{plainness_text}
 use Rattle.alias_run.specs.Statuses.{refusal_line}
 
@@ -31,7 +31,10 @@ commands_text =
     ++ codes "  jirrambeo lint < unit.json      writes each report with the place that it comes from\n"
     ++ codes "  jirrambeo explain <function> <identifier> < unit.json\n"
     ++ codes "                                  writes why a range ends where it does\n"
-    ++ codes "  jirrambeo plain < unit.json     writes whether no rule of the inference can refuse it\n"
+    ++ codes "  jirrambeo explain <function> < unit.json\n"
+    ++ codes "                                  writes that of each identifier of the function\n"
+    ++ codes "  jirrambeo plain < unit.json     writes whether no rule of the inference can refuse it,\n"
+    ++ codes "                                  where its functions settle\n"
     ++ codes "  jirrambeo made <seed> <size>    makes a unit of 1 to 1,000 blocks, and writes counts\n"
     ++ codes "  jirrambeo --help                writes this\n"
     ++ codes "  jirrambeo --version             writes name and version\n"
@@ -83,6 +86,7 @@ answer_text printed status (Inferred i) = inferred_text printed i
 answer_text printed status (Accepted a) = accepted_text a
 answer_text printed status (Linted ls) = lints_text ls
 answer_text printed status (Explained e) = explanation_text e
+answer_text printed status (FunctionExplained xs) = function_text xs
 answer_text printed status (Decided p) = plainness_text p
 
 -- the text of a run, by its command
@@ -93,6 +97,7 @@ text_of (Some Certify) status a = answer_text detail.Certify status a
 text_of (Some Check) status a = answer_text detail.Infer status a
 text_of (Some Lint) status a = answer_text detail.Infer status a
 text_of (Some (Explain f id)) status a = answer_text detail.Infer status a
+text_of (Some (ExplainFunction f)) status a = answer_text detail.Infer status a
 text_of (Some Plain) status a = answer_text detail.Infer status a
 text_of (Some (Made seed size)) status a = answer_text detail.Counts status a
 text_of (Some Help) status a = help_text

@@ -1,7 +1,7 @@
 //! What a run answers.
 use alias_base::List;
 use alias_cert::Accepted;
-use alias_explain::Explanation;
+use alias_explain::{Explanation, IdentifierExplanation};
 use alias_lint::Lint;
 use alias_nested::Inferred;
 use alias_plain::laws::Plainness;
@@ -19,6 +19,8 @@ pub enum Answer {
     Linted(List<Lint>),
     /// Why a range ends where it does.
     Explained(Explanation),
+    /// Why the range of each identifier of a function ends where it does.
+    FunctionExplained(List<IdentifierExplanation>),
     /// Whether a unit is plain.
     Decided(Plainness),
 }

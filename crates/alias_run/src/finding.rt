@@ -1,13 +1,9 @@
 //! What the words and the input lead to, before anything is written.
 ghost use Rattle.std.specs.Prelude.{◌≡◌, ◌≤◌, true, false};
-ghost use Rattle.alias_cause_laws.specs.causes.Causes.{EachHasCause};
-ghost use Rattle.alias_inferred_laws.specs.inferred.Explanations.{NeverTooMany};
-ghost use Rattle.alias_inferred_laws.specs.inferred.Reports.{LintsAreReports};
-ghost use Rattle.alias_rules.specs.Fitting.{function_fits};
 ghost use Rattle.alias_stream.specs.Streams.{HasFailed};
 ghost use Rattle.alias_made.specs.Units.{made_unit as unit_of};
 ghost use Rattle.alias_run.specs.Commands.{reads, IsSized};
-ghost use Rattle.alias_run.specs.Findings.{parts_of, IsFound, IsRead, IsJudged, IsChecked, IsAnswered, IsInferred, IsAccepted, IsAcceptedOf, IsLinted, IsLintedOf, IsExplained, IsExplainedOf, IsDecided, IsFit, Leaves};
+ghost use Rattle.alias_run.specs.Findings.{parts_of, IsFound, IsRead, IsJudged, IsChecked, IsAnswered, IsInferred, IsInference, IsAskable, IsAccepted, IsAcceptedOf, IsLinted, IsLintedOf, IsExplained, IsExplainedOf, IsFunctionExplained, IsFunctionExplainedOf, IsDecided, IsFit, Leaves};
 
 use crate::answer::Answer;
 use crate::command::Command;
@@ -18,7 +14,7 @@ use alias_base::{FunctionId, IdentifierId};
 use alias_cert::check_certificate;
 use alias_cert_text::{read_certificate, unit_and_certificate};
 use alias_certificate::Certificate;
-use alias_explain::explain_range;
+use alias_explain::{explain_function, explain_range};
 use alias_hir::env::Unit;
 use alias_inner_passes::KeepAll;
 use alias_lint::lines::lint_lines;
@@ -30,16 +26,26 @@ use alias_rules::check::{Checked, check_unit};
 use alias_stream::{Source, read_whole};
 use std::alloc::Global;
 
-/// What a unit that is well formed leads to.
-fn infer_checked(alloc: Global, unit: Checked) -> Outcome
-    ensures { IsInferred unit result.status result.answer }
+/// What is inferred of a unit that is well formed, or the status where the inference refuses it.
+fn inference_of(alloc: Global, unit: Checked) -> Result<Inferred, Status>
+    ensures { IsInference unit result }
 {
     let mut passes = KeepAll;
     // Looked at for what the clause of `unit` says: the unit is well formed.
     let _unit = unit.unit();
     match infer_unit(alloc, unit, &mut passes) {
+        Ok(inferred) => Ok(inferred),
+        Err(error) => Err(Status::from(error)),
+    }
+}
+
+/// What a unit that is well formed leads to.
+fn infer_checked(alloc: Global, unit: Checked) -> Outcome
+    ensures { IsInferred unit result.status result.answer }
+{
+    match inference_of(alloc, unit) {
         Ok(inferred) => done(Answer::Inferred(inferred)),
-        Err(error) => ended(Status::from(error)),
+        Err(status) => ended(status),
     }
 }
 
@@ -66,8 +72,7 @@ fn accept_checked(alloc: Global, unit: Checked, text: &[u8]) -> Outcome
 /// The reports of what was inferred of a unit.
 #[tactic(auto, using(alias_range_pass::specs::CheckLaws::checked_fits))]
 fn lint_inferred(alloc: Global, inferred: Inferred) -> Outcome
-    requires fits { function_fits inferred.unit.function inferred.unit.env ≡ true }
-    requires reports { LintsAreReports inferred }
+    requires { IsAskable inferred }
     ensures { IsLintedOf inferred result.status result.answer }
 {
     match lint_lines(alloc, inferred.unit) {
@@ -80,12 +85,9 @@ fn lint_inferred(alloc: Global, inferred: Inferred) -> Outcome
 fn lint_checked(alloc: Global, unit: Checked) -> Outcome
     ensures { IsLinted unit result.status result.answer }
 {
-    let mut passes = KeepAll;
-    // Looked at for what the clause of `unit` says: the unit is well formed.
-    let _unit = unit.unit();
-    match infer_unit(alloc, unit, &mut passes) {
+    match inference_of(alloc, unit) {
         Ok(inferred) => lint_inferred(alloc, inferred),
-        Err(error) => ended(Status::from(error)),
+        Err(status) => ended(status),
     }
 }
 
@@ -96,8 +98,7 @@ fn explain_inferred(
     function: Option<FunctionId>,
     identifier: IdentifierId,
 ) -> Outcome
-    requires numbered { NeverTooMany inferred.now }
-    requires caused { EachHasCause inferred.now }
+    requires { IsAskable inferred.now }
     ensures { IsExplainedOf function identifier inferred.now result.status result.answer }
 {
     match explain_range(alloc, &inferred.unit, function, identifier) {
@@ -115,12 +116,34 @@ fn explain_checked(
 ) -> Outcome
     ensures { IsExplained function identifier unit result.status result.answer }
 {
-    let mut passes = KeepAll;
-    // Looked at for what the clause of `unit` says: the unit is well formed.
-    let _unit = unit.unit();
-    match infer_unit(alloc, unit, &mut passes) {
+    match inference_of(alloc, unit) {
         Ok(inferred) => explain_inferred(alloc, &inferred, function, identifier),
-        Err(error) => ended(Status::from(error)),
+        Err(status) => ended(status),
+    }
+}
+
+/// Why the ranges of all identifiers of a function end where they do, of what was inferred of a unit.
+fn explain_function_inferred(
+    alloc: Global,
+    inferred: &Inferred,
+    function: Option<FunctionId>,
+) -> Outcome
+    requires { IsAskable inferred.now }
+    ensures { IsFunctionExplainedOf function inferred.now result.status result.answer }
+{
+    match explain_function(alloc, &inferred.unit, function) {
+        Ok(explained) => done(Answer::FunctionExplained(explained)),
+        Err(fault) => ended(Status::from(fault)),
+    }
+}
+
+/// Why the ranges of all identifiers of a function end where they do in the unit.
+fn explain_function_checked(alloc: Global, unit: Checked, function: Option<FunctionId>) -> Outcome
+    ensures { IsFunctionExplained function unit result.status result.answer }
+{
+    match inference_of(alloc, unit) {
+        Ok(inferred) => explain_function_inferred(alloc, &inferred, function),
+        Err(status) => ended(status),
     }
 }
 
@@ -146,6 +169,7 @@ fn answer(alloc: Global, query: Query, unit: Checked, certificate: &[u8]) -> Out
             function,
             identifier,
         } => explain_checked(alloc, unit, function, identifier),
+        Query::FunctionExplanation { function } => explain_function_checked(alloc, unit, function),
         Query::Plainness => decide_checked(alloc, unit),
     }
 }
@@ -238,6 +262,9 @@ pub(crate) fn find<S: Source>(alloc: Global, asked: Option<Command>, source: &mu
                 identifier,
             };
             ask_source(alloc, query, source)
+        }
+        Some(Command::ExplainFunction { function }) => {
+            ask_source(alloc, Query::FunctionExplanation { function }, source)
         }
         Some(Command::Plain) => ask_source(alloc, Query::Plainness, source),
         Some(Command::Made { seed, size }) => infer_made(alloc, seed, size),

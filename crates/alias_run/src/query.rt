@@ -15,6 +15,8 @@ pub enum Query {
         function: Option<FunctionId>,
         identifier: IdentifierId,
     },
+    /// Why the range of each identifier of a function ends where it does. `None` is the root.
+    FunctionExplanation { function: Option<FunctionId> },
     /// Whether it is plain.
     Plainness,
 }

@@ -16,7 +16,10 @@ jirrambeo infers what code may alias, freeze and write.
   jirrambeo lint < unit.json      writes each report with the place that it comes from
   jirrambeo explain <function> <identifier> < unit.json
                                   writes why a range ends where it does
-  jirrambeo plain < unit.json     writes whether no rule of the inference can refuse it
+  jirrambeo explain <function> < unit.json
+                                  writes that of each identifier of the function
+  jirrambeo plain < unit.json     writes whether no rule of the inference can refuse it,
+                                  where its functions settle
   jirrambeo made <seed> <size>    makes a unit of 1 to 1,000 blocks, and writes counts
   jirrambeo --help                writes this
   jirrambeo --version             writes name and version

@@ -1,6 +1,6 @@
 //! The text that a run writes: a result, the line of a refusal, or what a command tells of the program.
 ghost use Rattle.std.specs.Prelude.{◌≡◌, ◌++◌, OnOk, IfOk};
-ghost use Rattle.alias_question_text.specs.lints.Explanations.{explanation_text};
+ghost use Rattle.alias_question_text.specs.lints.Explanations.{explanation_text, function_text};
 ghost use Rattle.alias_question_text.specs.lints.Lints.{lints_text};
 ghost use Rattle.alias_question_text.specs.plain.Lines.{plainness_text};
 ghost use Rattle.alias_run.specs.Statuses.{refusal_line};
@@ -16,11 +16,11 @@ use alias_base::Text;
 use alias_cert::Accepted;
 use alias_cert_text::check_lines::{push_accepted, push_bad_line, push_rejected};
 use alias_certificate_laws::text::reads_back;
-use alias_explain::Explanation;
+use alias_explain::{Explanation, IdentifierExplanation};
 use alias_lint::Lint;
 use alias_nested::Inferred;
 use alias_plain::laws::Plainness;
-use alias_question_text::lints::{push_explanation, push_lints};
+use alias_question_text::lints::{push_explanation, push_function_explanation, push_lints};
 use alias_question_text::plain::{push_plain_refusal, push_plainness};
 use alias_text::Detail;
 use alias_text::refusals::{push_not_unit, push_refusal, push_unfit};
@@ -124,6 +124,18 @@ pub fn print_explanation(alloc: Global, explanation: &Explanation) -> Result<Tex
     Ok(out)
 }
 
+/// Why the range of each identifier of a function ends where it does, as docs/FORMAT.md describes it.
+pub fn print_function_explanation(
+    alloc: Global,
+    explained: &[IdentifierExplanation],
+) -> Result<Text, AllocError>
+    ensures { IfOk result (λ t. t ≡ function_text explained.now) }
+{
+    let mut out = Text::new(alloc);
+    push_function_explanation(&mut out, explained)?;
+    Ok(out)
+}
+
 /// Whether a unit is plain, as docs/FORMAT.md describes it.
 pub fn print_plainness(alloc: Global, plainness: Plainness) -> Result<Text, AllocError>
     ensures { IfOk result (λ t. t ≡ plainness_text plainness) }
@@ -144,6 +156,9 @@ fn print_outcome(alloc: Global, outcome: &Outcome, detail: Detail) -> Result<Tex
         Answer::Accepted(accepted) => print_accepted(alloc, accepted),
         Answer::Linted(lints) => print_lints(alloc, lints.as_slice()),
         Answer::Explained(explanation) => print_explanation(alloc, explanation),
+        Answer::FunctionExplained(explained) => {
+            print_function_explanation(alloc, explained.as_slice())
+        }
         Answer::Decided(plainness) => print_plainness(alloc, *plainness),
     }
 }
@@ -161,9 +176,13 @@ pub(crate) fn text_of(
         None => print_refusal(alloc, &outcome.status),
         Some(Command::Infer) => print_outcome(alloc, outcome, Detail::Infer),
         Some(Command::Certify) => print_outcome(alloc, outcome, Detail::Certify),
-        Some(Command::Check | Command::Lint | Command::Explain { .. } | Command::Plain) => {
-            print_outcome(alloc, outcome, Detail::Infer)
-        }
+        Some(
+            Command::Check
+            | Command::Lint
+            | Command::Explain { .. }
+            | Command::ExplainFunction { .. }
+            | Command::Plain,
+        ) => print_outcome(alloc, outcome, Detail::Infer),
         Some(Command::Made { .. }) => print_outcome(alloc, outcome, Detail::Counts),
         Some(Command::Help) => help(alloc),
         Some(Command::Version) => Text::from_str(alloc, VERSION),

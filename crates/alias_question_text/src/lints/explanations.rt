@@ -1,10 +1,10 @@
 //! Why a range ends where it does, as lines.
 ghost use Rattle.std.specs.Prelude.{◌≡◌, ◌++◌, OnOk};
 ghost use Rattle.std.specs.List.{flat_map};
-ghost use Rattle.alias_question_text.specs.lints.Explanations.{range_line, reach_word, direction_word, kind_word, step_line, steps_text, cause_text, explanation_text};
+ghost use Rattle.alias_question_text.specs.lints.Explanations.{range_line, reach_word, direction_word, kind_word, step_line, steps_text, cause_text, explanation_text, identifier_line, identifier_text, function_text};
 
-use alias_base::Text;
-use alias_explain::{Cause, Explanation, PathStep};
+use alias_base::{IdentifierId, Text};
+use alias_explain::{Cause, Explanation, IdentifierExplanation, PathStep};
 use alias_hir::env::MutableRange;
 use alias_text::effects::push_spaced;
 use std::alloc::AllocError;
@@ -88,4 +88,33 @@ pub fn push_explanation(out: &mut Text, explanation: &Explanation) -> Result<(),
 {
     push_range_line(out, explanation.range)?;
     push_cause(out, &explanation.cause)
+}
+
+fn push_identifier_line(out: &mut Text, identifier: IdentifierId) -> Result<(), AllocError>
+    ensures { OnOk result (out.new ≡ out.old ++ identifier_line identifier) }
+{
+    out.push_str("identifier")?;
+    push_spaced(out, u64::from(identifier.0))?;
+    out.push_str("\n")
+}
+
+fn push_identifier(out: &mut Text, explained: &IdentifierExplanation) -> Result<(), AllocError>
+    ensures { OnOk result (out.new ≡ out.old ++ identifier_text explained.now) }
+{
+    push_identifier_line(out, explained.identifier)?;
+    push_explanation(out, &explained.explanation)
+}
+
+/// Appends a line for each identifier, each followed by the lines of what is explained of it. An `Err` is out of
+/// memory: `out` may then hold a part of it.
+pub fn push_function_explanation(
+    out: &mut Text,
+    explained: &[IdentifierExplanation],
+) -> Result<(), AllocError>
+    ensures { OnOk result (out.new ≡ out.old ++ function_text explained.now) }
+{
+    for identifier in explained {
+        push_identifier(out, identifier)?;
+    }
+    Ok(())
 }
