@@ -1,22 +1,11 @@
 -- What only grows, grows on from step to step.
-use Rattle.std.specs.Prelude.{List, [], ◌∷◌, ◌++◌, Option, refl}
+use Rattle.std.specs.Prelude.{List, [], ◌∷◌, ◌++◌, refl}
 use Rattle.std.proofs.Common.{ap, ◌∙◌}
 use Rattle.alias_hir.specs.declared.env.Environment.{Environment}
-use Rattle.alias_hir.specs.declared.place.Span.{Span}
 use Rattle.alias_hir.specs.declared.report.Interned.{Interned}
-use Rattle.alias_hir.specs.Tables.{with_identifier}
 use Rattle.alias_tables.specs.declared.temporaries.Temporary.{Temporary}
-use Rattle.alias_tables.specs.GrowingLaws.{Grows, grows_self, grows_by, grows_through}
+use Rattle.alias_tables.specs.GrowingLaws.{Grows, grows_self, grows_through}
 use Rattle.alias_call_effects.specs.Kept.{Kept, kept, HasGrown}
-
-pub grown_itself : (k : Kept) → HasGrown k k
-grown_itself k = record {
-  identifiers = grows_self k.env.identifiers;
-  types = grows_self k.env.types;
-  reports = grows_self k.env.interned;
-  temporaries = grows_self k.temporaries;
-  others = refl;
-}
 
 pub grown_through : (k l m : Kept) → HasGrown k l → HasGrown l m → HasGrown k m
 grown_through k l m a b = record {
@@ -26,23 +15,7 @@ grown_through k l m a b = record {
   temporaries = grows_through k.temporaries l.temporaries m.temporaries a.temporaries b.temporaries;
   others = ap (λ (e : Environment). record e { identifiers = m.env.identifiers; types = m.env.types; interned = m.env.interned }) a.others ∙ b.others;
 }
-
-pub grown_by_identifier : (span : Option Span) (env : Environment) (ts : List Temporary) → HasGrown (kept env ts) (kept (with_identifier span env) ts)
-grown_by_identifier span env ts = record {
-  identifiers = grows_by env.identifiers _;
-  types = grows_by env.types _;
-  reports = grows_self env.interned;
-  temporaries = grows_self ts;
-  others = refl;
 }
-
-pub grown_by_temporary : (env : Environment) (ts : List Temporary) (t : Temporary) → HasGrown (kept env ts) (kept env (ts ++ t ∷ []))
-grown_by_temporary env ts t = record {
-  identifiers = grows_self env.identifiers;
-  types = grows_self env.types;
-  reports = grows_self env.interned;
-  temporaries = grows_by ts (t ∷ []);
-  others = refl;
 }
 
 pub grown_by_reports : (env : Environment) (reports : List Interned) (ts : List Temporary) → Grows env.interned reports → HasGrown (kept env ts) (kept (record env { interned = reports }) ts)

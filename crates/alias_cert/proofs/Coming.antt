@@ -60,9 +60,6 @@ module _ (id : Option FunctionId) (b : Bool) (f : HirFunction) (env : Environmen
   abbrev effects_left : List CheckedFunction → PassEnd → Result (HirFunction × Checking) CheckFault
   effects_left fs e = Ok (with_effects_of e.solved f, checking (env_after env e) (fs ++ checked_function id b f env c e ∷ []))
 
-  pub effects_fault : (fs : List CheckedFunction) (e : CheckFault) → function_solved c env f b ≡ Err e → effects_checked id b f (checking env fs) c ≡ Err e
-  effects_fault fs e h = ap (λ r. r >>= effects_left fs) h
-
   pub effects_come : (fs : List CheckedFunction) (e : PassEnd) (g : HirFunction) (after : Environment) → function_solved c env f b ≡ Ok e → g ≡ with_effects_of e.solved f → after ≡ env_after env e
       → effects_checked id b f (checking env fs) c ≡ Ok (g, checking after (fs ++ checked_function id b f env c e ∷ []))
   effects_come fs e g after h made left =

@@ -80,9 +80,6 @@ pub record Leading (links : List StoredLink) (g : Entries StoredNode) (old new :
   pub same : more ≡ false → new ≡ old
   pub closed : more ≡ false → (j : ℕ) → j < i → slice_index_or old j false ≡ false → leads_at (flagged g old) links (stored_at g j) ≡ false
 
-pub leading_begins : (links : List StoredLink) (g : Entries StoredNode) (old : List Bool) → Leading links g old old false 0
-leading_begins links g old = record { grow = grow_same old; fewer = λ h. cc; same = λ h. refl; closed = λ h j lt. absurd (omega arith) }
-
 -- a slot without a link into the part
 pub leading_passes : (links : List StoredLink) (g : Entries StoredNode) (old new : List Bool) (more : Bool) (i : ℕ) → Leading links g old new more i → (slice_index_or new i false ≡ false → leads_at (flagged g new) links (stored_at g i) ≡ false) → Leading links g old new more (i + 1)
 leading_passes links g old new more i h out = record {

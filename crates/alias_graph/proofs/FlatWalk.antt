@@ -1,35 +1,16 @@
 -- A visit over slots.
-use Rattle.std.proofs.Common.{◌≡◌, ℕ, List, [], ◌∷◌, Some, length, option_map, slice_get, refl, ap, sym, ◌∙◌, subst, arith, suc}
-use Rattle.indexmap.specs.IndexMap.{set_value_at}
+use Rattle.std.proofs.Common.{◌≡◌, ℕ, List, [], ◌∷◌, Some, length, option_map, slice_get, refl, ap, sym, ◌∙◌, arith, suc}
 use Rattle.alias_base.specs.declared.ids.IdentifierId.{IdentifierId}
 use Rattle.alias_graph.specs.declared.types.StoredLink.{StoredLink}
 use Rattle.alias_graph.specs.declared.types.Origin.{Origin}
 use Rattle.alias_graph.specs.declared.types.Entry.{Entry}
 use Rattle.alias_graph.specs.declared.types.Node.{Node as StoredNode}
 use Rattle.alias_graph.specs.Nodes.{Entries, slot_of}
-use Rattle.alias_graph.specs.Graph.{changed}
 use Rattle.alias_graph.specs.Links.{led_to, led_from, next, all_links}
-use Rattle.alias_graph.specs.NodeMarks.{visited}
-use Rattle.alias_graph.specs.Flat.{node_of, nodes_of, edges_at, sources_at, AllFit, NodeFits, stored_visited, all_stored_links}
-use Rattle.alias_graph.proofs.Slots.{slot_found, found_node, changed_slot}
+use Rattle.alias_graph.specs.Flat.{node_of, nodes_of, edges_at, sources_at, stored_visited, all_stored_links}
+use Rattle.alias_graph.proofs.Slots.{slot_found, found_node}
 use Rattle.alias_graph.proofs.Shapes.{led_visited}
-use Rattle.alias_graph.proofs.Flats.{nodes_changed, visited_slot, node_at_of, fit_at, fit_set, fit_visited}
-
-pub visited_nodes : (links : List StoredLink) (g : Entries StoredNode) (id : IdentifierId) (i : ℕ) (n w : StoredNode) (index : ℕ) (origin : Origin) (e : Entry)
-    → slot_of g id ≡ Some i → Some n ≡ option_map (λ (p : IdentifierId × StoredNode). p.1) (slice_get g i) → w ≡ stored_visited index origin e n
-    → nodes_of links (set_value_at g i w) ≡ changed (nodes_of links g) id (visited index origin e)
-visited_nodes links g id i n w index origin e p h is =
-    ap (nodes_of links) (changed_slot g id (stored_visited index origin e) i n w p h is)
-    ∙ nodes_changed links (stored_visited index origin e) (visited index origin e) (visited_slot links index origin e) g id
-
-pub visited_fits : (m : ℕ) (g : Entries StoredNode) (id : IdentifierId) (i : ℕ) (n w : StoredNode) (index : ℕ) (origin : Origin) (e : Entry)
-    → slot_of g id ≡ Some i → Some n ≡ option_map (λ (p : IdentifierId × StoredNode). p.1) (slice_get g i) → w ≡ stored_visited index origin e n → AllFit m g → AllFit m (set_value_at g i w)
-visited_fits m g id i n w index origin e p h is fit =
-    fit_set m g i w (subst (NodeFits m) (sym is) (fit_visited m index origin e n (fit_at m g id i n fit p h))) fit
-
-pub visited_node_fits : (m : ℕ) (g : Entries StoredNode) (id : IdentifierId) (i : ℕ) (n w : StoredNode) (index : ℕ) (origin : Origin) (e : Entry)
-    → slot_of g id ≡ Some i → Some n ≡ option_map (λ (p : IdentifierId × StoredNode). p.1) (slice_get g i) → w ≡ stored_visited index origin e n → AllFit m g → NodeFits m w
-visited_node_fits m g id i n w index origin e p h is fit = subst (NodeFits m) (sym is) (fit_visited m index origin e n (fit_at m g id i n fit p h))
+use Rattle.alias_graph.proofs.Flats.{visited_slot, node_at_of}
 
 pub next_slot : (links : List StoredLink) (g : Entries StoredNode) (m : ℕ) (e : Entry) (i : ℕ) (n w : StoredNode) (index : ℕ) (origin : Origin)
     → slot_of g e.id ≡ Some i → Some n ≡ option_map (λ (p : IdentifierId × StoredNode). p.1) (slice_get g i) → w ≡ stored_visited index origin e n → next (nodes_of links g) m e ≡ led_to m e (node_of links w)

@@ -46,10 +46,6 @@ source_slot Capture links p n = ap (λ z. let v : Node = record (node_of links n
 source_slot Alias links p n = ap (λ z. let v : Node = record (node_of links n) { aliases = z } in v) (sources_noted links p n.aliases)
 source_slot MaybeAlias links p n = ap (λ z. let v : Node = record (node_of links n) { maybe_aliases = z } in v) (sources_noted links p n.maybe_aliases)
 
-marked_slots : (b : Bool) (links : List StoredLink) (index : ℕ) (origin : Origin) (e : Entry) (n : StoredNode) → node_of links (stored_marked_by b (info e.kind origin.span) n) ≡ marked_by b (info e.kind origin.span) (node_of links n)
-marked_slots true links index origin e n = refl
-marked_slots false links index origin e n = refl
-
 visit_slot : (b : Bool) (links : List StoredLink) (index : ℕ) (origin : Origin) (e : Entry) (n : StoredNode)
     → node_of links (record (stored_marked_by b (info e.kind origin.span) n) { last_mutated = later index n.last_mutated; mutation_reason = first_reason origin.reason n.mutation_reason }) ≡ record (marked_by b (info e.kind origin.span) (node_of links n)) { last_mutated = later index n.last_mutated; mutation_reason = first_reason origin.reason n.mutation_reason }
 visit_slot true links index origin e n = refl
@@ -89,11 +85,6 @@ fit_forward n p lt k h = record { forward = below_push n k.forward p lt h.forwar
 
 pub fit_created : (links : List StoredLink) (n p : ℕ) → p < n → (k : StoredNode) → NodeFits n k → NodeFits n (with_created_slot links p k)
 fit_created links n p lt k h = record { forward = h.forward; created_from = below_noted links n k.created_from p lt h.created_from; captures = h.captures; aliases = h.aliases; maybe_aliases = h.maybe_aliases }
-
-pub fit_source : (kind : EdgeKind) (links : List StoredLink) (n p : ℕ) → p < n → (k : StoredNode) → NodeFits n k → NodeFits n (with_source_slot kind links p k)
-fit_source Capture links n p lt k h = record { forward = h.forward; created_from = h.created_from; captures = below_noted links n k.captures p lt h.captures; aliases = h.aliases; maybe_aliases = h.maybe_aliases }
-fit_source Alias links n p lt k h = record { forward = h.forward; created_from = h.created_from; captures = h.captures; aliases = below_noted links n k.aliases p lt h.aliases; maybe_aliases = h.maybe_aliases }
-fit_source MaybeAlias links n p lt k h = record { forward = h.forward; created_from = h.created_from; captures = h.captures; aliases = h.aliases; maybe_aliases = below_noted links n k.maybe_aliases p lt h.maybe_aliases }
 
 fit_marked : (b : Bool) (n index : ℕ) (origin : Origin) (e : Entry) (k : StoredNode) → NodeFits n k → NodeFits n (record (stored_marked_by b (info e.kind origin.span) k) { last_mutated = later index k.last_mutated; mutation_reason = first_reason origin.reason k.mutation_reason })
 fit_marked true n index origin e k h = record { forward = h.forward; created_from = h.created_from; captures = h.captures; aliases = h.aliases; maybe_aliases = h.maybe_aliases }

@@ -409,9 +409,6 @@ module _ (links : List StoredLink) (k : Entries StoredNode) (w : RangeWalk) (rs�
 
 -- ---- several walks
 
-raised_none : (g : Nodes) (rs : List Identifier) → Raised g [] rs rs
-raised_none g rs = record { rise = rise_same rs; covered = λ w i. absurd i; cause = λ i. inl refl }
-
 -- one walk, and then the others
 pub raised_more : (g : Nodes) (w : RangeWalk) (ws : List RangeWalk) (a b c : List Identifier)
     → EndsRise a b → Covered g w.index (range_entry w) (Some w.end) b → ((i : ℕ) → (end_at b i ≡ end_at a i) ⊎ RaiseCause g (w ∷ []) i (end_at b i)) → Raised g ws b c → Raised g (w ∷ ws) a c
@@ -428,9 +425,6 @@ raised_more g w ws a b c rise covered cause later = record {
       (λ q. inr (q.0, inr q.1, q.2, q.3, q.4, q.5))
       (later.cause i);
 }
-
-pub raised_done : (g : Nodes) (rs : List Identifier) (ws : List RangeWalk) → ws ≡ [] → Raised g ws rs rs
-raised_done g rs ws is = subst (λ z. Raised g z rs rs) (sym is) (raised_none g rs)
 
 -- the walk at a position of the list, and then the others
 pub raised_next : (g : Nodes) (ws : List RangeWalk) (i : ℕ) (d : RangeWalk) (a b c : List Identifier) → i < length ws

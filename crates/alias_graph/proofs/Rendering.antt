@@ -165,8 +165,5 @@ tells_none env = ap (λ rs. let z : Environment = record env { errors = rs } in 
 pub grown_on : (env₀ env env₁ : Environment) (rs : List Report) → env ≡ with_reports rs env₀ → Grown env.errors env₁.errors → Grown env₀.errors env₁.errors
 grown_on env₀ env env₁ rs tells g = (rs ++ g.0, g.1 ∙ ap (λ (z : Environment). z.errors ++ g.0) tells ∙ append_assoc env₀.errors rs g.0)
 
-pub grown_none : (env : Environment) → Grown env.errors env.errors
-grown_none env = ([], sym (append-nil env.errors))
-
 pub other_kept : (env₀ env env₁ : Environment) (rs : List Report) → env ≡ with_reports rs env₀ → env₁ ≡ record env { errors = env₁.errors } → env₁ ≡ record env₀ { errors = env₁.errors }
 other_kept env₀ env env₁ rs tells is = is ∙ ap (λ (z : Environment). let v : Environment = record z { errors = env₁.errors } in v) tells

@@ -138,14 +138,6 @@ module _ (g₀ : Nodes) (rs₀ : List Identifier) (m : ℕ) (origin : Origin) (e
         sees = subst (λ w. Sees g₀ (noted_at (Some p) seen e) w.done) (sym stepped_new) (sees_more g₀ seen done e p new.1 new.2 h.sees);
       }
 
-      -- what is pushed fits
-      pub room_for : n + 1 + (length rest + length (next g m e)) ≤ 1 + 8 * all_links g₀
-      room_for =
-          let few = pops_few g₀ m s (n + 1) in
-          let len : length (step_to g₀ m s (n + 1)).stack ≡ length rest + length (next g m e) = ap length new_stack ∙ length-reverse (rest ++ next g m e) ∙ length-append rest (next g m e) in
-          let pops : (step_to g₀ m s (n + 1)).popped ≡ n + 1 = ap (λ w. w.popped) stepped_new in
-          omega arith
-
 -- the walk rests once its stack is empty
 still : (g : Nodes) (m : ℕ) (w : Walk Entry) → w.stack ≡ [] → step covers (node_exists g) (next g m) w ≡ w
 still g m w h = ap (λ z. step_at covers (node_exists g) (next g m) z w.done w.popped) h ∙ ap (λ z. let v : Walk Entry = record { stack = z; done = w.done; popped = w.popped } in v) (sym h)
@@ -200,9 +192,6 @@ module _ (g₀ : Nodes) (rs₀ : List Identifier) (m : ℕ) (origin : Origin) (e
 
     pub ended_nodes : g ≡ marked m origin g₀ (walk g₀ m s).done
     ended_nodes = h.nodes_are ∙ ap (λ w. marked m origin g₀ w.done) (sym walk_is)
-
-    pub ended_ranges : rs ≡ ranges_after end rs₀ (walk g₀ m s).done
-    ended_ranges = h.ranges_are ∙ ap (λ w. ranges_after end rs₀ w.done) (sym walk_is)
 
     pub ended_popped : n ≡ (walk g₀ m s).popped
     ended_popped = sym h.popped_is ∙ ap (λ w. w.popped) (sym walk_is)

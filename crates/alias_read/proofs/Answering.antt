@@ -1,26 +1,15 @@
 -- From what a reader of data gives to what `read_unit` answers.
-use Rattle.std.proofs.Common.{◌≡◌, ℕ, List, refl}
-use Rattle.std.specs.Prelude.{Result, Ok, Err, IfOk, IfErr}
+use Rattle.std.proofs.Common.{◌≡◌, ℕ, List}
+use Rattle.std.specs.Prelude.{Result, Ok, Err, IfErr}
 use Rattle.serde_json.specs.Data.{Data}
 use Rattle.alias_hir.specs.declared.env.Unit.{Unit as HirUnit}
-use Rattle.alias_base.specs.Answer.{Gives}
 use Rattle.alias_json.specs.declared.fault.ValueFault.{ValueFault}
 use Rattle.alias_json.specs.declared.fault.ValueFault.TheVariants as value
-use Rattle.alias_json.specs.Fault.{is_memory}
 use Rattle.alias_read.specs.declared.fault.TextFault.{TextFault}
 use Rattle.alias_read.specs.declared.fault.TextFault.TheVariants as fault
-use Rattle.alias_read.specs.Fault.{IsMemory, of_value}
-use Rattle.alias_read.specs.Units.{unit_of, IsReading, UnitReading, NoUnit, ReadsUnit}
+use Rattle.alias_read.specs.Fault.{IsMemory}
+use Rattle.alias_read.specs.Units.{unit_of, IsReading, NoUnit, ReadsUnit}
 use Rattle.alias_read.specs.UnitLaws.{one_reading}
-
--- the data's fault is the text's
-pub reads_fault : (bytes : List ℕ) (d : Data) (e : ValueFault) → IsReading bytes d → Gives {A = HirUnit} is_memory (unit_of d) (Err e) → ReadsUnit bytes (Err (of_value e))
-reads_fault bytes d (value.Refused p q) r g = (d, r, g refl)
-reads_fault bytes d (value.Memory e) r g = tt
-
-pub reading_of : (bytes : List ℕ) (result : Result HirUnit TextFault) → ReadsUnit bytes result → IfOk result (λ u. UnitReading bytes u)
-reading_of bytes (Ok u) r = r
-reading_of bytes (Err e) r = tt
 
 err_not_ok : (e : ValueFault) (u : HirUnit) (r : Result HirUnit ValueFault) → r ≡ Err e → r ≡ Ok u → ⊥
 err_not_ok e u r f g = cc

@@ -19,5 +19,4 @@ pub mod Types
 pub mod Units
 pub mod ValueKinds
 pub mod Values
-pub mod NameLaws
 pub mod UnitLaws

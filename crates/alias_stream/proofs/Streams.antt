@@ -39,10 +39,6 @@ pub takes-long : (a : Option (List ℕ)) (xs : List ℕ) (b : Option (List ℕ))
 takes-long None xs b n p h = tt
 takes-long (Some old) xs b n p h = omega (arith, ap length p.1, length-append xs p.0)
 
-pub adds-none : (a : Option (List ℕ)) → Adds a [] a
-adds-none None = refl
-adds-none (Some xs) = ap Some (sym (append-nil xs))
-
 pub adds-more : (a : Option (List ℕ)) (xs : List ℕ) (b : Option (List ℕ)) (ys : List ℕ) (c : Option (List ℕ)) → Adds a xs b → Adds b ys c → Adds a (xs ++ ys) c
 adds-more None xs b ys c p q = let P : Option (List ℕ) → Type 0 = λ o. Adds o ys c in subst P p q
 adds-more (Some old) xs b ys c p q =

@@ -27,9 +27,6 @@ module _ (r : ValueReason) where
     places_proper [] s h = h
     places_proper (p ∷ ps) s h = places_proper ps (at_place going r p.identifier s) (acted_proper (does_freeze s p.identifier) p.identifier s h)
 
-    pub place_proper : (p : IdentifierId) (s : State) → StateProper s → StateProper (at_place going r p s)
-    place_proper p s h = acted_proper (does_freeze s p) p s h
-
     site_proper : (context : FunctionId → List Place) (k : Site) (s : State) → StateProper s → StateProper (at_site going r context k s)
     site_proper context (Function f) s h = places_proper (context f) s h
     site_proper context (Parameter a) s h = h

@@ -22,7 +22,7 @@ use Rattle.alias_certificate.specs.declared.fault.CheckFault.TheVariants as faul
 use Rattle.alias_cert.specs.declared.function.claims.Difference.{Difference}
 use Rattle.alias_cert.specs.function.Blocks.{are_lines}
 use Rattle.alias_cert.specs.function.Claims.{differs}
-use Rattle.alias_cert.specs.function.Faults.{is_memory, unsolved_fault, faulted, StatesInto}
+use Rattle.alias_cert.specs.function.Faults.{is_memory, unsolved_fault, faulted}
 use Rattle.alias_cert.specs.function.Functions.{flow_rules, marks, numbers, entries_checked, steps_checked, checked_end, function_solved}
 use Rattle.alias_cert.specs.function.Temporaries.{temporaries_stated}
 
@@ -45,10 +45,6 @@ fault_is B function env blocks stated u e w h is m =
 -- a result that is a fault gives it
 pub gives_fault : {A : Type 0} (stated : Result A CheckFault) (x : Result A CheckFault) (e : CheckFault) → x ≡ Err e → (is_memory e ≡ false → stated ≡ Err e) → Gives is_memory stated x
 gives_fault stated x e h k = subst (λ z. Gives is_memory stated z) (sym h) k
-
--- a check that is equal makes the same
-pub states_along : {A : Type 0} (r s : Result A CheckFault) (x : Result ⊤ CheckFault) (w : A) → r ≡ s → StatesInto r x w → StatesInto s x w
-states_along r s x w e h = subst (λ z. StatesInto z x w) e h
 
 -- what passes as a function's check passes
 pub unfaulted : {A : Type 0} (function : Option FunctionId) (env : Environment) (blocks : Blocks) (r : Result A (Unsolved BlockRefusal Difference)) (x : A) → faulted function env blocks r ≡ Ok x → r ≡ Ok x

@@ -5,7 +5,6 @@ use Rattle.std.specs.List.{list_all}
 use Rattle.std.specs.Option.{is_some, option_map_or}
 use Rattle.alias_base.specs.Find.{same_block}
 use Rattle.alias_base.specs.declared.ids.BlockId.{BlockId}
-use Rattle.alias_hir.specs.declared.hir.BasicBlock.{BasicBlock}
 use Rattle.alias_hir.specs.Positions.{Blocks}
 use Rattle.alias_lattice.specs.States.{State}
 use Rattle.alias_flow.specs.Machine.{up}
@@ -85,9 +84,6 @@ said_at (b ∷ bs) [] rs i s r lt h k = cc
 said_at (b ∷ bs) (x ∷ xs) [] i s r lt h k = cc
 said_at (b ∷ bs) (x ∷ xs) (q ∷ rs) zero s r lt h k = ap (λ o. said_of b o q) h ∙ ap (said_of b (Some s)) k
 said_at (b ∷ bs) (x ∷ xs) (q ∷ rs) (suc i) s r lt h k = said_at bs xs rs i s r (omega arith) h k
-
-said_none : (b : BlockId × BasicBlock) (o : Option BlockEffects) → said_of b None o ≡ None
-said_none b o = refl
 
 pub said_nothing : (bs : Blocks) (xs : List (Option State)) (rs : List (Option BlockEffects)) (i : ℕ) → entry_at xs i ≡ None → entry_at (said_each bs xs rs) i ≡ None
 said_nothing [] xs rs i h = refl

@@ -69,9 +69,6 @@ data AlikeCall : Call → Call → Type 0 where
 data AlikeOperand : Operand → Operand → Type 0 where
   operand : (p q : Place) (is_spread : Bool) → AlikeOperand (record { place = p; is_spread = is_spread }) (record { place = moved p q; is_spread = is_spread })
 
-operand_self : (o : Operand) → AlikeOperand o o
-operand_self o = operand o.place o.place o.is_spread
-
 arguments_alike : (args others : List PlaceOrSpreadOrHole) → AlikeArguments args others → Paired AlikeOperand (argument_operands args) (argument_operands others)
 arguments_alike args others none = none
 arguments_alike args others (more {xs = xs} {ys = ys} (plain p q) rest) = more (operand p q false) (arguments_alike xs ys rest)

@@ -57,14 +57,6 @@ reason_back reason.StoreLocal = refl
 reason_back reason.ReactiveFunctionArgument = refl
 reason_back reason.Other = refl
 
-kind_low : (k : ValueKind) → at_least 44 (kind_word k) ≡ true
-kind_low kind.Primitive = refl
-kind_low kind.Global = refl
-kind_low kind.Frozen = refl
-kind_low kind.Mutable = refl
-kind_low kind.Context = refl
-kind_low kind.MaybeFrozen = refl
-
 pub kind_high : (k : ValueKind) → at_least 65 (kind_word k) ≡ true
 kind_high kind.Primitive = refl
 kind_high kind.Global = refl

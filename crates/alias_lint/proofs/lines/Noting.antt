@@ -22,10 +22,6 @@ taken : (p : Bool) (b : BlockId) (o : Option BlockId) → is_free o ≡ false �
 taken p b None h = cc
 taken p b (Some a) h = refl
 
-free_noted : (b : BlockId) (o : Option BlockId) → is_free o ≡ true → noted_or true b o ≡ Some b
-free_noted b None h = refl
-free_noted b (Some a) h = cc
-
 noted_twice : (p q : Bool) (b : BlockId) (o : Option BlockId) → noted_or q b (noted_or p b o) ≡ noted_or (p || q) b o
 noted_twice true q b None = refl
 noted_twice false q b None = refl
@@ -87,15 +83,6 @@ noting_next b k ids first now new j d lt is at h =
     let P : Table → Type 0 = λ t. Noting b (drop (k + 1) ids) ids first t in
     subst P (sym is) (noting_more b (drop k ids) (drop (k + 1) ids) ids first now j left h)
 
-pub noting_end : (b : BlockId) (left all : List InstructionId) (first now : Table) → left ≡ [] → Noting b left all first now → IsNoted b all first now
-noting_end b left all first now is h = record {
-  size = h.size;
-  each = λ i lt.
-      sym (unlisted b (get_or now i None))
-      ∙ ap (λ ids. noted_or (lists_number i ids) b (get_or now i None)) (sym is)
-      ∙ h.each i lt;
-}
-
 -- ---- all blocks
 
 -- what is noted, or else what the blocks that are left list
@@ -114,9 +101,6 @@ listed_first false e None rest = refl
 listed_first true e (Some a) rest = refl
 listed_first false e (Some a) rest = refl
 
-pub tabling_begin : (f : HirFunction) (t : Table) → length t ≡ length f.instructions → ((i : ℕ) → i < length t → get_or t i None ≡ None) → Tabling f f.body.blocks t
-tabling_begin f t size none = record { size = size; first = λ i lt. ap (λ o. noted_first o (first_block i f.body.blocks)) (none i lt) }
-
 pub tabling_more : (f : HirFunction) (left rest : List (BlockId × BasicBlock)) (e : BlockId × BasicBlock) (t new : Table) → left ≡ e ∷ rest → IsNoted e.0 e.1.instructions t new → Tabling f left t → Tabling f rest new
 tabling_more f left rest e t new is noted h = record {
   size = noted.size ∙ h.size;
@@ -128,21 +112,8 @@ tabling_more f left rest e t new is noted h = record {
       ∙ h.first i low;
 }
 
-nothing_left : (o : Option BlockId) → noted_first o None ≡ o
-nothing_left None = refl
-nothing_left (Some b) = refl
-
 pub tabling_next : (f : HirFunction) (left rest : List (BlockId × BasicBlock)) (b : BlockId) (x : BasicBlock) (ids : List InstructionId) (t new : Table) → left ≡ (b, x) ∷ rest → ids ≡ x.instructions → IsNoted b ids t new → Tabling f left t → Tabling f rest new
 tabling_next f left rest b x ids t new is same noted h = tabling_more f left rest (b, x) t new is (subst (λ z. IsNoted b z t new) same noted) h
-
-pub tabling_end : (f : HirFunction) (left : List (BlockId × BasicBlock)) (t : Table) → left ≡ [] → Tabling f left t → IsBlockTable f t
-tabling_end f left t is h = record {
-  size = h.size;
-  first = λ i lt.
-      sym (nothing_left (get_or t i None))
-      ∙ ap (λ bs. noted_first (get_or t i None) (first_block i bs)) (sym is)
-      ∙ h.first i lt;
-}
 
 -- ---- look-ups
 
@@ -156,11 +127,6 @@ not_found (Some e) entry h = cc
 
 noted_there : (t : Table) (k : ℕ) (o : Option BlockId) → slice_get t k ≡ Some o → (k < length t) × (get_or t k None ≡ o)
 noted_there t k o h = (slice_get_within t k o h, get_or_from_slice_get t k o None h)
-
-pub block_found : (f : HirFunction) (t : Table) (i : InstructionId) (b : BlockId) → IsBlockTable f t → slice_get t i.0 ≡ Some (Some b) → b ≡ block_of f i
-block_found f t i b table h =
-    let w = noted_there t i.0 (Some b) h in
-    found (find (lists i) f.body.blocks) b f.body.entry (sym (table.first i.0 w.0) ∙ w.1)
 
 pub entry_found : (f : HirFunction) (t : Table) (i : InstructionId) → IsBlockTable f t → slice_get t i.0 ≡ Some None → f.body.entry ≡ block_of f i
 entry_found f t i table h =

@@ -145,9 +145,6 @@ same_some x y h = cc
 first_of_pair : (a b : BlockId) (x y : BasicBlock) → ◌≡◌ {A = Option (BlockId × BasicBlock)} (Some (a, x)) (Some (b, y)) → a ≡ b
 first_of_pair a b x y h = ap (λ (z : BlockId × BasicBlock). z.0) (same_some _ _ h)
 
-second_of_pair : (a b : BlockId) (x y : BasicBlock) → ◌≡◌ {A = Option (BlockId × BasicBlock)} (Some (a, x)) (Some (b, y)) → x ≡ y
-second_of_pair a b x y h = ap (λ (z : BlockId × BasicBlock). z.1) (same_some _ _ h)
-
 -- ---- paths
 
 module _ (func : HirFunction) (env : Environment) where

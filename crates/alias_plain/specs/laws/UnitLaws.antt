@@ -130,9 +130,6 @@ TellsOf u (Ok (NotPlain f i rule)) = UnitBreaksFirst u f i rule
 TellsOf u (Err (fault.NotSettled f)) = UnitNeverSettles u f
 TellsOf u (Err e) = Unit {0}
 
-stop_is : (f g : Option FunctionId) (s r : Stop) → StopsIn f s ≡ StopsIn g r → (f ≡ g) × (s ≡ r)
-stop_is f g s r h = (cc, cc)
-
 module _ (u : HirUnit) (rules : rules_hold u ≡ Ok tt) (root : NamesDiffer u.function) (nested : (k : ℕ) (g : HirFunction) → slice_get u.env.functions k ≡ Some g → NamesDiffer g) where
   root_plain : IsThrough u.function u.env → IsPlain u.function u.env
   root_plain h = function_is_plain u.function u.env root (root_looks u rules) h.tables h.left h.is

@@ -5,7 +5,7 @@ use Rattle.alias_base.specs.declared.ids.IdentifierId.{IdentifierId}
 use Rattle.alias_hir.specs.declared.env.Identifier.{Identifier}
 use Rattle.alias_graph.specs.Reach.{end_at}
 use Rattle.alias_range_pass.specs.Refusals.{recorded}
-use Rattle.alias_ranges.specs.heap.Heap.{New, Copies, StoresInto, History, Object, Holds, IsWithin, itself, stored, Reaches, Writes}
+use Rattle.alias_ranges.specs.heap.Heap.{New, Copies, History, Object, Holds, IsWithin, itself, stored, Reaches, Writes}
 use Rattle.alias_ranges.specs.heap.Making.{makes_once}
 use Rattle.alias_ranges.specs.heap.Paths.{is_forward, history_at}
 use Rattle.alias_ranges.specs.heap.Reading.{HeapIsCovered}
@@ -22,10 +22,6 @@ branching_recorded = refl
 
 abbrev made_three : History
 made_three = New (id 3) ∷ New (id 2) ∷ New (id 1) ∷ New (id 0) ∷ []
-
--- 3 objects are made, the phi takes what 1 holds, and 3 is stored in it
-history_is : history_at by_first_branch ≡ StoresInto (id 3) (id 4) ∷ Copies (id 1) (id 4) ∷ made_three
-history_is = refl
 
 apart : (a b : ℕ) → (a ≡ b → ⊥) → id a ≢ id b
 apart a b h e = h (ap (λ (z : IdentifierId). z.0) e)
