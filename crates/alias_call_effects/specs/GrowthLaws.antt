@@ -15,8 +15,6 @@ grown_through k l m a b = record {
   temporaries = grows_through k.temporaries l.temporaries m.temporaries a.temporaries b.temporaries;
   others = ap (λ (e : Environment). record e { identifiers = m.env.identifiers; types = m.env.types; interned = m.env.interned }) a.others ∙ b.others;
 }
-}
-}
 
 pub grown_by_reports : (env : Environment) (reports : List Interned) (ts : List Temporary) → Grows env.interned reports → HasGrown (kept env ts) (kept (record env { interned = reports }) ts)
 grown_by_reports env reports ts g = record {
