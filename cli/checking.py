@@ -6,7 +6,7 @@ program's."""
 import argparse
 import sys
 
-from cli.building import say
+from cli.saying import say
 from cli.program import answer, run
 
 
