@@ -8,7 +8,8 @@ import shutil
 import subprocess
 import sys
 
-from cli.building import FIRST_BUILD, alone, called, has_kit, proved, say
+from cli.building import alone, called, has_kit, proved
+from cli.saying import FIRST_BUILD, say
 from cli.sources import CRATES, HERE, crates_in_order, digest
 
 LIBRARY = 'jirrambeo'

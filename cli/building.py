@@ -10,20 +10,15 @@ import os
 import shutil
 import signal
 import subprocess
-import sys
 import tempfile
 import threading
 import time
 
+from cli.saying import FIRST_BUILD, NO_KIT, say
 from cli.sources import BUILT, CRATES, HERE, OUT, PARTS, PROGRAM, STAMP, crates_in_order, digest, is_built, stands_on, texts_of
 
 SILENCE = 8  # seconds until the next line of progress
-FIRST_BUILD = 'some 50 minutes'  # docs/GATE.md has what was measured
 PROCESSORS = max(1, min(4, len(os.sched_getaffinity(0))))
-
-
-def say(line):
-    print('jirrambeo: ' + line, file=sys.stderr, flush=True)
 
 
 def minutes(seconds):
@@ -33,7 +28,7 @@ def minutes(seconds):
 def has_kit():
     """Whether the kit is there. Says so where it isn't."""
     if shutil.which('rt') is None:
-        say('the command rt of the Rattle kit is not there: see README.md')
+        say(NO_KIT)
         return False
     return True
 

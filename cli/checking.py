@@ -2,11 +2,11 @@
 
 The certificate is what `certify` writes of the unit, or what anybody says in its place. The program has one input, the unit in one line and the
 certificate behind it; this makes it of two files. Without files the program reads that input from standard input. The exit status is the
-program's."""
+program's, and 2 where a file can't be read."""
 import argparse
 import sys
 
-from cli.building import say
+from cli.saying import say
 from cli.program import answer, run
 
 
@@ -38,7 +38,7 @@ def check(words):
         data = joined(read(given.unit), read(given.certificate))
     except OSError as error:
         say('%s: %s' % (error.filename, error.strerror))
-        return 1
+        return 2
     status, text = answer(['check'], data)
     sys.stdout.buffer.write(text)
     return status

@@ -3,7 +3,8 @@ import json
 import os
 from urllib.parse import quote
 
-VERSION = '0.1.0'
+from cli.saying import VERSION
+
 SCHEMA = 'https://json.schemastore.org/sarif-2.1.0.json'
 
 

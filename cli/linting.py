@@ -6,12 +6,12 @@
   --name NAME          what the source is called in what is printed, in place of FILE
   --offsets UNITS      what spans count in the source: bytes of UTF-8, as the React Compiler's do, or utf16, as JavaScript's indices do
 
-Colour goes to terminals alone, and never where NO_COLOR is set. The exit status is the program's."""
+Colour goes to terminals alone, and never where NO_COLOR is set. The exit status is the program's, and 2 where the source can't be read."""
 import argparse
 import os
 import sys
 
-from cli.building import say
+from cli.saying import say
 from cli.formats import json_lines, sarif
 from cli.frames import frame, summary
 from cli.lints import lints_from
@@ -33,15 +33,11 @@ def options(words):
 
 
 def source_of(given):
-    """The source, or None where there is none; says so where it can't be read."""
+    """The source, or None where none is named. Raises OSError where it can't be read."""
     if given.source is None:
         return None
-    try:
-        with open(given.source, 'rb') as file:
-            return Source(given.name or given.source, file.read(), given.offsets)
-    except OSError as error:
-        say('%s: %s' % (given.source, error.strerror))
-        return None
+    with open(given.source, 'rb') as file:
+        return Source(given.name or given.source, file.read(), given.offsets)
 
 
 def pretty(lints, source, is_coloured):
@@ -54,11 +50,16 @@ def pretty(lints, source, is_coloured):
 def lint(words):
     """Prints the reports on the unit of standard input. Answers the exit status."""
     given = options(words)
+    try:
+        source = source_of(given)
+    except OSError as error:
+        say('%s: %s' % (given.source, error.strerror))
+        return 2
     status, text = answer(['lint'], sys.stdin.buffer.read())
     if status != 0 or given.format == 'text':
         sys.stdout.buffer.write(text)
         return status
-    lints, source = lints_from(text), source_of(given)
+    lints = lints_from(text)
     is_coloured = sys.stdout.isatty() and 'NO_COLOR' not in os.environ
     shapes = {'pretty': lambda: pretty(lints, source, is_coloured), 'json': lambda: json_lines(lints, source), 'sarif': lambda: [sarif(lints, source)]}
     text = ''.join(line + '\n' for line in shapes[given.format]())

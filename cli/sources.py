@@ -1,5 +1,4 @@
 """The crates of the program, and whether it stands built from exactly the sources that are there."""
-import hashlib
 import os
 
 HERE = os.path.dirname(os.path.dirname(os.path.realpath(__file__)))
@@ -50,6 +49,8 @@ def texts_of(names, parts=PARTS):
 
 def digest_of(paths):
     """A digest of the files, with their paths below the repository's top."""
+    import hashlib  # here, since it takes long to load, and most calls read no source
+
     total = hashlib.sha256()
     for path in paths:
         with open(path, 'rb') as source:

@@ -9,7 +9,7 @@ import os
 import sys
 from concurrent.futures import ThreadPoolExecutor
 
-from cli.building import say
+from cli.saying import say
 from cli.linting import source_of
 from cli.lints import report_from
 from cli.program import answer, is_proved
@@ -159,17 +159,18 @@ def view(words):
     """Prints the page of a unit. Answers the exit status."""
     given = options(words)
     try:
+        source = source_of(given)
         with open(given.unit, 'rb') as file:
             data = file.read()
     except OSError as error:
-        say('%s: %s' % (given.unit, error.strerror))
-        return 1
+        say('%s: %s' % (error.filename, error.strerror))
+        return 2
     status, text = answer(['certify'], data)
     if status != 0:
-        sys.stdout.buffer.write(text)
+        say('%s: no page is made: %s' % (given.unit, text.decode(errors='replace').rstrip() or 'status %d' % status))
         return status
     unit, certified = json.loads(data), Certified(text.decode())
     why = (lambda functions: explanations(functions, certified.ranges, data)) if is_proved() else (lambda functions: {})
-    made = page_data(unit, certified, source_of(given), given.title or os.path.basename(given.unit), why)
+    made = page_data(unit, certified, source, given.title or os.path.basename(given.unit), why)
     sys.stdout.buffer.write(page(made).encode('utf-8', errors='replace'))
     return 0

@@ -78,7 +78,7 @@ class Files(unittest.TestCase):
         told = io.StringIO()
         with contextlib.redirect_stderr(told):
             found = Output(0, b'').of([self.UNIT, os.path.join(DATA, 'none')])
-        self.assertEqual(found, (1, b'', None))
+        self.assertEqual(found, (2, b'', None))
         self.assertIn('none: No such file or directory', told.getvalue())
 
     def test_one_file_is_no_call(self):

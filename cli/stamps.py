@@ -1,0 +1,75 @@
+"""The digest of the program's sources, without reading each of them at each call.
+
+As git's index does, a file holds what the system tells of each source and of each folder of them: its size, times and number. Where all of that is as it
+was when the digest was computed, no source changed, came or went, and the digest is that one; where anything differs all of them are read anew. A source
+that was changed a moment ago could change again within one tick of the clock, so nothing is noted until each is older than that."""
+import os
+import time
+
+from cli.sources import CRATES, HERE, OUT, PARTS, crates_in_order, digest
+
+NOTED = os.path.join(OUT, 'sources_seen')
+TICK = 2_000_000_000  # nanoseconds: no file system in use has coarser times
+
+
+def told_of(path):
+    """What the system tells of a file or folder."""
+    found = os.stat(path)
+    return '%d %d %d %d' % (found.st_size, found.st_mtime_ns, found.st_ctime_ns, found.st_ino)
+
+
+def paths_of(names):
+    """The sources of the crates, and each folder in which one could come or go."""
+    yield from (os.path.join(HERE, 'crates.txt'), os.path.join(HERE, 'HANDLES'))
+    for name in names:
+        yield os.path.join(CRATES, name)
+        for part in PARTS:
+            for root, _, files in os.walk(os.path.join(CRATES, name, part)):
+                yield root
+                yield from (os.path.join(root, file) for file in files)
+
+
+def seen(names):
+    """What the system tells of each source and folder."""
+    return {path: told_of(path) for path in paths_of(names)}
+
+
+def is_old(found, now):
+    """Whether all that was found last changed before the tick of now."""
+    return all(max(map(int, told.split()[1:3])) < now - TICK for told in found.values())
+
+
+def noted():
+    """The digest that is noted, where the sources are as they were then."""
+    try:
+        with open(NOTED, encoding='utf-8', errors='surrogateescape') as file:
+            top, total, *lines = file.read().split('\n')
+        if top == HERE and lines and all(told_of(path) == told for path, told in zip(lines[::2], lines[1::2])):
+            return total
+    except (OSError, ValueError):
+        pass
+    return None
+
+
+def note(total, found):
+    """Notes a digest, in one step; nothing where nothing can be written there."""
+    path = '%s.%d' % (NOTED, os.getpid())
+    try:
+        os.makedirs(OUT, exist_ok=True)
+        with open(path, 'w', encoding='utf-8', errors='surrogateescape') as file:
+            file.write('\n'.join([HERE, total, *(text for pair in found.items() for text in pair)]))
+        os.replace(path, NOTED)
+    except OSError:
+        pass
+
+
+def digest_now():
+    """The digest of the program's sources as they are."""
+    total = noted()
+    if total is None:
+        now, names = time.time_ns(), crates_in_order()
+        found = seen(names)
+        total = digest(names)
+        if is_old(found, now) and seen(names) == found:
+            note(total, found)
+    return total
