@@ -1,14 +1,14 @@
 """Builds the library for hosts, hosts/lib/libjirrambeo.a: its crate proved and compiled, with what the kit's heap needs.
 
 Where `rt ci` has passed in this folder, by `./check`, the proved libraries below the crate stand in crates/*/out, and the crate is proved and compiled over
-them, in a minute; else all of them are proved first, as `./jirrambeo build` does, which takes over what it proved. Either way nothing is compiled that isn't
-proved."""
+them, in a minute; else the gate proves a copy of them first, as `./jirrambeo build` does, and what is proved once is kept. Either way nothing is compiled
+that isn't proved."""
 import os
 import shutil
 import subprocess
 import sys
 
-from cli.building import alone, called, has_kit, proved
+from cli.building import alone, called, has_kit, made, proved
 from cli.saying import FIRST_BUILD, say
 from cli.sources import CRATES, HERE, crates_in_order, digest
 
@@ -45,40 +45,40 @@ def note_passed():
     write(PASSED, digest(crates_in_order(LIBRARY)))
 
 
-def library_of(name):
-    return os.path.join(CRATES, name, 'out', 'rlib', name + '.rlib')
+def library_of(name, top=HERE):
+    return made(top, name, os.path.join('rlib', name + '.rlib'))
 
 
-def over_libraries(names, kit):
-    """The command that proves and compiles the crate over the proved libraries of those below it, as `rt lib` does over its own."""
+def over_libraries(names, top, kit):
+    """The command that proves and compiles the crate over the proved libraries of those below it."""
     words = [os.path.join(kit, 'bin', 'rattle'), 'build', '--crate-name', LIBRARY, 'src/lib.rt', '--extern', 'std=%s/rlibs/std.rlib' % kit,
              '-L', 'dependency=%s/rlibs' % kit]
     for name in names[:-1]:
-        words += ['-L', 'dependency=' + os.path.dirname(library_of(name))]
-    words += ['--extern', 'alias_host=' + library_of('alias_host'), '--antt-project', kit + '/rattle/logic/antt-project.json',
+        words += ['-L', 'dependency=' + os.path.dirname(library_of(name, top))]
+    words += ['--extern', 'alias_host=' + library_of('alias_host', top), '--antt-project', kit + '/rattle/logic/antt-project.json',
               '--logic-built', kit + '/logic_built', '--jobs', '1', '--links', LIBRARY + '=', '--crate-type', 'staticlib',
-              '--toolchain', kit + '/toolchain', '--backend', 'llvm', '-o', 'out/libjirrambeo.a']
+              '--toolchain', kit + '/toolchain', '--backend', 'llvm', '-o', MADE]
     return words
 
 
-def compiled_over_libraries(names, kit):
-    """Whether the crate's archive was made over the proved libraries; what the compiler said stands in out/build.log."""
-    with open(os.path.join(OUT, 'build.log'), 'wb') as log:
-        done = subprocess.run(over_libraries(names, kit), cwd=os.path.join(CRATES, LIBRARY), stdin=subprocess.DEVNULL, stdout=log,
+def compiled_over_libraries(names, top, kit):
+    """Whether the crate's archive was made over the proved libraries of a folder; what the compiler said stands in out/archive.log."""
+    with open(os.path.join(OUT, 'archive.log'), 'wb') as log:
+        done = subprocess.run(over_libraries(names, top, kit), cwd=os.path.join(CRATES, LIBRARY), stdin=subprocess.DEVNULL, stdout=log,
                               stderr=subprocess.STDOUT, check=False)
     return done.returncode == 0 and os.path.isfile(MADE)
 
 
 def compiled(names, wanted, kit):
-    """Whether the crate's archive was made, over what rt ci proved where it stands."""
+    """Whether the crate's archive was made, over what rt ci proved where it stands, or over what it proves of a copy."""
     os.makedirs(OUT, exist_ok=True)
     if os.path.exists(MADE):
         os.remove(MADE)
-    if read(PASSED) == wanted and all(map(os.path.isdir, map(library_of, names[:-1]))) and compiled_over_libraries(names, kit):
+    if read(PASSED) == wanted and all(map(os.path.isdir, map(library_of, names[:-1]))) and compiled_over_libraries(names, HERE, kit):
         return True
     say('proving the library and the crates below it, which takes %s the first time on four processors' % FIRST_BUILD)
-    with alone():
-        return proved(names, ['lib']) and os.path.isfile(MADE)
+    with alone(), proved(names) as top:
+        return top is not None and compiled_over_libraries(names, top, kit)
 
 
 def merged(kit):
@@ -106,7 +106,7 @@ def main():
         if os.path.exists(path):
             os.remove(path)
     if not compiled(names, wanted, kit) or not merged(kit):
-        say('the library was not built: see crates/%s/out/build.log' % LIBRARY)
+        say('the library was not built: see the logs in crates/%s/out' % LIBRARY)
         return 1
     if digest(names) != wanted:
         say('the sources changed while the library was built: call again')

@@ -1,12 +1,12 @@
-"""Proves and builds the program, or the library for hosts: crates side by side, as far as they don't stand on each other.
+"""Proves and builds the program, or the library for hosts, by the kit's gate (`rt ci`) over a copy of the crates that it stands on.
 
-One checkout lets one proof go on at a time, since each run locks the crates below its own. So several copies of the sources are proved
-side by side, which take from each other what one of them has proved; this is a matter of the kit. The copies stand outside the
-repository, and go when the program is built; where a build is interrupted they stay, and the next one goes on from there."""
+The gate proves crates side by side, the longest chain first, each over the statements alone of those below it, and keeps what it passed on this machine. So
+a build takes over what `./check` proved, and `./check` what a build did. The copy has no crates of tests and no edits, stands outside the repository, and
+goes when the build ends; of a build that is interrupted the crates that were proved stay kept, and the next one goes on from there."""
 import contextlib
 import fcntl
-import hashlib
 import os
+import re
 import shutil
 import signal
 import subprocess
@@ -15,10 +15,12 @@ import threading
 import time
 
 from cli.saying import FIRST_BUILD, NO_KIT, say
-from cli.sources import BUILT, CRATES, HERE, OUT, PARTS, PROGRAM, STAMP, crates_in_order, digest, is_built, stands_on, texts_of
+from cli.sources import BUILT, CRATES, HERE, OUT, PARTS, PROGRAM, STAMP, crates_in_order, digest, is_built
 
 SILENCE = 8  # seconds until the next line of progress
-PROCESSORS = max(1, min(4, len(os.sched_getaffinity(0))))
+GIVEN = ('stdin', 'stdout', 'args')  # what the gate runs the program on
+PROVED = re.compile(r'rt: (\w+)(?: proved$| is kept:)')
+REFUSED = re.compile(r'rt: (\w+) NOT PROVED$')
 
 
 def minutes(seconds):
@@ -33,154 +35,93 @@ def has_kit():
     return True
 
 
-def kit_shares():
-    """Whether copies of a repository take from each other what was proved: kits that can prove crates by name do."""
-    told = subprocess.run(['rt', 'help'], stdout=subprocess.PIPE, stderr=subprocess.STDOUT, check=False).stdout
-    return b'rt ci NAME' in told
+def fill(top, names):
+    """Copies these crates to a folder, which becomes the top of a repository of its own."""
+    os.makedirs(os.path.join(top, '.git'))
+    shutil.copyfile(os.path.join(HERE, 'HANDLES'), os.path.join(top, 'HANDLES'))
+    with open(os.path.join(HERE, 'crates.txt'), encoding='utf-8') as lines, \
+            open(os.path.join(top, 'crates.txt'), 'w', encoding='utf-8') as copied:
+        copied.writelines(line for line in lines if line.partition(':')[0].split()[:1] in [[name] for name in names])
+    for name in names:
+        folder, copy = os.path.join(CRATES, name), os.path.join(top, 'crates', name)
+        os.makedirs(copy)
+        for part in PARTS:
+            if os.path.isdir(os.path.join(folder, part)):
+                shutil.copytree(os.path.join(folder, part), os.path.join(copy, part))
+        for given in GIVEN:
+            if os.path.isfile(os.path.join(folder, given)):
+                shutil.copyfile(os.path.join(folder, given), os.path.join(copy, given))
 
 
-class Copies:
-    """Copies of the sources, one for each worker. With a single worker it is the repository itself."""
+class Gate:
+    """A run of the gate over a copy of crates, which is told of now and then."""
 
-    def __init__(self, names, count):
-        name = 'jirrambeo-%s' % hashlib.sha256(os.fsencode(HERE)).hexdigest()[:16]
-        self.top = os.path.join(tempfile.gettempdir(), name)
-        self.tops = [HERE] if count == 1 else [os.path.join(self.top, str(number)) for number in range(count)]
-        for top in self.tops:
-            if top != HERE:
-                self.fill(top, names)
+    def __init__(self, names):
+        self.names, self.begun = names, time.monotonic()
+        self.proved, self.refused = set(), []
 
-    @staticmethod
-    def fill(top, names):
-        """Makes the copy's sources those of the repository, and leaves what was proved in it."""
-        os.makedirs(os.path.join(top, 'crates'), exist_ok=True)
-        for file in ('HANDLES', 'crates.txt'):
-            shutil.copyfile(os.path.join(HERE, file), os.path.join(top, file))
-        with open(os.path.join(top, 'crates.txt'), 'w', encoding='utf-8') as lines:
-            with open(os.path.join(HERE, 'crates.txt'), encoding='utf-8') as all_lines:
-                lines.writelines(line for line in all_lines if line.partition(':')[0].split()[:1] in [[name] for name in names])
-        for name in names:
-            for part in PARTS:
-                source, copy = os.path.join(CRATES, name, part), os.path.join(top, 'crates', name, part)
-                shutil.rmtree(copy, ignore_errors=True)
-                if os.path.isdir(source):
-                    shutil.copytree(source, copy)
+    def read(self, line):
+        """Notes what a line of the gate says."""
+        if found := PROVED.match(line):
+            self.proved.add(found[1])
+        if found := REFUSED.match(line):
+            self.refused.append(found[1])
 
-    def remove(self):
-        shutil.rmtree(self.top, ignore_errors=True)
+    def told(self):
+        """How far it is."""
+        return '%d of %d crates proved, %s' % (len(self.proved), len(self.names), minutes(int(time.monotonic() - self.begun)))
 
+    def tell(self, ended):
+        while not ended.wait(SILENCE):
+            say(self.told())
 
-class Build:
-    """A build that goes on: which crates are proved, which are being proved, and which failed. The last crate, which stands on all others, is built by
-    words of rt: a verb, and what comes after the flags."""
-
-    def __init__(self, names, workers, last):
-        self.names, self.workers, self.last, self.begun = names, workers, last, time.monotonic()
-        below = stands_on()
-        self.below = {name: [low for low in below[name] if low in names] for name in names}
-        self.lengths = {name: sum(os.path.getsize(path) for path in texts_of([name], ('src',))) for name in names}
-        self.proved, self.running, self.failed = set(), {}, []
-        self.changed = threading.Condition()
-        self.heights = {}
-
-    def height(self, name):
-        """How long the longest chain of crates from this one upwards is, in bytes of their code, which the times of their proofs follow."""
-        if name not in self.heights:
-            above = [other for other in self.names if name in self.below[other]]
-            self.heights[name] = self.lengths[name] + max((self.height(other) for other in above), default=0)
-        return self.heights[name]
-
-    def jobs(self, name, ready):
-        """On how many processors a crate is proved: those that no other crate takes, and on the longest chain, which ends last, two at least."""
-        others = [other for other in ready if other != name]
-        beside = len(self.running) + min(len(others), self.workers - len(self.running) - 1)
-        is_longest = self.height(name) >= max(map(self.height, [*self.running, *others]), default=0)
-        return min(PROCESSORS, max(PROCESSORS - beside, 2 if is_longest else 1))
-
-    def next_crate(self):
-        """A crate that can be proved now, that with the longest chain above it first, and its processors; or None where no more will be."""
-        with self.changed:
-            while not self.failed:
-                left = [name for name in self.names if name not in self.proved and name not in self.running]
-                ready = [name for name in left if all(low in self.proved for low in self.below[name])]
-                if ready:
-                    name = max(ready, key=self.height)
-                    jobs = self.jobs(name, ready)
-                    self.running[name] = None
-                    return name, jobs
-                if not left:
-                    return None
-                self.changed.wait()
-            return None
-
-    def prove(self, top, name, jobs):
-        """Proves one crate in a copy, or the last one in the repository, over what the copies proved. Answers whether that was done."""
-        is_last = name == self.names[-1]
-        verb, *words = self.last if is_last else ['lib']
-        folder = os.path.join(HERE if is_last else top, 'crates', name)
-        os.makedirs(os.path.join(folder, 'out'), exist_ok=True)
-        os.makedirs(os.path.join(CRATES, name, 'out'), exist_ok=True)
-        with open(os.path.join(CRATES, name, 'out', 'build.log'), 'wb') as log:
-            process = subprocess.Popen(['rt', verb, '--jobs', str(jobs), *words], cwd=folder, stdin=subprocess.DEVNULL, stdout=log,
-                                       stderr=subprocess.STDOUT, start_new_session=True)
-            with self.changed:
-                self.running[name] = process
-            return process.wait() == 0
-
-    def work(self, top):
-        while (found := self.next_crate()) is not None:
-            name, jobs = found
-            done = self.prove(top, name, jobs)
-            with self.changed:
-                del self.running[name]
-                if done:
-                    self.proved.add(name)
-                else:
-                    self.failed.append(name)
-                self.changed.notify_all()
-
-    def tell(self):
-        say('%d of %d crates proved, %s; at %s' % (len(self.proved), len(self.names), minutes(int(time.monotonic() - self.begun)),
-                                                  ' '.join(sorted(self.running)) or 'no other'))
-
-    def stop(self):
-        with self.changed:
-            self.failed.append('')
-            for process in self.running.values():
-                if process is not None and process.poll() is None:
-                    os.killpg(process.pid, signal.SIGTERM)
-            self.changed.notify_all()
-
-    def run(self, tops):
-        """Proves all crates, one worker a copy. Answers whether that was done."""
-        workers = [threading.Thread(target=self.work, args=(top,)) for top in tops]
-        for worker in workers:
-            worker.start()
-        said = 0.0
+    def passed(self, top, command=('rt', 'ci')):
+        """Whether the gate passes in the folder. What it said stands beside the last crate, in out/build.log."""
+        folder = os.path.join(CRATES, self.names[-1], 'out')
+        os.makedirs(folder, exist_ok=True)
+        ended = threading.Event()
+        telling = threading.Thread(target=self.tell, args=(ended,))
+        process = subprocess.Popen(command, cwd=top, stdin=subprocess.DEVNULL, stdout=subprocess.PIPE, stderr=subprocess.STDOUT, text=True,
+                                   errors='replace', start_new_session=True)
+        telling.start()
         try:
-            while any(worker.is_alive() for worker in workers):
-                if time.monotonic() - said > SILENCE:
-                    self.tell()
-                    said = time.monotonic()
-                time.sleep(0.1)
+            with open(os.path.join(folder, 'build.log'), 'w', encoding='utf-8') as log:
+                for line in process.stdout:
+                    log.write(line)
+                    self.read(line)
+            return process.wait() == 0
         finally:
-            if any(worker.is_alive() for worker in workers):
-                self.stop()
-            for worker in workers:
-                worker.join()
-        return not self.failed
+            ended.set()
+            if process.poll() is None:
+                os.killpg(process.pid, signal.SIGTERM)
+                process.wait()
+            telling.join()
 
 
-def proved(names, last):
-    """Proves the crates side by side, the last of them by these words of rt. Answers whether that was done, and says what was refused."""
-    copies = Copies(names, PROCESSORS if kit_shares() else 1)
-    going = Build(names, len(copies.tops), last)
-    if not going.run(copies.tops):
-        for name in going.failed:
-            say('%s was not proved: see crates/%s/out/build.log' % (name, name))
-        return False
-    copies.remove()
-    return True
+@contextlib.contextmanager
+def proved(names):
+    """A folder with a copy of these crates that the gate has passed, and what it made in their out/; None where it refuses one, which is said."""
+    with tempfile.TemporaryDirectory(prefix='jirrambeo-') as room:
+        top = os.path.join(room, 'crates-of-%s' % names[-1])
+        fill(top, names)
+        gate = Gate(names)
+        if gate.passed(top):
+            yield top
+            return
+        for name in gate.refused or names[-1:]:
+            say('%s was not proved: see crates/%s/out/build.log' % (name, names[-1]))
+        yield None
+
+
+def made(top, name, file):
+    """The path of what the gate made of a crate."""
+    return os.path.join(top, 'crates', name, 'out', file)
+
+
+def put(path, to):
+    """Puts a file where it is to stand, in one step."""
+    shutil.copy2(path, to + '.new')
+    os.replace(to + '.new', to)
 
 
 def build(names, wanted):
@@ -191,11 +132,10 @@ def build(names, wanted):
     for path in (STAMP, BUILT):
         if os.path.exists(path):
             os.remove(path)
-    if not proved(names, ['run', '--', '--version']):
-        return False
-    if not os.access(BUILT, os.X_OK):
-        say('the program was not built: see crates/%s/out/build.log' % PROGRAM)
-        return False
+    with proved(names) as top:
+        if top is None:
+            return False
+        put(made(top, PROGRAM, PROGRAM), BUILT)
     if digest(names) != wanted:
         say('the sources changed while they were built: call again')
         return False
@@ -237,7 +177,7 @@ def interrupted(number, frame):
 
 
 def called(call):
-    """What a call answers; 130 where a signal ends it first, and then each proof that goes on has been ended too."""
+    """What a call answers; 130 where a signal ends it first, and then the gate that goes on has been ended too."""
     for number in (signal.SIGTERM, signal.SIGHUP):
         signal.signal(number, interrupted)
     try:

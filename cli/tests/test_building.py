@@ -1,60 +1,52 @@
-"""The order in which a build proves crates, and what it ends with where one is refused. Nothing is proved here."""
+"""What a build gives the gate, what it reads of it, and what it ends with where a crate is refused. Nothing is proved here."""
+import os
+import sys
 import unittest
 from tempfile import TemporaryDirectory
 from threading import Thread
 from unittest.mock import patch
 
 from cli import building
-from cli.building import PROCESSORS, Build
+from cli.building import Gate, fill
 from cli.sources import crates_in_order, stands_on
 
-TOPS = ['first', 'second', 'third', 'fourth']
 
-
-class Recorded(Build):
-    """A build that notes what it would prove, and takes some crates for refused."""
-
-    def __init__(self, refused=()):
-        super().__init__(crates_in_order(), len(TOPS), ['run'])
-        self.refused, self.begun_of, self.told = refused, [], []
-
-    def prove(self, top, name, jobs):
-        with self.changed:
-            self.begun_of.append((name, set(self.proved), jobs))
-        return name not in self.refused
-
-    def tell(self):
-        self.told.append(len(self.proved))
+def ran(lines, status):
+    """A gate that a program of these lines and this status stands for, and whether it passed."""
+    gate = Gate(['low', 'high'])
+    program = 'import sys; print(%r); sys.exit(%d)' % ('\n'.join(lines), status)
+    with TemporaryDirectory() as folder, patch.object(building, 'CRATES', folder):
+        passed = gate.passed(folder, (sys.executable, '-c', program))
+        with open(os.path.join(folder, 'high', 'out', 'build.log'), encoding='utf-8') as log:
+            assert log.read() == '\n'.join(lines) + '\n'
+    return gate, passed
 
 
 class BuildingTest(unittest.TestCase):
-    def test_each_crate_once_and_after_those_below(self):
-        going = Recorded()
-        self.assertTrue(going.run(TOPS))
-        self.assertEqual(sorted(name for name, _, _ in going.begun_of), sorted(crates_in_order()))
-        for name, proved, _ in going.begun_of:
-            self.assertLessEqual(set(stands_on()[name]), proved, name)
-        self.assertEqual(going.begun_of[-1][0], crates_in_order()[-1])
+    def test_the_copy_has_the_crates_and_no_others(self):
+        names = crates_in_order()
+        with TemporaryDirectory() as room:
+            top = os.path.join(room, 'top')
+            fill(top, names)
+            self.assertEqual(sorted(os.listdir(os.path.join(top, 'crates'))), sorted(names))
+            with open(os.path.join(top, 'crates.txt'), encoding='utf-8') as lines:
+                listed = [line.split(':')[0].split()[0] for line in lines]
+            self.assertEqual(sorted(listed), sorted(names))
+            for name in names:
+                self.assertLessEqual(set(stands_on()[name]), set(listed), name)
+                self.assertFalse(os.path.exists(os.path.join(top, 'crates', name, 'must-fail')))
+            self.assertTrue(os.path.isfile(os.path.join(top, 'crates', 'alias_tool', 'args')))
 
-    def test_a_refused_crate_ends_the_build(self):
-        going = Recorded(refused=['alias_hir'])
-        self.assertFalse(going.run(TOPS))
-        self.assertEqual(going.failed, ['alias_hir'])
-        above = [name for name, below in stands_on().items() if 'alias_hir' in below]
-        self.assertFalse({name for name, _, _ in going.begun_of} & set(above))
+    def test_crates_that_are_proved_or_kept_count(self):
+        gate, passed = ran(['rt: low is kept: an earlier run on this machine proved the same files', 'rt: high proved', '2 passed, 0 failed'], 0)
+        self.assertTrue(passed)
+        self.assertEqual((gate.proved, gate.refused), ({'low', 'high'}, []))
+        self.assertTrue(gate.told().startswith('2 of 2 crates proved, 0:0'))
 
-    def test_processors(self):
-        going = Recorded()
-        self.assertEqual(going.jobs('alias_base', ['alias_base']), PROCESSORS)
-        going.running = dict.fromkeys(['alias_read', 'alias_rules', 'alias_validate'])
-        self.assertEqual(going.jobs('alias_made', ['alias_made']), max(1, PROCESSORS - 3))
-        self.assertEqual(going.jobs('alias_lattice', ['alias_lattice', 'alias_made']), min(2, PROCESSORS))
-
-    def test_the_longest_chain_first(self):
-        going = Recorded()
-        for name, below in going.below.items():
-            for low in below:
-                self.assertGreater(going.height(low), going.height(name))
+    def test_a_refused_crate_is_named(self):
+        gate, passed = ran(['rt: low NOT PROVED', 'rt: high NOT PROVED: its library low failed', '0 passed, 2 failed'], 1)
+        self.assertFalse(passed)
+        self.assertEqual((gate.proved, gate.refused), (set(), ['low']))
 
     def test_a_build_waits_for_another(self):
         lines = []
