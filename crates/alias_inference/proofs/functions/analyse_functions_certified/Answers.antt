@@ -1,3 +1,4 @@
+use Rattle.alias_answer_laws.proofs.applies.Calling.{certified_without}
 use Rattle.alias_inference.proofs.Following.{certified_operands, certified_blames, certified_complete}
 use Rattle.alias_inference.proofs.functions.analyse_functions_certified.Goals as goal
 
@@ -9,3 +10,6 @@ returns-clause-blames g c = let a = c.analyse_functions_certified in certified_b
 
 pub returns-clause-complete : goal.returns-clause-complete
 returns-clause-complete g c = let a = c.analyse_functions_certified in λ keeps_all. certified_complete c.args.func.now c.args.env.now a.result a.new.env (a.ensures.exact keeps_all)
+
+pub returns-clause-applies : goal.returns-clause-applies
+returns-clause-applies g c = let a = c.analyse_functions_certified in λ none. certified_without g.P.InnerPasses.keeps_all c.args.func.now c.args.env.now none a.result a.new.env a.ensures.answer
