@@ -1,6 +1,6 @@
 -- From a run to its reply.
 use Rattle.std.proofs.Common.{ℕ, ◌≡◌, List, [], Option, Some, None, false, IsTrue, arith, refl, sym, subst, inl, inr}
-use Rattle.alias_stream.specs.Streams.{HasFailed}
+use Rattle.alias_stream.specs.Streams.{Adds, HasFailed}
 use Rattle.alias_run.specs.declared.command.Command.{Command}
 use Rattle.alias_run.specs.declared.command.Command.TheVariants.{Infer, Certify, Check, Lint, Explain, ExplainFunction, Plain, Made, Help, Version}
 use Rattle.alias_run.specs.declared.status.Status.{Status}
@@ -9,10 +9,11 @@ use Rattle.alias_run.specs.declared.answer.Answer.{Answer}
 use Rattle.alias_run.specs.declared.query.Query.{Query}
 use Rattle.alias_run.specs.declared.query.Query.TheVariants.{Inference, Acceptance, Lints, Explanation, FunctionExplanation, Plainness}
 use Rattle.alias_run.specs.Findings.{IsFound, IsRead}
-use Rattle.alias_run.specs.Runs.{IsRun, IsHeadline}
+use Rattle.alias_run.specs.Runs.{IsRun, IsHeadline, IsComplete, IsAccepting}
 use Rattle.alias_run.specs.Statuses.{status_code}
+use Rattle.alias_run.specs.Texts.{text_of, IsCertifying}
 use Rattle.alias_run.proofs.Running.{no_write_fault}
-use Rattle.alias_host.specs.Hosts.{IsReply, text_kept}
+use Rattle.alias_host.specs.Hosts.{IsReply, KeepsPromises, text_kept}
 
 false_no : IsTrue false → ⊥
 false_no t = cc
@@ -55,28 +56,33 @@ some_held : (xs ys : List ℕ) → Some xs ≡ Some ys → xs ≡ ys
 some_held xs ys e = cc
 
 module _ (asked : Option Command) (input : List ℕ) (F : Type 0) (unfailing : F → ⊥) (bytes : List ℕ) where
-  pub replies : (status : Status) (i : Answer) → IsRun asked (Some input) F F (Some []) (Some bytes) status i → IsHeadline asked (Some input) (Some []) (Some bytes) status i
+  -- the whole text was written
+  whole : (status : Status) (i : Answer) → IsFound asked (Some input) F status i → Adds (Some []) (text_of asked status i) (Some bytes) → IsHeadline asked (Some input) (Some []) (Some bytes) status i → IsCertifying asked i (text_of asked status i)
+      → (j : Answer) × IsFound asked (Some input) ⊥ status j × IsHeadline asked (Some input) (Some []) (Some bytes) status j × (bytes ≡ text_of asked status j) × IsCertifying asked j bytes
+  whole status i f t h c = let is = some_held _ _ t in (i, found (Some input) F unfailing asked status i f, h, is, subst (IsCertifying asked i) (sym is) c)
+
+  pub replies : (status : Status) (i : Answer) → IsRun asked (Some input) F F (Some []) (Some bytes) status i → IsHeadline asked (Some input) (Some []) (Some bytes) status i → IsCertifying asked i (text_of asked status i)
       → IsReply asked input status (text_kept status bytes)
-  replies Done i r h = (i, found (Some input) F unfailing asked Done i r.0, h, some_held _ _ r.1)
-  replies Words i r h = (i, found (Some input) F unfailing asked Words i r.0, h, some_held _ _ r.1)
-  replies NotJson i r h = (i, found (Some input) F unfailing asked NotJson i r.0, h, some_held _ _ r.1)
-  replies (NotUnit pointer rule) i r h = (i, found (Some input) F unfailing asked (NotUnit pointer rule) i r.0, h, some_held _ _ r.1)
-  replies (Unfit fault) i r h = (i, found (Some input) F unfailing asked (Unfit fault) i r.0, h, some_held _ _ r.1)
-  replies (BadLine number) i r h = (i, found (Some input) F unfailing asked (BadLine number) i r.0, h, some_held _ _ r.1)
-  replies (Rejected fault) i r h = (i, found (Some input) F unfailing asked (Rejected fault) i r.0, h, some_held _ _ r.1)
-  replies (PlainRefused fault) i r h = (i, found (Some input) F unfailing asked (PlainRefused fault) i r.0, h, some_held _ _ r.1)
-  replies (Refused error) i r h = (i, found (Some input) F unfailing asked (Refused error) i r.0, h, some_held _ _ r.1)
-  replies NotHere i r h = (i, found (Some input) F unfailing asked NotHere i r.0, h, some_held _ _ r.1)
-  replies ReadFault i r h = (i, found (Some input) F unfailing asked ReadFault i r.0, h, some_held _ _ r.1)
-  replies TooLong i r h = (i, found (Some input) F unfailing asked TooLong i r.0, h, some_held _ _ r.1)
-  replies WriteFault i r h = absurd (unfailing r.0)
-  replies Memory i r h = refl
+  replies Done i r h c = whole Done i r.0 r.1 h c
+  replies Words i r h c = whole Words i r.0 r.1 h c
+  replies NotJson i r h c = whole NotJson i r.0 r.1 h c
+  replies (NotUnit pointer rule) i r h c = whole (NotUnit pointer rule) i r.0 r.1 h c
+  replies (Unfit fault) i r h c = whole (Unfit fault) i r.0 r.1 h c
+  replies (BadLine number) i r h c = whole (BadLine number) i r.0 r.1 h c
+  replies (Rejected fault) i r h c = whole (Rejected fault) i r.0 r.1 h c
+  replies (PlainRefused fault) i r h c = whole (PlainRefused fault) i r.0 r.1 h c
+  replies (Refused error) i r h c = whole (Refused error) i r.0 r.1 h c
+  replies NotHere i r h c = whole NotHere i r.0 r.1 h c
+  replies ReadFault i r h c = whole ReadFault i r.0 r.1 h c
+  replies TooLong i r h c = whole TooLong i r.0 r.1 h c
+  replies WriteFault i r h c = absurd (unfailing r.0)
+  replies Memory i r h c = refl
 
 -- the same, of values that are known by equations
 pub replies_as : (asked : Option Command) (input bytes : List ℕ) (known held held' : Option (List ℕ)) (status status' : Status) (i : Answer) (text : List ℕ)
     → known ≡ Some input → held ≡ Some [] → held' ≡ Some bytes → status' ≡ status → text ≡ text_kept status bytes
-    → IsRun asked known (HasFailed 0 0 false) (HasFailed 0 0 false) held held' status i → IsHeadline asked known held held' status i → IsReply asked input status' text
-replies_as asked input bytes known held held' status status' i text k h h' s t r done =
+    → IsRun asked known (HasFailed 0 0 false) (HasFailed 0 0 false) held held' status i → IsHeadline asked known held held' status i → IsCertifying asked i (text_of asked status i) → IsReply asked input status' text
+replies_as asked input bytes known held held' status status' i text k h h' s t r done certifies =
     let F = HasFailed 0 0 false in
     let r1 : IsRun asked (Some input) F F held held' status i = subst (λ z. IsRun asked z F F held held' status i) k r in
     let r2 : IsRun asked (Some input) F F (Some []) held' status i = subst (λ z. IsRun asked (Some input) F F z held' status i) h r1 in
@@ -84,11 +90,46 @@ replies_as asked input bytes known held held' status status' i text k h h' s t r
     let d1 : IsHeadline asked (Some input) held held' status i = subst (λ z. IsHeadline asked z held held' status i) k done in
     let d2 : IsHeadline asked (Some input) (Some []) held' status i = subst (λ z. IsHeadline asked (Some input) z held' status i) h d1 in
     let d3 : IsHeadline asked (Some input) (Some []) (Some bytes) status i = subst (λ z. IsHeadline asked (Some input) (Some []) z status i) h' d2 in
-    let a : IsReply asked input status (text_kept status bytes) = replies asked input F unfailed bytes status i r3 d3 in
+    let a : IsReply asked input status (text_kept status bytes) = replies asked input F unfailed bytes status i r3 d3 certifies in
     let b : IsReply asked input status text = subst (λ z. IsReply asked input status z) (sym t) a in
     subst (λ z. IsReply asked input z text) (sym s) b
 
+-- what a run promises whose source and sink may fail, where neither does
+complete_of : (asked : Option Command) (known : Option (List ℕ)) (F : Type 0) → (F → ⊥) → (status : Status) → IsComplete asked known F F status → IsComplete asked known ⊥ ⊥ status
+unfolding IsComplete
+complete_of (Some Infer) known F unfailing status h = λ bytes u is short reading rules plain settles reads writes. h bytes u is short reading rules plain settles unfailing unfailing
+complete_of (Some Certify) known F unfailing status h = λ bytes u is short reading rules plain settles reads writes. h bytes u is short reading rules plain settles unfailing unfailing
+complete_of (Some (Made seed size)) known F unfailing status h = λ writes. h unfailing
+complete_of asked known F unfailing status h = tt
+
+accepting_of : (asked : Option Command) (known : Option (List ℕ)) (F : Type 0) → (F → ⊥) → (status : Status) → IsAccepting asked known F F status → IsAccepting asked known ⊥ ⊥ status
+unfolding IsAccepting
+accepting_of (Some Check) known F unfailing status h = λ bytes u i is short reading rules infers certificate reads writes. h bytes u i is short reading rules infers certificate unfailing unfailing
+accepting_of asked known F unfailing status h = tt
+
+pub promises_as : (asked : Option Command) (input : List ℕ) (known : Option (List ℕ)) (status status' : Status) → known ≡ Some input → status' ≡ status
+    → IsComplete asked known (HasFailed 0 0 false) (HasFailed 0 0 false) status → IsAccepting asked known (HasFailed 0 0 false) (HasFailed 0 0 false) status → KeepsPromises asked input status'
+promises_as asked input known status status' k s c a =
+    let F = HasFailed 0 0 false in
+    subst (KeepsPromises asked input) (sym s)
+    (complete_of asked (Some input) F unfailed status (subst (λ z. IsComplete asked z F F status) k c), accepting_of asked (Some input) F unfailed status (subst (λ z. IsAccepting asked z F F status) k a))
+
 -- memory ran out
+memory_completes : (asked : Option Command) (known : Option (List ℕ)) → IsComplete asked known ⊥ ⊥ Memory
+unfolding IsComplete
+memory_completes (Some Infer) known = λ bytes u is short reading rules plain settles reads writes. tt
+memory_completes (Some Certify) known = λ bytes u is short reading rules plain settles reads writes. tt
+memory_completes (Some (Made seed size)) known = λ writes. tt
+memory_completes asked known = tt
+
+memory_accepts : (asked : Option Command) (known : Option (List ℕ)) → IsAccepting asked known ⊥ ⊥ Memory
+unfolding IsAccepting
+memory_accepts (Some Check) known = λ bytes u i is short reading rules infers certificate reads writes. tt
+memory_accepts asked known = tt
+
+pub ran_out_promises : (asked : Option Command) (input : List ℕ) (status : Status) → status ≡ Memory → KeepsPromises asked input status
+ran_out_promises asked input status s = subst (KeepsPromises asked input) (sym s) (memory_completes asked (Some input), memory_accepts asked (Some input))
+
 pub ran_out_replies : (asked : Option Command) (input : List ℕ) (status : Status) (text : List ℕ) → status ≡ Memory → text ≡ [] → IsReply asked input status text
 ran_out_replies asked input status text s t = subst (λ z. IsReply asked input z text) (sym s) t
 

@@ -2,7 +2,7 @@
 ghost use Rattle.std.specs.Prelude.{◌≡◌, [], Option};
 ghost use Rattle.alias_run.specs.Commands.{command_of};
 ghost use Rattle.alias_run.specs.declared.command.Command.{Command as Asked};
-ghost use Rattle.alias_host.specs.Hosts.{IsAsked, IsReply, is_memory, text_kept};
+ghost use Rattle.alias_host.specs.Hosts.{IsAsked, IsReply, KeepsPromises, is_memory, text_kept};
 
 use crate::bytes::{BytesSink, SliceSource};
 use crate::words::words_of;
@@ -59,7 +59,8 @@ fn replied(alloc: Global, outcome: Outcome, text: Vec<u8>) -> Reply
 
 /// What these words and an input lead to.
 fn reply_to_words(alloc: Global, words: &[Text], input: &[u8]) -> Reply
-    ensures { IsReply (command_of words.now) input.now result.status result.text.items }
+    ensures reply { IsReply (command_of words.now) input.now result.status result.text.items }
+    ensures promises { KeepsPromises (command_of words.now) input.now result.status }
 {
     let mut source = SliceSource::new(input);
     let mut sink = BytesSink::new(alloc);
@@ -69,7 +70,7 @@ fn reply_to_words(alloc: Global, words: &[Text], input: &[u8]) -> Reply
 
 /// What a line of words and an input lead to.
 pub fn reply_to_line(alloc: Global, line: &[u8], input: &[u8]) -> Reply
-    ensures { (asked : Option Asked) × IsAsked line.now asked × IsReply asked input.now result.status result.text.items }
+    ensures { (asked : Option Asked) × IsAsked line.now asked × IsReply asked input.now result.status result.text.items × KeepsPromises asked input.now result.status }
 {
     let Ok(line) = str::from_utf8(line) else {
         return reply_to_words(alloc, &[], input);
