@@ -29,7 +29,6 @@ module _ (u : HirUnit) (function : Option FunctionId) where
   next_of n ns found xs (Err NotHere) is h all = each_of ns found xs h all
   next_of n ns found xs (Err (TooMany which)) is h all = cc
   next_of n ns found xs (Err (Memory e)) is h all = cc
-
   each_of [] found xs h all = let same : found ≡ xs = cc in subst Alone same h
   each_of (n ∷ ns) found xs h all = next_of n ns found xs (explained u function (numbered n)) refl h all
 

@@ -43,10 +43,13 @@ fn push_found(
 {
     match explanation {
         None => Ok(()),
-        Some(explanation) => found.push(IdentifierExplanation {
-            identifier,
-            explanation,
-        }),
+        Some(explanation) => {
+            found.push(IdentifierExplanation {
+                identifier,
+                explanation,
+            })?;
+            Ok(())
+        }
     }
 }
 

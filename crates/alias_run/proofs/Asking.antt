@@ -97,7 +97,6 @@ module _ (u : HirUnit) (f : Option FunctionId) (never : (id : IdentifierId) (whi
   next_numbered n ns found which (Err explain.NotHere) is h = each_numbered ns found which h
   next_numbered n ns found which (Err (explain.TooMany other)) is h = never (numbered n) other is
   next_numbered n ns found which (Err (explain.Memory e)) is h = cc
-
   each_numbered [] found which h = cc
   each_numbered (n ∷ ns) found which h = next_numbered n ns found which (explained u f (numbered n)) refl h
 

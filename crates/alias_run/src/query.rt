@@ -16,7 +16,9 @@ pub enum Query {
         identifier: IdentifierId,
     },
     /// Why the range of each identifier of a function ends where it does. `None` is the root.
-    FunctionExplanation { function: Option<FunctionId> },
+    FunctionExplanation {
+        function: Option<FunctionId>,
+    },
     /// Whether it is plain.
     Plainness,
 }
