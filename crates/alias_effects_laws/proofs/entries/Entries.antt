@@ -41,7 +41,7 @@ use Rattle.alias_step.specs.block.Blocks.{infer_block}
 use Rattle.alias_step.specs.block.Contexts.{BlockContext, context_of}
 use Rattle.alias_step.specs.block.Initial.{initial_state}
 use Rattle.alias_step.specs.block.ProperLaws.{proper_initial_state}
-use Rattle.alias_step.specs.block.ReplayLaws.{again_infer_block}
+use Rattle.alias_walks.specs.Blocks.{again_infer_block}
 use Rattle.alias_step_laws.specs.steps.FunctionSiteLaws.{has_join}
 use Rattle.alias_step_laws.specs.steps.StepLaws.{InstructionWithin}
 use Rattle.alias_step_laws.specs.steps.Within.{FunctionWithin, CreatedWithin, EffectsWithin, TablesWithin}
@@ -57,7 +57,7 @@ use Rattle.alias_effects_laws.proofs.entries.Keeping.{Kept, solution_keeps}
 use Rattle.alias_effects_laws.proofs.entries.Leading.{Placed, Counted}
 use Rattle.alias_effects_laws.proofs.entries.States.{Stating, named_join, stating_on, state_named}
 use Rattle.alias_effects_laws.proofs.entries.Stepping.{InTable, InstructionKnown}
-use Rattle.alias_step_laws.specs.steps.TableLaws.{all_mapped as all_on}
+use Rattle.alias_walks.specs.Words.{all_mapped as all_on}
 
 -- ---- lists
 
