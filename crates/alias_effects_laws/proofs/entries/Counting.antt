@@ -126,7 +126,10 @@ module _ (env : Environment) (F : FunctionId → Type 0) where
     new_counted u y false room none e = not_given _ y u e
 
     old_within : (x : Temporary) → temp_like key t.temporaries ≡ Some x → PlaceWithin env t x.place
-    old_within x is = first_has same_temp key_in (Below (length t.temporaries)) key t.temporaries x is (numbered_below [] t.temporaries h.temporaries)
+    old_within x is =
+        let i = first_has same_temp key_in (Below (length {A = Temporary} [] + length t.temporaries)) key t.temporaries x is (numbered_below [] t.temporaries h.temporaries) in
+        let z : length {A = Temporary} [] ≡ 0 = refl in
+        omega (arith, i, z)
 
     after_counted : (u : TableLists) (y : Place) (o : Option Temporary) → temp_like key t.temporaries ≡ o → temporary_after o env key span t ≡ Ok (y, u) → Counted u × PlaceWithin env u y
     after_counted u y None is e = new_counted u y (has_room (length env.identifiers) (length env.types) (length t.temporaries)) refl is e
