@@ -2,12 +2,11 @@
 use Rattle.std.specs.Prelude.{◌≡◌, ℕ, ◌+◌, ◌<◌, cond, Bool, true, false, if◌then◌else◌, ◌&&◌, ◌==◌, List, [], ◌∷◌, ◌++◌, length, Option, Some, None, Result, Ok, Err, slice_get, refl}
 use Rattle.std.proofs.Common.{ap, sym, ◌∙◌, subst}
 use Rattle.std.specs.List.{AllByRecursion}
+use Rattle.std.specs.Option.{option_map_or}
 use Rattle.alias_base.specs.declared.ids.BlockId.{BlockId}
 use Rattle.alias_base.specs.declared.ids.FunctionId.{FunctionId}
 use Rattle.alias_base.specs.declared.ids.InstructionId.{InstructionId}
-use Rattle.alias_hir.specs.Effects.{effect_places}
 use Rattle.alias_hir.specs.Values.{places_of, created}
-use Rattle.alias_hir.specs.declared.effect.AliasingEffect.{AliasingEffect}
 use Rattle.alias_hir.specs.declared.env.Environment.{Environment}
 use Rattle.alias_hir.specs.declared.error.Counter.TheVariants.{Identifiers}
 use Rattle.alias_hir.specs.declared.hir.BasicBlock.{BasicBlock}
@@ -15,11 +14,14 @@ use Rattle.alias_hir.specs.declared.hir.HirFunction.{HirFunction}
 use Rattle.alias_hir.specs.declared.hir.Instruction.{Instruction}
 use Rattle.alias_hir.specs.declared.hir.Phi.{Phi}
 use Rattle.alias_hir.specs.declared.place.Place.{Place}
+use Rattle.alias_hir.specs.declared.terminal.Terminal.{Terminal}
+use Rattle.alias_hir.specs.declared.terminal.Terminal.TheVariants.{Return}
 use Rattle.alias_visit.specs.Operands.{context_at}
 use Rattle.alias_visit.specs.Places.{created_places}
 use Rattle.alias_lattice.specs.Flows.{Stepped, IsReached}
 use Rattle.alias_lattice.specs.States.{State}
-use Rattle.alias_tables.specs.GrowingLaws.{grows_self}
+use Rattle.alias_apply.specs.freezing.Contexts.{context_in}
+use Rattle.alias_facts.specs.Handlers.{binding_at}
 use Rattle.alias_tables.specs.ReplayLaws.{tables_are, not_given}
 use Rattle.alias_tables.specs.Tables.{TableLists, new_place, temporary, temporary_after, has_room}
 use Rattle.alias_tables.specs.Temporaries.{same_temp, temp_like, temporary_of}
@@ -37,10 +39,11 @@ use Rattle.alias_certificate.specs.declared.fault.CheckFault.{CheckFault}
 use Rattle.alias_certificate.specs.declared.fault.CheckFault.TheVariants as fault
 use Rattle.alias_cert.specs.function.Temporaries.{is_key_there, next_number, given, temporary_stated, temporaries_stated}
 use Rattle.alias_effects_laws.specs.entries.Named.{KeyNamed, AreNumbered}
-use Rattle.alias_effects_laws.proofs.entries.Blocks.{OptionKnown, AreKnown, PhisNamed, block_inferred}
-use Rattle.alias_effects_laws.proofs.entries.Leading.{Placed, Counted}
+use Rattle.alias_effects_laws.proofs.entries.Blocks.{OptionNamed, AreNamed, PhisNamed, ReturnNamed, block_named}
+use Rattle.alias_effects_laws.proofs.entries.Counting.{Counted}
+use Rattle.alias_effects_laws.proofs.entries.Instructions.{InstructionNamed}
+use Rattle.alias_effects_laws.proofs.entries.NamedLaw.{InTable, IsThere, Naming}
 use Rattle.alias_effects_laws.proofs.entries.States.{Stating, stating_on}
-use Rattle.alias_effects_laws.proofs.entries.Stepping.{InTable, InstructionKnown}
 use Rattle.alias_answer_laws.proofs.order.Ordering.{went}
 use Rattle.alias_certificate_laws.specs.accepting.Alike.{none, more, moved, of_key, AlikeTemporaries}
 use Rattle.alias_certificate_laws.proofs.accepting.Calling.{same_length}
@@ -108,21 +111,25 @@ module _ (env other : Environment) (identifiers : length env.identifiers ≡ len
         numbered_too _ _ us vs (paired_append d (more (of_key k p q) none)) rest h.1,
       )
 
-  -- ---- instructions that are known
+  -- ---- instructions that are named
 
   all_too : (P Q : Place → Type 0) → ((p : Place) → P p → Q p) → (ps : List Place) → AllByRecursion P ps → AllByRecursion Q ps
   all_too P Q f [] h = tt
   all_too P Q f (p ∷ ps) h = (f p h.0, all_too P Q f ps h.1)
 
-  in_table_too : (p : Place) → InTable env p → InTable other p
+  pub in_table_too : (p : Place) → InTable env p → InTable other p
   in_table_too p h = subst (λ n. p.identifier.0 < n) identifiers h
+
+  pub return_too : (end : Terminal) → ReturnNamed env end → ReturnNamed other end
+  return_too (Return id value effects) h = in_table_too value h
+  return_too end h = tt
 
   module _ (F : FunctionId → Type 0) (contexts : (f : FunctionId) → context_at env f ≡ context_at other f) where
     places_same : (o : Option FunctionId) → created_places env o ≡ created_places other o
     places_same None = refl
     places_same (Some f) = contexts f
 
-    instruction_too : (i : Instruction) → InstructionKnown env F i → InstructionKnown other F i
+    instruction_too : (i : Instruction) → InstructionNamed env F i → InstructionNamed other F i
     instruction_too i k = record {
       lvalue = in_table_too i.lvalue k.lvalue;
       places = all_too (InTable env) (InTable other) in_table_too (places_of i.value) k.places;
@@ -130,29 +137,36 @@ module _ (env other : Environment) (identifiers : length env.identifiers ≡ len
       created = k.created;
     }
 
-    option_too : (o : Option Instruction) → OptionKnown env F o → OptionKnown other F o
+    option_too : (o : Option Instruction) → OptionNamed env F o → OptionNamed other F o
     option_too None k = tt
     option_too (Some i) k = instruction_too i k
 
-    pub known_too : (func : HirFunction) (ids : List InstructionId) → AreKnown env F func ids → AreKnown other F func ids
-    known_too func [] k = tt
-    known_too func (id ∷ ids) k = (option_too (slice_get func.instructions id.0) k.0, known_too func ids k.1)
+    pub named_too : (func : HirFunction) (ids : List InstructionId) → AreNamed env F func ids → AreNamed other F func ids
+    named_too func [] k = tt
+    named_too func (id ∷ ids) k = (option_too (slice_get func.instructions id.0) k.0, named_too func ids k.1)
+
+    context_same : (o : Option HirFunction) → context_in o ≡ option_map_or (λ (g : HirFunction). g.context) o []
+    context_same None = refl
+    context_same (Some g) = refl
+
+    pub there_too : (f : FunctionId) → IsThere env f → IsThere other f
+    there_too f h = (
+      subst (λ n. f.0 < n) functions h.0,
+      subst (AllByRecursion (InTable other)) (context_same (slice_get env.functions f.0) ∙ contexts f ∙ sym (context_same (slice_get other.functions f.0)))
+          (all_too (InTable env) (InTable other) in_table_too (context_in (slice_get env.functions f.0)) h.1),
+    )
 
 -- ---- the step of a block
 
 abbrev pub AnyNumber : ℕ → Type 0
 AnyNumber n = Unit {0}
 
-any_places : (ps : List Place) → AllByRecursion (λ (p : Place). AnyNumber p.identifier.0) ps
-any_places [] = tt
-any_places (p ∷ ps) = (tt, any_places ps)
+module _ (env : Environment) (func : HirFunction) (b : Bool) (F : FunctionId → Type 0) (functions : (f : FunctionId) → F f → IsThere env f)
+    (named : (n : ℕ) (block : BlockId × BasicBlock) → IsReached (numbered (context_of env func b)).flow n → slice_get func.body.blocks n ≡ Some block → AreNamed env F func block.1.instructions)
+    (bindings : (d : BlockId) (p : Place) → binding_at (context_of env func b).facts.handlers d ≡ Some p → InTable env p) (returns : (n : ℕ) (block : BlockId × BasicBlock) → slice_get func.body.blocks n ≡ Some block → ReturnNamed env block.1.terminal) where
+  names : Naming env (λ t. AnyNumber) F
+  names = record { identifiers = λ t n h. tt; later = λ t u x n h. tt; functions = functions }
 
-any_placed : (es : List AliasingEffect) → AllByRecursion (Placed AnyNumber) es
-any_placed [] = tt
-any_placed (e ∷ es) = (any_places (effect_places e), any_placed es)
-
-module _ (env : Environment) (func : HirFunction) (b : Bool) (F : FunctionId → Type 0) (functions : (f : FunctionId) → F f → f.0 < length env.functions)
-    (known : (n : ℕ) (block : BlockId × BasicBlock) → IsReached (numbered (context_of env func b)).flow n → slice_get func.body.blocks n ≡ Some block → AreKnown env F func block.1.instructions) where
   any_phis : (ps : List Phi) → PhisNamed AnyNumber F ps
   any_phis [] = tt
   any_phis (p ∷ ps) = (tt, any_phis ps)
@@ -161,8 +175,8 @@ module _ (env : Environment) (func : HirFunction) (b : Bool) (F : FunctionId →
       → step_at (context_of env func b) o t x ≡ Stepped y u k → Counted env F u
   step_counts n None t x y u k at reached s c e = let same : t ≡ u = cc in subst (Counted env F) same c
   step_counts n (Some block) t x y u k at reached s c e =
-      ((block_inferred (context_of env func b) AnyNumber F u.first (any_placed u.first) (λ m h. tt) functions (λ d p h. tt) block.0 block.1 x (any_phis block.1.phis) (known n block reached at)).leads
-      t u (y, k) s c (grows_self u.first) (outcome_is (infer_block (context_of env func b) block.0 block.1 x t) y u k e)).0
+      (block_named (context_of env func b) (λ t. AnyNumber) F names bindings block.0 block.1 x t u y k (any_phis block.1.phis) (named n block reached at) (returns n block at) c s
+      (outcome_is (infer_block (context_of env func b) block.0 block.1 x t) y u k e)).0
 
   -- a step of a reached block, from a state whose function sites have F
   pub flow_counts : (n : ℕ) (t : TableLists) (x y : State) (u : TableLists) (k : BlockEffects) → IsReached (numbered (context_of env func b)).flow n → Stating AnyNumber F x → Counted env F t → (numbered (context_of env func b)).flow.step t n x ≡ Stepped y u k → Counted env F u

@@ -1,6 +1,7 @@
 -- The check of a function follows its effects pass: it accepts what is said of it, and ends with what is alike.
 use Rattle.std.specs.Prelude.{replicate, Result, map, slice_get}
 use Rattle.std.proofs.Common.{◌≡◌, ℕ, ◌+◌, ◌<◌, Bool, true, List, [], ◌∷◌, ◌++◌, length, Option, Some, None, Ok, refl, ap, sym, ◌∙◌, subst}
+use Rattle.std.specs.List.{AllByRecursion}
 use Rattle.std.specs.Option.{is_some}
 use Rattle.alias_base.specs.Find.{value_at}
 use Rattle.alias_base.specs.declared.ids.BlockId.{BlockId}
@@ -8,7 +9,9 @@ use Rattle.alias_base.specs.declared.ids.FunctionId.{FunctionId}
 use Rattle.alias_hir.specs.declared.env.Environment.{Environment}
 use Rattle.alias_hir.specs.declared.env.Identifier.{Identifier}
 use Rattle.alias_hir.specs.declared.hir.BasicBlock.{BasicBlock}
+use Rattle.alias_facts.specs.Handlers.{binding_at}
 use Rattle.alias_hir.specs.declared.hir.HirFunction.{HirFunction}
+use Rattle.alias_hir.specs.declared.place.Place.{Place}
 use Rattle.alias_lattice.specs.Flows.{IsReached, at_entry, by_edge}
 use Rattle.alias_lattice.specs.States.{State, state_join, state_below}
 use Rattle.alias_flow.specs.Machine.{SolverState, VisitLog, Solved}
@@ -31,10 +34,11 @@ use Rattle.alias_certificate.specs.declared.certificate.CertFunction.{CertFuncti
 use Rattle.alias_certificate.specs.declared.fault.CheckFault.{CheckFault}
 use Rattle.alias_cert.specs.function.Functions.{checked_end, function_solved}
 use Rattle.alias_cert.specs.function.Temporaries.{is_key_there}
-use Rattle.alias_effects_laws.proofs.entries.Blocks.{AreKnown}
-use Rattle.alias_effects_laws.proofs.entries.Entries.{tables_named, reached_known}
+use Rattle.alias_effects_laws.proofs.entries.Blocks.{AreNamed, ReturnNamed}
+use Rattle.alias_effects_laws.proofs.entries.Entries.{bindings_named, return_named, tables_named, instructions_named}
 use Rattle.alias_effects_laws.proofs.entries.Keeping.{at_holds}
-use Rattle.alias_effects_laws.proofs.entries.Leading.{MakesAll, ReadsHave, Counted}
+use Rattle.alias_effects_laws.proofs.entries.Counting.{EffectNamed, ReadsHave, Counted}
+use Rattle.alias_effects_laws.proofs.entries.NamedLaw.{InTable, IsThere}
 use Rattle.alias_effects_laws.proofs.entries.States.{Stating}
 use Rattle.alias_certificate_laws.specs.accepting.Alike.{none, AlikeTemporaries, Elsewhere, elsewhere}
 use Rattle.alias_certificate_laws.specs.accepting.Certifying.{NamesItsOwn}
@@ -48,7 +52,7 @@ use Rattle.alias_accepted_laws.specs.Spans.{with_ids, SpansAreNotRead}
 use Rattle.alias_accepted_laws.proofs.Carrying.{instructions_alike, terminals_alike, recorded_carry}
 use Rattle.alias_accepted_laws.proofs.Certifying.{EndsSo, certifies}
 use Rattle.alias_accepted_laws.proofs.Checking.{check_keeps_tables}
-use Rattle.alias_accepted_laws.proofs.Noting.{IsFresh, stated_fresh, numbered_too, known_too, AnyNumber, any_stating, flow_counts}
+use Rattle.alias_accepted_laws.proofs.Noting.{IsFresh, stated_fresh, numbered_too, in_table_too, return_too, named_too, there_too, AnyNumber, any_stating, flow_counts}
 use Rattle.alias_accepted_laws.proofs.Reading.{CreatedThere, reached_create, Own, all_set}
 use Rattle.alias_accepted_laws.proofs.Solved.{IsSolved, is_solved, solution, others}
 
@@ -119,6 +123,12 @@ module _ (names : NamesAreThere) (spans : SpansAreNotRead) (env other : Environm
   named : AllHold (λ s. StateWithin env s × Stating (λ n. n < length env.identifiers + length w.tables.temporaries) (Own env func b w fits ends) s) w.progress.joined_input × Counted env (Own env func b w fits ends) w.tables
   named = tables_named func env b fits (CreatedThere env func b) (reached_create env func b) w ends
 
+  ids_long : length env.identifiers ≡ length abroad.identifiers
+  ids_long = same_length env.identifiers other.identifiers seen.identifiers
+
+  functions_long : length env.functions ≡ length abroad.functions
+  functions_long = same_length env.functions other.functions seen.functions
+
   reached_back : (n : ℕ) → IsReached (numbered (context_of abroad func b)).flow n → IsReached (numbered (context_of env func b)).flow n
   reached_back n at_entry = at_entry
   reached_back n (by_edge a c r one) = by_edge a c (reached_back a r) one
@@ -127,13 +137,19 @@ module _ (names : NamesAreThere) (spans : SpansAreNotRead) (env other : Environm
   reached_on n at_entry = at_entry
   reached_on n (by_edge a c r one) = by_edge a c (reached_on a r) one
 
-  functions_there : (f : FunctionId) → Own env func b w fits ends f → f.0 < length abroad.functions
-  functions_there f h = subst (λ n. f.0 < n) (same_length env.functions other.functions seen.functions) h.1
+  functions_there : (f : FunctionId) → Own env func b w fits ends f → IsThere abroad f
+  functions_there f h = there_too env abroad ids_long refl functions_long (Own env func b w fits ends) (context_at_elsewhere here away) f h.1
 
-  known_there : (n : ℕ) (block : BlockId × BasicBlock) → IsReached (numbered (context_of abroad func b)).flow n → slice_get func.body.blocks n ≡ Some block → AreKnown abroad (Own env func b w fits ends) func block.1.instructions
-  known_there n block reached at =
-      known_too env abroad (same_length env.identifiers other.identifiers seen.identifiers) refl (same_length env.functions other.functions seen.functions) (Own env func b w fits ends) (context_at_elsewhere here away) func block.1.instructions
-      (reached_known func env b fits (CreatedThere env func b) (reached_create env func b) n block (reached_back n reached) at)
+  bindings_there : (d : BlockId) (p : Place) → binding_at (context_of abroad func b).facts.handlers d ≡ Some p → InTable abroad p
+  bindings_there d p e = in_table_too env abroad ids_long refl functions_long p (bindings_named func env b fits d p e)
+
+  return_there : (n : ℕ) (block : BlockId × BasicBlock) → slice_get func.body.blocks n ≡ Some block → ReturnNamed abroad block.1.terminal
+  return_there n block at = return_too env abroad ids_long refl functions_long block.1.terminal (return_named func env b fits n block at)
+
+  named_there : (n : ℕ) (block : BlockId × BasicBlock) → IsReached (numbered (context_of abroad func b)).flow n → slice_get func.body.blocks n ≡ Some block → AreNamed abroad (Own env func b w fits ends) func block.1.instructions
+  named_there n block reached at =
+      named_too env abroad ids_long refl functions_long (Own env func b w fits ends) (context_at_elsewhere here away) func block.1.instructions
+      (instructions_named func env b fits (CreatedThere env func b) (reached_create env func b) n block (reached_back n reached) at)
 
   state_has : (o : Option State) (x : State) → o ≡ Some x → HoldsOf (λ s. StateWithin env s × Stating (λ n. n < length env.identifiers + length w.tables.temporaries) (Own env func b w fits ends) s) o → Stating AnyNumber (Own env func b w fits ends) x
   state_has None x e h = cc
@@ -146,15 +162,15 @@ module _ (names : NamesAreThere) (spans : SpansAreNotRead) (env other : Environm
   noted o p =
       let fresh : IsFresh p.begun_tables = stated_fresh id abroad (map said_temporary w.tables.temporaries) (tables_of abroad) p.begun_tables (record { first = refl; reads = refl }) p.stated in
       let counted : Counted abroad (Own env func b w fits ends) p.begun_tables = record {
-        first = subst (MakesAll (Own env func b w fits ends)) (sym fresh.first) tt;
+        first = subst (AllByRecursion (EffectNamed abroad (Own env func b w fits ends) p.begun_tables)) (sym fresh.first) tt;
         temporaries =
-            numbered_too env abroad (same_length env.identifiers other.identifiers seen.identifiers) refl (same_length env.functions other.functions seen.functions) [] [] w.tables.temporaries p.begun_tables.temporaries none p.likes
+            numbered_too env abroad ids_long refl functions_long [] [] w.tables.temporaries p.begun_tables.temporaries none p.likes
             named.1.temporaries;
         reads = subst (ReadsHave (Own env func b w fits ends)) (sym fresh.reads) tt;
       } in
       (check_keeps_tables state_join state_below (numbered (context_of abroad func b)) p.claims w.progress.joined_input (Counted abroad (Own env func b w fits ends))
       (λ t n x y u k is c step.
-      flow_counts abroad func b (Own env func b w fits ends) functions_there known_there n t x y u k (reached_on n (solved.solves.only_reached n x is)) (states_there n x is) c step)
+      flow_counts abroad func b (Own env func b w fits ends) functions_there named_there bindings_there return_there n t x y u k (reached_on n (solved.solves.only_reached n x is)) (states_there n x is) c step)
       p.begun_tables (replicate (length func.body.blocks) None) p.left counted p.ended).reads
 
   ends_alike : (o : PassEnd) → function_solved said (elsewhere here away) func b ≡ Ok o → SaidSo o → EndsAlike func (end_of func w) o

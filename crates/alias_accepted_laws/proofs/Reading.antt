@@ -28,7 +28,7 @@ use Rattle.alias_effects.specs.PassLaws.{outcome_is}
 use Rattle.alias_effects.specs.Recording.{with_effects_of}
 use Rattle.alias_effects_laws.specs.entries.Named.{CreatesHas, CreatesAt}
 use Rattle.alias_effects_laws.proofs.entries.Entries.{CreateIn, There, tables_named}
-use Rattle.alias_effects_laws.proofs.entries.Leading.{ReadsHave}
+use Rattle.alias_effects_laws.proofs.entries.Counting.{ReadsHave}
 use Rattle.alias_accepted_laws.specs.Following.{ReadsAreSet, ReadsAreSetIn}
 use Rattle.alias_range_alike_laws.specs.Ranging.{SetsContext}
 use Rattle.alias_accepted_laws.proofs.Recording.{AllFilled, HasEntry, block_filled, block_enters}

@@ -9,5 +9,4 @@ pub mod Values
 pub mod Mutation
 pub mod Apply
 pub mod MutationLaws
-pub mod ReplayLaws
 pub mod ProperLaws

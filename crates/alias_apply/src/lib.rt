@@ -5,7 +5,6 @@ pub mod apply;
 pub mod context;
 pub mod freezing;
 pub mod kinds;
-pub mod laws;
 pub mod leaves;
 pub mod made;
 pub mod mutation;

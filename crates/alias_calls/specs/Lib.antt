@@ -7,4 +7,3 @@ pub mod Immutable
 pub mod Visits
 pub mod Legacy
 pub mod ArgumentLaws
-pub mod ReplayLaws

@@ -6,7 +6,6 @@ pub mod call;
 pub mod configs;
 pub mod copies;
 pub mod immutable;
-pub mod laws;
 pub mod legacy;
 pub mod summaries;
 pub mod visits;

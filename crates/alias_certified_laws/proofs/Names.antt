@@ -37,7 +37,7 @@ use Rattle.alias_certificate_laws.specs.accepting.Certifying.{NamesItsOwn, IsAcc
 use Rattle.alias_certificate_laws.specs.accepting.Saying.{NamesThere, AreCounted}
 use Rattle.alias_effects_laws.proofs.entries.Keeping.{at_holds}
 use Rattle.alias_certificate_laws.proofs.accepting.Passing.{pass_accepted}
-use Rattle.alias_step_laws.specs.steps.TableLaws.{all_mapped as all_on}
+use Rattle.alias_walks.specs.Words.{all_mapped as all_on}
 
 -- ---- lists
 

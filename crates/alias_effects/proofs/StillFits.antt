@@ -41,7 +41,7 @@ use Rattle.alias_step.specs.block.Recorded.{no_effects}
 use Rattle.alias_step.specs.block.ProperLaws.{proper_initial_state}
 use Rattle.alias_step_laws.specs.steps.Within.{EffectsWithin, FunctionWithin, TablesWithin}
 use Rattle.alias_step_laws.specs.steps.FunctionSiteLaws.{has_join}
-use Rattle.alias_step_laws.specs.steps.TableLaws.{all_appended}
+use Rattle.alias_walks.specs.Words.{all_appended}
 use Rattle.alias_step_laws.specs.blocks.BlockLaws.{BlockEffectsWithin, StateWithin, block_effects_grow, block_inferred}
 use Rattle.alias_step_laws.specs.blocks.EntryLaws.{context_within, return_within, has_initial_state}
 use Rattle.alias_step_laws.specs.blocks.SolutionLaws.{StepKeeps, solution_stands}

@@ -18,8 +18,8 @@ use Rattle.alias_step.specs.declared.block.recorded.BlockEffects.{BlockEffects}
 use Rattle.alias_step.specs.declared.block.faults.BlockRefusal.{BlockRefusal}
 use Rattle.alias_step.specs.block.Blocks.{infer_block}
 use Rattle.alias_step.specs.block.Contexts.{BlockContext}
-use Rattle.alias_step.specs.block.ProperLaws.{proper_initial_state, proper_infer_block}
-use Rattle.alias_step.specs.block.ReplayLaws.{again_infer_block}
+use Rattle.alias_step.specs.block.ProperLaws.{proper_initial_state}
+use Rattle.alias_walks.specs.Blocks.{again_infer_block, proper_infer_block}
 use Rattle.alias_tables.specs.GrowingLaws.{Extends, extends_self, extends_through}
 use Rattle.alias_tables.specs.Tables.{TableLists}
 use Rattle.alias_effects.specs.FunctionFlow.{outcome_of}

@@ -1,8 +1,7 @@
 pub mod States
-pub mod Leading
-pub mod Effects
-pub mod Expansions
-pub mod Stepping
+pub mod Counting
+pub mod NamedLaw
+pub mod Instructions
 pub mod Keeping
 pub mod Blocks
 pub mod Entries

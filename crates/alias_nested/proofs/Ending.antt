@@ -28,7 +28,7 @@ use Rattle.alias_rules.specs.Fitting.{function_fits}
 use Rattle.alias_validate.specs.Freezing.{frozen_reports}
 use Rattle.alias_validate.specs.Reassigning.{reassigned_reports, with_reassigned}
 use Rattle.alias_validate.specs.Reports.{with_reports, with_errors}
-use Rattle.alias_step_laws.specs.steps.TableLaws.{all_appended}
+use Rattle.alias_walks.specs.Words.{all_appended}
 
 -- the pass ends with this solution, and with what it makes of the environment
 pub record Ended (env : Environment) (func : HirFunction) (b : Bool) (s : Solved) (after : Environment) : Type 0 where

@@ -3,6 +3,4 @@ pub mod Defaults
 pub mod Expansions
 pub mod Calls
 pub mod Instructions
-pub mod ReplayLaws
-pub mod ProperLaws
 pub mod block

@@ -7,7 +7,6 @@ pub mod calls;
 pub mod defaults;
 mod expansions;
 pub mod instruction;
-pub mod laws;
 mod operands;
 
 pub use calls::{apply_effect, apply_effects};

@@ -57,7 +57,7 @@ use Rattle.alias_nested.proofs.Evolving.{passed_contexts}
 use Rattle.alias_answer_laws.specs.answers.Avoiding.{is_not_inferred, Answered, avoids_then, avoids_on, avoids_naming, named_alike, block_refused, listing_avoids, room_avoids}
 use Rattle.alias_answer_laws.specs.answers.KnownFunctionLaws.{FunctionKnown, function_known, SameListing, listing_through, same_functions, placed_lists_same, effects_lists_same}
 use Rattle.alias_answer_laws.specs.answers.KnownWalkLaws.{Comes, Passes, WalkKnown, validated_passes}
-use Rattle.alias_step_laws.specs.steps.TableLaws.{all_mapped as all_on}
+use Rattle.alias_walks.specs.Words.{all_mapped as all_on}
 
 -- ---- environments whose functions keep what they create, and operands with effects
 

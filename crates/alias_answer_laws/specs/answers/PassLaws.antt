@@ -20,13 +20,14 @@ use Rattle.alias_step.specs.declared.block.faults.BlockRefusal.{BlockRefusal}
 use Rattle.alias_step.specs.declared.block.recorded.BlockEffects.{BlockEffects}
 use Rattle.alias_step.specs.declared.block.recorded.InstructionEffects.{InstructionEffects}
 use Rattle.alias_step.specs.declared.block.recorded.TerminalEffects.{TerminalEffects}
+use Rattle.alias_walks.specs.Words.{all_appended}
 use Rattle.alias_effects.specs.Inference.{block_at, instructions_recorded, terminal_recorded, answer_of, pass_end}
 use Rattle.alias_effects.specs.Numbered.{step_at, numbered, visits_end}
 use Rattle.alias_effects.specs.PassLaws.{outcome_is}
 use Rattle.alias_effects.specs.declared.output.PassEnd.{PassEnd}
 use Rattle.alias_answer_laws.specs.answers.Applies.{NoneIsApply, NoInstructionRecordsApply, NoTerminalRecordsApply, RecordsNoApply, Leads}
 use Rattle.alias_answer_laws.specs.answers.Avoiding.{block_refused}
-use Rattle.alias_answer_laws.specs.answers.BlockLaws.{BlockPlain, all_more, block_plain}
+use Rattle.alias_answer_laws.specs.answers.BlockLaws.{BlockPlain, block_plain}
 
 -- ---- visits
 
@@ -43,12 +44,12 @@ none_yet (suc n) = (tt, none_yet n)
 instructions_of_all : (rs : List (Option BlockEffects)) → AllHold BlockPlain rs → NoInstructionRecordsApply (flat_map instructions_recorded rs)
 instructions_of_all [] h = tt
 instructions_of_all (None ∷ rs) h = instructions_of_all rs h.1
-instructions_of_all (Some r ∷ rs) h = all_more (λ (i : InstructionEffects). NoneIsApply i.effects) r.instructions (flat_map instructions_recorded rs) h.0.0 (instructions_of_all rs h.1)
+instructions_of_all (Some r ∷ rs) h = all_appended (λ (i : InstructionEffects). NoneIsApply i.effects) r.instructions (flat_map instructions_recorded rs) h.0.0 (instructions_of_all rs h.1)
 
 terminals_of_all : (rs : List (Option BlockEffects)) → AllHold BlockPlain rs → NoTerminalRecordsApply (flat_map terminal_recorded rs)
 terminals_of_all [] h = tt
 terminals_of_all (None ∷ rs) h = terminals_of_all rs h.1
-terminals_of_all (Some r ∷ rs) h = all_more (λ (t : TerminalEffects). NoneIsApply t.effects) r.terminal (flat_map terminal_recorded rs) h.0.1 (terminals_of_all rs h.1)
+terminals_of_all (Some r ∷ rs) h = all_appended (λ (t : TerminalEffects). NoneIsApply t.effects) r.terminal (flat_map terminal_recorded rs) h.0.1 (terminals_of_all rs h.1)
 
 -- ---- the pass
 

@@ -23,7 +23,7 @@ use Rattle.alias_hir.specs.declared.place.Place.{Place}
 use Rattle.alias_range_pass.specs.places.Causes as causes
 use Rattle.alias_rules.specs.Functions.{of_function, at_function}
 use Rattle.alias_rules.specs.declared.rules.Rule.TheVariants.{Numbers}
-use Rattle.alias_step_laws.specs.steps.TableLaws.{all_appended}
+use Rattle.alias_walks.specs.Words.{all_appended}
 use Rattle.alias_visit.specs.Places.{created_places, instruction_places, phi_places, block_places, places_in, identifiers_in}
 use Rattle.alias_effects_laws.specs.naming.PassLaws.{parts_of}
 use Rattle.alias_cause_laws.specs.ends.Owned.{Owned, AllOwned, all_there, by_numbers, numbers_owned, one_there}

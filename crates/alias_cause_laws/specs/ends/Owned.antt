@@ -29,7 +29,7 @@ use Rattle.alias_range_pass.specs.places.Causes.{numbers_of, stored_places, writ
 use Rattle.alias_graph.specs.Walks.{IsOneOf}
 use Rattle.alias_graph.proofs.Legality.{in_either}
 use Rattle.alias_rules.specs.Sharing.{context_of, context_at}
-use Rattle.alias_step_laws.specs.steps.TableLaws.{all_appended}
+use Rattle.alias_walks.specs.Words.{all_appended}
 use Rattle.alias_visit.specs.Operands.{lvalues_of}
 use Rattle.alias_visit.specs.Places.{created_places, instruction_places, phi_places, block_places, places_in}
 use Rattle.alias_effects_laws.specs.naming.PassLaws.{parts_of, each_of, all_on}

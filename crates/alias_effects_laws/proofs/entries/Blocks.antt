@@ -1,16 +1,12 @@
--- The step of a block leads from named states to named ones, and from counted tables to such.
-use Rattle.std.specs.Prelude.{◌≡◌, ℕ, ◌+◌, ◌<◌, Bool, List, [], ◌∷◌, length, Option, None, Some, Result, Ok, Err, slice_get, refl}
-use Rattle.std.specs.List.{AllByRecursion, fold}
-use Rattle.std.specs.Option.{is_some}
-use Rattle.std.proofs.Common.{zero, suc, subst, sym}
+-- The entry state of a function names what is there, and so does the state that the step of a block leads to.
+use Rattle.std.specs.Prelude.{◌≡◌, ℕ, ◌+◌, List, [], ◌∷◌, Option, None, Some, Ok, slice_get}
+use Rattle.std.specs.List.{fold, AllByRecursion}
+use Rattle.std.proofs.Common.{zero, suc}
 use Rattle.alias_base.specs.declared.ids.BlockId.{BlockId}
 use Rattle.alias_base.specs.declared.ids.FunctionId.{FunctionId}
 use Rattle.alias_base.specs.declared.ids.InstructionId.{InstructionId}
 use Rattle.alias_facts.specs.Handlers.{binding_at}
 use Rattle.alias_hir.specs.Parts.{param_place}
-use Rattle.alias_hir.specs.declared.effect.AliasingEffect.{AliasingEffect}
-use Rattle.alias_hir.specs.declared.effect.AliasingEffect.TheVariants as effect
-use Rattle.alias_hir.specs.declared.effect.ValueReason.TheVariants.{JsxCaptured}
 use Rattle.alias_hir.specs.declared.env.Environment.{Environment}
 use Rattle.alias_hir.specs.declared.hir.BasicBlock.{BasicBlock}
 use Rattle.alias_hir.specs.declared.hir.ContextValue.{ContextValue}
@@ -22,33 +18,22 @@ use Rattle.alias_hir.specs.declared.hir.ParamPattern.{ParamPattern}
 use Rattle.alias_hir.specs.declared.hir.Phi.{Phi}
 use Rattle.alias_hir.specs.declared.place.Place.{Place}
 use Rattle.alias_hir.specs.declared.terminal.Terminal.{Terminal}
-use Rattle.alias_hir.specs.declared.terminal.Terminal.TheVariants.{MaybeThrow, Return}
-use Rattle.alias_lattice.specs.States.{State, empty_state, sites_of, appended, phied, mutable_other}
-use Rattle.alias_lattice.specs.declared.lookup.MissingLookup.{MissingLookup}
+use Rattle.alias_hir.specs.declared.terminal.Terminal.TheVariants.{Return}
+use Rattle.alias_lattice.specs.States.{State, empty_state, phied, mutable_other}
 use Rattle.alias_lattice.specs.declared.site.Site.TheVariants as site
 use Rattle.alias_lattice.specs.declared.value.AbstractValue.{AbstractValue}
-use Rattle.alias_tables.specs.GrowingLaws.{Grows, grows_self, again_intern}
-use Rattle.alias_tables.specs.ReplayLaws.{first_is, tables_are}
-use Rattle.alias_tables.specs.Steps.{gives}
-use Rattle.alias_tables.specs.Tables.{TableLists, Step, intern}
-use Rattle.alias_tables.specs.declared.faults.Refusal.{Refusal}
-use Rattle.alias_apply.specs.Kinds.{is_writable}
-use Rattle.alias_apply.specs.Progress.{record_of, with_state, kind_at}
-use Rattle.alias_apply.specs.declared.progress.StepProgress.{StepProgress}
-use Rattle.alias_step.specs.Instructions.{apply_signature}
-use Rattle.alias_step.specs.block.Actions.{interned_or, record_interned, catch_call, is_call, catch_instruction, catch_calls, handler_binding, catch_into, return_value, terminal_action}
-use Rattle.alias_step.specs.block.Blocks.{infer_phis, step_start, after_instruction, infer_instruction, infer_instruction_at, apply_signatures, after_terminal, apply_terminal, block_start, finished_at, finished, infer_block}
+use Rattle.alias_tables.specs.GrowingLaws.{Extends}
+use Rattle.alias_tables.specs.Tables.{TableLists}
+use Rattle.alias_step.specs.block.Actions.{handler_binding}
+use Rattle.alias_step.specs.block.Blocks.{infer_phis, infer_block}
 use Rattle.alias_step.specs.block.Contexts.{BlockContext}
-use Rattle.alias_step.specs.block.Faults.{BlockStep, in_block}
 use Rattle.alias_step.specs.block.Initial.{context_value, with_context_place, with_context_from, with_context, param_value, with_param, with_param_at, with_params, initial_state}
-use Rattle.alias_step.specs.block.ReplayLaws.{in_block_gives}
-use Rattle.alias_step.specs.declared.block.block.BlockProgress.{BlockProgress}
-use Rattle.alias_step.specs.declared.block.faults.BlockRefusal.TheVariants.{Uninitialized}
 use Rattle.alias_step.specs.declared.block.recorded.BlockEffects.{BlockEffects}
-use Rattle.alias_effects_laws.proofs.entries.Effects.{ProgressNamed}
-use Rattle.alias_effects_laws.proofs.entries.Leading.{Makes, Placed, Counted, Leads, leads_gives, leads_refuses, leads_on, leads_then, leads_if, leads_intern}
+use Rattle.alias_walks.specs.Blocking.{BlockLaw, IfKnown, AreKnown, Placed, Returned, block_inferred}
+use Rattle.alias_effects_laws.proofs.entries.Counting.{Counted}
+use Rattle.alias_effects_laws.proofs.entries.Instructions.{InstructionNamed, instruction_known}
+use Rattle.alias_effects_laws.proofs.entries.NamedLaw.{InTable, in_table_within, Naming, placed, naming}
 use Rattle.alias_effects_laws.proofs.entries.States.{Stating, named_empty, named_given, named_appended, named_phied}
-use Rattle.alias_effects_laws.proofs.entries.Stepping.{InstructionKnown, signature_applied}
 
 -- ---- the state of the entry
 
@@ -103,130 +88,60 @@ module _ (N : ℕ → Type 0) (F : FunctionId → Type 0) where
 
 -- ---- a block
 
--- what is known of the instruction, where there is one
-abbrev pub OptionKnown : Environment → (FunctionId → Type 0) → Option Instruction → Type 0
-OptionKnown env F None = Unit {0}
-OptionKnown env F (Some x) = InstructionKnown env F x
+-- what is named by the instruction, where there is one
+abbrev pub OptionNamed : Environment → (FunctionId → Type 0) → Option Instruction → Type 0
+OptionNamed env F None = Unit {0}
+OptionNamed env F (Some x) = InstructionNamed env F x
 
--- and of those of the list
-abbrev pub AreKnown : Environment → (FunctionId → Type 0) → HirFunction → List InstructionId → Type 0
-AreKnown env F func is = AllByRecursion (λ (i : InstructionId). OptionKnown env F (slice_get func.instructions i.0)) is
+-- and by those of the list
+abbrev pub AreNamed : Environment → (FunctionId → Type 0) → HirFunction → List InstructionId → Type 0
+AreNamed env F func is = AllByRecursion (λ (i : InstructionId). OptionNamed env F (slice_get func.instructions i.0)) is
 
-module _ (c : BlockContext) (N : ℕ → Type 0) (F : FunctionId → Type 0) (whole : List AliasingEffect) (placed : AllByRecursion (Placed N) whole) where
-  abbrev At : StepProgress → Type 0
-  At s = ProgressNamed N F s
+-- the place that the block returns is of the table
+abbrev pub ReturnNamed : Environment → Terminal → Type 0
+ReturnNamed env (Return id value effects) = InTable env value
+ReturnNamed env t = Unit {0}
 
-  abbrev To : Type 0 → BlockStep StepProgress → Type 0
-  To P f = Leads c.env F whole P (ProgressNamed N F) f
-
-  to_gives : (s : StepProgress) → To (At s) (gives s)
-  to_gives s = leads_gives (ProgressNamed N F) s (λ h. h)
-
-  -- ---- the terminal
-
-  interned_grows : (e : AliasingEffect) (t : TableLists) (r : Result (AliasingEffect × TableLists) Refusal) → intern e t ≡ r → Grows t.first (interned_or (e, t) r).1.first
-  interned_grows e t (Ok p) is = ((again_intern e).grows t p.1 p.0 is).first
-  interned_grows e t (Err k) is = grows_self t.first
-
-  interned_counts : (e : AliasingEffect) (t : TableLists) (r : Result (AliasingEffect × TableLists) Refusal) → intern e t ≡ r → Makes F e → Counted c.env F t → Grows (interned_or (e, t) r).1.first whole → Counted c.env F (interned_or (e, t) r).1
-  interned_counts e t (Ok p) is m k g = ((leads_intern c.env N F whole placed e).leads t p.1 p.0 m k g is).0
-  interned_counts e t (Err d) is m k g = k
-
-  interned_recorded : (e : AliasingEffect) (s : StepProgress) → Makes F e → To (At s) (record_interned e s)
-  interned_recorded e s m = record {
-    grows = λ t u y i.
-        let first = interned_or (e, t) (intern e t) in
-        subst (λ (w : TableLists). Grows t.first w.first) (tables_are (record_of first.0 s) y first.1 u i) (interned_grows e t (intern e t) refl);
-    leads = λ t u y h k g i.
-        let first = interned_or (e, t) (intern e t) in
-        let same : first.1 ≡ u = tables_are (record_of first.0 s) y first.1 u i in
-        let back : u ≡ first.1 = sym same in
-        let grown : Grows first.1.first whole = subst (λ (w : TableLists). Grows w.first whole) back g in
-        let a : At (record_of first.0 s) = h in
-        (subst (Counted c.env F) same (interned_counts e t (intern e t) refl m k grown), subst (ProgressNamed N F) (first_is (record_of first.0 s) y first.1 u i) a);
+module _ (env : Environment) (N : TableLists → ℕ → Type 0) (F : FunctionId → Type 0) (names : Naming env N F) where
+  abbrev naming_blocks : BlockLaw env
+  naming_blocks = record {
+    steps = naming env N F names;
+    Stated = λ t x. Stating (N t) F x;
+    Listed = λ t es. Unit {0};
+    listed_later = λ t u x es h. tt;
+    starts = λ x m t h. h;
+    states = λ s t h. h;
+    lists = λ s t h. tt;
+    appends = λ x v s t p q h. named_appended (N t) F x.identifier v.identifier s.state (placed env N F names t x p) h;
   }
 
-  call_caught : (binding x : Place) (s : StepProgress) → N binding.identifier.0 → To (At s) (catch_call binding x s)
-  call_caught binding x s n =
-      let u = with_state (appended binding.identifier x.identifier s.state) s in
-      leads_on (ProgressNamed N F) (catch_call binding x s) (λ h. named_appended N F binding.identifier x.identifier s.state n h)
-      (leads_if (ProgressNamed N F) (is_writable (kind_at x u)) (record_interned (effect.Alias x binding) u) (gives u) (interned_recorded (effect.Alias x binding) u tt) (to_gives u))
+module _ (c : BlockContext) (N : TableLists → ℕ → Type 0) (F : FunctionId → Type 0) (names : Naming c.env N F)
+    (bindings : (b : BlockId) (p : Place) → binding_at c.facts.handlers b ≡ Some p → InTable c.env p) where
+  abbrev law : BlockLaw c.env
+  law = naming_blocks c.env N F names
 
-  instruction_caught : (binding : Place) (o : Option Instruction) (s : StepProgress) → N binding.identifier.0 → To (At s) (catch_instruction binding o s)
-  instruction_caught binding None s n = to_gives s
-  instruction_caught binding (Some x) s n = leads_if (ProgressNamed N F) (is_call x.value) (catch_call binding x.lvalue s) (gives s) (call_caught binding x.lvalue s n) (to_gives s)
+  in_any : (p : Place) → InTable c.env p → Placed c law p
+  in_any p h t k = in_table_within c.env t p h
 
-  calls_caught : (binding : Place) (is : List InstructionId) (s : StepProgress) → N binding.identifier.0 → To (At s) (catch_calls c.func.instructions binding is s)
-  calls_caught binding [] s n = to_gives s
-  calls_caught binding (i ∷ is) s n =
-      leads_then (ProgressNamed N F) (ProgressNamed N F) (catch_instruction binding (slice_get c.func.instructions i.0) s) (catch_calls c.func.instructions binding is) (instruction_caught binding (slice_get c.func.instructions i.0) s n)
-      (λ w. leads_on (ProgressNamed N F) _ (λ p. p.1) (calls_caught binding is w n))
+  bound_named : (o : Option BlockId) (p : Place) → handler_binding c.facts.handlers o ≡ Some p → Placed c law p
+  bound_named None p e = cc
+  bound_named (Some b) p e = in_any p (bindings b p e)
 
-  caught_into : (o : Option Place) (is : List InstructionId) (s : StepProgress) → ((p : Place) → o ≡ Some p → N p.identifier.0) → To (At s) (catch_into c.func.instructions o is s)
-  caught_into None is s n = to_gives s
-  caught_into (Some binding) is s n =
-      leads_if (ProgressNamed N F) (is_some (sites_of s.state binding.identifier)) (catch_calls c.func.instructions binding is s) (gives s) (calls_caught binding is s (n binding refl)) (to_gives s)
+  returned : (end : Terminal) → ReturnNamed c.env end → Returned c law end
+  returned (Return id value effects) p = in_any value p
+  returned end p = tt
 
-  value_returned : (b : Bool) (value : Place) (s : StepProgress) → To (At s) (return_value b value s)
-  value_returned b value s = leads_if (ProgressNamed N F) b (gives s) (record_interned (effect.Freeze value JsxCaptured) s) (to_gives s) (interned_recorded (effect.Freeze value JsxCaptured) s tt)
+  if_known : (o : Option Instruction) → OptionNamed c.env F o → IfKnown c law o
+  if_known None h = tt
+  if_known (Some i) h = instruction_known c.env F N names c.facts i h
 
-  module _ (known : (n : ℕ) → n < length c.env.identifiers → N n) (functions : (f : FunctionId) → F f → f.0 < length c.env.functions)
-      (bindings : (b : BlockId) (p : Place) → binding_at c.facts.handlers b ≡ Some p → N p.identifier.0) where
-    bound_named : (o : Option BlockId) (p : Place) → handler_binding c.facts.handlers o ≡ Some p → N p.identifier.0
-    bound_named None p e = cc
-    bound_named (Some b) p e = bindings b p e
+  are_known : (is : List InstructionId) → AreNamed c.env F c.func is → AreKnown c law is
+  are_known [] h = tt
+  are_known (i ∷ is) h = (if_known (slice_get c.func.instructions i.0) h.0, are_known is h.1)
 
-    action_leads : (is : List InstructionId) (end : Terminal) (s : StepProgress) → To (At s) (terminal_action c is end s)
-    action_leads is (MaybeThrow id continuation handler effects) s = caught_into (handler_binding c.facts.handlers handler) is s (bound_named handler)
-    action_leads is (Return id value effects) s = value_returned c.is_function_expression value s
-    action_leads is end s = to_gives s
-
-    -- ---- instructions
-
-    abbrev BlockNamed : BlockProgress → Type 0
-    BlockNamed s = Stating N F s.state
-
-    abbrev Through : Type 0 → BlockStep BlockProgress → Type 0
-    Through P f = Leads c.env F whole P BlockNamed f
-
-    step_in_block : {P : Type 0} (i : InstructionId) (f : Step StepProgress) → Leads c.env F whole P (ProgressNamed N F) f → To P (in_block i f)
-    step_in_block i f h = record {
-      grows = λ t u s e. h.grows t u s (in_block_gives i (f t) (s, u) e);
-      leads = λ t u s p k g e. h.leads t u s p k g (in_block_gives i (f t) (s, u) e);
-    }
-
-    instruction_inferred : (i : InstructionId) (x : Instruction) (s : BlockProgress) → InstructionKnown c.env F x → Through (BlockNamed s) (infer_instruction c i x s)
-    instruction_inferred i x s k =
-        leads_then (ProgressNamed N F) BlockNamed (in_block i (apply_signature c.env c.facts x (step_start s))) (λ u. gives (after_instruction i s.effects u))
-        (step_in_block i (apply_signature c.env c.facts x (step_start s)) (signature_applied c.env N F known whole placed functions c.facts x (step_start s) k))
-        (λ w. leads_gives BlockNamed (after_instruction i s.effects w) (λ p. p.1))
-
-    instruction_inferred_at : (i : InstructionId) (o : Option Instruction) (s : BlockProgress) → OptionKnown c.env F o → Through (BlockNamed s) (infer_instruction_at c i o s)
-    instruction_inferred_at i None s k = leads_gives BlockNamed s (λ h. h)
-    instruction_inferred_at i (Some x) s k = instruction_inferred i x s k
-
-    signatures_applied : (is : List InstructionId) (s : BlockProgress) → AreKnown c.env F c.func is → Through (BlockNamed s) (apply_signatures c is s)
-    signatures_applied [] s k = leads_gives BlockNamed s (λ h. h)
-    signatures_applied (i ∷ is) s k =
-        leads_then BlockNamed BlockNamed (infer_instruction_at c i (slice_get c.func.instructions i.0) s) (apply_signatures c is) (instruction_inferred_at i (slice_get c.func.instructions i.0) s k.0)
-        (λ w. leads_on BlockNamed _ (λ p. p.1) (signatures_applied is w k.1))
-
-    terminal_applied : (b : BlockId) (block : BasicBlock) (s : BlockProgress) → Through (BlockNamed s) (apply_terminal c b block s)
-    terminal_applied b block s =
-        leads_then (ProgressNamed N F) BlockNamed (terminal_action c block.instructions block.terminal (step_start s)) (λ u. gives (after_terminal b s.effects u)) (action_leads block.instructions block.terminal (step_start s))
-        (λ w. leads_gives BlockNamed (after_terminal b s.effects w) (λ p. p.1))
-
-    -- the state that a block gives
-    abbrev pub OutNamed : State × BlockEffects → Type 0
-    OutNamed r = Stating N F r.0
-
-    ended_leads : (m : Option MissingLookup) (s : BlockProgress) → Leads c.env F whole (BlockNamed s) OutNamed (finished_at m s)
-    ended_leads (Some lookup) s = leads_refuses OutNamed (Uninitialized lookup)
-    ended_leads None s = leads_gives OutNamed (s.state, s.effects) (λ h. h)
-
-    -- the step of a block whose phis are named and whose instructions are known
-    pub block_inferred : (b : BlockId) (block : BasicBlock) (x : State) → PhisNamed N F block.phis → AreKnown c.env F c.func block.instructions → Leads c.env F whole (Stating N F x) OutNamed (infer_block c b block x)
-    block_inferred b block x n k =
-        leads_then BlockNamed OutNamed (apply_signatures c block.instructions (block_start (infer_phis block.phis x))) _
-        (leads_on BlockNamed _ (λ h. named_phis N F block.phis x n h) (signatures_applied block.instructions (block_start (infer_phis block.phis x)) k))
-        (λ s1. leads_on OutNamed _ (λ p. p.1) (leads_then BlockNamed OutNamed (apply_terminal c b block s1) finished (terminal_applied b block s1) (λ s2. leads_on OutNamed _ (λ p. p.1) (ended_leads s2.missing s2))))
+  -- the step of a block whose phis, instructions and terminal name what is there
+  pub block_named : (b : BlockId) (block : BasicBlock) (x : State) (t u : TableLists) (y : State) (k : BlockEffects) → PhisNamed (N t) F block.phis → AreNamed c.env F c.func block.instructions → ReturnNamed c.env block.terminal
+      → Counted c.env F t → Stating (N t) F x → infer_block c b block x t ≡ Ok ((y, k), u) → Counted c.env F u × Stating (N u) F y
+  block_named b block x t u y k phis is end h g e =
+      let r = (block_inferred c law bound_named b block x t h (are_known block.instructions is) (returned block.terminal end) (named_phis (N t) F block.phis x phis g)).leads u (y, k) e in
+      (r.kept, r.value.0)

@@ -15,7 +15,6 @@ use Rattle.alias_rules.specs.function_rules.Rules.{place_fits, phi_fits, block_f
 use Rattle.alias_rules.specs.declared.function_rules.fault.UnitFault.{UnitFault}
 use Rattle.alias_hir.specs.Parts.{param_place}
 use Rattle.alias_hir.specs.Values.{places_of, created}
-use Rattle.alias_hir.specs.declared.effect.AliasingEffect.{AliasingEffect}
 use Rattle.alias_hir.specs.declared.env.Environment.{Environment}
 use Rattle.alias_hir.specs.declared.hir.BasicBlock.{BasicBlock}
 use Rattle.alias_hir.specs.declared.hir.HirFunction.{HirFunction}
@@ -23,6 +22,8 @@ use Rattle.alias_hir.specs.declared.hir.Instruction.{Instruction}
 use Rattle.alias_hir.specs.declared.hir.ParamPattern.{ParamPattern}
 use Rattle.alias_hir.specs.declared.hir.Phi.{Phi}
 use Rattle.alias_hir.specs.declared.place.Place.{Place}
+use Rattle.alias_hir.specs.declared.terminal.Terminal.{Terminal}
+use Rattle.alias_hir.specs.declared.terminal.Terminal.TheVariants.{Return}
 use Rattle.alias_visit.specs.Places.{created_places}
 use Rattle.alias_lattice.specs.Flows.{Stepped, IsReached, at_entry, by_edge}
 use Rattle.alias_lattice.specs.JoinLaws.{state_laws}
@@ -30,9 +31,9 @@ use Rattle.alias_lattice.specs.States.{State, state_join, state_below}
 use Rattle.alias_flow.specs.Machine.{SolverState, VisitLog}
 use Rattle.alias_flow.specs.Machine as end
 use Rattle.alias_flow.specs.RecordingLaws.{AllHold}
-use Rattle.alias_apply.specs.freezing.Contexts.{context_in}
+use Rattle.alias_apply.specs.freezing.Contexts.{context_in, context_of as context_at}
 use Rattle.alias_rules.specs.Fitting.{place_within_tables, function_fits}
-use Rattle.alias_tables.specs.GrowingLaws.{Grows, grows_self, Extends}
+use Rattle.alias_tables.specs.GrowingLaws.{Grows, Extends}
 use Rattle.alias_tables.specs.Tables.{TableLists}
 use Rattle.alias_tables.specs.declared.temporaries.Temporary.{Temporary}
 use Rattle.alias_tables.specs.write_back.WriteBack.{tables_of}
@@ -41,23 +42,24 @@ use Rattle.alias_step.specs.block.Blocks.{infer_block}
 use Rattle.alias_step.specs.block.Contexts.{BlockContext, context_of}
 use Rattle.alias_step.specs.block.Initial.{initial_state}
 use Rattle.alias_step.specs.block.ProperLaws.{proper_initial_state}
-use Rattle.alias_step.specs.block.ReplayLaws.{again_infer_block}
+use Rattle.alias_walks.specs.Blocks.{again_infer_block}
 use Rattle.alias_step_laws.specs.steps.FunctionSiteLaws.{has_join}
 use Rattle.alias_step_laws.specs.steps.StepLaws.{InstructionWithin}
-use Rattle.alias_step_laws.specs.steps.Within.{FunctionWithin, CreatedWithin, EffectsWithin, TablesWithin}
-use Rattle.alias_step_laws.specs.blocks.BlockLaws.{StateWithin}
+use Rattle.alias_step_laws.specs.steps.Within.{FunctionWithin, CreatedWithin, TablesWithin}
+use Rattle.alias_step_laws.specs.blocks.BlockLaws.{ReturnWithin, StateWithin}
 use Rattle.alias_step_laws.specs.blocks.ContextLaws.{place_of, fits_has, numbers_of}
-use Rattle.alias_step_laws.specs.blocks.EntryLaws.{context_within, has_initial_state}
+use Rattle.alias_step_laws.specs.blocks.EntryLaws.{context_within, return_within, has_initial_state}
 use Rattle.alias_effects.specs.Numbered.{step_at, numbered, visits_end}
 use Rattle.alias_effects.specs.PassLaws.{outcome_is}
 use Rattle.alias_effects.proofs.StillFits.{begun_within, position_within}
 use Rattle.alias_effects_laws.specs.entries.Named.{StateNamed, CreatesHas, CreatesAt, BlocksCreate, EntriesNamed}
-use Rattle.alias_effects_laws.proofs.entries.Blocks.{named_initial_state, PhisNamed, OptionKnown, AreKnown, block_inferred}
+use Rattle.alias_effects_laws.proofs.entries.Blocks.{named_initial_state, PhisNamed, OptionNamed, AreNamed, ReturnNamed, block_named}
+use Rattle.alias_effects_laws.proofs.entries.Counting.{Counted}
+use Rattle.alias_effects_laws.proofs.entries.Instructions.{InstructionNamed}
 use Rattle.alias_effects_laws.proofs.entries.Keeping.{Kept, solution_keeps}
-use Rattle.alias_effects_laws.proofs.entries.Leading.{Placed, Counted}
+use Rattle.alias_effects_laws.proofs.entries.NamedLaw.{InTable, IsThere, Naming}
 use Rattle.alias_effects_laws.proofs.entries.States.{Stating, named_join, stating_on, state_named}
-use Rattle.alias_effects_laws.proofs.entries.Stepping.{InTable, InstructionKnown}
-use Rattle.alias_step_laws.specs.steps.TableLaws.{all_mapped as all_on}
+use Rattle.alias_walks.specs.Words.{all_mapped as all_on}
 
 -- ---- lists
 
@@ -101,7 +103,18 @@ module _ (env : Environment) where
   phis_pass : (g : HirFunction) (b : BasicBlock) → block_fits env g b ≡ Ok tt → AllByRecursion (λ (p : Phi). InTable env p.place) b.phis
   phis_pass g b h = each_passes (phi_fits env) (λ (p : Phi). InTable env p.place) phi_passes b.phis (both_pass (all_pass (phi_fits env) b.phis) _ h).0
 
-module _ (func : HirFunction) (env : Environment) (f : Bool) (fits : function_fits func env ≡ true) (F : FunctionId → Type 0) (functions : (g : FunctionId) → F g → g.0 < length env.functions)
+module _ (func : HirFunction) (env : Environment) (f : Bool) (fits : function_fits func env ≡ true) where
+  pub bindings_named : (b : BlockId) (p : Place) → binding_at (context_of env func f).facts.handlers b ≡ Some p → InTable env p
+  bindings_named b p e = in_table env p ((context_within func env f fits).bindings b p e)
+
+  return_at : (end : Terminal) → ReturnWithin env end → ReturnNamed env end
+  return_at (Return id value effects) h = in_table env value h
+  return_at end h = tt
+
+  pub return_named : (n : ℕ) (b : BlockId × BasicBlock) → slice_get func.body.blocks n ≡ Some b → ReturnNamed env b.1.terminal
+  return_named n b e = return_at b.1.terminal (return_within func env n b fits e)
+
+module _ (func : HirFunction) (env : Environment) (f : Bool) (fits : function_fits func env ≡ true) (F : FunctionId → Type 0) (functions : (g : FunctionId) → F g → IsThere env g)
     (creates : (n : ℕ) (b : BlockId × BasicBlock) → IsReached (numbered (context_of env func f)).flow n → slice_get func.body.blocks n ≡ Some b → CreateIn F func b) where
   abbrev c : BlockContext
   c = context_of env func f
@@ -121,31 +134,23 @@ module _ (func : HirFunction) (env : Environment) (f : Bool) (fits : function_fi
 
   -- ---- what the blocks name
 
-  instruction_known : (t : TableLists) (x : Instruction) → InstructionWithin env x → CreatesHas F (created x.value) → InstructionKnown env F x
-  instruction_known t x h g = record { lvalue = in_table env x.lvalue h.lvalue; places = all_in_table env (places_of x.value) h.places; context = created_there env (created x.value) h.created; created = g }
+  instruction_named : (x : Instruction) → InstructionWithin env x → CreatesHas F (created x.value) → InstructionNamed env F x
+  instruction_named x h g = record { lvalue = in_table env x.lvalue h.lvalue; places = all_in_table env (places_of x.value) h.places; context = created_there env (created x.value) h.created; created = g }
 
-  option_known : (t : TableLists) (o : Option Instruction) → ((x : Instruction) → o ≡ Some x → InstructionWithin env x) → CreatesAt F o → OptionKnown env F o
-  option_known t None h g = tt
-  option_known t (Some x) h g = instruction_known t x (h x refl) g
+  option_named : (o : Option Instruction) → ((x : Instruction) → o ≡ Some x → InstructionWithin env x) → CreatesAt F o → OptionNamed env F o
+  option_named None h g = tt
+  option_named (Some x) h g = instruction_named x (h x refl) g
 
-  are_known : (t : TableLists) (is : List InstructionId) → AllByRecursion (λ (i : InstructionId). CreatesAt F (slice_get func.instructions i.0)) is → AreKnown env F func is
-  are_known t [] g = tt
-  are_known t (i ∷ is) g =
-      (option_known t (slice_get func.instructions i.0) (λ x e. at_of (InstructionWithin env) func.instructions i.0 x (context_within func env f fits).instructions e) g.0, are_known t is g.1)
+  are_named : (is : List InstructionId) → AllByRecursion (λ (i : InstructionId). CreatesAt F (slice_get func.instructions i.0)) is → AreNamed env F func is
+  are_named [] g = tt
+  are_named (i ∷ is) g =
+      (option_named (slice_get func.instructions i.0) (λ x e. at_of (InstructionWithin env) func.instructions i.0 x (context_within func env f fits).instructions e) g.0, are_named is g.1)
 
   phis_named : (t : TableLists) (n : ℕ) (b : BlockId × BasicBlock) → slice_get func.body.blocks n ≡ Some b → PhisNamed (N t) F b.1.phis
   phis_named t n b e =
       let blocks = each_passes (λ (e : BlockId × BasicBlock). block_fits env func e.1) (λ (e : BlockId × BasicBlock). AllByRecursion (λ (p : Phi). InTable env p.place) e.1.phis) (λ e. phis_pass env func e.1) func.body.blocks (numbers_of env func (fits_has func env fits).numbers).blocks in
       all_on (λ (p : Phi). InTable env p.place) (λ (p : Phi). N t p.place.identifier.0) (λ p. known t p.place.identifier.0) b.1.phis
       (at_of (λ (e : BlockId × BasicBlock). AllByRecursion (λ (p : Phi). InTable env p.place) e.1.phis) func.body.blocks n b blocks e)
-
-  bindings_named : (t : TableLists) (b : BlockId) (p : Place) → binding_at c.facts.handlers b ≡ Some p → N t p.identifier.0
-  bindings_named t b p e = known t p.identifier.0 (in_table env p ((context_within func env f fits).bindings b p e))
-
-  -- what is within is placed
-  first_placed : (t : TableLists) (es : List AliasingEffect) → EffectsWithin env t es → AllByRecursion (Placed (N t)) es
-  first_placed t [] h = tt
-  first_placed t (e ∷ es) h = (h.0.0, first_placed t es h.1)
 
   -- ---- the entry
 
@@ -174,6 +179,9 @@ module _ (func : HirFunction) (env : Environment) (f : Bool) (fits : function_fi
       let e : length (t.temporaries ++ g.more) ≡ length u.temporaries = ap (λ (ts : List Temporary). length ts) g.is in
       omega (arith, h, l, e)
 
+  names : Naming env N F
+  names = record { identifiers = λ t n h. h; later = λ t u x. more_named t u x.temporaries; functions = functions }
+
   good_on : (t u : TableLists) → Grows t.temporaries u.temporaries → (x : State) → Good t x → Good u x
   good_on t u g x h = (h.0, stating_on (N t) (N u) F F (more_named t u g) (λ k i. i) x h.1)
 
@@ -181,8 +189,7 @@ module _ (func : HirFunction) (env : Environment) (f : Bool) (fits : function_fi
       → infer_block c b.0 b.1 x t ≡ Ok ((y, k), u) → Kept Invariant Good t u y
   block_kept n b t x y u k reached at_index tables state i g e =
       let grown : Extends t u = (again_infer_block c b.0 b.1 x).grows t u (y, k) e in
-      let r = (block_inferred c (N u) F u.first (first_placed u u.first tables.first) (known u) functions (bindings_named u) b.0 b.1 x (phis_named u n b at_index) (are_known u b.1.instructions (creates n b reached at_index))).leads
-      t u (y, k) (good_on t u grown.temporaries x g).1 i.1 (grows_self u.first) e in
+      let r = block_named c N F names (bindings_named func env f fits) b.0 b.1 x t u y k (phis_named t n b at_index) (are_named b.1.instructions (creates n b reached at_index)) (return_named func env f fits n b at_index) i.1 g.1 e in
       record { tables = (tables, r.0); state = (state, r.1); still = good_on t u grown.temporaries }
 
   step_kept : (n : ℕ) (o : Option (BlockId × BasicBlock)) (t : TableLists) (x y : State) (u : TableLists) (k : BlockEffects) → IsReached (numbered c).flow n → slice_get func.body.blocks n ≡ o → TablesWithin env u → StateWithin env y → Invariant t → Good t x
@@ -209,11 +216,11 @@ module _ (func : HirFunction) (env : Environment) (f : Bool) (fits : function_fi
 module _ (func : HirFunction) (env : Environment) (f : Bool) (fits : function_fits func env ≡ true) (F : FunctionId → Type 0)
     (creates : (n : ℕ) (b : BlockId × BasicBlock) → IsReached (numbered (context_of env func f)).flow n → slice_get func.body.blocks n ≡ Some b → CreateIn F func b) where
   abbrev pub There : FunctionId → Type 0
-  There g = F g × (g.0 < length env.functions)
+  There g = F g × IsThere env g
 
   created_in_table : (o : Option FunctionId) → CreatedWithin env o → CreatesHas F o → CreatesHas There o
   created_in_table None h g = tt
-  created_in_table (Some k) h g = (g, ltb-true k.0 (length env.functions) h.there)
+  created_in_table (Some k) h g = (g, (ltb-true k.0 (length env.functions) h.there, all_in_table env (context_at env k) h.context))
 
   creates_at : (o : Option Instruction) → ((x : Instruction) → o ≡ Some x → InstructionWithin env x) → CreatesAt F o → CreatesAt There o
   creates_at None h g = tt
@@ -237,8 +244,8 @@ module _ (func : HirFunction) (env : Environment) (f : Bool) (fits : function_fi
   tables_named w e = entries_kept func env f fits There (λ k i. i.1) reached_create w e
 
   -- what the instructions of a reached block name
-  pub reached_known : (n : ℕ) (b : BlockId × BasicBlock) → IsReached (numbered (context_of env func f)).flow n → slice_get func.body.blocks n ≡ Some b → AreKnown env There func b.1.instructions
-  reached_known n b reached at = are_known func env f fits There (λ k i. i.1) reached_create (tables_of env) b.1.instructions (reached_create n b reached at)
+  pub instructions_named : (n : ℕ) (b : BlockId × BasicBlock) → IsReached (numbered (context_of env func f)).flow n → slice_get func.body.blocks n ≡ Some b → AreNamed env There func b.1.instructions
+  instructions_named n b reached at = are_named func env f fits There (λ k i. i.1) reached_create b.1.instructions (reached_create n b reached at)
 
   pub reached_named : (w : SolverState (VisitLog State) TableLists BlockEffects) → visits_end (context_of env func f) ≡ end.Solved w → EntriesNamed env F w
   reached_named w e = let r = tables_named w e in record { states = all_named w.tables w.progress.joined_input r.0; temporaries = r.1.temporaries }

@@ -31,7 +31,7 @@ use Rattle.alias_lattice.proofs.Belows.{joined_is}
 use Rattle.alias_apply.specs.freezing.Transitive.{at_sites, where_frozen, at_place, at_places, at_site, live, levels_frozen, frozen_transitively, place_frozen_transitively}
 use Rattle.alias_apply.specs.freezing.Sites.{sites_at}
 use Rattle.alias_effects_laws.specs.entries.Named.{SiteNamed, SitesNamed, StateNamed}
-use Rattle.alias_step_laws.specs.steps.TableLaws.{all_mapped as all_on}
+use Rattle.alias_walks.specs.Words.{all_mapped as all_on}
 
 -- ---- lists of entries
 

@@ -41,7 +41,7 @@ use Rattle.alias_step.specs.block.Initial.{initial_state}
 use Rattle.alias_step.specs.block.ProperLaws.{proper_initial_state}
 use Rattle.alias_step.specs.block.Recorded.{no_effects}
 use Rattle.alias_step_laws.specs.steps.FunctionSiteLaws.{has_join}
-use Rattle.alias_step_laws.specs.steps.TableLaws.{all_appended}
+use Rattle.alias_walks.specs.Words.{all_appended}
 use Rattle.alias_step_laws.specs.blocks.EntryLaws.{has_initial_state}
 use Rattle.alias_step_laws.specs.blocks.SolutionLaws.{StepKeeps, solution_stands}
 use Rattle.alias_effects.specs.declared.output.PassEnd.{PassEnd}

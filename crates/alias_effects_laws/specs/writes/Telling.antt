@@ -5,7 +5,7 @@ use Rattle.std.proofs.Common.{subst}
 use Rattle.alias_tables.specs.ReplayLaws.{first_is, not_given}
 use Rattle.alias_tables.specs.Steps.{◌>>=◌, and_then, each}
 use Rattle.alias_tables.specs.Tables.{TableLists}
-use Rattle.alias_step_laws.specs.steps.TableLaws.{all_appended}
+use Rattle.alias_walks.specs.Words.{all_appended}
 use Rattle.alias_effects_laws.specs.writes.Writes.{after_answer, after, over_each}
 
 -- a step that is refused for a C

@@ -1,5 +1,5 @@
-use Rattle.alias_calls.specs.ReplayLaws.{again_config_expansion, again_summary_expansion, again_legacy_expansion}
-use Rattle.alias_calls.proofs.laws.expansion_laws.Goals as goal
+use Rattle.alias_walks.specs.Replaying.{again_config_expansion, again_summary_expansion, again_legacy_expansion}
+use Rattle.alias_walks.proofs.steps.expansion_laws.Goals as goal
 
 pub returns : goal.returns
 returns c = record {
