@@ -1,9 +1,13 @@
 //! What the words and the input lead to, before anything is written.
 ghost use Rattle.std.specs.Prelude.{◌≡◌, ◌≤◌, true, false};
+ghost use Rattle.alias_cause_laws.specs.causes.Causes.{EachHasCause};
+ghost use Rattle.alias_inferred_laws.specs.inferred.Explanations.{NeverTooMany};
+ghost use Rattle.alias_inferred_laws.specs.inferred.Reports.{LintsAreReports};
+ghost use Rattle.alias_rules.specs.Fitting.{function_fits};
 ghost use Rattle.alias_stream.specs.Streams.{HasFailed};
 ghost use Rattle.alias_made.specs.Units.{made_unit as unit_of};
 ghost use Rattle.alias_run.specs.Commands.{reads, IsSized};
-ghost use Rattle.alias_run.specs.Findings.{parts_of, IsFound, IsRead, IsJudged, IsChecked, IsAnswered, IsInferred, IsInference, IsAskable, IsAccepted, IsAcceptedOf, IsLinted, IsLintedOf, IsExplained, IsExplainedOf, IsFunctionExplained, IsFunctionExplainedOf, IsDecided, IsFit, Leaves};
+ghost use Rattle.alias_run.specs.Findings.{parts_of, IsFound, IsRead, IsJudged, IsChecked, IsAnswered, IsInferred, IsInference, IsAccepted, IsAcceptedOf, IsLinted, IsLintedOf, IsExplained, IsExplainedOf, IsFunctionExplained, IsFunctionExplainedOf, IsDecided, IsFit, Leaves};
 
 use crate::answer::Answer;
 use crate::command::Command;
@@ -72,7 +76,8 @@ fn accept_checked(alloc: Global, unit: Checked, text: &[u8]) -> Outcome
 /// The reports of what was inferred of a unit.
 #[tactic(auto, using(alias_range_pass::specs::CheckLaws::checked_fits))]
 fn lint_inferred(alloc: Global, inferred: Inferred) -> Outcome
-    requires { IsAskable inferred }
+    requires fits { function_fits inferred.unit.function inferred.unit.env ≡ true }
+    requires reports { LintsAreReports inferred }
     ensures { IsLintedOf inferred result.status result.answer }
 {
     match lint_lines(alloc, inferred.unit) {
@@ -98,7 +103,8 @@ fn explain_inferred(
     function: Option<FunctionId>,
     identifier: IdentifierId,
 ) -> Outcome
-    requires { IsAskable inferred.now }
+    requires numbered { NeverTooMany inferred.now }
+    requires caused { EachHasCause inferred.now }
     ensures { IsExplainedOf function identifier inferred.now result.status result.answer }
 {
     match explain_range(alloc, &inferred.unit, function, identifier) {
@@ -128,7 +134,8 @@ fn explain_function_inferred(
     inferred: &Inferred,
     function: Option<FunctionId>,
 ) -> Outcome
-    requires { IsAskable inferred.now }
+    requires numbered { NeverTooMany inferred.now }
+    requires caused { EachHasCause inferred.now }
     ensures { IsFunctionExplainedOf function inferred.now result.status result.answer }
 {
     match explain_function(alloc, &inferred.unit, function) {
