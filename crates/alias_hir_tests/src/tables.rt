@@ -199,14 +199,14 @@ fn known_in(alloc: Global, env: &mut Environment) -> Result<Known, AllocError> {
     })
 }
 
-fn known(alloc: Global) -> Result<Known, AllocError> {
+fn known_of_first(alloc: Global) -> Result<Known, AllocError> {
     let mut env = Environment::new(alloc);
     known_in(alloc, &mut env)
 }
 
 #[test]
 fn looks_up_the_first_shape(rt: HostRuntime) -> Result<(), Fail> {
-    let known = known(rt.alloc())?;
+    let known = known_of_first(rt.alloc())?;
     assert!(rt; known.is_hook);
     assert!(rt; !known.is_hook_by_an_object);
     assert!(rt; known.has_signature);
@@ -237,14 +237,14 @@ fn make_in(env: &mut Environment) -> Made {
     }
 }
 
-fn made(alloc: Global) -> Result<Made, AllocError> {
+fn make_one(alloc: Global) -> Result<Made, AllocError> {
     let mut env = environment(alloc)?;
     Ok(make_in(&mut env))
 }
 
 #[test]
 fn makes_identifiers(rt: HostRuntime) -> Result<(), Fail> {
-    let made = made(rt.alloc())?;
+    let made = make_one(rt.alloc())?;
     assert!(rt; made.number == Some(IdentifierId(1)));
     assert!(rt; made.is_untyped);
     assert!(rt; made.declaration == Some(DeclarationId(1)));
