@@ -2,9 +2,9 @@
 import glob
 import json
 import os
-import re
 import unittest
 
+from cli.tests.rows import examples
 from cli.tests.schema import faults
 
 TOP = os.path.join(os.path.dirname(os.path.abspath(__file__)), '..', '..')
@@ -19,11 +19,10 @@ def read(*path):
 
 def rows():
     """The units of the worked examples of alias_rows that are JSON, with the status of each and what was written."""
-    for part in re.split(r'^example ', read('crates', 'alias_rows', 'stdin'), flags=re.M)[1:]:
-        unit, status = (re.search(r'^%s (.*)$' % word, part, re.M) for word in ('unit', 'status'))
+    for example in {(example.input, example.status): example for example in examples()}.values():
         try:
-            yield json.loads(unit[1]), int(status[1]), re.findall(r'^> (.*)$', part, re.M)
-        except (ValueError, TypeError, RecursionError):
+            yield json.loads(example.input.split('\n')[0]), example.status, example.lines
+        except (ValueError, RecursionError):
             continue
 
 
@@ -63,7 +62,7 @@ class Schema(unittest.TestCase):
             elif status == 4 and not written[0].endswith((' Twice', ' Float')) and '/context_values"' not in written[0]:
                 tried += 1
                 self.assertNotEqual(list(faults(self.schema, unit)), [], str(unit)[:300])
-        self.assertGreater(tried, 150)
+        self.assertGreater(tried, 400)
 
     def test_what_is_wrong(self):
         for unit in ({}, {'format': 1}, {'format': 3, 'root': {}}, {'format': 1, 'root': {'fn_type': 'Other', 'returns': -1, 'entry': 0, 'blocks': []}}):

@@ -1,2 +1,1 @@
-pub mod SameNodes
 pub mod TwoPhis

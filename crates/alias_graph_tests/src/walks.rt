@@ -1,40 +1,19 @@
+//! Nodes and links, and a walk whose steps are counted.
 ghost use Rattle.std.specs.Prelude.{◌≡◌, ◌+◌, ◌<◌, length, IfOk, OnOk, ◌≤◌};
-ghost use Rattle.alias_graph.specs.Nodes.{Within};
 
-use alias_base::{EvaluationOrder, FunctionId, IdentifierId, List};
+use alias_base::{FunctionId, IdentifierId};
 use alias_graph::events::{GraphEvent, build};
 use alias_graph::graph::AliasGraph;
 use alias_graph::steps::Steps;
-use alias_graph::types::{EdgeKind, Link, LinkList, MutationInfo, MutationKind, NodeValue};
-use alias_hir::effect::MutationReason;
+use alias_graph::types::{EdgeKind, Link, LinkList, MutationKind, NodeValue};
 use alias_hir::env::Environment;
-use alias_hir::place::Span;
 use alias_test_units::place;
 use std::alloc::{AllocError, Global};
 use std::marker::Brand;
-use std::process::Abort;
 use std::sync::ledger::{Blank, Ledger};
 use std::test::Fail;
 
 const OBJECTS: [NodeValue; 4] = [NodeValue::Object; 4];
-
-const PHIS: [NodeValue; 4] = [
-    NodeValue::Object,
-    NodeValue::Object,
-    NodeValue::Phi,
-    NodeValue::Phi,
-];
-
-const SPAN: Option<Span> = Some(Span { start: 3, end: 8 });
-
-/// A mutation: its position, where it starts, whether it is transitive, and how sure it is.
-#[derive(Clone, Copy)]
-struct Mutation {
-    index: u32,
-    start: u32,
-    transitive: bool,
-    kind: MutationKind,
-}
 
 /// Four identifiers with no range.
 pub(crate) fn environment(alloc: Global) -> Result<Environment, AllocError>
@@ -44,11 +23,7 @@ pub(crate) fn environment(alloc: Global) -> Result<Environment, AllocError>
 }
 
 /// Adds the nodes 0 to 3 with these values.
-#[tactic(auto, using(crate::proofs::SameNodes::within_more))]
-fn add_nodes(graph: &mut AliasGraph, values: [NodeValue; 4]) -> Result<(), AllocError>
-    requires { Within 4 graph.old }
-    ensures { OnOk result (Within 4 graph.new) }
-{
+fn add_nodes(graph: &mut AliasGraph, values: [NodeValue; 4]) -> Result<(), AllocError> {
     graph.create(&place(0), values[0])?;
     graph.create(&place(1), values[1])?;
     graph.create(&place(2), values[2])?;
@@ -57,11 +32,7 @@ fn add_nodes(graph: &mut AliasGraph, values: [NodeValue; 4]) -> Result<(), Alloc
 }
 
 /// Adds the links `(kind, index, from, into)`.
-#[tactic(auto, using(crate::proofs::SameNodes::within_same))]
-fn add_links(graph: &mut AliasGraph, links: &[(EdgeKind, u32, u32, u32)]) -> Result<(), AllocError>
-    requires { Within 4 graph.old }
-    ensures { OnOk result (Within 4 graph.new) }
-{
+fn add_links(graph: &mut AliasGraph, links: &[(EdgeKind, u32, u32, u32)]) -> Result<(), AllocError> {
     for link in links {
         let (kind, index, from, into) = *link;
         match kind {
@@ -74,45 +45,15 @@ fn add_links(graph: &mut AliasGraph, links: &[(EdgeKind, u32, u32, u32)]) -> Res
 }
 
 /// The nodes 0 to 3 with these values, and the links `(kind, index, from, into)`.
-#[tactic(auto, using(crate::proofs::SameNodes::within_none))]
 pub(crate) fn graph(
     alloc: Global,
     values: [NodeValue; 4],
     links: &[(EdgeKind, u32, u32, u32)],
-) -> Result<AliasGraph, AllocError>
-    ensures { IfOk result (λ graph. Within 4 graph) }
-{
+) -> Result<AliasGraph, AllocError> {
     let mut graph = AliasGraph::new(alloc);
     add_nodes(&mut graph, values)?;
     add_links(&mut graph, links)?;
     Ok(graph)
-}
-
-fn mutate<L: Ledger>(
-    blank: Blank,
-    graph: &mut AliasGraph,
-    env: &mut Environment,
-    mutation: Mutation,
-    end: Option<EvaluationOrder>,
-) -> Result<(), AllocError>
-    requires name { blank.name ≡ L.name }
-    requires parts { blank.parts ≡ L.parts }
-    requires some { 0 < blank.parts }
-    requires within { Within (length env.old.identifiers) graph.old }
-{
-    let mut steps = Steps::<L>::start(blank);
-    graph.mutate(
-        mutation.index,
-        IdentifierId(mutation.start),
-        end,
-        mutation.transitive,
-        mutation.kind,
-        SPAN,
-        Some(MutationReason::AssignCurrentProperty),
-        env,
-        false,
-        &mut steps,
-    )
 }
 
 /// Which of the nodes 0 to 3 a walk visited last at this position.
@@ -128,129 +69,7 @@ fn visited(graph: &AliasGraph, index: u32) -> [bool; 4] {
     seen
 }
 
-/// The range ends of the identifiers 0 and 1.
-fn ends(env: &Environment) -> (u32, u32) {
-    let end = |number: usize| match env.identifiers.get(number) {
-        None => 0,
-        Some(identifier) => identifier.mutable_range.end.0,
-    };
-    (end(0), end(1))
-}
-
-/// The nodes that a mutation visits, in a graph of these nodes and links.
-fn visits(
-    alloc: Global,
-    values: [NodeValue; 4],
-    links: &[(EdgeKind, u32, u32, u32)],
-    mutation: Mutation,
-) -> Result<[bool; 4], AllocError> {
-    let mut graph = graph(alloc, values, links)?;
-    let mut env = environment(alloc)?;
-    mutate::<Brand>(Blank::new(1), &mut graph, &mut env, mutation, None)?;
-    Ok(visited(&graph, mutation.index))
-}
-
 const ASSIGN: EdgeKind = EdgeKind::Alias;
-
-/// A mutation that is no more than local and is sure.
-fn definite(index: u32, start: u32) -> Mutation {
-    Mutation {
-        index,
-        start,
-        transitive: false,
-        kind: MutationKind::Definite,
-    }
-}
-
-fn transitive(index: u32, start: u32) -> Mutation {
-    Mutation {
-        index,
-        start,
-        transitive: true,
-        kind: MutationKind::Definite,
-    }
-}
-
-#[test]
-fn walks_over_phis(rt: HostRuntime) -> Result<(), Fail> {
-    let alloc = rt.alloc();
-    let links = [
-        (ASSIGN, 0, 0, 2),
-        (ASSIGN, 1, 1, 2),
-        (ASSIGN, 2, 2, 3),
-        (ASSIGN, 3, 0, 3),
-    ];
-    let seen = visits(alloc, PHIS, &links, definite(4, 3))?;
-    assert_eq!(rt; seen, [true, true, true, true]);
-    let links = [(ASSIGN, 0, 1, 2), (EdgeKind::Capture, 1, 0, 2)];
-    let seen = visits(alloc, PHIS, &links, definite(2, 0))?;
-    assert_eq!(rt; seen, [true, true, true, false]);
-    let links = [(ASSIGN, 5, 0, 1), (ASSIGN, 1, 0, 2)];
-    let seen = visits(alloc, PHIS, &links, definite(3, 0))?;
-    assert_eq!(rt; seen, [true, false, true, false]);
-    Ok(())
-}
-
-#[test]
-fn walks_over_captures(rt: HostRuntime) -> Result<(), Fail> {
-    let alloc = rt.alloc();
-    let links = [(EdgeKind::Capture, 0, 0, 1)];
-    let seen = visits(alloc, OBJECTS, &links, definite(1, 1))?;
-    assert_eq!(rt; seen, [false, true, false, false]);
-    let seen = visits(alloc, OBJECTS, &links, transitive(1, 1))?;
-    assert_eq!(rt; seen, [true, true, false, false]);
-    let seen = visits(alloc, OBJECTS, &links, definite(1, 0))?;
-    assert_eq!(rt; seen, [true, true, false, false]);
-    Ok(())
-}
-
-/// The range ends of the identifiers 0 and 1 after this mutation, where 0 is assigned to 1.
-fn raised(
-    alloc: Global,
-    mutation: Mutation,
-    end: Option<EvaluationOrder>,
-) -> Result<(u32, u32), AllocError> {
-    let mut graph = graph(alloc, OBJECTS, &[(ASSIGN, 0, 0, 1)])?;
-    let mut env = environment(alloc)?;
-    mutate::<Brand>(Blank::new(1), &mut graph, &mut env, mutation, end)?;
-    Ok(ends(&env))
-}
-
-#[test]
-fn raises_range_ends(rt: HostRuntime) -> Result<(), Fail> {
-    let alloc = rt.alloc();
-    let end = Some(EvaluationOrder(4));
-    assert_eq!(rt; raised(alloc, definite(1, 1), end)?, (4, 4));
-    assert_eq!(rt; raised(alloc, definite(0, 1), end)?, (0, 4));
-    Ok(())
-}
-
-/// Whether the node was marked with this kind alone, and for the reason that mutations are made for.
-fn is_marked(graph: &AliasGraph, number: u32, kind: MutationKind) -> bool {
-    match graph.node(IdentifierId(number)) {
-        None => false,
-        Some(node) => {
-            node.local == Some(MutationInfo { kind, span: SPAN })
-                && node.transitive.is_none()
-                && node.mutation_reason == Some(MutationReason::AssignCurrentProperty)
-        }
-    }
-}
-
-/// How a definite mutation of 1 marks: 1 itself as definite, and 0, which it may be, as conditional.
-fn marked(alloc: Global) -> Result<(bool, bool), AllocError> {
-    let mut graph = graph(alloc, OBJECTS, &[(EdgeKind::MaybeAlias, 0, 0, 1)])?;
-    let mut env = environment(alloc)?;
-    mutate::<Brand>(Blank::new(1), &mut graph, &mut env, definite(1, 1), None)?;
-    let definite = is_marked(&graph, 1, MutationKind::Definite);
-    Ok((definite, is_marked(&graph, 0, MutationKind::Conditional)))
-}
-
-#[test]
-fn marks_by_the_kinds_of_links(rt: HostRuntime) -> Result<(), Fail> {
-    assert_eq!(rt; marked(rt.alloc())?, (true, true));
-    Ok(())
-}
 
 fn link(index: u32, other: u32, edge: Option<EdgeKind>) -> Option<Link> {
     Some(Link {

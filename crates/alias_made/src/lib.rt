@@ -5,8 +5,6 @@ pub mod blocks;
 pub mod draws;
 pub mod instructions;
 pub mod laws;
-#[cfg(test)]
-mod tests;
 pub mod unit;
 
 pub use unit::made_unit;

@@ -4,10 +4,9 @@
 use crate::dropping::DropLast;
 use crate::endings::{Ending, checked, refused};
 use crate::units::WRITES_LATER;
-use alias_base::FunctionId;
 use alias_hir::env::{Environment, Unit};
 use alias_hir::hir::HirFunction;
-use alias_inner_passes::{InnerPasses, KeepAll};
+use alias_inner_passes::InnerPasses;
 use alias_nested::analyse_functions_certified;
 use alias_rules::check::Checked;
 use std::alloc::Global;
@@ -54,18 +53,6 @@ fn change_in<P: InnerPasses>(alloc: Global, text: &str, passes: &mut P) -> Optio
         Some(unit) => Some(change_of(alloc, unit, passes)),
         None => None,
     }
-}
-
-#[test]
-fn refuses_a_write_that_stays(rt: HostRuntime) -> Result<(), Fail> {
-    assert_eq!(rt;
-        change_in(rt.alloc(), WRITES_LATER, &mut KeepAll),
-        Some(Change {
-            ending: Ending::Uninitialized(Some(FunctionId(0))),
-            listed: [2, 2]
-        })
-    );
-    Ok(())
 }
 
 #[test]

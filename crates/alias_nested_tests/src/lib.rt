@@ -1,6 +1,6 @@
-//! Tests of `infer_unit` and of the calls that analyse functions, on units with nested functions: the order in which they are inferred, at which
-//! call a pass of the caller runs on which function, what a pass that drops an instruction changes, and how often the logger is called. A crate of
-//! its own, so that `alias_nested` is proved once.
+//! Tests of `infer_unit` and of the calls that analyse functions, on units with nested functions: at which call a pass of the caller runs on
+//! which function, what a pass that drops an instruction changes, and how often the logger is called. A crate of its own, so that
+//! `alias_nested` is proved once.
 #![tactic(auto)]
 
 #[cfg(test)]
@@ -12,7 +12,5 @@ pub mod dropping;
 mod endings;
 #[cfg(test)]
 mod failing_calls;
-#[cfg(test)]
-mod solutions;
 #[cfg(test)]
 mod units;

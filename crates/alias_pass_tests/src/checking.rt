@@ -1,14 +1,12 @@
-//! Units that are checked, and the reports that effects name.
+//! Units that are checked.
 
 use crate::functions::{returns_at_once, returns_function};
-use alias_base::{BlockId, FunctionId, IdentifierId, List, Text};
+use alias_base::{FunctionId, List};
 use alias_hir::effect::ValueKind;
 use alias_hir::env::{Environment, Unit};
 use alias_hir::hir::{ContextValue, HirFunction};
-use alias_hir::place::Place;
-use alias_hir::report::{ErrorCategory, Report, ReportId};
 use alias_rules::check::{Checked, check_unit};
-use alias_rules::fault::{Table, UnitFault};
+use alias_rules::fault::UnitFault;
 use alias_test_units::{environment, place};
 use std::alloc::{AllocError, Global};
 use std::test::Fail;
@@ -50,26 +48,6 @@ fn fault_of(alloc: Global, unit: Unit) -> Option<UnitFault> {
         Ok(_) => None,
         Err(fault) => Some(fault),
     }
-}
-
-/// The entry isn't a block.
-fn without_entry(alloc: Global) -> Result<Unit, AllocError> {
-    let mut unit = unit(alloc, 1)?;
-    unit.function.body.entry = BlockId(4);
-    Ok(unit)
-}
-
-fn push_twice(context: &mut List<Place>) -> Result<(), AllocError> {
-    context.push(place(1))?;
-    context.push(place(1))?;
-    Ok(())
-}
-
-/// A context place stands twice.
-fn with_one_place_twice(alloc: Global) -> Result<Unit, AllocError> {
-    let mut unit = unit(alloc, 1)?;
-    push_twice(&mut unit.function.context)?;
-    Ok(unit)
 }
 
 fn add_context_values(
@@ -128,80 +106,5 @@ fn nested_functions_have_no_context_values(rt: HostRuntime) -> Result<(), Fail> 
             })
         )
     );
-    Ok(())
-}
-
-/// The faults where the root returns 7, where the entry isn't a block, and where a context place stands twice.
-fn faults(alloc: Global) -> Result<[Option<UnitFault>; 3], AllocError> {
-    let out_of_range = fault_of(alloc, unit(alloc, 7)?);
-    let no_entry = fault_of(alloc, without_entry(alloc)?);
-    let not_distinct = fault_of(alloc, with_one_place_twice(alloc)?);
-    Ok([out_of_range, no_entry, not_distinct])
-}
-
-#[test]
-fn names_the_first_broken_rule(rt: HostRuntime) -> Result<(), Fail> {
-    let [out_of_range, no_entry, not_distinct] = faults(rt.alloc())?;
-    assert!(rt;
-        matches!(
-            out_of_range,
-            Some(UnitFault::IdOutOfRange {
-                table: Table::Identifiers,
-                number: 7,
-            })
-        )
-    );
-    assert!(rt; matches!(no_entry, Some(UnitFault::EntryMissing { function: None })));
-    assert!(rt;
-        matches!(
-            not_distinct,
-            Some(UnitFault::NotDistinct {
-                function: None,
-                identifier: IdentifierId(1),
-            })
-        )
-    );
-    Ok(())
-}
-
-fn impure(alloc: Global) -> Result<Report, AllocError> {
-    let message = Text::from_str(alloc, "Cannot call impure function during render")?;
-    Ok(Report {
-        category: ErrorCategory::Purity,
-        message,
-        help: None,
-        labels: List::new(alloc),
-    })
-}
-
-/// Whether the report of the number has the message.
-fn has_message(env: &Environment, number: ReportId, message: &str) -> bool {
-    if (number.instance as usize) < env.interned.len() {
-        env.aliasing_diagnostic(number).message.as_str() == message
-    } else {
-        false
-    }
-}
-
-fn intern_in(alloc: Global, env: &mut Environment) -> Result<(u32, bool), AllocError> {
-    let report = impure(alloc)?;
-    let Ok(number) = env.intern_aliasing_report(IdentifierId(0), report) else {
-        return Err(AllocError);
-    };
-    let is_kept = has_message(env, number, "Cannot call impure function during render");
-    Ok((number.instance, is_kept))
-}
-
-/// The instance of a report that is interned, and whether it then has its message.
-fn interned(alloc: Global) -> Result<(u32, bool), AllocError> {
-    let mut env = environment(alloc, 1)?;
-    intern_in(alloc, &mut env)
-}
-
-#[test]
-fn gives_the_report_that_was_interned(rt: HostRuntime) -> Result<(), Fail> {
-    let (instance, is_kept) = interned(rt.alloc())?;
-    assert_eq!(rt; instance, 0);
-    assert!(rt; is_kept);
     Ok(())
 }

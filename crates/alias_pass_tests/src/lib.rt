@@ -1,6 +1,6 @@
-//! Tests of `check_unit`, of interned reports and of the passes of the caller, on units built by hand. A crate of its
-//! own, so that the crates below are proved once. What owns an environment or a function has few exits: each lays out
-//! its drop.
+//! Tests of `check_unit`, of a validation and of the passes of the caller, on units built by hand that no input
+//! spells. A crate of its own, so that the crates below are proved once. What owns an environment or a function has
+//! few exits: each lays out its drop.
 #![tactic(auto)]
 
 #[cfg(test)]
@@ -9,3 +9,5 @@ mod checking;
 mod functions;
 #[cfg(test)]
 mod inner_passes;
+#[cfg(test)]
+mod validating;

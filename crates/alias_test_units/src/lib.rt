@@ -7,7 +7,7 @@ use alias_base::{BlockId, BlockMap, EvaluationOrder, IdentifierId, InstructionId
 use alias_hir::env::Environment;
 use alias_hir::hir::{BasicBlock, FunctionType, Hir, HirFunction, Instruction};
 use alias_hir::lookup::fresh_identifier;
-use alias_hir::place::{Effect, Place, Span};
+use alias_hir::place::{Effect, Place};
 use alias_hir::terminal::Terminal;
 use alias_hir::types::Ty;
 use alias_hir::value::InstructionValue;
@@ -25,15 +25,8 @@ pub fn place(number: u32) -> Place
     }
 }
 
-/// The same at a point of the source text.
-pub fn place_at(number: u32, start: u32) -> Place {
-    let mut place = place(number);
-    place.span = Some(Span { start, end: start });
-    place
-}
-
 /// Appends so many identifiers, numbered from 0 on, of one type, of which nothing is known.
-pub fn add_identifiers(env: &mut Environment, count: u32) -> Result<(), AllocError>
+fn add_identifiers(env: &mut Environment, count: u32) -> Result<(), AllocError>
     ensures { OnOk result (length env.new.identifiers ≡ length env.old.identifiers + count) }
 {
     env.types.push(Ty::Var)?;
@@ -72,7 +65,7 @@ pub fn function(alloc: Global, fn_type: FunctionType) -> HirFunction {
 }
 
 /// An instruction at the order 1, with that result.
-pub fn instruction(target: u32, value: InstructionValue) -> Instruction {
+fn instruction(target: u32, value: InstructionValue) -> Instruction {
     Instruction {
         id: EvaluationOrder(1),
         lvalue: place(target),
@@ -102,7 +95,7 @@ pub fn returning(number: u32, order: u32) -> Terminal {
 }
 
 /// A block of the instructions of these numbers.
-pub fn block(
+fn block(
     alloc: Global,
     instructions: &[InstructionId],
     terminal: Terminal,
@@ -125,22 +118,4 @@ pub fn add_block(
     let block = block(alloc, instructions, terminal)?;
     let _ = func.body.blocks.insert(BlockId(number), block)?;
     Ok(())
-}
-
-fn add_first(listed: &mut List<InstructionId>, count: u32) -> Result<(), AllocError> {
-    for number in 0..count {
-        listed.push(InstructionId(number))?;
-    }
-    Ok(())
-}
-
-/// A block of the first so many instructions.
-pub fn block_of(
-    alloc: Global,
-    instructions: u32,
-    terminal: Terminal,
-) -> Result<BasicBlock, AllocError> {
-    let mut block = block(alloc, &[], terminal)?;
-    add_first(&mut block.instructions, instructions)?;
-    Ok(block)
 }

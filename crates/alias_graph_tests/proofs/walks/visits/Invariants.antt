@@ -1,4 +1,0 @@
-use Rattle.alias_graph_tests.proofs.walks.visits.Given as goal
-
-abbrev pub ghosts-mutate : goal.ghosts-mutate
-ghosts-mutate a = record { name = a.blank.name; parts = a.blank.parts }
