@@ -1,7 +1,8 @@
 """Writes runs of the program into one file, for the hosts to do again: hosts/cases.py FILE [PROGRAM | --few]
 
 Each is the words, the input, the status and the text: the worked examples of alias_rows but those in which a stream fails, which no host has; what
-`infer` is to write of each of examples/; and, where the proved program is given, what it writes of the units of both for every command. Each certificate
+`infer` is to write of each of examples/; and, where the proved program is given, what it writes of the units of both, and of one whose text is long, for every
+command. Each certificate
 that `certify` then writes has to be accepted by `check`, which is also asked about those of examples/ with a damage: without the first line of a kind, with
 another number in that line, and without its first byte. `--few` leaves out the long ones, for a slow machine as valgrind's.
 
@@ -15,6 +16,7 @@ import sys
 
 TOP = os.path.dirname(os.path.dirname(os.path.abspath(__file__)))
 sys.path.insert(0, TOP)
+from bench.shapes import loops  # noqa: E402
 from cli.checking import joined  # noqa: E402
 
 MOST = 1 << 20  # the longest input that every command is asked about
@@ -102,7 +104,7 @@ def damaged(certificate):
 
 def runs_of(program, runs):
     """What the program writes of the units of these runs."""
-    units = {data for words, data, _, _ in runs if data and len(data) <= MOST and words != b'check'}
+    units = {data for words, data, _, _ in runs if data and len(data) <= MOST and words != b'check'} | {loops(30)}  # of which the text is long
     told = list(asked_of(program, sorted(units)))
     certified = [(data, text) for words, data, status, text in told if words == b'certify' and status == 0]
     shown = {data for _, data, _, _ in examples()}
