@@ -1,8 +1,9 @@
-"""Builds the library for hosts, hosts/lib/libjirrambeo.a: its crate proved and compiled, with what the kit's heap needs.
+"""Builds the library for hosts, hosts/lib/libjirrambeo.a: its crate proved and compiled, with what the kit's heap
+needs.
 
-Where `rt ci` has passed in this folder, by `./check`, the proved libraries below the crate stand in crates/*/out, and the crate is proved and compiled over
-them, in a minute; else all of them are proved first, as `./jirrambeo build` does, which takes over what it proved. Either way nothing is compiled that isn't
-proved."""
+Where `rt ci` has passed in this folder, by `./check`, the proved libraries below the crate stand in crates/*/out, and
+the crate is proved and compiled over them, in a minute; else all of them are proved first, as `./jirrambeo build`
+does, which takes over what it proved. Either way nothing is compiled that isn't proved."""
 import os
 import shutil
 import subprocess
@@ -50,7 +51,8 @@ def library_of(name):
 
 
 def over_libraries(names, kit):
-    """The command that proves and compiles the crate over the proved libraries of those below it, as `rt lib` does over its own."""
+    """The command that proves and compiles the crate over the proved libraries of those below it, as `rt lib` does
+    over its own."""
     words = [os.path.join(kit, 'bin', 'rattle'), 'build', '--crate-name', LIBRARY, 'src/lib.rt', '--extern', 'std=%s/rlibs/std.rlib' % kit,
              '-L', 'dependency=%s/rlibs' % kit]
     for name in names[:-1]:
@@ -62,7 +64,8 @@ def over_libraries(names, kit):
 
 
 def compiled_over_libraries(names, kit):
-    """Whether the crate's archive was made over the proved libraries; what the compiler said stands in out/build.log."""
+    """Whether the crate's archive was made over the proved libraries; what the compiler said stands in
+    out/build.log."""
     with open(os.path.join(OUT, 'build.log'), 'wb') as log:
         done = subprocess.run(over_libraries(names, kit), cwd=os.path.join(CRATES, LIBRARY), stdin=subprocess.DEVNULL, stdout=log,
                               stderr=subprocess.STDOUT, check=False)

@@ -1,8 +1,10 @@
-"""Proves and builds the program, or the library for hosts: crates side by side, as far as they don't stand on each other.
+"""Proves and builds the program, or the library for hosts: crates side by side, as far as they don't stand on each
+other.
 
-One checkout lets one proof go on at a time, since each run locks the crates below its own. So several copies of the sources are proved
-side by side, which take from each other what one of them has proved; this is a matter of the kit. The copies stand outside the
-repository, and go when the program is built; where a build is interrupted they stay, and the next one goes on from there."""
+One checkout lets one proof go on at a time, since each run locks the crates below its own. So several copies of the
+sources are proved side by side, which take from each other what one of them has proved; this is a matter of the kit.
+The copies stand outside the repository, and go when the program is built; where a build is interrupted they stay, and
+the next one goes on from there."""
 import contextlib
 import fcntl
 import hashlib
@@ -71,8 +73,8 @@ class Copies:
 
 
 class Build:
-    """A build that goes on: which crates are proved, which are being proved, and which failed. The last crate, which stands on all others, is built by
-    words of rt: a verb, and what comes after the flags."""
+    """A build that goes on: which crates are proved, which are being proved, and which failed. The last crate, which
+    stands on all others, is built by words of rt: a verb, and what comes after the flags."""
 
     def __init__(self, names, workers, last):
         self.names, self.workers, self.last, self.begun = names, workers, last, time.monotonic()
@@ -84,21 +86,24 @@ class Build:
         self.heights = {}
 
     def height(self, name):
-        """How long the longest chain of crates from this one upwards is, in bytes of their code, which the times of their proofs follow."""
+        """How long the longest chain of crates from this one upwards is, in bytes of their code, which the times of
+        their proofs follow."""
         if name not in self.heights:
             above = [other for other in self.names if name in self.below[other]]
             self.heights[name] = self.lengths[name] + max((self.height(other) for other in above), default=0)
         return self.heights[name]
 
     def jobs(self, name, ready):
-        """On how many processors a crate is proved: those that no other crate takes, and on the longest chain, which ends last, two at least."""
+        """On how many processors a crate is proved: those that no other crate takes, and on the longest chain, which
+        ends last, two at least."""
         others = [other for other in ready if other != name]
         beside = len(self.running) + min(len(others), self.workers - len(self.running) - 1)
         is_longest = self.height(name) >= max(map(self.height, [*self.running, *others]), default=0)
         return min(PROCESSORS, max(PROCESSORS - beside, 2 if is_longest else 1))
 
     def next_crate(self):
-        """A crate that can be proved now, that with the longest chain above it first, and its processors; or None where no more will be."""
+        """A crate that can be proved now, that with the longest chain above it first, and its processors; or None
+        where no more will be."""
         with self.changed:
             while not self.failed:
                 left = [name for name in self.names if name not in self.proved and name not in self.running]
@@ -114,7 +119,8 @@ class Build:
             return None
 
     def prove(self, top, name, jobs):
-        """Proves one crate in a copy, or the last one in the repository, over what the copies proved. Answers whether that was done."""
+        """Proves one crate in a copy, or the last one in the repository, over what the copies proved. Answers whether
+        that was done."""
         is_last = name == self.names[-1]
         verb, *words = self.last if is_last else ['lib']
         folder = os.path.join(HERE if is_last else top, 'crates', name)
@@ -172,7 +178,8 @@ class Build:
 
 
 def proved(names, last):
-    """Proves the crates side by side, the last of them by these words of rt. Answers whether that was done, and says what was refused."""
+    """Proves the crates side by side, the last of them by these words of rt. Answers whether that was done, and says
+    what was refused."""
     copies = Copies(names, PROCESSORS if kit_shares() else 1)
     going = Build(names, len(copies.tops), last)
     if not going.run(copies.tops):

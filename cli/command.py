@@ -41,8 +41,9 @@ def version(words):
 
 
 class Command:
-    """A command: its name, how its further words are written in --help, what it does, by what, and which further words it takes: a pattern of all of
-    them with single spaces between, or None where the command reads them itself."""
+    """A command: its name, how its further words are written in --help, what it does, by what, and which further
+    words it takes: a pattern of all of them with single spaces between, or None where the command reads them
+    itself."""
 
     def __init__(self, name, words, says, call, pattern=None):
         self.name, self.words, self.says, self.call, self.pattern = name, words, says, call, pattern

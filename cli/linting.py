@@ -1,12 +1,16 @@
 """`./jirrambeo lint`: the program's lines, or reports for a person or for another tool.
 
-  --pretty             frames: the source lines that a report points at, with its labels under them; so it is at a terminal
-  --format FORMAT      text (the program's lines, so it is where nobody looks on), pretty, json (one object a report) or sarif (a SARIF 2.1.0 log)
+  --pretty             frames: the source lines that a report points at, with its labels under them; so it is at a
+                       terminal
+  --format FORMAT      text (the program's lines, so it is where nobody looks on), pretty, json (one object a report)
+                       or sarif (a SARIF 2.1.0 log)
   --source FILE        the source that the unit was made of
   --name NAME          what the source is called in what is printed, in place of FILE
-  --offsets UNITS      what spans count in the source: bytes of UTF-8, as the React Compiler's do, or utf16, as JavaScript's indices do
+  --offsets UNITS      what spans count in the source: bytes of UTF-8, as the React Compiler's do, or utf16, as
+                       JavaScript's indices do
 
-Colour goes to terminals alone, and never where NO_COLOR is set. The exit status is the program's, and 2 where the source can't be read."""
+Colour goes to terminals alone, and never where NO_COLOR is set. The exit status is the program's, and 2 where the
+source can't be read."""
 import argparse
 import os
 import sys

@@ -44,7 +44,8 @@ class Source:
         return size if self.encoding == 'utf-8' else size // 2
 
     def place(self, offset):
-        """The line and the character in it, both from 0, at an offset inside the text: within a character it is that character."""
+        """The line and the character in it, both from 0, at an offset inside the text: within a character it is that
+        character."""
         line = bisect.bisect_right(self.starts, offset) - 1
         left, at = offset - self.starts[line], 0
         for number, character in enumerate(self.lines[line]):

@@ -1,8 +1,9 @@
 """The digest of the program's sources, without reading each of them at each call.
 
-As git's index does, a file holds what the system tells of each source and of each folder of them: its size, times and number. Where all of that is as it
-was when the digest was computed, no source changed, came or went, and the digest is that one; where anything differs all of them are read anew. A source
-that was changed a moment ago could change again within one tick of the clock, so nothing is noted until each is older than that."""
+As git's index does, a file holds what the system tells of each source and of each folder of them: its size, times and
+number. Where all of that is as it was when the digest was computed, no source changed, came or went, and the digest
+is that one; where anything differs all of them are read anew. A source that was changed a moment ago could change
+again within one tick of the clock, so nothing is noted until each is older than that."""
 import os
 import time
 

@@ -1,4 +1,5 @@
-"""The words of the command, what it says where something is missing, and that changed sources are never run as proved."""
+"""The words of the command, what it says where something is missing, and that changed sources are never run as
+proved."""
 import os
 import re
 import time
@@ -124,7 +125,8 @@ class Stamps(unittest.TestCase):
                                                        OUT=os.path.join(there.top, 'out'), NOTED=os.path.join(there.top, 'out', 'seen')):
             with mock.patch.object(stamps, 'crates_in_order', return_value=['alias_tool']), \
                     mock.patch.object(stamps, 'digest', side_effect=['1', '2', '3', '4']):
-                self.assertEqual([stamps.digest_now(), stamps.digest_now()], ['1', '2'])  # young sources are read each time
+                # young sources are read each time
+                self.assertEqual([stamps.digest_now(), stamps.digest_now()], ['1', '2'])
                 with mock.patch.object(stamps, 'TICK', -10 ** 10):
                     self.assertEqual(stamps.digest_now(), '3')
                 self.assertEqual([stamps.digest_now(), stamps.digest_now()], ['3', '3'])
