@@ -27,7 +27,7 @@ test('a line for each outermost function', () => {
   assert.deepStrictEqual(found.map(f => [f.file, f.name, f.kind, f.at]), [
     [file, 'C', 'component', {line: 1, column: 11, offset: 10}],
     [file, 'useX', 'hook', {line: 2, column: 1, offset: 22}],
-    [file, 'm', 'other', {line: 3, column: 11, offset: 74}],
+    [file, 'm', 'other', {line: 3, column: 11, offset: 72}],
   ]);
   assert.deepStrictEqual(found.map(f => f.unit ? f.unit.format : f.refused.reason), [1, 1, '`super`']);
 });
