@@ -23,12 +23,10 @@
   called     so many nested functions, each of which loads its context and is called ten times
   parameters a nested function of so many parameters, each of which is stored in the next, and the last in the first
   freezing   so many nested functions, each of which captures the one before, and the first an object; the last is
-             frozen, with all
-             that it leads to, and then the object is written
+             frozen, with all that it leads to, and then the object is written
   made       the unit of `jirrambeo made 1 SIZE`: so many blocks, each of which uses an object that was drawn
   read       a unit of so many MiB, of all kinds of instruction and with nested functions, whose last call has too
-             many arguments: what
-             is timed is reading and checking it
+             many arguments: what is timed is reading and checking it
 """
 import json
 

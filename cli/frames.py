@@ -133,7 +133,8 @@ def frame(lint, source, is_coloured):
             yield note + painter.paint('bold', '%d..%d' % (label.start, label.end)) + (': ' + label.text if label.text else '')
     if lint.help:
         yield note + painter.paint('bold', 'help') + ': ' + lint.help
-    yield note + painter.paint('bold', 'at') + ': ' + lint.where()
+    if lint.where():
+        yield note + painter.paint('bold', 'at') + ': ' + lint.where()
 
 
 def summary(lints):
