@@ -94,7 +94,7 @@ def found_of(file, data, told):
     found = Found(file, data)
     if 'error' in told:
         error = told['error']
-        found.failed.append(Failed(error['kind'], error['message'], error.get('offset')))
+        found.failed.append(Failed(error['kind'], error['message'].split('\n')[0], error.get('offset')))
     for function in told.get('functions', ()):
         of_function(found, function)
     return found.order()
