@@ -9,7 +9,9 @@ import shutil
 import subprocess
 import sys
 
+from cli import inference
 from cli.building import alone, called, has_kit, proved
+from cli.inference import SERVER, is_served
 from cli.saying import FIRST_BUILD, say
 from cli.sources import CRATES, HERE, crates_in_order, digest
 
@@ -97,7 +99,32 @@ def merged(kit):
     return done.returncode == 0
 
 
+def serving():
+    """Makes the server of the library that stands, by which the command answers for many files in one process, where there is a compiler of C."""
+    if is_served():
+        return
+    compiler = shutil.which('gcc') or shutil.which('cc') or shutil.which('clang')
+    if compiler is None:
+        say('hosts/lib/serve is not made, and `lint` of source starts a process for each function: no compiler of C is there')
+        return
+    for path in (SERVER, inference.STAMP):
+        if os.path.exists(path):
+            os.remove(path)
+    header = os.path.join(HERE, 'hosts', 'c')
+    words = [compiler, '-std=c11', '-O2', '-I', header, os.path.join(header, 'serve.c'), ARCHIVE, '-pthread', '-o', SERVER]
+    if subprocess.run(words, check=False).returncode == 0:
+        write(inference.STAMP, inference.server_digest())
+
+
 def main():
+    status = archive()
+    if status == 0:
+        serving()
+    return status
+
+
+def archive():
+    """Makes the library. Answers 0 where it stands, built from the sources that are there."""
     names = crates_in_order(LIBRARY)
     wanted = digest(names)
     if read(STAMP) == wanted and os.path.isfile(ARCHIVE):

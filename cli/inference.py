@@ -4,21 +4,27 @@ import struct
 import subprocess
 
 from cli.program import answered
-from cli.sources import HERE
+from cli.sources import HERE, digest_of
 from cli.stamps import digest_now
 
 LIBRARY = 'jirrambeo'
 FOLDER = os.path.join(HERE, 'hosts', 'lib')
-SERVER = os.path.join(FOLDER, 'serve')  # hosts/c/serve.c over the library
-STAMP = os.path.join(FOLDER, 'built_from')  # the digest of the sources that the library was built from
+SERVER = os.path.join(FOLDER, 'serve')  # of SOURCES and the library
+STAMP = SERVER + '_built_from'
+SOURCES = [os.path.join(HERE, 'hosts', 'c', name) for name in ('serve.c', 'jirrambeo.h')]
 ENDED = 10  # the status where a process ended without an answer, as where memory ran out
 
 
+def server_digest():
+    """A digest of all that the server is made of."""
+    return digest_now(LIBRARY) + digest_of(SOURCES)
+
+
 def is_served():
-    """Whether the server stands, over a library that is built from the sources that are there."""
+    """Whether the server stands, built from the sources that are there."""
     try:
         with open(STAMP, encoding='ascii') as stamp:
-            return os.access(SERVER, os.X_OK) and stamp.read() == digest_now(LIBRARY)
+            return os.access(SERVER, os.X_OK) and stamp.read() == server_digest()
     except OSError:
         return False
 
