@@ -1,5 +1,6 @@
 """What is found in files of source: reports, functions that aren't analysed, and files that can't be."""
 import json
+from functools import cached_property
 
 from cli.lints import Label, Lint, lints_from
 from cli.source import Source
@@ -46,12 +47,17 @@ class Failed(Lint):
 
 
 class Found:
-    """What is found in one file. Its source is None where the file couldn't be read."""
+    """What is found in one file. It has no bytes where the file couldn't be read."""
 
     def __init__(self, file, data=None):
-        self.file, self.source = file, Source(file, data) if data is not None else None
+        self.file, self.data = file, data
         self.lints, self.refused, self.failed = [], [], []
         self.functions = 0
+
+    @cached_property
+    def source(self):
+        """The source by lines, made where a place in it is asked for; None where there is none."""
+        return None if self.data is None else Source(self.file, self.data)
 
     def order(self):
         """Puts reports in the order of the source, each once."""

@@ -4,6 +4,7 @@ import os
 import signal
 import sys
 import time
+from multiprocessing.util import Finalize
 
 from cli.front import FrontEnd, failed
 from cli.inference import inference
@@ -39,8 +40,10 @@ worker = None  # of this process, where it is one of a pool
 
 def begin(job, options, is_proved):
     global worker
-    signal.signal(signal.SIGINT, signal.SIG_IGN)
+    signal.signal(signal.SIGINT, signal.SIG_IGN)  # the process that started this one ends it
+    signal.signal(signal.SIGTERM, signal.SIG_DFL)
     worker = Worker(job, options, is_proved)
+    Finalize(worker, worker.close, exitpriority=1)  # when the process ends, which is no time for `atexit`
 
 
 def answered(file):
@@ -79,5 +82,12 @@ def answers(files, job, options=(), is_proved=False):
             alone.close()
         return
     count = min(PROCESSORS, len(files))
-    with multiprocessing.get_context('fork').Pool(count, begin, (job, options, is_proved)) as pool:
+    pool = multiprocessing.get_context('fork').Pool(count, begin, (job, options, is_proved))
+    try:
         yield from pool.imap(answered, files, max(1, min(8, len(files) // (8 * count))))
+        pool.close()
+    except BaseException:
+        pool.terminate()
+        raise
+    finally:
+        pool.join()
