@@ -9,8 +9,8 @@ import time
 
 
 class Starter:
-    """A process that is forked while the script is small, and starts the programs: the greatest memory that the system tells of a
-    run is at least that of the process that started it."""
+    """A process that is forked while the script is small, and starts the programs: the greatest memory that the
+    system tells of a run is at least that of the process that started it."""
 
     def __init__(self):
         asked, self.asking = os.pipe()
@@ -54,8 +54,8 @@ class Input:
         self.file.flush()
 
     def run(self, words, wanted, sink=os.devnull):
-        """Seconds, seconds of a processor, and greatest memory in kilobytes of one run. Stops where it ends otherwise than wanted, by one status or
-        one of several."""
+        """Seconds, seconds of a processor, and greatest memory in kilobytes of one run. Stops where it ends otherwise
+        than wanted, by one status or one of several."""
         seconds, taken, status, memory = STARTER.run(words, self.file.name, sink)
         if status not in (wanted if isinstance(wanted, tuple) else (wanted,)):
             sys.exit('%s ended with status %d' % (' '.join(words), status))

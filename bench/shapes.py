@@ -22,11 +22,11 @@
   levels     so many nested functions, each of which creates the next
   called     so many nested functions, each of which loads its context and is called ten times
   parameters a nested function of so many parameters, each of which is stored in the next, and the last in the first
-  freezing   so many nested functions, each of which captures the one before, and the first an object; the last is frozen, with all
-             that it leads to, and then the object is written
+  freezing   so many nested functions, each of which captures the one before, and the first an object; the last is
+             frozen, with all that it leads to, and then the object is written
   made       the unit of `jirrambeo made 1 SIZE`: so many blocks, each of which uses an object that was drawn
-  read       a unit of so many MiB, of all kinds of instruction and with nested functions, whose last call has too many arguments: what
-             is timed is reading and checking it
+  read       a unit of so many MiB, of all kinds of instruction and with nested functions, whose last call has too
+             many arguments: what is timed is reading and checking it
 """
 import json
 
@@ -290,7 +290,8 @@ LIST_KINDS = {'JsxFragment': 'children', 'StartMemoize': 'deps', 'TemplateLitera
 
 
 def one_of_each_kind(unit, place, nested):
-    """An instruction of each kind, all of whose places are this one or new; a function expression names the nested function."""
+    """An instruction of each kind, all of whose places are this one or new; a function expression names the nested
+    function."""
     for kind, names in PLACE_KINDS.items():
         unit.add(kind, **{name: place for name in names})
     for kind, name in LIST_KINDS.items():
@@ -335,7 +336,8 @@ def holders(size):
 
 
 def function_of(unit, place, instructions):
-    """A nested function with this place as its context: the instructions, in one block, and the return of what the last one gives."""
+    """A nested function with this place as its context: the instructions, in one block, and the return of what the
+    last one gives."""
     numbered = [{'id': i + 1, **instruction} for i, instruction in enumerate(instructions)]
     return {'fn_type': 'Other', 'context': [place], 'returns': unit.new(), 'entry': 0, 'instructions': numbered,
             'blocks': [{'id': 0, 'instructions': list(range(len(numbered))),

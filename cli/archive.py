@@ -1,14 +1,17 @@
-"""Builds the library for hosts, hosts/lib/libjirrambeo.a: its crate proved and compiled, with what the kit's heap needs.
+"""Builds the library for hosts, hosts/lib/libjirrambeo.a: its crate proved and compiled, with what the kit's heap
+needs.
 
-Where `rt ci` has passed in this folder, by `./check`, the proved libraries below the crate stand in crates/*/out, and the crate is proved and compiled over
-them, in a minute; else the gate proves a copy of them first, as `./jirrambeo build` does, and what is proved once is kept. Either way nothing is compiled
-that isn't proved."""
+Where `rt ci` has passed in this folder, by `./check`, the proved libraries below the crate stand in crates/*/out, and
+the crate is proved and compiled over them, in a minute; else the gate proves a copy of them first, as `./jirrambeo
+build` does, and what is proved once is kept. Either way nothing is compiled that isn't proved."""
 import os
 import shutil
 import subprocess
 import sys
 
+from cli import inference
 from cli.building import alone, called, has_kit, made, proved
+from cli.inference import SERVER, is_served
 from cli.saying import FIRST_BUILD, say
 from cli.sources import CRATES, HERE, crates_in_order, digest
 
@@ -51,30 +54,38 @@ def library_of(name, top=HERE):
 
 def over_libraries(names, top, kit):
     """The command that proves and compiles the crate over the proved libraries of those below it."""
-    words = [os.path.join(kit, 'bin', 'rattle'), 'build', '--crate-name', LIBRARY, 'src/lib.rt', '--extern', 'std=%s/rlibs/std.rlib' % kit,
-             '-L', 'dependency=%s/rlibs' % kit]
+    words = [os.path.join(kit, 'bin', 'rattle'), 'build', '--crate-name', LIBRARY, 'src/lib.rt',
+             '--extern', 'std=%s/rlibs/std.rlib' % kit, '-L', 'dependency=%s/rlibs' % kit]
     for name in names[:-1]:
         words += ['-L', 'dependency=' + os.path.dirname(library_of(name, top))]
-    words += ['--extern', 'alias_host=' + library_of('alias_host', top), '--antt-project', kit + '/rattle/logic/antt-project.json',
-              '--logic-built', kit + '/logic_built', '--jobs', '1', '--links', LIBRARY + '=', '--crate-type', 'staticlib',
+    words += ['--extern', 'alias_host=' + library_of('alias_host', top),
+              '--antt-project', kit + '/rattle/logic/antt-project.json', '--logic-built', kit + '/logic_built',
+              '--jobs', '1', '--links', LIBRARY + '=', '--crate-type', 'staticlib',
               '--toolchain', kit + '/toolchain', '--backend', 'llvm', '-o', MADE]
     return words
 
 
 def compiled_over_libraries(names, top, kit):
-    """Whether the crate's archive was made over the proved libraries of a folder; what the compiler said stands in out/archive.log."""
+    """Whether the crate's archive was made over the proved libraries of a folder; what the compiler said stands in
+    out/archive.log."""
     with open(os.path.join(OUT, 'archive.log'), 'wb') as log:
-        done = subprocess.run(over_libraries(names, top, kit), cwd=os.path.join(CRATES, LIBRARY), stdin=subprocess.DEVNULL, stdout=log,
-                              stderr=subprocess.STDOUT, check=False)
+        done = subprocess.run(over_libraries(names, top, kit), cwd=os.path.join(CRATES, LIBRARY),
+                              stdin=subprocess.DEVNULL, stdout=log, stderr=subprocess.STDOUT, check=False)
     return done.returncode == 0 and os.path.isfile(MADE)
 
 
+def stands_proved(names, wanted):
+    """Whether what rt ci proved of these sources where they stand is still there."""
+    return read(PASSED) == wanted and all(os.path.isdir(library_of(name)) for name in names[:-1])
+
+
 def compiled(names, wanted, kit):
-    """Whether the crate's archive was made, over what rt ci proved where it stands, or over what it proves of a copy."""
+    """Whether the crate's archive was made, over what rt ci proved where it stands, or over what it proves of a
+    copy."""
     os.makedirs(OUT, exist_ok=True)
     if os.path.exists(MADE):
         os.remove(MADE)
-    if read(PASSED) == wanted and all(map(os.path.isdir, map(library_of, names[:-1]))) and compiled_over_libraries(names, HERE, kit):
+    if stands_proved(names, wanted) and compiled_over_libraries(names, HERE, kit):
         return True
     say('proving the library and the crates below it, which takes %s the first time on four processors' % FIRST_BUILD)
     with alone(), proved(names) as top:
@@ -94,7 +105,32 @@ def merged(kit):
     return done.returncode == 0
 
 
+def serving():
+    """Makes the server of the library that stands, by which the command answers for many files in one process, where there is a compiler of C."""
+    if is_served():
+        return
+    compiler = shutil.which('gcc') or shutil.which('cc') or shutil.which('clang')
+    if compiler is None:
+        say('hosts/lib/serve is not made, and `lint` of source starts a process for each function: no compiler of C is there')
+        return
+    for path in (SERVER, inference.STAMP):
+        if os.path.exists(path):
+            os.remove(path)
+    header = os.path.join(HERE, 'hosts', 'c')
+    words = [compiler, '-std=c11', '-O2', '-I', header, os.path.join(header, 'serve.c'), ARCHIVE, '-pthread', '-o', SERVER]
+    if subprocess.run(words, check=False).returncode == 0:
+        write(inference.STAMP, inference.server_digest())
+
+
 def main():
+    status = archive()
+    if status == 0:
+        serving()
+    return status
+
+
+def archive():
+    """Makes the library. Answers 0 where it stands, built from the sources that are there."""
     names = crates_in_order(LIBRARY)
     wanted = digest(names)
     if read(STAMP) == wanted and os.path.isfile(ARCHIVE):

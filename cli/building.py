@@ -1,8 +1,9 @@
 """Proves and builds the program, or the library for hosts, by the kit's gate (`rt ci`) over a copy of the crates that it stands on.
 
-The gate proves crates side by side, the longest chain first, each over the statements alone of those below it, and keeps what it passed on this machine. So
-a build takes over what `./check` proved, and `./check` what a build did. The copy has no crates of tests and no edits, stands outside the repository, and
-goes when the build ends; of a build that is interrupted the crates that were proved stay kept, and the next one goes on from there."""
+The gate proves crates side by side, the longest chain first, each over the statements alone of those below it, and
+keeps what it passed on this machine. So a build takes over what `./check` proved, and `./check` what a build did. The
+copy has no crates of tests and no edits, stands outside the repository, and goes when the build ends; of a build that
+is interrupted the crates that were proved stay kept, and the next one goes on from there."""
 import contextlib
 import fcntl
 import os
@@ -69,7 +70,8 @@ class Gate:
 
     def told(self):
         """How far it is."""
-        return '%d of %d crates proved, %s' % (len(self.proved), len(self.names), minutes(int(time.monotonic() - self.begun)))
+        passed = minutes(int(time.monotonic() - self.begun))
+        return '%d of %d crates proved, %s' % (len(self.proved), len(self.names), passed)
 
     def tell(self, ended):
         while not ended.wait(SILENCE):
@@ -81,8 +83,8 @@ class Gate:
         os.makedirs(folder, exist_ok=True)
         ended = threading.Event()
         telling = threading.Thread(target=self.tell, args=(ended,))
-        process = subprocess.Popen(command, cwd=top, stdin=subprocess.DEVNULL, stdout=subprocess.PIPE, stderr=subprocess.STDOUT, text=True,
-                                   errors='replace', start_new_session=True)
+        process = subprocess.Popen(command, cwd=top, stdin=subprocess.DEVNULL, stdout=subprocess.PIPE,
+                                   stderr=subprocess.STDOUT, text=True, errors='replace', start_new_session=True)
         telling.start()
         try:
             with open(os.path.join(folder, 'build.log'), 'w', encoding='utf-8') as log:
@@ -100,7 +102,8 @@ class Gate:
 
 @contextlib.contextmanager
 def proved(names):
-    """A folder with a copy of these crates that the gate has passed, and what it made in their out/; None where it refuses one, which is said."""
+    """A folder with a copy of these crates that the gate has passed, and what it made in their out/; None where it
+    refuses one, which is said."""
     with tempfile.TemporaryDirectory(prefix='jirrambeo-') as room:
         top = os.path.join(room, 'crates-of-%s' % names[-1])
         fill(top, names)

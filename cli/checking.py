@@ -1,8 +1,8 @@
 """`./jirrambeo check UNIT.json CERTIFICATE`: whether a certificate is accepted for a unit.
 
-The certificate is what `certify` writes of the unit, or what anybody says in its place. The program has one input, the unit in one line and the
-certificate behind it; this makes it of two files. Without files the program reads that input from standard input. The exit status is the
-program's, and 2 where a file can't be read."""
+The certificate is what `certify` writes of the unit, or what anybody says in its place. The program has one input,
+the unit in one line and the certificate behind it; this makes it of two files. Without files the program reads that
+input from standard input. The exit status is the program's, and 2 where a file can't be read."""
 import argparse
 import sys
 
@@ -25,7 +25,8 @@ def read(path):
 
 
 def joined(unit, certificate):
-    """The program's input. The first newline ends the unit, so those of the unit become carriage returns, which mean the same in JSON."""
+    """The program's input. The first newline ends the unit, so those of the unit become carriage returns, which mean
+    the same in JSON."""
     return unit.replace(b'\n', b'\r') + b'\n' + certificate
 
 

@@ -41,8 +41,9 @@ def version(words):
 
 
 class Command:
-    """A command: its name, how its further words are written in --help, what it does, by what, and which further words it takes: a pattern of all of
-    them with single spaces between, or None where the command reads them itself."""
+    """A command: its name, how its further words are written in --help, what it does, by what, and which further
+    words it takes: a pattern of all of them with single spaces between, or None where the command reads them
+    itself."""
 
     def __init__(self, name, words, says, call, pattern=None):
         self.name, self.words, self.says, self.call, self.pattern = name, words, says, call, pattern
@@ -61,7 +62,7 @@ PARTS = (
     ('On source (JavaScript, TypeScript, Flow annotations, JSX):', (
         Command('lint', 'FILE..', 'prints what its code does wrong, as frames of the source, JSON, SARIF or for GitHub', part('linting', 'lint')),
         Command('view', 'FILE > page.html', 'makes a page: the source, its instructions, ranges, and why they end', part('viewing', 'view')),
-        Command('units', 'FILE..', 'prints the unit of each function, or why it has none, as JSON', part('units', 'units')))),
+        Command('units', 'FILE..', 'prints the unit of each function, or why it has none, as JSON', part('sourcing', 'units')))),
     ('On a unit (JSON: docs/FORMAT.md):', (
         Command('infer', '< UNIT', 'effects, mutable ranges, summaries and reports', program, ''),
         Command('certify', '< UNIT', 'the same, and what it can be checked by', program, ''),

@@ -39,13 +39,17 @@ def region(label, source):
     return made
 
 
-def artifact(source):
+def artifact(name):
     """The source by a reference that is relative where its name is."""
-    return {'uri': quote(source.name.replace(os.sep, '/'), safe="/:~!$&'()*+,;=@") if source and source.name else 'unknown'}
+    return {'uri': quote(name.replace(os.sep, '/'), safe="/:~!$&'()*+,;=@") if name else 'unknown'}
+
+
+def name_of(source):
+    return source.name if source else None
 
 
 def location(label, source):
-    physical = {'artifactLocation': artifact(source), 'region': region(label, source)}
+    physical = {'artifactLocation': artifact(name_of(source)), 'region': region(label, source)}
     if not physical['region']:
         del physical['region']
     made = {'physicalLocation': physical}
@@ -63,15 +67,19 @@ def result(lint, source):
     if lint.labels:
         made['locations'] = [location(lint.labels[0], source)]
     elif source:
-        made['locations'] = [{'physicalLocation': {'artifactLocation': artifact(source)}}]
+        made['locations'] = [{'physicalLocation': {'artifactLocation': artifact(name_of(source))}}]
     if lint.labels[1:]:
         made['relatedLocations'] = [{'id': number, **location(label, source)} for number, label in enumerate(lint.labels[1:])]
     return made
 
 
+def driver_of(lints):
+    """What a run says of the tool, with the rules of these reports."""
+    rules = [{'id': name, 'shortDescription': {'text': name}} for name in sorted({lint.category for lint in lints})]
+    return {'tool': {'driver': {'name': 'jirrambeo', 'version': VERSION, 'rules': rules}}, 'columnKind': 'unicodeCodePoints'}
+
+
 def sarif(lints, source):
     """The log of one run."""
-    rules = [{'id': name, 'shortDescription': {'text': name}} for name in sorted({lint.category for lint in lints})]
-    run = {'tool': {'driver': {'name': 'jirrambeo', 'version': VERSION, 'rules': rules}}, 'columnKind': 'unicodeCodePoints',
-           'results': [result(lint, source) for lint in lints]}
+    run = {**driver_of(lints), 'results': [result(lint, source) for lint in lints]}
     return json.dumps({'$schema': SCHEMA, 'version': '2.1.0', 'runs': [run]}, indent=2, ensure_ascii=False)

@@ -62,7 +62,8 @@ class Frame:
         return sorted(numbers)
 
     def under(self, line):
-        """The rows under a line: all underlines in one row, with the last label's text behind them, and a row for each other text."""
+        """The rows under a line: all underlines in one row, with the last label's text behind them, and a row for
+        each other text."""
         _, columns = shown(self.source.lines[line])
         marks = sorted((mark for mark in self.marks if mark.is_within_line() and mark.start[0] == line), key=lambda mark: mark.start)
         if not marks:
@@ -132,7 +133,8 @@ def frame(lint, source, is_coloured):
             yield note + painter.paint('bold', '%d..%d' % (label.start, label.end)) + (': ' + label.text if label.text else '')
     if lint.help:
         yield note + painter.paint('bold', 'help') + ': ' + lint.help
-    yield note + painter.paint('bold', 'at') + ': ' + lint.where()
+    if lint.where():
+        yield note + painter.paint('bold', 'at') + ': ' + lint.where()
 
 
 def summary(lints):

@@ -9,7 +9,8 @@ class Label:
 
 
 class Lint:
-    """A report with the place that it comes from: a function (None is the root), a block, and an instruction (None is the block's end)."""
+    """A report with the place that it comes from: a function (None is the root), a block, and an instruction (None is
+    the block's end)."""
 
     def __init__(self, function, block, instruction, category, message, help_text, labels):
         self.function, self.block, self.instruction = function, block, instruction

@@ -12,7 +12,8 @@ UNPROVED = ('not proved on this machine: `./jirrambeo build` proves and builds i
 
 
 def is_proved():
-    """Whether the proved program stands. Says so where it doesn't, and answers None where nothing can be run in its place."""
+    """Whether the proved program stands. Says so where it doesn't, and answers None where nothing can be run in its
+    place."""
     if is_built(digest_now()):
         return True
     if os.environ.get('JIRRAMBEO_PROVED'):

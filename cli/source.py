@@ -2,6 +2,7 @@
 import bisect
 import unicodedata
 
+MARK = '\ufeff'  # the byte order mark, which offsets count and columns don't
 TAB = 4  # columns from one tab stop to the next
 
 
@@ -31,9 +32,10 @@ class Source:
         self.name = name
         self.encoding = 'utf-8' if offsets == 'bytes' else 'utf-16-le'
         text = data.decode('utf-8', errors='surrogateescape')
-        self.lines = [line.rstrip('\r') for line in text.split('\n')]
-        self.starts, at = [], 0
-        for line in text.split('\n'):
+        at = self.length(MARK) if text.startswith(MARK) else 0
+        self.starts, self.text = [], text.removeprefix(MARK)
+        self.lines = [line.rstrip('\r') for line in self.text.split('\n')]
+        for line in self.text.split('\n'):
             self.starts.append(at)
             at += self.length(line + '\n')
         self.end = at - self.length('\n')
@@ -44,8 +46,9 @@ class Source:
         return size if self.encoding == 'utf-8' else size // 2
 
     def place(self, offset):
-        """The line and the character in it, both from 0, at an offset inside the text: within a character it is that character."""
-        line = bisect.bisect_right(self.starts, offset) - 1
+        """The line and the character in it, both from 0, at an offset inside the text: within a character it is that
+        character."""
+        line = max(bisect.bisect_right(self.starts, offset) - 1, 0)
         left, at = offset - self.starts[line], 0
         for number, character in enumerate(self.lines[line]):
             at += self.length(character)

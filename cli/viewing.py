@@ -1,8 +1,8 @@
 """`./jirrambeo view UNIT.json [--source FILE] > unit.html`: one page that shows what is inferred of a unit.
 
-It stands alone, with no other file and no network: per function its blocks and instructions with their effects, a bar for each mutable range, why a
-range ends where it does, what each block is entered with, and the alias graph. It is made of what `certify` and `explain` write, so it can't
-disagree with them."""
+It stands alone, with no other file and no network: per function its blocks and instructions with their effects, a bar
+for each mutable range, why a range ends where it does, what each block is entered with, and the alias graph. It is
+made of what `certify` and `explain` write, so it can't disagree with them."""
 import argparse
 import json
 import os
@@ -33,7 +33,8 @@ def number_of(place):
     return place[0] if isinstance(place, list) else place
 
 
-LISTS = ('elements', 'properties', 'args', 'props', 'children', 'deps', 'subexprs', 'array', 'object')  # keys of lists; `object` of a pattern alone
+# keys of lists; `object` of a pattern alone
+LISTS = ('elements', 'properties', 'args', 'props', 'children', 'deps', 'subexprs', 'array', 'object')
 
 
 def places_in(value):

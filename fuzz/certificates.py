@@ -1,11 +1,13 @@
 #!/usr/bin/env python3
-"""Damaged certificates: fuzz/certificates.py FIRST LAST FOLDER PROGRAM, where PROGRAM is a command that takes the words `certify` and `check`, such as
-'crates/alias_tool/out/alias_tool'. For each seed from FIRST on and below LAST the unit of the seed (units.py) is certified by the program; where that
-ends with 0, an input of `check` is written to FOLDER/SEED: the unit in one line, a newline, and the certificate, which is damaged in nine of ten. What
-PROGRAM answers is written to FOLDER/SEED.stdout: so `rt try --cases FOLDER` compares another program with it. Each status has a line of its own.
+"""Damaged certificates: fuzz/certificates.py FIRST LAST FOLDER PROGRAM, where PROGRAM is a command that takes the
+words `certify` and `check`, such as 'crates/alias_tool/out/alias_tool'. For each seed from FIRST on and below LAST
+the unit of the seed (units.py) is certified by the program; where that ends with 0, an input of `check` is written to
+FOLDER/SEED: the unit in one line, a newline, and the certificate, which is damaged in nine of ten. What PROGRAM
+answers is written to FOLDER/SEED.stdout: so `rt try --cases FOLDER` compares another program with it. Each status has
+a line of its own.
 
-`damaged(text, r)` damages a certificate once, in one of its lines, numbers, sites, reasons, keys, in the order of its lines, or in its bytes. The same
-seed always gives the same text."""
+`damaged(text, r)` damages a certificate once, in one of its lines, numbers, sites, reasons, keys, in the order of its
+lines, or in its bytes. The same seed always gives the same text."""
 import os
 import random
 import re

@@ -1,6 +1,7 @@
-"""Random units as JSON, by form: `unit(seed)` is a unit of all kinds of instruction and terminal, with nested functions, shapes with
-signatures of both sorts, loops and handlers. Most are well formed and are inferred. `text(seed)` is the text of a unit, which is damaged in
-about a fifth: in its bytes, in a key or a value, or so that a rule of a well-formed unit is broken.
+"""Random units as JSON, by form: `unit(seed)` is a unit of all kinds of instruction and terminal, with nested
+functions, shapes with signatures of both sorts, loops and handlers. Most are well formed and are inferred.
+`text(seed)` is the text of a unit, which is damaged in about a fifth: in its bytes, in a key or a value, or so that a
+rule of a well-formed unit is broken.
 
 The same seed always gives the same text."""
 import json

@@ -1,11 +1,14 @@
 """Writes runs of the program into one file, for the hosts to do again: hosts/cases.py FILE [PROGRAM | --few]
 
-Each is the words, the input, the status and the text: the worked examples of alias_rows but those in which a stream fails, which no host has; what
-`infer` is to write of each of examples/; and, where the proved program is given, what it writes of the units of both for every command. Each certificate
-that `certify` then writes has to be accepted by `check`, which is also asked about those of examples/ with a damage: without the first line of a kind, with
-another number in that line, and without its first byte. `--few` leaves out the long ones, for a slow machine as valgrind's.
+Each is the words, the input, the status and the text: the worked examples of alias_rows but those in which a stream
+fails, which no host has; what `infer` is to write of each of examples/; and, where the proved program is given, what
+it writes of the units of both, and of one whose text is long, for every command. Each certificate that `certify` then
+writes has to be accepted by `check`, which is also asked about those of examples/ with a damage: without the first
+line of a kind, with another number in that line, and without its first byte. `--few` leaves out the long ones, for a
+slow machine as valgrind's.
 
-The file has for each run four numbers of 4 bytes, the lowest first: the status, and the lengths of words, input and text; and then these."""
+The file has for each run four numbers of 4 bytes, the lowest first: the status, and the lengths of words, input and
+text; and then these."""
 import glob
 import os
 import re
@@ -15,6 +18,7 @@ import sys
 
 TOP = os.path.dirname(os.path.dirname(os.path.abspath(__file__)))
 sys.path.insert(0, TOP)
+from bench.shapes import loops  # noqa: E402
 from cli.checking import joined  # noqa: E402
 
 MOST = 1 << 20  # the longest input that every command is asked about
@@ -27,7 +31,8 @@ def read(*path):
 
 
 def row(text, unit):
-    """The run of a worked example, or None where a stream fails in it; and the unit that stood last, which was this one before it."""
+    """The run of a worked example, or None where a stream fails in it; and the unit that stood last, which was this
+    one before it."""
     given = {'words': b'', 'input': b'', 'status': 0, 'text': b'', 'fails': False}
     for line in text.split(b'\n'):
         key, blank, value = line.partition(b' ')
@@ -90,7 +95,8 @@ def accepted_of(program, certified):
 
 
 def damaged(certificate):
-    """The certificate with a damage: for each kind of line, without the first such line, with another number in it, and without its first byte."""
+    """The certificate with a damage: for each kind of line, without the first such line, with another number in it,
+    and without its first byte."""
     lines, firsts = certificate.split(b'\n')[:-1], {}
     for at, line in enumerate(lines):
         firsts.setdefault('effect' if line[:1].isdigit() else line.split(b' ')[0], at)
@@ -102,7 +108,8 @@ def damaged(certificate):
 
 def runs_of(program, runs):
     """What the program writes of the units of these runs."""
-    units = {data for words, data, _, _ in runs if data and len(data) <= MOST and words != b'check'}
+    # of which the text is long
+    units = {data for words, data, _, _ in runs if data and len(data) <= MOST and words != b'check'} | {loops(30)}
     told = list(asked_of(program, sorted(units)))
     certified = [(data, text) for words, data, status, text in told if words == b'certify' and status == 0]
     shown = {data for _, data, _, _ in examples()}

@@ -1,4 +1,5 @@
-"""A copy of the command beside a stand-in for the program, so that what the command does around the program shows without a proof."""
+"""A copy of the command beside a stand-in for the program, so that what the command does around the program shows
+without a proof."""
 import os
 import shutil
 import subprocess

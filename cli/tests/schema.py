@@ -1,4 +1,5 @@
-"""A check of a value by a JSON schema, of the words that the schemas of this repository use: docs/unit.schema.json and data/sarif.schema.json."""
+"""A check of a value by a JSON schema, of the words that the schemas of this repository use: docs/unit.schema.json
+and data/sarif.schema.json."""
 import re
 
 TYPES = {'object': dict, 'array': list, 'string': str, 'boolean': bool, 'null': type(None)}

@@ -1,4 +1,5 @@
-"""The words of the command, what it says where something is missing, and that changed sources are never run as proved."""
+"""The words of the command, what it says where something is missing, and that changed sources are never run as
+proved."""
 import os
 import re
 import time
@@ -120,15 +121,15 @@ class Stamps(unittest.TestCase):
         there.write('crates.txt', 'alias_tool: \n')
 
     def test_the_digest_is_computed_once_where_the_sources_are_old(self):
-        with Installed() as there, mock.patch.multiple(stamps, HERE=there.top, CRATES=os.path.join(there.top, 'crates'),
-                                                       OUT=os.path.join(there.top, 'out'), NOTED=os.path.join(there.top, 'out', 'seen')):
+        with Installed() as there, mock.patch.multiple(stamps, HERE=there.top, CRATES=os.path.join(there.top, 'crates')):
             with mock.patch.object(stamps, 'crates_in_order', return_value=['alias_tool']), \
                     mock.patch.object(stamps, 'digest', side_effect=['1', '2', '3', '4']):
-                self.assertEqual([stamps.digest_now(), stamps.digest_now()], ['1', '2'])  # young sources are read each time
+                # young sources are read each time
+                self.assertEqual([stamps.digest_now(), stamps.digest_now()], ['1', '2'])
                 with mock.patch.object(stamps, 'TICK', -10 ** 10):
                     self.assertEqual(stamps.digest_now(), '3')
                 self.assertEqual([stamps.digest_now(), stamps.digest_now()], ['3', '3'])
-                with open(stamps.NOTED, 'a', encoding='utf-8') as file:
+                with open(stamps.noted_in('alias_tool'), 'a', encoding='utf-8') as file:
                     file.write('\nnothing')
                 there.write('crates/alias_tool/src/main.rt', '')
                 self.assertEqual(stamps.digest_now(), '4')

@@ -53,7 +53,8 @@ class Schema(unittest.TestCase):
             self.assertEqual(list(faults(self.schema, json.loads(read(path)))), [], path)
 
     def test_rows(self):
-        """Each unit that is read is one by the schema, and one that isn't read is none, but for what the schema's description leaves out."""
+        """Each unit that is read is one by the schema, and one that isn't read is none, but for what the schema's
+        description leaves out."""
         tried = 0
         for unit, status, written in rows():
             if status in (0, 5, 6, 14, 15):

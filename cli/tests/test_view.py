@@ -1,4 +1,5 @@
-"""The page of a unit, in a real browser where one is installed (Debian's chromium), by texts of `certify` and `explain` that stand in data/."""
+"""The page of a unit, in a real browser where one is installed (Debian's chromium), by texts of `certify` and
+`explain` that stand in data/."""
 import json
 import os
 import re

@@ -1,7 +1,7 @@
 /* Jirrambeo in the caller's own process: mutation and aliasing inference for React code, proved right.
  *
  * Link libjirrambeo.a; it wants malloc, realloc, free, memmove and memset of the C library, and nothing else.
- * It is compiled for x86-64-v2 under Linux's calling convention, as position-independent code. */
+ * It is compiled for x86-64-v2 under Linux's calling convention, as position-independent code. MIT licence: LICENSE has the notices. */
 #ifndef JIRRAMBEO_H
 #define JIRRAMBEO_H
 
@@ -9,6 +9,7 @@
 #include <stdint.h>
 #include <stdlib.h>
 #include <string.h>
+#include <sys/mman.h>
 
 #ifdef __cplusplus
 extern "C" {
@@ -53,20 +54,18 @@ enum {
 uint8_t jirrambeo_run(const uint8_t *line, size_t line_length, const uint8_t *input, size_t input_length, uint8_t *room, size_t room_size,
                       size_t *text_length);
 
-/* The same, with the text in a block that jirrambeo_free gives back; it has a zero byte behind its `*text_length` bytes. The line ends with a zero byte. The
- * block is null where the status is JIRRAMBEO_MEMORY or JIRRAMBEO_NULL, which comes where `line`, `text` or `text_length` is null, or `input` is though
- * it has a length. */
-static inline uint8_t jirrambeo_call(const char *line, const uint8_t *input, size_t input_length, uint8_t **text, size_t *text_length) {
-    if (text != NULL) {
-        *text = NULL;
-    }
-    if (text_length != NULL) {
-        *text_length = 0;
-    }
-    if (line == NULL || text == NULL || text_length == NULL || (input == NULL && input_length > 0)) {
-        return JIRRAMBEO_NULL;
-    }
-    /* so much holds most texts; a longer one is asked for anew */
+/* Room as addresses alone: 1 GiB, of which the system gives memory only to what is written, which is the text. So a text that is no longer is computed once.
+ * Null where the process may not have so many addresses. */
+enum { JIRRAMBEO_ROOM = 1 << 30 };
+
+static inline uint8_t *jirrambeo_room(void) {
+    enum { ANONYMOUS = 0x20, NO_RESERVE = 0x4000 }; /* as Linux has them: ISO C hides their names */
+    void *room = mmap(NULL, JIRRAMBEO_ROOM, PROT_READ | PROT_WRITE, MAP_PRIVATE | ANONYMOUS | NO_RESERVE, -1, 0);
+    return room == MAP_FAILED ? NULL : (uint8_t *)room;
+}
+
+/* Where there are no such addresses: room on the heap, which holds most texts. A longer one is computed anew. */
+static inline uint8_t jirrambeo_call_in_block(const char *line, const uint8_t *input, size_t input_length, uint8_t **text, size_t *text_length) {
     size_t size = 4096 + 2 * (input_length <= 16777216 ? input_length : 0);
     for (;;) {
         uint8_t *room = (uint8_t *)calloc(size + 1, 1);
@@ -85,6 +84,39 @@ static inline uint8_t jirrambeo_call(const char *line, const uint8_t *input, siz
         }
         size = *text_length;
     }
+}
+
+/* The same, with the text in a block that jirrambeo_free gives back; it has a zero byte behind its `*text_length` bytes. The line ends with a zero byte. The
+ * block is null where the status is JIRRAMBEO_MEMORY or JIRRAMBEO_NULL, which comes where `line`, `text` or `text_length` is null, or `input` is though
+ * it has a length. */
+static inline uint8_t jirrambeo_call(const char *line, const uint8_t *input, size_t input_length, uint8_t **text, size_t *text_length) {
+    if (text != NULL) {
+        *text = NULL;
+    }
+    if (text_length != NULL) {
+        *text_length = 0;
+    }
+    if (line == NULL || text == NULL || text_length == NULL || (input == NULL && input_length > 0)) {
+        return JIRRAMBEO_NULL;
+    }
+    uint8_t *room = jirrambeo_room();
+    if (room == NULL) {
+        return jirrambeo_call_in_block(line, input, input_length, text, text_length);
+    }
+    uint8_t status = jirrambeo_run((const uint8_t *)line, strlen(line), input, input_length, room, JIRRAMBEO_ROOM, text_length);
+    int is_whole = *text_length <= JIRRAMBEO_ROOM;
+    if (status != JIRRAMBEO_MEMORY && is_whole) {
+        *text = (uint8_t *)malloc(*text_length + 1);
+        if (*text == NULL) {
+            *text_length = 0;
+            status = JIRRAMBEO_MEMORY;
+        } else {
+            memcpy(*text, room, *text_length);
+            (*text)[*text_length] = 0;
+        }
+    }
+    munmap(room, JIRRAMBEO_ROOM);
+    return is_whole ? status : jirrambeo_call_in_block(line, input, input_length, text, text_length);
 }
 
 /* Whether a certificate is accepted for a unit: jirrambeo_call of "check", whose input is the unit, a newline and the certificate, which this puts together. The

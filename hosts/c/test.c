@@ -35,6 +35,25 @@ void __wrap_free(void *block) {
     __real_free(block);
 }
 
+/* How often the archive was called by a thread, and whether the process has no more addresses. */
+static _Thread_local long archive_calls;
+static _Thread_local int has_no_addresses;
+
+uint8_t __real_jirrambeo_run(const uint8_t *line, size_t line_length, const uint8_t *input, size_t input_length, uint8_t *room, size_t room_size,
+                             size_t *text_length);
+
+uint8_t __wrap_jirrambeo_run(const uint8_t *line, size_t line_length, const uint8_t *input, size_t input_length, uint8_t *room, size_t room_size,
+                             size_t *text_length) {
+    ++archive_calls;
+    return __real_jirrambeo_run(line, line_length, input, input_length, room, room_size, text_length);
+}
+
+void *__real_mmap(void *near, size_t size, int access, int flags, int file, off_t offset);
+
+void *__wrap_mmap(void *near, size_t size, int access, int flags, int file, off_t offset) {
+    return has_no_addresses ? MAP_FAILED : __real_mmap(near, size, access, flags, file, offset);
+}
+
 static void expect(int holds, const char *what) {
     if (!holds) {
         fprintf(stderr, "failed: %s\n", what);
@@ -51,6 +70,7 @@ struct run {
 static struct run *runs;
 static size_t run_count;
 static atomic_long done;
+static long long_texts;
 
 static const uint8_t *bytes(const char *text) { return (const uint8_t *)text; }
 
@@ -93,6 +113,20 @@ static void same(const struct run *run) {
     ++done;
     expect(is_as_ever(run, status, text, length), run->line);
     jirrambeo_free(text);
+}
+
+/* A text is computed once, and where the process has no more addresses, anew where it is longer than most. */
+static void once(const struct run *run) {
+    archive_calls = 0;
+    same(run);
+    expect(archive_calls == 1, "a text is computed once");
+    archive_calls = 0;
+    has_no_addresses = 1;
+    same(run);
+    has_no_addresses = 0;
+    int is_long = strcmp(run->line, "check") != 0 && run->text_length > 4096 + 2 * (run->input_length <= 16777216 ? run->input_length : 0);
+    expect(archive_calls == 1 + is_long, "a text without addresses");
+    long_texts += is_long;
 }
 
 /* What `certify` writes of a unit is accepted, also of a unit with newlines. */
@@ -218,7 +252,7 @@ int main(int count, char **words) {
     nulls();
     limits();
     for (size_t i = 0; i < run_count; ++i) {
-        same(&runs[i]);
+        once(&runs[i]);
         accepted(&runs[i]);
     }
     static const char *const commands[] = {"infer", "certify", "lint", "explain", "plain", "check", "made"};
@@ -227,7 +261,8 @@ int main(int count, char **words) {
         failed += failures_of(commands[i], atol(words[3]));
     }
     threads(atoi(words[2]));
-    printf("hosts: C: %ld calls with the program's own text, most from four threads; %ld calls in which an allocation failed\n", (long)done, failed);
+    printf("hosts: C: %ld calls with the program's own text, most from four threads; %ld calls in which an allocation failed; %ld texts that were longer than most, "
+           "computed once\n", (long)done, failed, long_texts);
     for (size_t i = 0; i < run_count; ++i) {
         free((void *)(uintptr_t)(runs[i].input - runs[i].line_length));
         free(runs[i].line);

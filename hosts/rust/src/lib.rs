@@ -15,10 +15,13 @@
 //!
 //! Every result's text (`to_string`) is the program's own, and reads back (`parse`) as the same result.
 //!
-//! # Panics
+//! No call panics: where the archive writes what this crate can't read, which is an error of one of the two, the answer is
+//! [`Refusal::Unreadable`]. That the archive's text is as docs/FORMAT.md says is proved, and that this crate reads all of that is tested.
 //!
-//! A call panics where the archive writes what this crate can't read, which is an error of one of the two: that the archive's text is as
-//! docs/FORMAT.md says is proved, and that this crate reads all of that is tested.
+//! # The licence
+//!
+//! MIT. The rules of the inference are ported from `oxc_react_compiler` and the React Compiler, which are under the same licence: Copyright (c) Meta
+//! Platforms, Inc. and affiliates; Copyright (c) 2026-present `VoidZero` Inc. & Contributors.
 //!
 //! # The stack
 //!
@@ -56,7 +59,7 @@ pub use report::{Label, Lint, Lints, Place, Report, Span};
 pub use site::{Site, SiteValue, Variable};
 pub use words::{Category, Counter, FormatRule, Table, ValueKind, ValueReason};
 
-use std::str::FromStr;
+use std::str::{self, FromStr};
 
 /// What is inferred of a unit.
 ///
@@ -151,34 +154,64 @@ pub fn made(seed: u64, size: u32) -> Result<Counts, Refusal> {
     answer(&format!("made {seed} {size}"), b"")
 }
 
-/// The status and the text of a run of the program with these words, which single spaces part, on this input. The text is empty where memory ran out.
-///
-/// # Panics
-///
-/// Where the archive's text isn't UTF-8, which is an error of the archive.
+/// The status and the text of a run of the program with these words, which single spaces part, on this input. The text is empty where memory ran out; it
+/// is UTF-8, which is tested.
 #[must_use]
-pub fn run(words: &str, input: &[u8]) -> (u8, String) {
-    // This much holds what most units lead to. A longer text is asked for anew.
-    let mut room = vec![0; 4096 + 2 * input.len()];
-    let mut answer = archive::run(words.as_bytes(), input, &mut room);
-    if answer.text_length > room.len() {
-        room = vec![0; answer.text_length];
-        answer = archive::run(words.as_bytes(), input, &mut room);
-    }
-    room.truncate(answer.text_length);
-    let text = String::from_utf8(room).expect("what the archive writes is UTF-8");
-    (answer.status, text)
+pub fn run(words: &str, input: &[u8]) -> (u8, Vec<u8>) {
+    archive::run(words.as_bytes(), input)
 }
 
 /// What a run's text says, or its refusal.
 fn answer<T: FromStr<Err = TextError>>(words: &str, input: &[u8]) -> Result<T, Refusal> {
     let (status, text) = run(words, input);
-    if status != 0 {
-        return Err(
-            Refusal::read(status, &text).expect("a refusal's line is as docs/FORMAT.md has it")
+    told(status, &text)
+}
+
+/// What the text of a run says that ended with this status.
+fn told<T: FromStr<Err = TextError>>(status: u8, text: &[u8]) -> Result<T, Refusal> {
+    let unreadable = |line| Refusal::Unreadable { status, line };
+    let text = str::from_utf8(text).map_err(|error| {
+        let front = &text[..error.valid_up_to()];
+        unreadable(1 + front.iter().filter(|byte| **byte == b'\n').count())
+    })?;
+    if status == 0 {
+        return text
+            .parse()
+            .map_err(|error: TextError| unreadable(error.line));
+    }
+    Err(Refusal::read(status, text).unwrap_or_else(|error| unreadable(error.line)))
+}
+
+#[cfg(test)]
+mod tests {
+    use super::{Inference, Lints, Refusal, told};
+
+    #[test]
+    fn a_text_that_cannot_be_read_is_a_refusal() {
+        let unreadable = |status, line| Refusal::Unreadable { status, line };
+        for (status, text, line) in [
+            (
+                0,
+                b"function root\nblock 0\n0 Crate 1 Mutable Other\n".as_slice(),
+                3,
+            ),
+            (0, b"function root\nblock \xff\n", 2),
+            (5, b"refused Unfit 99 root\n", 1),
+            (3, b"refused Words\n", 1),
+            (77, b"refused Words\n", 1),
+            (4, b"", 1),
+        ] {
+            let told: Result<Inference, Refusal> = told(status, text);
+            assert_eq!(told.err(), Some(unreadable(status, line)), "{status}");
+        }
+        let told: Result<Lints, Refusal> = told(0, b"lints one\n");
+        assert_eq!(
+            told.err().map(|refusal| refusal.line()),
+            Some(String::new())
+        );
+        assert_eq!(
+            unreadable(0, 3).to_string(),
+            "line 3 of the archive's text of status 0 isn't one that this crate reads"
         );
     }
-    Ok(text
-        .parse()
-        .expect("a result's text is as docs/FORMAT.md has it"))
 }

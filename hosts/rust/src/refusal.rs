@@ -40,6 +40,13 @@ pub enum Refusal {
     NotHere,
     /// 15: it isn't known whether the unit is plain.
     PlainRefused(PlainFault),
+    /// The archive wrote what this crate can't read, which is an error of one of the two: not of the unit.
+    Unreadable {
+        /// The status of the run.
+        status: u8,
+        /// The number of the first line of its text that can't be read, from 1.
+        line: usize,
+    },
 }
 
 impl Refusal {
@@ -106,10 +113,11 @@ impl Refusal {
             Refusal::Rejected(_) => 13,
             Refusal::NotHere => 14,
             Refusal::PlainRefused(_) => 15,
+            Refusal::Unreadable { status, .. } => *status,
         }
     }
 
-    /// The line that the program writes, with its end: nothing where memory ran out.
+    /// The line that the program writes, with its end: nothing where memory ran out, and where its text can't be read.
     #[must_use]
     pub fn line(&self) -> String {
         match self {
@@ -121,7 +129,7 @@ impl Refusal {
             Refusal::Unfit(fault) => format!("refused Unfit {fault}\n"),
             Refusal::Refused(error) => format!("refused {error}\n"),
             Refusal::TooLong => "refused TooLong\n".to_owned(),
-            Refusal::Memory => String::new(),
+            Refusal::Memory | Refusal::Unreadable { .. } => String::new(),
             Refusal::BadLine { number } => format!("refused BadLine {number}\n"),
             Refusal::Rejected(fault) => format!("refused Rejected {fault}\n"),
             Refusal::NotHere => "refused NotHere\n".to_owned(),
@@ -149,6 +157,7 @@ impl Refusal {
                 "the identifier doesn't stand in that function, or is of its context"
             }
             Refusal::PlainRefused(_) => "it isn't known whether the unit is plain",
+            Refusal::Unreadable { .. } => "the archive's text can't be read",
         }
     }
 }
@@ -156,6 +165,12 @@ impl Refusal {
 /// What is wrong, and the line that the program writes.
 impl fmt::Display for Refusal {
     fn fmt(&self, f: &mut fmt::Formatter<'_>) -> fmt::Result {
+        if let Refusal::Unreadable { status, line } = self {
+            return write!(
+                f,
+                "line {line} of the archive's text of status {status} isn't one that this crate reads"
+            );
+        }
         f.write_str(self.explanation())?;
         match self.line().trim_end() {
             "" => Ok(()),

@@ -122,7 +122,7 @@ fn a_refusal_tells_its_data() {
     assert_eq!(lint(b"{}"), Err(missing));
     assert_eq!(infer(&vec![b' '; 16_777_217]), Err(Refusal::TooLong));
     assert_eq!(made(1, 1001), Err(Refusal::Words));
-    assert_eq!(run("", b""), (2, "refused Words\n".to_owned()));
+    assert_eq!(run("", b""), (2, b"refused Words\n".to_vec()));
     assert_eq!(check(b"", b""), Err(Refusal::NotJson));
     assert_eq!(check(PANEL, &vec![b' '; 16_777_216]), Err(Refusal::TooLong));
 }

@@ -3,7 +3,7 @@ use jirrambeo::{
     FunctionId, FunctionName, IdentifierId, Refusal, certify, check, explain, infer, lint, made,
     plain, run,
 };
-use std::str::FromStr;
+use std::str::{self, FromStr};
 use std::{env, fs, thread};
 
 struct Case {
@@ -85,8 +85,8 @@ fn the_text_of_each_run_is_the_program_s() {
     for case in cases() {
         let (status, text) = run(&case.words, &case.input);
         assert_eq!(
-            (status, text.as_str()),
-            (case.status, case.text.as_str()),
+            (status, str::from_utf8(&text)),
+            (case.status, Ok(case.text.as_str())),
             "{}",
             case.words
         );
@@ -135,7 +135,12 @@ fn calls_side_by_side_have_the_same_answers() {
             scope.spawn(|| {
                 for case in (0..5).flat_map(|_| short()) {
                     let answer = run(&case.words, &case.input);
-                    assert_eq!(answer, (case.status, case.text.clone()), "{}", case.words);
+                    assert_eq!(
+                        answer,
+                        (case.status, case.text.clone().into_bytes()),
+                        "{}",
+                        case.words
+                    );
                 }
             });
         }

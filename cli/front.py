@@ -1,0 +1,101 @@
+"""The front end, which makes units of source: a process of Node that is asked over a pipe, file by file."""
+import json
+import os
+import shutil
+import subprocess
+
+from cli.saying import say
+from cli.sources import HERE
+
+FOLDER = os.path.join(HERE, 'frontend')
+PROGRAM = os.path.join(FOLDER, 'bin', 'units.js')
+OLDEST = 18
+NO_NODE = ('source is read by Node %d or later with @babel/parser, and %s: apt-get install nodejs node-babel7, '
+           'or npm install in %s')
+SYSTEM = '/usr/share/nodejs'  # where Debian's packages for Node are
+
+
+class NoFrontEnd(Exception):
+    """What reads source isn't there: the sentence says what to install."""
+
+
+def parser_folder():
+    """The folder of the parser that Node finds from the front end, or None."""
+    folder = FOLDER
+    while True:
+        found = os.path.join(folder, 'node_modules', '@babel', 'parser')
+        if os.path.isfile(os.path.join(found, 'package.json')):
+            return found
+        if folder == os.path.dirname(folder):
+            break
+        folder = os.path.dirname(folder)
+    found = os.path.join(SYSTEM, '@babel', 'parser')
+    return found if os.path.isfile(os.path.join(found, 'package.json')) else None
+
+
+def node():
+    """The path of Node."""
+    path = shutil.which('node') or shutil.which('nodejs')
+    if path is None:
+        raise NoFrontEnd(NO_NODE % (OLDEST, 'Node is not on the path', FOLDER))
+    if parser_folder() is None:
+        raise NoFrontEnd(NO_NODE % (OLDEST, 'the parser is not there', FOLDER))
+    return path
+
+
+def is_there():
+    """Whether source can be read. Says what to install where it can't."""
+    try:
+        node()
+        return True
+    except NoFrontEnd as missing:
+        say(str(missing))
+        return False
+
+
+def failed(kind, message):
+    return {'error': {'kind': kind, 'message': message}}
+
+
+class FrontEnd:
+    """A process that answers questions about files. It is started where it is asked first, and again where it ended."""
+
+    def __init__(self, options=()):
+        self.options, self.process = list(options), None
+
+    def start(self):
+        self.process = subprocess.Popen([node(), PROGRAM, *self.options, '--stdio'], stdin=subprocess.PIPE,
+                                        stdout=subprocess.PIPE, stderr=subprocess.DEVNULL)
+
+    def asked(self, request):
+        """The line that answers a request, or nothing where the process ended before."""
+        if self.process is None:
+            self.start()
+        try:
+            self.process.stdin.write(json.dumps(request).encode() + b'\n')
+            self.process.stdin.flush()
+            return self.process.stdout.readline()
+        except OSError:
+            return b''
+
+    def functions(self, file, data):
+        """What is said of a file with these bytes: an object with `functions`, or with `error`."""
+        try:
+            text = data.decode()
+        except UnicodeDecodeError:
+            return failed('nottext', 'the file is no text in UTF-8')
+        if '\0' in text:
+            return failed('nottext', 'the file has a NUL, as no text has')
+        line = self.asked({'id': 0, 'file': os.fsencode(file).decode(errors='replace'), 'text': text})
+        if not line.endswith(b'\n'):
+            self.close()
+            return failed('internal', 'the front end ended while it read this file')
+        return json.loads(line)
+
+    def close(self):
+        if self.process is not None:
+            self.process.kill()
+            self.process.wait()
+            self.process.stdin.close()
+            self.process.stdout.close()
+            self.process = None

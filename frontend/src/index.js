@@ -1,0 +1,75 @@
+'use strict';
+/**
+ * Source text to units: parse, names, and then for each outermost function lower, single assignment,
+ * types, unit.
+ *
+ * @typedef {object} Position
+ * @property {number} line from 1
+ * @property {number} column from 1, in units of UTF-16, as editors count
+ * @property {number} offset from the beginning of the file, in what `offsets` says
+ *
+ * @typedef {object} Made
+ * @property {?string} name
+ * @property {'component'|'hook'|'other'} kind
+ * @property {Position} at of its beginning
+ * @property {object} [unit] where it was lowered
+ * @property {{reason: string, message: string} & Position} [refused] where it wasn't, and why
+ */
+const {parse} = require('./parse.js');
+const {names} = require('./scope.js');
+const {outermost} = require('./kinds.js');
+const {lower} = require('./lower.js');
+const {enterSsa} = require('./ssa.js');
+const {inferTypes} = require('./types.js');
+const {emit, wrapped} = require('./emit.js');
+const {Refused} = require('./refused.js');
+const {Positions} = require('./positions.js');
+
+/**
+ * @typedef {object} Options
+ * @property {string} [filename] its ending says which language it is
+ * @property {'utf16'|'bytes'} [offsets] what spans count; as the React Compiler's, bytes
+ * @property {'nested'|'root'} [others] functions that are no component and no hook stand below a root that
+ *   makes them (the default): their parameters, and `this` as the last one, are whatever callers hand in. As
+ *   roots their parameters are taken to be frozen, as the React Compiler's mode `all` has it
+ * @property {boolean} [dropMemo] see lower.js
+ * @property {object} [config] of the unit
+ */
+
+/**
+ * @param {string} text
+ * @param {Options} [options]
+ * @returns {Array<Made>} one for each outermost function, in order of the text. Throws a SyntaxError
+ */
+function unitsOf(text, options = {}) {
+  return unitsOfProgram(parse(text, options.filename), text, options);
+}
+
+/**
+ * @param {object} file a Babel tree
+ * @param {string} text
+ * @param {Options} [options]
+ * @returns {Array<Made>}
+ */
+function unitsOfProgram(file, text, options = {}) {
+  const all = names(file);
+  const positions = new Positions(text, options.offsets);
+  return outermost(file, all).map(({func, name, kind}) => {
+    const made = {name, kind: kind.toLowerCase(), at: positions.position(func.node.start)};
+    try {
+      const isNested = kind === 'Other' && options.others !== 'root';
+      let fn = lower(all, func, {dropMemo: options.dropMemo, allowThis: isNested});
+      fn.kind = kind;
+      if (isNested) fn = wrapped(fn);
+      enterSsa(fn);
+      inferTypes(fn);
+      made.unit = emit(fn, {config: options.config, offset: i => positions.offset(i)});
+    } catch (error) {
+      if (!(error instanceof Refused)) throw error;
+      made.refused = {reason: error.reason, message: error.message, ...positions.position(error.start)};
+    }
+    return made;
+  });
+}
+
+module.exports = {unitsOf, unitsOfProgram, Refused, Positions, ...require('./sourcemap.js')};
