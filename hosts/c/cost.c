@@ -47,7 +47,7 @@ static void start(char *program, const char *path) {
 enum { STACK = 1 << 28, PAINT = 0xA5 };
 
 static void *all_commands(void *length) {
-    static const char *const lines[] = {"infer", "lint", "plain", "explain root 1"};
+    static const char *const lines[] = {"infer", "lint", "plain", "explain root 1", "explain root"};
     uint8_t *text, *certificate;
     size_t unit_length = *(size_t *)length, text_length, certificate_length;
     for (size_t i = 0; i < sizeof lines / sizeof *lines; ++i) {

@@ -6,7 +6,7 @@ use std::{env, thread};
 
 /// Every call once. Answers how many there were.
 fn all(unit: &[u8]) -> usize {
-    let mut count = 7;
+    let mut count = 8;
     let inference = jirrambeo::infer(unit).expect("an inference");
     let certificate = jirrambeo::certify(unit).expect("a certificate");
     for entry in &inference.ranges {
@@ -14,6 +14,8 @@ fn all(unit: &[u8]) -> usize {
         assert_eq!(why.expect("an explanation").range, entry.range);
         count += 1;
     }
+    let all = jirrambeo::explain_function(unit, FunctionName::Root).expect("explanations");
+    assert!(all.identifiers.windows(2).all(|two| two[0].0 < two[1].0));
     let text = certificate.to_string();
     let accepted = jirrambeo::check(unit, text.as_bytes()).expect("an accepted certificate");
     assert_eq!(accepted.functions, inference.functions.len() as u64);

@@ -48,6 +48,15 @@ pub struct Explanation {
     pub cause: Cause,
 }
 
+/// Why the ranges of all identifiers of a function end where they do: what [`explain_function`](crate::explain_function)
+/// answers.
+#[derive(Clone, Debug, Default, PartialEq, Eq, Hash)]
+pub struct FunctionExplanation {
+    /// Each identifier that stands in the function, in ascending order, as [`explain`](crate::explain) explains it. Context
+    /// places of a nested function aren't among them.
+    pub identifiers: Vec<(IdentifierId, Explanation)>,
+}
+
 const REACHES: [(&str, bool); 2] = [("local", false), ("transitive", true)];
 const DIRECTIONS: [(&str, bool); 2] = [("Backwards", false), ("Forwards", true)];
 const CERTAINTIES: [(&str, bool); 2] = [("Conditional", false), ("Definite", true)];
@@ -90,18 +99,41 @@ impl Cause {
     }
 }
 
-/// Reads the text that `jirrambeo explain` writes.
+impl Explanation {
+    fn read(lines: &mut Lines<'_>) -> Result<Explanation, TextError> {
+        let mut line = lines.need("range")?;
+        let range = MutableRange::read(&mut line)?;
+        line.end()?;
+        let cause = Cause::read(lines)?;
+        Ok(Explanation { range, cause })
+    }
+}
+
+/// Reads the text that `jirrambeo explain` writes of an identifier.
 impl FromStr for Explanation {
     type Err = TextError;
 
     fn from_str(text: &str) -> Result<Explanation, TextError> {
         let mut lines = Lines::new(text);
-        let mut line = lines.need("range")?;
-        let range = MutableRange::read(&mut line)?;
-        line.end()?;
-        let cause = Cause::read(&mut lines)?;
+        let explanation = Explanation::read(&mut lines)?;
         lines.end()?;
-        Ok(Explanation { range, cause })
+        Ok(explanation)
+    }
+}
+
+/// Reads the text that `jirrambeo explain` writes of a function.
+impl FromStr for FunctionExplanation {
+    type Err = TextError;
+
+    fn from_str(text: &str) -> Result<FunctionExplanation, TextError> {
+        let (mut lines, mut identifiers) = (Lines::new(text), Vec::new());
+        while let Some(mut line) = lines.taken("identifier") {
+            let identifier = line.identifier()?;
+            line.end()?;
+            identifiers.push((identifier, Explanation::read(&mut lines)?));
+        }
+        lines.end()?;
+        Ok(FunctionExplanation { identifiers })
     }
 }
 
@@ -120,7 +152,16 @@ impl fmt::Display for PathStep {
     }
 }
 
-/// The text that `jirrambeo explain` writes.
+/// The text that `jirrambeo explain` writes of a function.
+impl fmt::Display for FunctionExplanation {
+    fn fmt(&self, f: &mut fmt::Formatter<'_>) -> fmt::Result {
+        self.identifiers
+            .iter()
+            .try_for_each(|(identifier, why)| write!(f, "identifier {identifier}\n{why}"))
+    }
+}
+
+/// The text that `jirrambeo explain` writes of an identifier.
 impl fmt::Display for Explanation {
     fn fmt(&self, f: &mut fmt::Formatter<'_>) -> fmt::Result {
         writeln!(f, "range {} {}", self.range.start, self.range.end)?;

@@ -1,7 +1,7 @@
 //! Jirrambeo in the caller's own process: what the code of a React component may alias, freeze and write, proved right.
 //!
 //! A unit is the JSON that docs/FORMAT.md describes. [`infer`] gives what is inferred of it as plain types, and [`certify`], [`check`], [`lint`],
-//! [`explain`] and [`plain`] do what the program's commands of these names do. Each call stands alone: nothing is kept between calls, and calls may
+//! [`explain`], [`explain_function`] and [`plain`] do what the program's commands of these names do. Each call stands alone: nothing is kept between calls, and calls may
 //! run side by side in any number of threads.
 //!
 //! ```no_run
@@ -42,7 +42,9 @@ mod report;
 mod site;
 mod words;
 
-pub use answers::{Accepted, Cause, Counts, Explanation, PathStep, Plainness};
+pub use answers::{
+    Accepted, Cause, Counts, Explanation, FunctionExplanation, PathStep, Plainness,
+};
 pub use certificate::{
     Certificate, CertifiedBlock, CertifiedFunction, State, Temporary, TemporaryKey,
 };
@@ -134,6 +136,18 @@ pub fn explain(
     identifier: IdentifierId,
 ) -> Result<Explanation, Refusal> {
     answer(&format!("explain {function} {identifier}"), unit)
+}
+
+/// Why the range of each identifier of a function ends where it does.
+///
+/// # Errors
+///
+/// As of [`infer`], and where the function isn't there.
+pub fn explain_function(
+    unit: &[u8],
+    function: FunctionName,
+) -> Result<FunctionExplanation, Refusal> {
+    answer(&format!("explain {function}"), unit)
 }
 
 /// Whether a unit is plain, so that nothing in it leads the inference to refuse it.

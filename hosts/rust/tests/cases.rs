@@ -1,7 +1,7 @@
 //! Does runs of the program again in this process: `JIRRAMBEO_CASES` names a file of them, which hosts/cases.py writes.
 use jirrambeo::{
-    FunctionId, FunctionName, IdentifierId, Refusal, certify, check, explain, infer, lint, made,
-    plain, run,
+    FunctionId, FunctionName, IdentifierId, Refusal, certify, check, explain,
+    explain_function, infer, lint, made, plain, run,
 };
 use std::str::{self, FromStr};
 use std::{env, fs, thread};
@@ -74,6 +74,9 @@ fn printed_back(case: &Case) -> Option<Result<String, Refusal>> {
         ["explain", function, identifier] => {
             let identifier = IdentifierId(number_of(identifier)?);
             text_of(explain(&case.input, function_named(function)?, identifier))
+        }
+        ["explain", function] => {
+            text_of(explain_function(&case.input, function_named(function)?))
         }
         ["made", seed, size] => text_of(made(number_of(seed)?, number_of(size)?)),
         _ => return None,
