@@ -127,7 +127,7 @@ impl FromStr for FunctionExplanation {
 
     fn from_str(text: &str) -> Result<FunctionExplanation, TextError> {
         let (mut lines, mut identifiers) = (Lines::new(text), Vec::new());
-        while let Some(mut line) = lines.taken("identifier") {
+        while let Some(mut line) = lines.take("identifier") {
             let identifier = line.identifier()?;
             line.end()?;
             identifiers.push((identifier, Explanation::read(&mut lines)?));
