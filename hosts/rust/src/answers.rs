@@ -177,7 +177,7 @@ impl fmt::Display for Explanation {
     }
 }
 
-/// Whether a unit is plain, so that nothing in it leads an inference to refuse it: what [`plain`](crate::plain) answers.
+/// Whether a unit is plain, so that nothing in it leads an inference to refuse it where its functions settle: what [`plain`](crate::plain) answers.
 #[derive(Clone, Copy, Debug, PartialEq, Eq, Hash)]
 pub enum Plainness {
     /// It is.

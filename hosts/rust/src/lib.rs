@@ -150,7 +150,7 @@ pub fn explain_function(
     answer(&format!("explain {function}"), unit)
 }
 
-/// Whether a unit is plain, so that nothing in it leads the inference to refuse it.
+/// Whether a unit is plain, so that nothing in it leads the inference to refuse it where its functions settle.
 ///
 /// # Errors
 ///
