@@ -32,7 +32,10 @@ fn add_nodes(graph: &mut AliasGraph, values: [NodeValue; 4]) -> Result<(), Alloc
 }
 
 /// Adds the links `(kind, index, from, into)`.
-fn add_links(graph: &mut AliasGraph, links: &[(EdgeKind, u32, u32, u32)]) -> Result<(), AllocError> {
+fn add_links(
+    graph: &mut AliasGraph,
+    links: &[(EdgeKind, u32, u32, u32)],
+) -> Result<(), AllocError> {
     for link in links {
         let (kind, index, from, into) = *link;
         match kind {

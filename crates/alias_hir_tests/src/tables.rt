@@ -81,10 +81,7 @@ fn writes_that_a_function_is_not_settled(rt: HostRuntime) -> Result<(), Fail> {
 }
 
 /// Whether there are invariant errors before the report is recorded and after it.
-fn recorded(
-    env: &mut Environment,
-    report: Report,
-) -> Result<(bool, bool), AllocError> {
+fn recorded(env: &mut Environment, report: Report) -> Result<(bool, bool), AllocError> {
     let before = env.has_invariant_errors();
     env.record_diagnostic(report)?;
     Ok((before, env.has_invariant_errors()))

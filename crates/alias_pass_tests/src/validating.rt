@@ -56,7 +56,11 @@ fn create_and_render(alloc: Global, func: &mut HirFunction) -> Result<(), AllocE
     let lowered_func = LoweredFunction {
         func: FunctionId(0),
     };
-    add_instruction(func, 3, InstructionValue::FunctionExpression { lowered_func })?;
+    add_instruction(
+        func,
+        3,
+        InstructionValue::FunctionExpression { lowered_func },
+    )?;
     let children = List::from_slice(alloc, &[place(3)])?;
     add_instruction(func, 6, InstructionValue::JsxFragment { children })?;
     add_block(alloc, func, 0, &[FIRST, SECOND, THIRD], returning(2, 2))
