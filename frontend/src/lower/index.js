@@ -36,7 +36,7 @@ function lowerFunction(b) {
   const {entry, done} = b.blocks;
   return {
     kind: 'Other', name: node.id ? node.id.name : null, params, context, returns: b.temporary(node),
-    isAsync: node.async === true, entry, blocks: mergeConsecutiveBlocks(entry, done), start: node.start, end: node.end,
+    isAsync: node.async === true, hasThis: params.length > 0 && selfIdent(b) !== undefined && params.at(-1).ident === selfIdent(b), entry, blocks: mergeConsecutiveBlocks(entry, done), start: node.start, end: node.end,
   };
 }
 
@@ -52,6 +52,9 @@ function parameters(b) {
   for (const p of properties) storeParameterProperty(b, p);
   return params;
 }
+
+/** What its `this` is, where it has one as a parameter. @param {Builder} b */
+const selfIdent = b => (b.func.self ? b.shared.idents.get(b.func.self) : undefined);
 
 function ownParameters(b, node) {
   const params = [];
