@@ -20,7 +20,7 @@ function classOf(frame, v) {
     if (p !== constructor) Object.defineProperty(on, p.at.key.name, {value: frame.get(p.place), writable: true, configurable: true});
   }
   for (const p of fields) if (p.at.static) made[p.at.key.name] = frame.get(p.place);
-  return made;
+  return frame.machine.named(made, v.class);
 }
 
 module.exports = {classOf};

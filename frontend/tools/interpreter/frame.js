@@ -64,7 +64,7 @@ class Frame {
       return new constructor(machine, fn, steps).run(args, held, this);
     };
     machine.made(made, this, instruction, held);
-    return made;
+    return machine.named(made, fn);
   }
 
   run(args, held = [], self = undefined) {

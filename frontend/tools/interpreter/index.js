@@ -9,13 +9,12 @@ const {STEPS} = require('./steps.js');
 
 /**
  * @param {string} source of a file whose last function is run
- * @param {Record<string, any>} globals what global names mean
- * @returns {Function}
+ * @returns {(globals: Record<string, any>, limit?: number) => Function} the function, with what global names mean
  */
-function runnable(source, globals, limit = 200000) {
+function runnable(source) {
   const {names, functions} = functionsOf(parse(source), {});
   const {fn} = compile(names, functions.at(-1).func, 'Other', {});
-  return (...args) => new Frame(new Machine(globals, limit), fn, STEPS).run(args);
+  return (globals, limit = 200000) => (...args) => new Frame(new Machine(globals, limit, source), fn, STEPS).run(args);
 }
 
 module.exports = {runnable, Stopped};

@@ -1,10 +1,20 @@
 'use strict';
 /** What all functions of a run share. A tool that watches a run overrides what it wants to see. */
 class Machine {
-  /** @param {Record<string, any>} globals what global names mean @param {number} steps the most that are done */
-  constructor(globals, steps) {
+  /**
+   * @param {Record<string, any>} globals what global names mean
+   * @param {number} steps the most that are done
+   * @param {string} source
+   */
+  constructor(globals, steps, source) {
     this.globals = globals;
     this.left = steps;
+    this.source = source;
+  }
+
+  /** A function's text is that of the source, as JavaScript has it. */
+  named(f, {start, end}) {
+    return Object.defineProperty(f, 'toString', {value: () => this.source.slice(start, end)});
   }
 
   tick() {
