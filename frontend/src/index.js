@@ -16,12 +16,11 @@
  * @property {{reason: string, message: string} & Position} [refused] where it wasn't, and why
  */
 const {parse} = require('./parse.js');
-const {names} = require('./scope.js');
-const {outermost} = require('./kinds.js');
-const {lower} = require('./lower.js');
-const {enterSsa} = require('./ssa.js');
-const {inferTypes} = require('./types.js');
-const {emit, wrapped} = require('./emit.js');
+const {resolveNames} = require('./scope.js');
+const {markInlined} = require('./sharing.js');
+const {memoName} = require('./lower/memo.js');
+const {findFunctions} = require('./findFunctions.js');
+const {compile, emit} = require('./compile.js');
 const {Refused} = require('./refused.js');
 const {Positions} = require('./positions.js');
 
@@ -32,7 +31,9 @@ const {Positions} = require('./positions.js');
  * @property {'nested'|'root'} [others] functions that are no component and no hook stand below a root that
  *   makes them (the default): their parameters, and `this` as the last one, are whatever callers hand in. As
  *   roots their parameters are taken to be frozen, as the React Compiler's mode `all` has it
- * @property {boolean} [dropMemo] see lower.js
+ * @property {boolean} [dropMemo] whether useMemo and useCallback become what they do, between memo markers; they do
+ *   unless it is false
+ * @property {boolean} [compiler] the React Compiler's own way of lowering, where this front end has a better one
  * @property {object} [config] of the unit
  */
 
@@ -46,24 +47,31 @@ function unitsOf(text, options = {}) {
 }
 
 /**
+ * The names of a file, and its functions that get units.
+ * @param {object} file a Babel tree
+ * @param {Options} options
+ */
+function functionsOf(file, options) {
+  const names = resolveNames(file.program);
+  markInlined(names, call => options.dropMemo !== false && memoName(names, call) === 'useMemo');
+  return {names, functions: findFunctions(file, names)};
+}
+
+/**
  * @param {object} file a Babel tree
  * @param {string} text
  * @param {Options} [options]
  * @returns {Array<Made>}
  */
 function unitsOfProgram(file, text, options = {}) {
-  const all = names(file);
+  const {names, functions} = functionsOf(file, options);
   const positions = new Positions(text, options.offsets);
-  return outermost(file, all).map(({func, name, kind}) => {
-    const made = {name, kind: kind.toLowerCase(), at: positions.position(func.node.start)};
+  return functions.map(({func, name, kind}) => {
+    /** @type {Made} */
+    const made = {name, kind: /** @type {Made['kind']} */ (kind.toLowerCase()), at: positions.position(func.node.start)};
     try {
-      const isNested = kind === 'Other' && options.others !== 'root';
-      let fn = lower(all, func, {dropMemo: options.dropMemo, allowThis: isNested});
-      fn.kind = kind;
-      if (isNested) fn = wrapped(fn);
-      enterSsa(fn);
-      inferTypes(fn);
-      made.unit = emit(fn, {config: options.config, offset: i => positions.offset(i)});
+      const {root} = compile(names, func, kind, options);
+      made.unit = emit(root, {config: options.config, offset: i => positions.offset(i)});
     } catch (error) {
       if (!(error instanceof Refused)) throw error;
       made.refused = {reason: error.reason, message: error.message, ...positions.position(error.start)};
@@ -72,4 +80,4 @@ function unitsOfProgram(file, text, options = {}) {
   });
 }
 
-module.exports = {unitsOf, unitsOfProgram, Refused, Positions, ...require('./sourcemap.js')};
+module.exports = {unitsOf, unitsOfProgram, functionsOf, Refused, Positions, ...require('./sourcemap.js')};
