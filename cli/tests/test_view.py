@@ -8,7 +8,7 @@ import subprocess
 import tempfile
 import unittest
 
-from cli import viewing
+from cli import pages
 from cli.results import Certified, explained
 from cli.source import Source
 
@@ -27,11 +27,11 @@ def page_of(name, source=None):
     told = json.loads(read(DATA, name + '.explain.json'))
 
     def explains(functions):
-        return {f['name']: {i: explained(told['%s %d' % (f['name'], i)]) for i in viewing.identifiers_of(f) if '%s %d' % (f['name'], i) in told}
+        return {f['name']: {i: explained(told['%s %d' % (f['name'], i)]) for i in pages.identifiers_of(f) if '%s %d' % (f['name'], i) in told}
                 for f in functions}
 
     unit, certified = json.loads(read(EXAMPLES, name + '.json')), Certified(read(DATA, name + '.certify'))
-    return viewing.page(viewing.page_data(unit, certified, source, name, explains))
+    return pages.page(pages.page_data(name, [(unit, pages.unit_data(unit, certified, source, explains))], 0, source))
 
 
 class Results(unittest.TestCase):
@@ -49,13 +49,16 @@ class Results(unittest.TestCase):
         self.assertEqual(explained('range 0 0\nunset\n')['cause'], 'unset')
 
     def test_places(self):
-        self.assertEqual(viewing.places_in({'kind': 'MethodCall', 'receiver': 1, 'property': [2, 5, 9], 'args': [3, {'spread': 4}]}), [1, 2, 3, 4])
+        self.assertEqual(pages.places_in({'kind': 'MethodCall', 'receiver': 1, 'property': [2, 5, 9], 'args': [3, {'spread': 4}]}), [1, 2, 3, 4])
         pattern = {'kind': 'Const', 'pattern': {'object': [{'place': 2}, {'spread': 4}]}}
-        self.assertEqual(viewing.places_in({'kind': 'Destructure', 'lvalue': pattern, 'value': 1}), [2, 4, 1])
-        self.assertEqual(viewing.places_in({'kind': 'FunctionExpression', 'function': 7}), [])
+        self.assertEqual(pages.places_in({'kind': 'Destructure', 'lvalue': pattern, 'value': 1}), [2, 4, 1])
+        self.assertEqual(pages.places_in({'kind': 'FunctionExpression', 'function': 7}), [])
 
     def test_data_cannot_end_its_script(self):
-        self.assertNotIn('</b', viewing.page({'title': '</b', 'functions': []}).split('id="data">')[1].split('</script>')[0])
+        for text in ('</script>', '<!--<script>', '/*DATA*/', '/*SCRIPT*/'):
+            made = pages.page({'title': text}).split('id="data">')[1].split('</script>')[0]
+            self.assertNotIn('<', made)
+            self.assertEqual(json.loads(made), {'title': text})
 
 
 @unittest.skipUnless(BROWSER, 'no chromium is installed (apt-get install chromium)')
@@ -112,10 +115,10 @@ class Browser(unittest.TestCase):
             'blocks': [{'id': 0, 'instructions': list(range(1000)), 'terminal': {'kind': 'Return', 'id': 1001, 'value': 1}}]}}
         lines = ['function root', 'visits 0', 'block 0'] + ['%d Create %d Mutable Other' % (n - 1, n) for n in range(1, 1001)]
         lines += ['range %d %d %d' % (n, n, min(n + 40, 1001)) for n in range(1, 1001)]
-        data = viewing.page_data(unit, Certified('\n'.join(lines)), None, 'many', lambda functions: {})
+        shown = pages.unit_data(unit, Certified('\n'.join(lines)), None, lambda functions: {})
         script = ('const begun = performance.now(); for (let n = 0; n < 5; n += 1) choose(views[0], 500 + n); const each = (performance.now() - begun) / 5; '
                   'return [document.querySelectorAll(".row").length, document.querySelectorAll(".lanes rect").length, each];')
-        rows, bars, milliseconds = self.run_in(viewing.page(data), script)
+        rows, bars, milliseconds = self.run_in(pages.page(pages.page_data('many', [(unit, shown)], 0)), script)
         self.assertEqual((rows, bars), (1001, 999))  # the last range is of one instruction
         self.assertLess(milliseconds, 1000)
         print('a choice among 1,000 instructions takes %.0f ms' % milliseconds)
