@@ -130,7 +130,8 @@ def extent_of(functions):
 
 def unit_data(unit, certified, source, explains, name=None):
     """What the page shows of a unit. `explains` tells of its functions why ranges end."""
-    functions = [function_data(found.name, function_of(unit, found.name), found, source) for found in certified.functions]
+    told = sorted(certified.functions, key=lambda found: -1 if found.name == 'root' else int(found.name))
+    functions = [function_data(found.name, function_of(unit, found.name), found, source) for found in told]
     return {'name': name, 'functions': functions, 'names': names_of(unit), 'ranges': certified.ranges, 'lines': extent_of(functions),
             'reports': [report_of(line, source) for line in dict.fromkeys(certified.reports)], 'explains': explains(functions)}
 

@@ -66,7 +66,9 @@ class FunctionView {
     facts.append(' · returns ', idSpan(this, data.returns));
     this.unshown = make('span', {});
     facts.append(this.unshown);
-    return make('div', {}, make('h2', {}, titleOf(data.name)), facts);
+    const lines = data.instructions.flatMap((one) => one.lines || []);
+    const place = lines.length ? make('span', { class: 'dim' }, ` line ${Math.min(...lines) + 1}`) : '';
+    return make('div', {}, make('h2', {}, titleOf(data.name), place), facts);
   }
 
   foot() {

@@ -68,7 +68,7 @@ function showLine(line) {
 const holds = (one, line) => one.lines && one.lines[0] <= line && line <= one.lines[1];
 
 function step(by) {
-  const view = state.chosen?.view || views[views.length - 1];
+  const view = state.chosen?.view || views[0];
   const ids = view.identifiers();
   if (!ids.length) return;
   const at = ids.indexOf(state.chosen?.id);
