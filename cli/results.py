@@ -65,3 +65,15 @@ def explained(text):
             made['cause'] = words[0]
             made['instruction'] = int(words[1]) if len(words) > 1 else None
     return made
+
+
+def explained_all(text):
+    """The same of each identifier of a function, by the lines that begin with its number: `identifier <number>`, and then those of one."""
+    found, lines = {}, None
+    for line in text.split('\n'):
+        word, _, rest = line.partition(' ')
+        if word == 'identifier' and rest.isdigit():
+            lines = found[int(rest)] = []
+        elif lines is not None:
+            lines.append(line)
+    return {identifier: explained('\n'.join(lines)) for identifier, lines in found.items()}

@@ -1,177 +1,133 @@
-"""`./jirrambeo view UNIT.json [--source FILE] > unit.html`: one page that shows what is inferred of a unit.
+"""`./jirrambeo view FILE > page.html`: one page that shows what is inferred of a file of source, or of a unit.
 
-It stands alone, with no other file and no network: per function its blocks and instructions with their effects, a bar
-for each mutable range, why a range ends where it does, what each block is entered with, and the alias graph. It is
-made of what `certify` and `explain` write, so it can't disagree with them."""
+It stands alone, with no other file and no network: the source with a bar beside its lines for each mutable range, and per
+function its blocks and instructions with their effects, a bar for each range, why a range ends where it does, what each
+block is entered with, and the alias graph. A click on a line of the source shows its instructions, one on a name why its
+range ends. It is made of what `certify` and `explain` write, so it can't disagree with them.
+
+FILE is a file of source, or a unit, which ends in .json. The exit status is 0, and else 2 where a file can't be read or
+parsed, and that of `certify` where it refuses a unit; then no page is printed, and standard error says why."""
 import argparse
 import json
 import os
 import sys
-from concurrent.futures import ThreadPoolExecutor
 
+from cli import front
+from cli.explaining import explanations
+from cli.findings import called, found_of, units_of
+from cli.frames import frame
+from cli.front import FrontEnd
+from cli.inference import inference
+from cli.pages import page, page_data, unit_data
+from cli.program import is_proved
+from cli.results import Certified
 from cli.saying import say
-from cli.linting import source_of
-from cli.lints import report_from
-from cli.program import answer, is_proved
-from cli.results import Certified, explained
+from cli.source import Source
 
-PAGE = os.path.join(os.path.dirname(os.path.abspath(__file__)), 'page')
+UNIT = '.json'
 
 
 def options(words):
     parser = argparse.ArgumentParser(prog='jirrambeo view', description=__doc__, formatter_class=argparse.RawDescriptionHelpFormatter)
-    parser.add_argument('unit', metavar='UNIT.json')
-    parser.add_argument('--source', metavar='FILE', help='the source that the unit was made of')
-    parser.add_argument('--name', help='what the source is called, in place of FILE')
-    parser.add_argument('--offsets', choices=('bytes', 'utf16'), default='bytes', help='what spans count in the source')
-    parser.add_argument('--title', help='the title of the page, in place of the name of the unit')
+    parser.add_argument('file', metavar='FILE')
+    parser.add_argument('--only', metavar='NAME', help='shows the function of this name alone, of a file of source')
+    parser.add_argument('--source', metavar='SOURCE', help='the source that the unit was made of')
+    parser.add_argument('--name', help='what the source is called, in place of SOURCE')
+    parser.add_argument('--offsets', choices=('bytes', 'utf16'), default='bytes', help='what spans of a unit count in the source')
+    parser.add_argument('--title', help='the title of the page, in place of the name of the file')
     return parser.parse_args(words)
 
 
-def number_of(place):
-    """The identifier of a place, which is a number, or a list of the number and its span."""
-    return place[0] if isinstance(place, list) else place
+def read(path):
+    with open(path, 'rb') as file:
+        return file.read()
 
 
-# keys of lists; `object` of a pattern alone
-LISTS = ('elements', 'properties', 'args', 'props', 'children', 'deps', 'subexprs', 'array', 'object')
+def shown_unit(program, proved, unit_text, source, name=None):
+    """A unit's JSON with what the page shows of it, or the status and the text of its refusal."""
+    status, text = program.ask(['certify'], unit_text)
+    if status != 0:
+        return None, status, text.decode(errors='replace').strip() or 'status %d' % status
+    unit, certified = json.loads(unit_text), Certified(text.decode())
+
+    def explains(functions):
+        return explanations(functions, certified.ranges, proved, unit_text) if proved else {}
+
+    return (unit, unit_data(unit, certified, source, explains, name)), 0, ''
 
 
-def places_in(value):
-    """The identifiers of the places that a value of the unit's JSON names, in its order."""
-    if isinstance(value, bool) or value is None or isinstance(value, str):
-        return []
-    if isinstance(value, int):
-        return [value]
-    found = []
-    for key, part in value.items():
-        if key == 'function':
+def view_unit(given, proved):
+    """Prints the page of a unit."""
+    source = Source(given.name or given.source, read(given.source), given.offsets) if given.source else None
+    program = inference(proved)
+    shown, status, why = shown_unit(program, proved, read(given.file), source)
+    program.close()
+    if shown is None:
+        say('%s: no page is made: %s' % (given.file, why))
+        return status
+    write(page_data(given.title or os.path.basename(given.file), [shown], 0, source))
+    return 0
+
+
+def write(data):
+    sys.stdout.buffer.write(page(data).encode('utf-8', errors='replace'))
+
+
+def first_shown(units):
+    """Which unit the page begins with: the first with reports, or else the first component, or the first."""
+    kinds = [(not data['reports'], unit['root'].get('fn_type') != 'Component', at) for at, (unit, data) in enumerate(units)]
+    return min(kinds)[2]
+
+
+def shown_units(functions, proved, source):
+    """The units of a file's functions with what the page shows of them, and notes on those that have none."""
+    units, notes, program = [], [], inference(proved)
+    for function in functions:
+        name = called(function['kind'], function['name'])
+        if 'refused' in function:
+            notes.append('line %d: %s is not analysed: %s' % (function['refused']['line'], name, function['refused']['message']))
             continue
-        if isinstance(part, list) and key in LISTS and not (key == 'object' and 'kind' in value):
-            found += [place for item in part for place in (places_in(item) if isinstance(item, dict) else [number_of(item)] if item != 'hole' else [])]
+        shown, _, why = shown_unit(program, proved, function['unit'], source, function['name'] or '(no name)')
+        if shown is None:
+            notes.append('line %d: %s is not analysed: %s' % (function['at']['line'], name, why))
         else:
-            found += places_in(number_of(part))
-    return found
+            units.append(shown)
+    program.close()
+    return units, notes
 
 
-def text_at(source, span):
-    """The source of a span, in one line, or nothing."""
-    places = source.span(span[0], span[1]) if source and span else None
-    if not places:
-        return ''
-    (line, column), (end_line, end_column) = places
-    if line == end_line:
-        return source.lines[line][column:end_column]
-    return source.lines[line][column:] + ' …'
-
-
-def instruction_of(instruction, source):
-    value = instruction['value']
-    return {'order': instruction['id'], 'lvalue': number_of(instruction['lvalue']), 'kind': value['kind'], 'function': value.get('function'),
-            'places': places_in(value), 'property': value.get('property') if isinstance(value.get('property'), str) else None,
-            'text': text_at(source, instruction.get('span'))}
-
-
-def terminal_of(terminal):
-    """The kind and order of a terminal, the blocks that it leads to, and the places that it names."""
-    cases = terminal.get('cases', [])
-    tests_a_place = terminal['kind'] in ('If', 'Branch', 'Switch')
-    keys = ('block', 'consequent', 'alternate', 'init', 'loop_block', 'continuation', 'handler') + (() if tests_a_place else ('test',))
-    blocks = [terminal[key] for key in keys if terminal.get(key) is not None] + [case['block'] for case in cases]
-    places = [terminal[key] for key in ('value', 'handler_binding') + (('test',) if tests_a_place else ()) if terminal.get(key) is not None]
-    places += [case['test'] for case in cases if case.get('test') is not None]
-    return {'kind': terminal['kind'], 'order': terminal['id'], 'blocks': blocks, 'places': [number_of(place) for place in places]}
-
-
-def function_data(name, func, certified, source):
-    instructions = [instruction_of(instruction, source) for instruction in func['instructions']]
-    blocks = [{'id': block['id'], 'instructions': block.get('instructions', []), 'terminal': terminal_of(block['terminal']),
-               'phis': [{'place': number_of(phi['place']), 'operands': [[edge, number_of(place)] for edge, place in phi['operands']]}
-                        for phi in block.get('phis', [])]} for block in func['blocks']]
-    found = certified.data()
-    return {'name': name, 'type': func.get('fn_type'), 'params': [number_of(param) if not isinstance(param, dict) else number_of(param['spread'])
-                                                                   for param in func.get('params', [])],
-            'context': [number_of(place) for place in func.get('context', [])], 'returns': number_of(func['returns']), 'entry': func['entry'],
-            'instructions': instructions, 'blocks': blocks, 'blocks_by_number': found['blocks'],
-            'visits': found['visits'], 'summary': found['summary'], 'temporaries': found['temporaries']}
-
-
-def identifiers_of(function):
-    """The identifiers that stand in a function."""
-    found = {*function['params'], function['returns']}
-    for instruction in function['instructions']:
-        found |= {instruction['lvalue'], *instruction['places']}
-    for block in function['blocks']:
-        found |= {phi['place'] for phi in block['phis']} | set(block['terminal']['places'])
-    return sorted(found - set(function['context']))
-
-
-def explanations(functions, ranges, data):
-    """Why the range of each identifier ends, by function."""
-    asked = [(function['name'], identifier) for function in functions for identifier in identifiers_of(function) if identifier in ranges]
-
-    def ask(pair):
-        status, text = answer(['explain', pair[0], str(pair[1])], data)
-        return explained(text.decode()) if status == 0 else None
-
-    with ThreadPoolExecutor(os.cpu_count()) as pool:
-        told = list(pool.map(ask, asked))
-    made = {function['name']: {} for function in functions}
-    for (name, identifier), found in zip(asked, told):
-        if found:
-            made[name][identifier] = found
-    return made
-
-
-def label_of(label, source):
-    """A label, with the line, the column and the text of its span where it is one of the source."""
-    place = source.span(label.start, label.end) if source else None
-    told = {'place': '%d:%d' % (place[0][0] + 1, place[0][1] + 1), 'source': text_at(source, (label.start, label.end))} if place else {}
-    return {'start': label.start, 'end': label.end, 'text': label.text, **told}
-
-
-def report_of(line, source):
-    category, message, help_text, labels = report_from(line, 0)
-    return {'category': category, 'message': message, 'help': help_text, 'labels': [label_of(label, source) for label in labels]}
-
-
-def page_data(unit, certified, source, title, explains):
-    functions = [function_data(found.name, unit['root'] if found.name == 'root' else unit['functions'][int(found.name)], found, source)
-                 for found in certified.functions]
-    names = {number: identifier.get('name') for number, identifier in enumerate(unit.get('identifiers', [])) if identifier.get('name')}
-    return {'title': title, 'functions': functions, 'names': names, 'ranges': certified.ranges, 'reports': [report_of(line, source) for line in certified.reports],
-            'source': '\n'.join(source.lines) if source else None, 'explains': explains(functions)}
-
-
-def page(data):
-    """The page: its parts in one file. `</` of the data would end the script, so it is written with an escape."""
-    def part(name):
-        with open(os.path.join(PAGE, name), encoding='utf-8') as file:
-            return file.read()
-
-    text = json.dumps(data, ensure_ascii=False).replace('</', '<\\/')
-    made = part('view.html')
-    for mark, content in (('/*STYLE*/', part('view.css')), ('/*SCRIPT*/', part('view.js')), ('/*DATA*/', text)):
-        made = made.replace(mark, content, 1)
-    return made
+def view_source(given, proved):
+    """Prints the page of a file of source."""
+    data, front_end = read(given.file), FrontEnd()
+    told = units_of(front_end, given.file, data)
+    front_end.close()
+    if 'error' in told:
+        for lint in found_of(given.file, data, told).failed:
+            print('\n'.join(frame(lint, Source(given.file, data), False)), file=sys.stderr)
+        return 2
+    source = Source(given.file, data)
+    functions = [function for function in told['functions'] if given.only in (None, function['name'])]
+    units, notes = shown_units(functions, proved, source)
+    if not units:
+        say('%s: no page is made: %s' % (given.file, '; '.join(notes) or 'it has no such function'))
+        return 2
+    write(page_data(given.title or os.path.basename(given.file), units, first_shown(units), source, notes))
+    return 0
 
 
 def view(words):
-    """Prints the page of a unit. Answers the exit status."""
+    """Prints the page of a file of source or of a unit. Answers the exit status."""
     given = options(words)
+    is_unit = given.file.endswith(UNIT)
     try:
-        source = source_of(given)
-        with open(given.unit, 'rb') as file:
-            data = file.read()
+        with open(given.file, 'rb'):
+            pass  # what isn't there is said before what reads it is looked for
+        if not is_unit and not front.is_there():
+            return 2
+        proved = is_proved()
+        if proved is None:
+            return 1
+        return view_unit(given, proved) if is_unit else view_source(given, proved)
     except OSError as error:
         say('%s: %s' % (error.filename, error.strerror))
         return 2
-    status, text = answer(['certify'], data)
-    if status != 0:
-        say('%s: no page is made: %s' % (given.unit, text.decode(errors='replace').rstrip() or 'status %d' % status))
-        return status
-    unit, certified = json.loads(data), Certified(text.decode())
-    why = (lambda functions: explanations(functions, certified.ranges, data)) if is_proved() else (lambda functions: {})
-    made = page_data(unit, certified, source, given.title or os.path.basename(given.unit), why)
-    sys.stdout.buffer.write(page(made).encode('utf-8', errors='replace'))
-    return 0

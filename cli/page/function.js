@@ -1,36 +1,3 @@
-'use strict';
-// The page of a unit: its data is in the element `data`, made by cli/viewing.py.
-const DATA = JSON.parse(document.getElementById('data').textContent);
-const LINKS = { Assign: 'Alias', Alias: 'Alias', CreateFrom: 'Alias', Capture: 'Capture', MaybeAlias: 'MaybeAlias' };
-const WAY = 9; // the width of a way of control
-const MOST_WAYS = 12; // ways side by side; more share their room
-const LANE = 18; // the width of a lane, and of its bar with the space beside it
-const SVG = 'http://www.w3.org/2000/svg';
-const ERRORS = ['MutateFrozen', 'MutateGlobal', 'Impure'];
-const state = { names: true, short: false, chosen: null };
-
-function make(tag, attributes = {}, ...children) {
-  const element = document.createElement(tag);
-  for (const [key, value] of Object.entries(attributes)) {
-    if (key === 'on') for (const [event, act] of Object.entries(value)) element.addEventListener(event, act);
-    else if (value !== null && value !== undefined) element.setAttribute(key, value);
-  }
-  element.append(...children);
-  return element;
-}
-
-function draw(tag, attributes = {}, text = '') {
-  const element = document.createElementNS(SVG, tag);
-  for (const [key, value] of Object.entries(attributes)) element.setAttribute(key, value);
-  if (text) element.textContent = text;
-  return element;
-}
-
-const nameOf = (id) => (state.names && DATA.names[id] ? DATA.names[id] : `${id}`);
-const fullName = (id) => (DATA.names[id] ? `${DATA.names[id]} (${id})` : `${id}`);
-const isShort = (id) => DATA.ranges[id][1] - DATA.ranges[id][0] <= 1;
-const titleOf = (name) => (name === 'root' ? 'root' : `function ${name}`);
-
 // An identifier in a text, which can be chosen.
 function idSpan(view, id) {
   const span = make('span', { class: 'id', 'data-id': id, role: 'button', tabindex: -1, title: fullName(id),
@@ -83,7 +50,7 @@ function lanesFor(spans) {
 class FunctionView {
   constructor(data) {
     Object.assign(this, { data, spans: [], rows: [], links: [], frozen: [], writes: [], heads: new Map(), tails: new Map() });
-    this.explains = (DATA.explains && DATA.explains[data.name]) || {};
+    this.explains = (unit.explains && unit.explains[data.name]) || {};
     this.rowsElement = make('div', { class: 'rows' });
     this.element = make('section', { id: `function-${data.name}` }, this.heading(), make('div', { class: 'body' }, this.rowsElement), this.foot());
     data.blocks.forEach((block) => this.addBlock(block));
@@ -99,7 +66,9 @@ class FunctionView {
     facts.append(' · returns ', idSpan(this, data.returns));
     this.unshown = make('span', {});
     facts.append(this.unshown);
-    return make('div', {}, make('h2', {}, titleOf(data.name)), facts);
+    const lines = data.instructions.flatMap((one) => one.lines || []);
+    const place = lines.length ? make('span', { class: 'dim' }, ` line ${Math.min(...lines) + 1}`) : '';
+    return make('div', {}, make('h2', {}, titleOf(data.name), place), facts);
   }
 
   foot() {
@@ -126,7 +95,7 @@ class FunctionView {
     block.phis.forEach((phi) => this.addPhi(phi, block));
     block.instructions.forEach((number) => {
       const instruction = this.data.instructions[number];
-      this.addRow(instruction.order, codeSpan(this, instruction), (found && found.effects[number]) || [], number);
+      this.addRow(instruction.order, codeSpan(this, instruction), (found && found.effects[number]) || [], number, instruction);
     });
     const code = make('span', { class: 'code' }, block.terminal.kind);
     block.terminal.places.forEach((id) => code.append(' ', idSpan(this, id)));
@@ -142,10 +111,10 @@ class FunctionView {
     phi.operands.forEach(([, id]) => this.links.push({ from: id, into: phi.place, kind: 'Alias', row }));
   }
 
-  addRow(order, code, effects, number) {
+  addRow(order, code, effects, number, instruction = null) {
     const list = make('span', { class: 'effects' });
     const element = make('div', { class: 'row' }, make('span', { class: 'order', title: number === null ? '' : `instruction ${number}` }, `${order}`), code, list);
-    const row = { order, element, number };
+    const row = { order, element, number, instruction, lines: instruction?.lines || null };
     effects.forEach((effect, at) => {
       if (at) list.append('\n');
       list.append(effectSpan(this, effect));
@@ -168,12 +137,12 @@ class FunctionView {
 
   identifiers() {
     const seen = new Set(this.spans.map((span) => Number(span.dataset.id)));
-    return [...seen].filter((id) => DATA.ranges[id] && !this.data.context.includes(id)).sort((a, b) => DATA.ranges[a][0] - DATA.ranges[b][0] || a - b);
+    return [...seen].filter((id) => unit.ranges[id] && !this.data.context.includes(id)).sort((a, b) => unit.ranges[a][0] - unit.ranges[b][0] || a - b);
   }
 
   // Identifiers with their lanes: two share one where their ranges don't meet.
   lanes() {
-    const bars = this.identifiers().filter((id) => state.short || !isShort(id)).map((id) => ({ id, start: DATA.ranges[id][0], end: DATA.ranges[id][1] }));
+    const bars = this.identifiers().filter((id) => state.short || !isShort(id)).map((id) => ({ id, start: unit.ranges[id][0], end: unit.ranges[id][1] }));
     return lanesFor(bars).map((lane, at) => ({ ...bars[at], lane }));
   }
 
@@ -261,7 +230,7 @@ class FunctionView {
     if (chosen?.view !== this) return;
     this.above = draw('g');
     this.svg.append(this.above);
-    const range = DATA.ranges[chosen.id];
+    const range = unit.ranges[chosen.id];
     if (range && !this.bars.has(chosen.id)) {
       this.drawBar({ id: chosen.id, lane: this.count, start: range[0], end: range[1] }, this.above);
       if (this.bars.has(chosen.id)) this.bars.get(chosen.id).isExtra = true;
@@ -299,144 +268,25 @@ class FunctionView {
     });
   }
 
+  // The rows of a line of the source: those that begin on it, or else the innermost that go over it.
+  rowsOf(line) {
+    const over = this.rows.filter((row) => row.lines && row.lines[0] <= line && line <= row.lines[1]);
+    const begin = over.filter((row) => row.lines[0] === line);
+    const size = Math.min(...over.map((row) => row.lines[1] - row.lines[0]));
+    return begin.length ? begin : over.filter((row) => row.lines[1] - row.lines[0] === size);
+  }
+
+  // The named identifiers that may be written over more than one instruction, each with the first and the last line of that.
+  lineBars() {
+    return this.identifiers().filter((id) => unit.names[id] && !isShort(id)).flatMap((id) => {
+      const [start, end] = unit.ranges[id];
+      const lines = this.rows.filter((row) => row.lines && row.order >= start && row.order < end).map((row) => row.lines[0]);
+      return lines.length ? [{ view: this, id, first: Math.min(...lines), last: Math.max(...lines) }] : [];
+    });
+  }
+
   drawGraph(box) {
     box.replaceChildren(graphOf(this));
   }
 }
 
-// A layered drawing of the links: each node below those that flow into it, as far as there is no circle.
-function graphOf(view) {
-  const ids = [...new Set(view.links.flatMap((link) => [link.from, link.into]))];
-  if (!ids.length) return document.createTextNode('no links');
-  const level = new Map(ids.map((id) => [id, 0]));
-  for (let turn = 0; turn < Math.min(ids.length, 60); turn += 1) {
-    let moved = false;
-    view.links.forEach(({ from, into }) => {
-      if (from !== into && level.get(into) < level.get(from) + 1 && level.get(from) < 60) { level.set(into, level.get(from) + 1); moved = true; }
-    });
-    if (!moved) break;
-  }
-  const layers = [];
-  ids.forEach((id) => (layers[level.get(id)] ||= []).push(id));
-  const spot = new Map();
-  const width = 86;
-  layers.filter(Boolean).forEach((layer, y) => {
-    const weight = (id) => {
-      const above = view.links.filter((link) => link.into === id && spot.has(link.from)).map((link) => spot.get(link.from).x);
-      return above.length ? above.reduce((sum, x) => sum + x, 0) / above.length : id;
-    };
-    const order = layer.map((id) => [weight(id), id]).sort((a, b) => a[0] - b[0] || a[1] - b[1]);
-    order.forEach(([, id], x) => spot.set(id, { x: 10 + x * width, y: 10 + y * 54 }));
-  });
-  const places = [...spot.values()];
-  const svg = draw('svg', { width: Math.max(...places.map((p) => p.x)) + width + 10, height: Math.max(...places.map((p) => p.y)) + 44 });
-  const path = state.chosen?.view === view ? view.explains[state.chosen.id]?.path || [] : [];
-  const onPath = new Set(view.linksOf(path).map(({ link }) => link));
-  view.links.forEach((link) => {
-    const [a, b] = [spot.get(link.from), spot.get(link.into)];
-    const d = `M${a.x + 34} ${a.y + 24}C${a.x + 34} ${a.y + 44} ${b.x + 34} ${b.y - 20} ${b.x + 34} ${b.y}`;
-    svg.append(draw('path', { class: `${link.kind}${onPath.has(link) ? ' on-path' : ''}`, d }));
-  });
-  spot.forEach((place, id) => {
-    const rect = draw('rect', { x: place.x, y: place.y, width: 68, height: 24, rx: 4, class: state.chosen?.view === view && state.chosen.id === id ? 'chosen' : '' });
-    rect.append(draw('title', {}, fullName(id)));
-    rect.addEventListener('click', () => choose(view, id));
-    svg.append(rect, draw('text', { x: place.x + 34, y: place.y + 16, 'text-anchor': 'middle', 'pointer-events': 'none' }, nameOf(id).slice(0, 10)));
-  });
-  return svg;
-}
-
-// A report as it is read: what it is about, what is wrong, what to do, and what it says of each part of the source.
-function reportItem(report) {
-  const item = make('li', {}, make('b', {}, report.category), ` ${report.message}`);
-  report.labels.forEach((label) => item.append(make('div', {}, `${label.place || `${label.start}..${label.end}`}${label.text ? `: ${label.text}` : ''}`, label.source ? make('code', {}, label.source) : '')));
-  if (report.help) item.append(make('div', { class: 'dim' }, report.help));
-  return item;
-}
-
-const panel = document.getElementById('panel');
-
-const CAUSES = {
-  unset: () => 'Nothing writes it: it has no range.',
-  defined: (why) => `It ends one past instruction ${why.instruction}, which defines it: no later write reaches it.`,
-  mutated: (why) => `It ends one past instruction ${why.instruction}, whose write reaches it:`,
-  nocause: () => 'No cause was found.',
-};
-
-function drawGraphs() {
-  document.querySelectorAll('details[open] .graph').forEach((box) => views.find((one) => one.element.contains(box))?.drawGraph(box));
-}
-
-function choose(view, id) {
-  state.chosen = { view, id };
-  document.querySelectorAll('.id').forEach((span) => span.classList.toggle('chosen', Number(span.dataset.id) === id));
-  views.forEach((one) => one.mark());
-  drawGraphs();
-  const range = DATA.ranges[id];
-  const why = view.explains[id];
-  const parts = [make('h3', {}, `${fullName(id)} in ${titleOf(view.data.name)}`), make('p', {}, range ? `range ${range[0]}..${range[1]}` : 'no range')];
-  if (why) parts.push(make('p', {}, CAUSES[why.cause](why)));
-  if (why?.path.length) {
-    parts.push(make('ol', {}, ...why.path.map((step, at) => make('li', {}, idSpan(view, step.identifier),
-      ` ${at === 0 ? 'is written' : step.forwards ? 'holds it' : 'is where it comes from'}${step.transitive ? ', with all that it holds' : ''}${step.definite ? '' : ', maybe'}`))));
-  }
-  if (!why && range) parts.push(make('p', { class: 'dim' }, 'Why it ends isn’t told here: it stands in another function, or the page was made without the proved program.'));
-  const frozen = view.frozen.filter((item) => item.id === id).map((item) => item.row.order);
-  if (frozen.length) parts.push(make('p', {}, `frozen at ${frozen.join(', ')}`));
-  panel.replaceChildren(...parts);
-}
-
-function showBlock(view, block, found) {
-  const lines = found ? found.state : [];
-  panel.replaceChildren(make('h3', {}, `block ${block.id} of ${titleOf(view.data.name)}`), make('p', {}, lines.length ? 'is entered with' : found ? 'is entered with nothing' : 'is not reached'),
-    make('div', { class: 'state' }, ...lines.map((line) => make('div', {}, line))));
-}
-
-function step(by) {
-  const view = state.chosen?.view || views[views.length - 1];
-  const ids = view.identifiers();
-  if (!ids.length) return;
-  const at = ids.indexOf(state.chosen?.id);
-  const id = ids[(at + by + ids.length) % ids.length];
-  choose(view, id);
-  view.spans.find((span) => Number(span.dataset.id) === id)?.scrollIntoView({ block: 'nearest' });
-}
-
-// Nothing is chosen any more.
-function leave() {
-  state.chosen = null;
-  document.querySelectorAll('.id.chosen').forEach((span) => span.classList.remove('chosen'));
-  views.forEach((view) => view.mark());
-  drawGraphs();
-  panel.replaceChildren(hint);
-}
-
-const hint = panel.firstElementChild;
-const views = DATA.functions.map((data) => new FunctionView(data));
-
-function start() {
-  document.title = `${DATA.title} · Jirrambeo`;
-  document.getElementById('title').textContent = DATA.title;
-  const box = document.getElementById('functions');
-  views.forEach((view) => box.append(view.element));
-  if (DATA.reports.length) box.prepend(make('ul', { class: 'reports' }, ...DATA.reports.map(reportItem)));
-  const redraw = () => views.forEach((view) => view.drawLanes());
-  const bind = (id, act) => document.getElementById(id).addEventListener('change', (event) => { act(event.target.checked); redraw(); });
-  bind('show-names', (on) => { state.names = on; document.querySelectorAll('.id').forEach((span) => { span.textContent = nameOf(Number(span.dataset.id)); }); drawGraphs(); });
-  bind('show-short', (on) => { state.short = on; });
-  bind('show-effects', (on) => box.classList.toggle('no-effects', !on));
-  document.getElementById('theme').addEventListener('click', () => {
-    const dark = getComputedStyle(document.documentElement).getPropertyValue('--back').trim() !== '#fff';
-    document.documentElement.className = dark ? 'light' : 'dark';
-  });
-  document.addEventListener('keydown', (event) => {
-    if (event.target instanceof HTMLInputElement) return;
-    if (event.key === 'ArrowRight' || event.key === 'ArrowDown' && event.altKey) step(1);
-    else if (event.key === 'Escape') leave();
-    else if (event.key === 'ArrowLeft' || event.key === 'ArrowUp' && event.altKey) step(-1);
-  });
-  window.addEventListener('resize', redraw);
-  redraw();
-}
-
-start();
