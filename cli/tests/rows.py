@@ -134,6 +134,7 @@ def families():
     yield 'place of a report', ['instruction', 'end', 'nested function']
     yield 'cause', [name.lower() for name in variants('Cause', 'alias_explain', 'src', 'cause.rt')]
     yield 'step of a path', list(steps_of_paths())
+    yield 'lines of explain', ['identifier']
     yield 'answer of plain', ['plain', 'NotSettled', 'TooMany']
     yield 'condition of plain', conditions()
     yield 'line of a certificate', lines_of_certificates()
@@ -277,9 +278,14 @@ def shown_of_lints(lines):
 
 
 def shown_of_causes(lines):
-    yield 'cause', lines[1].split(' ')[0]
-    for line in lines[2:]:
-        yield 'step of a path', line.split(' ', 2)[2]
+    for line in lines:
+        word, _, rest = line.partition(' ')
+        if word == 'step':
+            yield 'step of a path', rest.split(' ', 1)[1]
+        elif word == 'identifier':
+            yield 'lines of explain', word
+        elif word != 'range':
+            yield 'cause', word
 
 
 def shown_of_plainness(lines):
