@@ -134,7 +134,6 @@ def families():
     yield 'place of a report', ['instruction', 'end', 'nested function']
     yield 'cause', [name.lower() for name in variants('Cause', 'alias_explain', 'src', 'cause.rt')]
     yield 'step of a path', list(steps_of_paths())
-    yield 'lines of explain', ['identifier']
     yield 'answer of plain', ['plain', 'NotSettled', 'TooMany']
     yield 'condition of plain', conditions()
     yield 'line of a certificate', lines_of_certificates()
@@ -282,9 +281,7 @@ def shown_of_causes(lines):
         word, _, rest = line.partition(' ')
         if word == 'step':
             yield 'step of a path', rest.split(' ', 1)[1]
-        elif word == 'identifier':
-            yield 'lines of explain', word
-        elif word != 'range':
+        elif word not in ('identifier', 'range'):
             yield 'cause', word
 
 

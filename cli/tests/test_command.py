@@ -125,7 +125,8 @@ class Stamps(unittest.TestCase):
             with mock.patch.object(stamps, 'crates_in_order', return_value=['alias_tool']), \
                     mock.patch.object(stamps, 'digest', side_effect=['1', '2', '3', '4']):
                 # young sources are read each time
-                self.assertEqual([stamps.digest_now(), stamps.digest_now()], ['1', '2'])
+                with mock.patch.object(stamps, 'TICK', 10 ** 18):
+                    self.assertEqual([stamps.digest_now(), stamps.digest_now()], ['1', '2'])
                 with mock.patch.object(stamps, 'TICK', -10 ** 10):
                     self.assertEqual(stamps.digest_now(), '3')
                 self.assertEqual([stamps.digest_now(), stamps.digest_now()], ['3', '3'])
@@ -133,22 +134,6 @@ class Stamps(unittest.TestCase):
                     file.write('\nnothing')
                 there.write('crates/alias_tool/src/main.rt', '')
                 self.assertEqual(stamps.digest_now(), '4')
-
-    def test_a_call_takes_no_time(self):
-        """A small unit through the whole command: the least of some calls, with as many sources as there are."""
-        with Installed(PASSED) as there:
-            for number in range(2200):
-                there.write('crates/alias_tool/proofs/part%d/Law%d.antt' % (number % 200, number), 'law\n')
-            there.build(PASSED)
-            time.sleep(2.1)
-            there.run('infer')
-            taken = []
-            for _ in range(7):
-                begun = time.perf_counter()
-                there.run('infer')
-                taken.append(time.perf_counter() - begun)
-            print('a call over 2,200 sources takes %.0f ms' % (min(taken) * 1000))
-            self.assertLess(min(taken), 0.25)
 
 
 if __name__ == '__main__':
