@@ -1,14 +1,16 @@
+//! What is read, assigned and named, in order, and the visitors that change it.
+
 use alias_base::{BlockId, BlockMap, EvaluationOrder, FunctionId, IdentifierId, List};
 use alias_hir::effect::AliasingEffect;
 use alias_hir::env::Environment;
-use alias_hir::hir::{BasicBlock, FunctionType, Hir, HirFunction, Instruction, ParamPattern, Phi};
+use alias_hir::hir::{BasicBlock, FunctionType, HirFunction, Instruction, ParamPattern, Phi};
 use alias_hir::place::{Effect, Place, PlaceOrSpread, PlaceOrSpreadOrHole, Span, SpreadPattern};
 use alias_hir::terminal::{SwitchCase, Terminal};
 use alias_hir::value::{
     InstructionKind, InstructionValue, JsxAttribute, JsxTag, LValue, LValuePattern,
     LoweredFunction, ObjectPattern, ObjectProperty, ObjectPropertyOrSpread, Pattern,
 };
-use alias_test_units::place;
+use alias_test_units::{function, place};
 use alias_visit::lvalues::{each_instruction_lvalue_ids, each_instruction_value_lvalue};
 use alias_visit::lvalues_mut::for_each_instruction_value_lvalue_mut;
 use alias_visit::operands::each_instruction_value_operand;
@@ -32,25 +34,27 @@ fn numbers(places: &[Place]) -> u32 {
 
 /// `x1[x2](x3, ...x4)`.
 fn call(alloc: Global) -> Result<InstructionValue, AllocError> {
-    let mut args = List::new(alloc);
-    args.push(PlaceOrSpread::Place(place(3)))?;
-    args.push(PlaceOrSpread::Spread(SpreadPattern { place: place(4) }))?;
+    let args = [
+        PlaceOrSpread::Place(place(3)),
+        PlaceOrSpread::Spread(SpreadPattern { place: place(4) }),
+    ];
     Ok(InstructionValue::MethodCall {
         receiver: place(1),
         property: place(2),
-        args,
+        args: List::from_slice(alloc, &args)?,
     })
 }
 
 /// `[x1]: x2, ...x3`.
 fn properties(alloc: Global) -> Result<List<ObjectPropertyOrSpread>, AllocError> {
-    let mut properties = List::new(alloc);
-    properties.push(ObjectPropertyOrSpread::Property(ObjectProperty {
-        computed: Some(place(1)),
-        place: place(2),
-    }))?;
-    properties.push(ObjectPropertyOrSpread::Spread(SpreadPattern { place: place(3) }))?;
-    Ok(properties)
+    let properties = [
+        ObjectPropertyOrSpread::Property(ObjectProperty {
+            computed: Some(place(1)),
+            place: place(2),
+        }),
+        ObjectPropertyOrSpread::Spread(SpreadPattern { place: place(3) }),
+    ];
+    List::from_slice(alloc, &properties)
 }
 
 /// `{ [x1]: x2, ...x3 }`.
@@ -75,48 +79,37 @@ fn destructuring(alloc: Global) -> Result<InstructionValue, AllocError> {
 
 /// `<x1 a={x2} {...x3}>{x4}</x1>`.
 fn element(alloc: Global) -> Result<InstructionValue, AllocError> {
-    let mut props = List::new(alloc);
-    props.push(JsxAttribute::Attribute { place: place(2) })?;
-    props.push(JsxAttribute::Spread { place: place(3) })?;
-    let mut children = List::new(alloc);
-    children.push(place(4))?;
+    let props = [
+        JsxAttribute::Attribute { place: place(2) },
+        JsxAttribute::Spread { place: place(3) },
+    ];
+    let children = List::from_slice(alloc, &[place(4)])?;
     Ok(InstructionValue::JsxExpression {
         tag: JsxTag::Place(place(1)),
-        props,
+        props: List::from_slice(alloc, &props)?,
         children,
     })
 }
 
+fn creates() -> InstructionValue {
+    InstructionValue::FunctionExpression {
+        lowered_func: LoweredFunction {
+            func: FunctionId(0),
+        },
+    }
+}
+
 /// `switch (x1) { case x2: ; default: ; case x3: }`.
 fn switch(alloc: Global) -> Result<Terminal, AllocError> {
-    let mut cases = List::new(alloc);
-    for test in [Some(place(2)), None, Some(place(3))] {
-        cases.push(SwitchCase {
-            test,
-            block: BlockId(1),
-        })?;
-    }
+    let case = |test: Option<Place>| SwitchCase {
+        test,
+        block: BlockId(1),
+    };
+    let cases = [case(Some(place(2))), case(None), case(Some(place(3)))];
     Ok(Terminal::Switch {
         id: EvaluationOrder(2),
         test: place(1),
-        cases,
-    })
-}
-
-/// `x1.x2(x3, <hole>, ...x4)` into `x5`.
-fn apply(alloc: Global) -> Result<AliasingEffect, AllocError> {
-    let mut args = List::new(alloc);
-    args.push(PlaceOrSpreadOrHole::Place(place(3)))?;
-    args.push(PlaceOrSpreadOrHole::Hole)?;
-    args.push(PlaceOrSpreadOrHole::Spread(SpreadPattern { place: place(4) }))?;
-    Ok(AliasingEffect::Apply {
-        receiver: place(1),
-        function: place(2),
-        mutates_function: false,
-        args,
-        into: place(5),
-        signature: None,
-        span: NO_SPAN,
+        cases: List::from_slice(alloc, &cases)?,
     })
 }
 
@@ -130,93 +123,84 @@ fn instruction(number: u32, value: InstructionValue) -> Instruction {
     }
 }
 
-fn function(
-    instructions: List<Instruction>,
-    context: List<Place>,
-    blocks: BlockMap<BasicBlock>,
+/// A function whose context is `x7`.
+fn nested(alloc: Global) -> Result<HirFunction, AllocError> {
+    let context = List::from_slice(alloc, &[place(7)])?;
+    let mut func = function(alloc, FunctionType::Other);
+    func.context = context;
+    Ok(func)
+}
+
+fn add_nested(alloc: Global, env: &mut Environment) -> Result<(), AllocError> {
+    env.functions.push(nested(alloc)?)?;
+    Ok(())
+}
+
+/// What the value reads, and all its places.
+fn places_in(
     alloc: Global,
-) -> HirFunction {
-    HirFunction {
-        fn_type: FunctionType::Other,
-        params: List::new(alloc),
-        context,
-        context_values: List::new(alloc),
-        returns: place(3),
-        body: Hir {
-            entry: BlockId(0),
-            blocks,
-        },
-        instructions,
-        is_async: false,
-        span: NO_SPAN,
-        aliasing_effects: None,
-    }
-}
-
-/// Tables with one nested function, whose context is `x7`.
-fn environment(alloc: Global) -> Result<Environment, AllocError> {
-    let mut context = List::new(alloc);
-    context.push(place(7))?;
-    let nested = function(List::new(alloc), context, BlockMap::new(alloc), alloc);
-    let mut env = Environment::new(alloc);
-    env.functions.push(nested)?;
-    Ok(env)
-}
-
-fn creates() -> InstructionValue {
-    InstructionValue::FunctionExpression {
-        lowered_func: LoweredFunction {
-            func: FunctionId(0),
-        },
-    }
-}
-
-/// What the value reads, with tables of one nested function, and all its places.
-fn places_read(alloc: Global, value: &InstructionValue) -> Result<(u32, u32), AllocError> {
-    let env = environment(alloc)?;
-    let read = each_instruction_value_operand(alloc, value, &env)?;
+    env: &Environment,
+    value: &InstructionValue,
+) -> Result<(u32, u32), AllocError> {
+    let read = each_instruction_value_operand(alloc, value, env)?;
     let all = places_of(alloc, value)?;
     Ok((numbers(read.as_slice()), numbers(all.as_slice())))
 }
 
+fn places_in_call(alloc: Global, env: &Environment) -> Result<(u32, u32), AllocError> {
+    let value = call(alloc)?;
+    places_in(alloc, env, &value)
+}
+
+fn places_in_object(alloc: Global, env: &Environment) -> Result<(u32, u32), AllocError> {
+    let value = object(alloc)?;
+    places_in(alloc, env, &value)
+}
+
+fn places_in_element(alloc: Global, env: &Environment) -> Result<(u32, u32), AllocError> {
+    let value = element(alloc)?;
+    places_in(alloc, env, &value)
+}
+
+fn places_in_pattern(alloc: Global, env: &Environment) -> Result<(u32, u32), AllocError> {
+    let value = destructuring(alloc)?;
+    places_in(alloc, env, &value)
+}
+
+fn places_in_creation(alloc: Global, env: &Environment) -> Result<(u32, u32), AllocError> {
+    let value = creates();
+    places_in(alloc, env, &value)
+}
+
+/// What each of these values reads, and all its places, in tables of one nested function.
+fn places_in_each(alloc: Global, env: &mut Environment) -> Result<[(u32, u32); 5], AllocError> {
+    add_nested(alloc, env)?;
+    Ok([
+        places_in_call(alloc, env)?,
+        places_in_object(alloc, env)?,
+        places_in_element(alloc, env)?,
+        places_in_pattern(alloc, env)?,
+        places_in_creation(alloc, env)?,
+    ])
+}
+
+fn places_of_values(alloc: Global) -> Result<[(u32, u32); 5], AllocError> {
+    let mut env = Environment::new(alloc);
+    places_in_each(alloc, &mut env)
+}
+
 #[test]
-fn lists_operands_in_order(rt: HostRuntime) -> Result<(), Fail> {
-    let alloc = rt.alloc();
-    assert!(rt; places_read(alloc, &call(alloc)?)? == (1234, 1234));
-    assert!(rt; places_read(alloc, &object(alloc)?)? == (123, 123));
+fn lists_what_values_read_and_all_their_places(rt: HostRuntime) -> Result<(), Fail> {
+    let [called, made, rendered, taken_apart, created] = places_of_values(rt.alloc())?;
+    assert!(rt; called == (1234, 1234));
+    assert!(rt; made == (123, 123));
+    assert!(rt; rendered == (1234, 1234));
+    assert!(rt; taken_apart == (4, 1234));
+    assert!(rt; created == (7, 0));
     Ok(())
 }
 
-#[test]
-fn lists_the_parts_of_an_element_in_order(rt: HostRuntime) -> Result<(), Fail> {
-    let alloc = rt.alloc();
-    assert!(rt; places_read(alloc, &element(alloc)?)? == (1234, 1234));
-    Ok(())
-}
-
-#[test]
-fn reads_what_is_destructured_and_what_is_captured(rt: HostRuntime) -> Result<(), Fail> {
-    let alloc = rt.alloc();
-    assert!(rt; places_read(alloc, &destructuring(alloc)?)? == (4, 1234));
-    assert!(rt; places_read(alloc, &creates())? == (7, 0));
-    Ok(())
-}
-
-/// What creates `x3`, a function that captures `x2` and `x1`.
-fn creation(alloc: Global) -> Result<AliasingEffect, AllocError> {
-    let mut captures = List::new(alloc);
-    captures.push(place(2))?;
-    captures.push(place(1))?;
-    Ok(AliasingEffect::CreateFunction {
-        into: place(3),
-        function_id: FunctionId(0),
-        captures,
-    })
-}
-
-#[test]
-fn gives_places_in_the_order_of_the_fields(rt: HostRuntime) -> Result<(), Fail> {
-    let alloc = rt.alloc();
+fn places_of_store(alloc: Global) -> Result<u32, AllocError> {
     let store = InstructionValue::StoreLocal {
         lvalue: LValue {
             place: place(3),
@@ -224,148 +208,268 @@ fn gives_places_in_the_order_of_the_fields(rt: HostRuntime) -> Result<(), Fail> 
         },
         value: place(1),
     };
+    let places = places_of(alloc, &store)?;
+    Ok(numbers(places.as_slice()))
+}
+
+fn places_of_effect(alloc: Global, effect: &AliasingEffect) -> Result<u32, AllocError> {
+    let places = effect_places(alloc, effect)?;
+    Ok(numbers(places.as_slice()))
+}
+
+fn places_of_capture(alloc: Global) -> Result<u32, AllocError> {
     let capture = AliasingEffect::Capture {
         from: place(2),
         into: place(5),
     };
-    assert_eq!(rt; numbers(places_of(alloc, &store)?.as_slice()), 31);
-    assert_eq!(rt; numbers(effect_places(alloc, &capture)?.as_slice()), 25);
-    Ok(())
+    places_of_effect(alloc, &capture)
+}
+
+/// `x1.x2(x3, <hole>, ...x4)` into `x5`.
+fn places_of_apply(alloc: Global) -> Result<u32, AllocError> {
+    let args = [
+        PlaceOrSpreadOrHole::Place(place(3)),
+        PlaceOrSpreadOrHole::Hole,
+        PlaceOrSpreadOrHole::Spread(SpreadPattern { place: place(4) }),
+    ];
+    let apply = AliasingEffect::Apply {
+        receiver: place(1),
+        function: place(2),
+        mutates_function: false,
+        args: List::from_slice(alloc, &args)?,
+        into: place(5),
+        signature: None,
+        span: NO_SPAN,
+    };
+    places_of_effect(alloc, &apply)
+}
+
+/// What creates `x3`, a function that captures `x2` and `x1`.
+fn places_of_creation(alloc: Global) -> Result<u32, AllocError> {
+    let creation = AliasingEffect::CreateFunction {
+        into: place(3),
+        function_id: FunctionId(0),
+        captures: List::from_slice(alloc, &[place(2), place(1)])?,
+    };
+    places_of_effect(alloc, &creation)
 }
 
 #[test]
-fn calls_and_creations_have_all_their_places(rt: HostRuntime) -> Result<(), Fail> {
+fn gives_places_in_the_order_of_the_fields(rt: HostRuntime) -> Result<(), Fail> {
     let alloc = rt.alloc();
-    let called = effect_places(alloc, &apply(alloc)?)?;
-    assert_eq!(rt; numbers(called.as_slice()), 12345);
-    let created = effect_places(alloc, &creation(alloc)?)?;
-    assert_eq!(rt; numbers(created.as_slice()), 321);
+    assert_eq!(rt; places_of_store(alloc)?, 31);
+    assert_eq!(rt; places_of_capture(alloc)?, 25);
+    assert_eq!(rt; places_of_apply(alloc)?, 12345);
+    assert_eq!(rt; places_of_creation(alloc)?, 321);
     Ok(())
+}
+
+fn read_by(alloc: Global, terminal: &Terminal) -> Result<u32, AllocError> {
+    let read = each_terminal_operand(alloc, terminal)?;
+    Ok(numbers(read.as_slice()))
+}
+
+fn read_by_switch(alloc: Global) -> Result<u32, AllocError> {
+    let terminal = switch(alloc)?;
+    read_by(alloc, &terminal)
 }
 
 #[test]
 fn a_switch_reads_the_tests_of_its_cases(rt: HostRuntime) -> Result<(), Fail> {
-    let alloc = rt.alloc();
-    let tests = each_terminal_operand(alloc, &switch(alloc)?)?;
-    assert_eq!(rt; numbers(tests.as_slice()), 123);
+    assert_eq!(rt; read_by_switch(rt.alloc())?, 123);
     Ok(())
+}
+
+/// The identifiers that are assigned, below ten each, as the digits of one number.
+fn digits(ids: &[IdentifierId]) -> u32 {
+    let mut all = 0u32;
+    for id in ids {
+        all = all.wrapping_mul(10).wrapping_add(id.0);
+    }
+    all
+}
+
+/// What the instruction's value assigns, and what the instruction does.
+fn assigned_by(alloc: Global, instruction: &Instruction) -> Result<(u32, u32), AllocError> {
+    let assigned = each_instruction_value_lvalue(alloc, &instruction.value)?;
+    let ids = each_instruction_lvalue_ids(alloc, instruction)?;
+    Ok((numbers(assigned.as_slice()), digits(ids.as_slice())))
+}
+
+fn assigned_by_pattern(alloc: Global) -> Result<(u32, u32), AllocError> {
+    let instruction = instruction(9, destructuring(alloc)?);
+    assigned_by(alloc, &instruction)
 }
 
 #[test]
 fn lists_what_is_assigned(rt: HostRuntime) -> Result<(), Fail> {
-    let alloc = rt.alloc();
-    let instr = instruction(9, destructuring(alloc)?);
-    let assigned = each_instruction_value_lvalue(alloc, &instr.value)?;
-    assert_eq!(rt; numbers(assigned.as_slice()), 23);
-    let ids = each_instruction_lvalue_ids(alloc, &instr)?;
-    assert_eq!(rt;
-        ids.as_slice(),
-        [IdentifierId(9), IdentifierId(2), IdentifierId(3)].as_slice()
-    );
+    assert!(rt; assigned_by_pattern(rt.alloc())? == (23, 923));
     Ok(())
 }
 
 /// `x4 = phi(x5)`.
-fn phis(alloc: Global) -> Result<List<Phi>, AllocError> {
+fn add_phi(alloc: Global, phis: &mut List<Phi>) -> Result<(), AllocError> {
     let mut operands = BlockMap::new(alloc);
     operands.insert(BlockId(0), place(5))?;
-    let mut phis = List::new(alloc);
     phis.push(Phi {
         place: place(4),
         operands,
     })?;
-    Ok(phis)
+    Ok(())
 }
 
-/// One block, with phis and a `switch`.
-fn blocks(alloc: Global) -> Result<BlockMap<BasicBlock>, AllocError> {
-    let block = BasicBlock {
-        phis: phis(alloc)?,
+/// A block with a phi and a `switch`.
+fn block(alloc: Global) -> Result<BasicBlock, AllocError> {
+    let mut block = BasicBlock {
+        phis: List::new(alloc),
         instructions: List::new(alloc),
         terminal: switch(alloc)?,
     };
-    let mut blocks = BlockMap::new(alloc);
-    blocks.insert(BlockId(0), block)?;
-    Ok(blocks)
+    add_phi(alloc, &mut block.phis)?;
+    Ok(block)
 }
 
-/// A function of one block with the context `x2`, which creates the nested function as `x6`.
-fn whole(alloc: Global) -> Result<HirFunction, AllocError> {
-    let mut context = List::new(alloc);
-    context.push(place(2))?;
-    let mut instructions = List::new(alloc);
-    instructions.push(instruction(6, creates()))?;
-    Ok(function(instructions, context, blocks(alloc)?, alloc))
+/// Takes `x1` as its rest, has the context `x2`, and creates the nested function as `x6` in one block.
+fn fill(alloc: Global, func: &mut HirFunction) -> Result<(), AllocError> {
+    func.params
+        .push(ParamPattern::Spread(SpreadPattern { place: place(1) }))?;
+    func.context.push(place(2))?;
+    func.returns = place(3);
+    func.instructions.push(instruction(6, creates()))?;
+    let _ = func.body.blocks.insert(BlockId(0), block(alloc)?)?;
+    Ok(())
+}
+
+fn all_of_function(
+    alloc: Global,
+    env: &Environment,
+    func: &mut HirFunction,
+) -> Result<u32, AllocError> {
+    fill(alloc, func)?;
+    let all = each_place(alloc, env, func)?;
+    Ok(numbers(all.as_slice()))
+}
+
+fn all_in(alloc: Global, env: &mut Environment) -> Result<u32, AllocError> {
+    add_nested(alloc, env)?;
+    let mut func = function(alloc, FunctionType::Other);
+    all_of_function(alloc, env, &mut func)
+}
+
+/// All places of the function, in tables of one nested function.
+fn all_places(alloc: Global) -> Result<u32, AllocError> {
+    let mut env = Environment::new(alloc);
+    all_in(alloc, &mut env)
 }
 
 #[test]
 fn lists_all_places_of_a_function(rt: HostRuntime) -> Result<(), Fail> {
-    let alloc = rt.alloc();
-    let env = environment(alloc)?;
-    let mut func = whole(alloc)?;
-    func.params
-        .push(ParamPattern::Spread(SpreadPattern { place: place(1) }))?;
-    let all = each_place(alloc, &env, &func)?;
-    assert_eq!(rt; numbers(all.as_slice()), 1236745123);
+    assert_eq!(rt; all_places(rt.alloc())?, 1236745123);
     Ok(())
 }
 
-#[test]
-fn changes_each_operand(rt: HostRuntime) -> Result<(), Fail> {
-    let alloc = rt.alloc();
-    let env = Environment::new(alloc);
-    let mut value = call(alloc)?;
+/// Lets each operand of the value be read.
+fn read_each(value: &mut InstructionValue) {
     for_each_instruction_value_operand_mut(
-        &mut value,
+        value,
         &mut |p: &mut Place| {
             p.effect = Effect::Read;
         },
     );
-    let read = each_instruction_value_operand(alloc, &value, &env)?;
-    assert_eq!(rt; numbers(read.as_slice()), 1234);
-    assert!(rt; read.as_slice().iter().all(|p| p.effect == Effect::Read));
-    Ok(())
+}
+
+/// The operands of the call once each is read, and whether all are.
+fn read_in_call(alloc: Global, env: &Environment) -> Result<(u32, bool), AllocError> {
+    let mut value = call(alloc)?;
+    read_each(&mut value);
+    read_of(alloc, env, &value)
+}
+
+fn read_of(
+    alloc: Global,
+    env: &Environment,
+    value: &InstructionValue,
+) -> Result<(u32, bool), AllocError> {
+    let read = each_instruction_value_operand(alloc, value, env)?;
+    let are_read = read.as_slice().iter().all(|p| p.effect == Effect::Read);
+    Ok((numbers(read.as_slice()), are_read))
+}
+
+fn changed_operands(alloc: Global) -> Result<(u32, bool), AllocError> {
+    let env = Environment::new(alloc);
+    read_in_call(alloc, &env)
 }
 
 #[test]
-fn changes_each_place_that_is_assigned(rt: HostRuntime) -> Result<(), Fail> {
-    let alloc = rt.alloc();
-    let mut value = destructuring(alloc)?;
+fn changes_each_operand(rt: HostRuntime) -> Result<(), Fail> {
+    assert!(rt; changed_operands(rt.alloc())? == (1234, true));
+    Ok(())
+}
+
+/// Lets each place that the value assigns be reactive.
+fn react_each(value: &mut InstructionValue) {
     for_each_instruction_value_lvalue_mut(
-        &mut value,
+        value,
         &mut |p: &mut Place| {
             p.reactive = true;
         },
     );
-    let reactive = places_of(alloc, &value)?;
+}
+
+/// A digit for each place of the value: 1 where it is reactive, and else 2.
+fn reactive(alloc: Global, value: &InstructionValue) -> Result<u32, AllocError> {
+    let places = places_of(alloc, value)?;
     let mut seen = 0u32;
-    for place in reactive.as_slice() {
+    for place in places.as_slice() {
         seen = seen
             .wrapping_mul(10)
             .wrapping_add(if place.reactive { 1 } else { 2 });
     }
-    // The key and the value that is taken apart are not assigned.
-    assert_eq!(rt; seen, 2112);
-    Ok(())
+    Ok(seen)
+}
+
+fn changed_targets(alloc: Global) -> Result<u32, AllocError> {
+    let mut value = destructuring(alloc)?;
+    react_each(&mut value);
+    reactive(alloc, &value)
 }
 
 #[test]
-fn a_try_binds(rt: HostRuntime) -> Result<(), Fail> {
-    let alloc = rt.alloc();
+fn changes_each_place_that_is_assigned(rt: HostRuntime) -> Result<(), Fail> {
+    // The key and the value that is taken apart are not assigned.
+    assert_eq!(rt; changed_targets(rt.alloc())?, 2112);
+    Ok(())
+}
+
+/// Lets each operand of the terminal be stored.
+fn store_each(terminal: &mut Terminal) {
+    for_each_terminal_operand_mut(
+        terminal,
+        &mut |p: &mut Place| {
+            p.effect = Effect::Store;
+        },
+    );
+}
+
+fn stored_by(alloc: Global, terminal: &Terminal) -> Result<(u32, bool), AllocError> {
+    let bound = each_terminal_operand(alloc, terminal)?;
+    let are_stored = bound.as_slice().iter().all(|p| p.effect == Effect::Store);
+    Ok((numbers(bound.as_slice()), are_stored))
+}
+
+fn bound_by_try(alloc: Global) -> Result<(u32, bool), AllocError> {
     let mut terminal = Terminal::Try {
         id: EvaluationOrder(2),
         block: BlockId(1),
         handler: BlockId(2),
         handler_binding: Some(place(5)),
     };
-    for_each_terminal_operand_mut(
-        &mut terminal,
-        &mut |p: &mut Place| {
-            p.effect = Effect::Store;
-        },
-    );
-    let bound = each_terminal_operand(alloc, &terminal)?;
-    assert_eq!(rt; numbers(bound.as_slice()), 5);
-    assert!(rt; bound.as_slice().iter().all(|p| p.effect == Effect::Store));
+    store_each(&mut terminal);
+    stored_by(alloc, &terminal)
+}
+
+#[test]
+fn a_try_binds(rt: HostRuntime) -> Result<(), Fail> {
+    assert!(rt; bound_by_try(rt.alloc())? == (5, true));
     Ok(())
 }
