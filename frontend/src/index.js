@@ -71,7 +71,7 @@ function unitsOfProgram(file, text, options = {}) {
     const made = {name, kind: /** @type {Made['kind']} */ (kind.toLowerCase()), at: positions.position(func.node.start)};
     try {
       const {root} = compile(names, func, kind, options);
-      made.unit = emit(root, {config: options.config, offset: i => positions.offset(i)});
+      made.unit = emit(root, {config: options.config, compiler: options.compiler, offset: i => positions.offset(i)});
     } catch (error) {
       if (!(error instanceof Refused)) throw error;
       made.refused = {reason: error.reason, message: error.message, ...positions.position(error.start)};

@@ -20,7 +20,8 @@ const LOGICAL = new Set(['||=', '&&=', '??=']);
 
 /**
  * Puts the value into the target. `isDestructure` tells a declaration or assignment by a pattern from a
- * parameter and the like, whose pattern may hold shared variables directly.
+ * parameter and the like, whose pattern holds shared variables directly in the React Compiler: there, a prop that
+ * a pattern takes is frozen for good where a function sees it.
  * @param {Builder} b @param {Node} given @param {Kind} kind @param {Place} value
  * @param {boolean} isDestructure @param {Node} node
  * @returns {Value} what the assignment gives
@@ -92,7 +93,8 @@ class Pattern {
     const {b} = this;
     if (node.type === 'Identifier' && !this.needsTemporaries) {
       const binding = b.local(node);
-      if (binding !== null && !(isDestructure && b.isShared(binding)) && !(this.kind === 'Reassign' && b.ident(binding).constant)) {
+      const isLater = isDestructure || !b.shared.asCompiler;
+      if (binding !== null && !(isLater && b.isShared(binding)) && !(this.kind === 'Reassign' && b.ident(binding).constant)) {
         return b.place(binding, node);
       }
     }

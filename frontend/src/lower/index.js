@@ -62,7 +62,13 @@ function ownParameters(b, node) {
   for (const param of node.params) {
     const target = param.type === 'TSParameterProperty' ? param.parameter : param;
     if (target.type === 'Identifier') {
-      if (target.name !== 'this') params.push(b.place(b.local(target), target)); // `this` is a type of TypeScript
+      if (target.name === 'this') continue; // a type of TypeScript
+      const binding = b.local(target);
+      if (b.isShared(binding) && !b.shared.asCompiler) { // the variable isn't what was handed in
+        const place = b.temporary(target, true);
+        params.push(place);
+        later.push(() => assignments.lowerAssignment(b, target, 'Let', place, false, target));
+      } else params.push(b.place(binding, target));
     } else if (target.type === 'RestElement' || PATTERNS.has(target.type)) {
       const place = b.temporary(target, true);
       const isRest = target.type === 'RestElement';
