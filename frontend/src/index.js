@@ -16,11 +16,13 @@
  * @property {{reason: string, message: string} & Position} [refused] where it wasn't, and why
  */
 const {parse} = require('./parse.js');
+const {fromESTree, isESTree} = require('./fromESTree.js');
 const {resolveNames} = require('./scope.js');
 const {markInlined} = require('./sharing.js');
 const {memoName} = require('./lower/memo.js');
 const {findFunctions} = require('./findFunctions.js');
 const {compile, emit} = require('./compile.js');
+const {children} = require('./syntax.js');
 const {Refused} = require('./refused.js');
 const {Positions} = require('./positions.js');
 
@@ -57,14 +59,33 @@ function functionsOf(file, options) {
   return {names, functions: findFunctions(file, names)};
 }
 
+/** The node that is nested most deeply. @param {object} top */
+function deepest(top) {
+  let level = [top];
+  for (let next = level; next.length > 0; next = level.flatMap(children)) level = next;
+  return level[0];
+}
+
+/** What goes out of the machine's stack is no program that can be read. */
+function guarded(ast, run) {
+  try {
+    return run();
+  } catch (error) {
+    if (!(error instanceof RangeError)) throw error;
+    const node = deepest(ast);
+    throw Object.assign(new SyntaxError('It is nested too deeply'), {pos: node.start ?? node.range[0]});
+  }
+}
+
 /**
- * @param {object} file a Babel tree
- * @param {string} text
+ * @param {object} ast a tree of Babel's parser, or of ESTree (espree, acorn, @typescript-eslint/parser, Babel's with
+ *   its `estree` plugin): a program, or a file of one. Its nodes have `start` and `end`, or `range`. It isn't changed
+ * @param {string} text of which it is the tree
  * @param {Options} [options]
- * @returns {Array<Made>}
+ * @returns {Array<Made>} one for each outermost function, and for components and hooks in those that are neither
  */
-function unitsOfProgram(file, text, options = {}) {
-  const {names, functions} = functionsOf(file, options);
+function unitsOfProgram(ast, text, options = {}) {
+  const {names, functions} = guarded(ast, () => functionsOf(isESTree(ast) ? fromESTree(ast) : ast.type === 'File' ? ast : {program: ast}, options));
   const positions = new Positions(text, options.offsets);
   return functions.map(({func, name, kind}) => {
     /** @type {Made} */
@@ -72,7 +93,8 @@ function unitsOfProgram(file, text, options = {}) {
     try {
       const {root} = compile(names, func, kind, options);
       made.unit = emit(root, {config: options.config, compiler: options.compiler, offset: i => positions.offset(i)});
-    } catch (error) {
+    } catch (given) {
+      const error = given instanceof RangeError ? new Refused('it is nested too deeply', deepest(func.node)) : given;
       if (!(error instanceof Refused)) throw error;
       made.refused = {reason: error.reason, message: error.message, ...positions.position(error.start)};
     }

@@ -6,7 +6,7 @@
  */
 
 const SKIPPED = new Set(['loc', 'extra', 'leadingComments', 'trailingComments', 'innerComments', 'typeAnnotation',
-  'typeParameters', 'typeArguments', 'returnType', 'superTypeParameters', 'implements', 'predicate', 'errors',
+  'typeParameters', 'typeArguments', 'returnType', 'superTypeParameters', 'superTypeArguments', 'implements', 'predicate', 'errors',
   'range', 'tokens', 'comments', 'directives', 'interpreter', 'decorators', 'parent']);
 const FUNCTIONS = new Set(['FunctionDeclaration', 'FunctionExpression', 'ArrowFunctionExpression', 'ObjectMethod',
   'ClassMethod', 'ClassPrivateMethod']);

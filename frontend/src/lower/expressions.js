@@ -111,10 +111,22 @@ function lowerUnary(b, node) {
     : {kind: 'PropertyDelete', object, name: property.name};
 }
 
+/** A sum of thousands is read without a stack. */
 function lowerBinary(b, node) {
-  if (node.operator === '|>') throw new Refused('a kind of expression', node, '|>');
-  const left = node.left.type === 'PrivateName' ? b.primitive(node.left, `#${node.left.id.name}`) : lowerExpressionToTemporary(b, node.left);
-  return {kind: 'BinaryExpression', operator: node.operator, left, right: lowerExpressionToTemporary(b, node.right)};
+  const chain = [];
+  let first = node;
+  while (first.type === 'BinaryExpression') {
+    if (first.operator === '|>') throw new Refused('a kind of expression', first, '|>');
+    chain.push(first);
+    first = first.left;
+  }
+  let left = first.type === 'PrivateName' ? b.primitive(first, `#${first.id.name}`) : lowerExpressionToTemporary(b, first);
+  for (const sum of chain.reverse()) {
+    const value = {kind: 'BinaryExpression', operator: sum.operator, left, right: lowerExpressionToTemporary(b, sum.right)};
+    if (sum === node) return value;
+    left = b.emit(value, sum);
+  }
+  throw new Error('a sum has a last part');
 }
 
 /** @param {Builder} b @param {Node} node @param {string} operator @param {() => Place} left @param {() => Place} right @returns {Value} */
