@@ -55,13 +55,15 @@ def library_of(name):
 def over_libraries(names, kit):
     """The command that proves and compiles the crate over the proved libraries of those below it, as `rt lib` does
     over its own."""
-    words = [os.path.join(kit, 'bin', 'rattle'), 'build', '--crate-name', LIBRARY, 'src/lib.rt', '--extern', 'std=%s/rlibs/std.rlib' % kit,
-             '-L', 'dependency=%s/rlibs' % kit]
+    words = [os.path.join(kit, 'bin', 'rattle'), 'build', '--crate-name', LIBRARY, 'src/lib.rt']
+    words += ['--extern', 'std=%s/rlibs/std.rlib' % kit, '-L', 'dependency=%s/rlibs' % kit]
     for name in names[:-1]:
         words += ['-L', 'dependency=' + os.path.dirname(library_of(name))]
-    words += ['--extern', 'alias_host=' + library_of('alias_host'), '--antt-project', kit + '/rattle/logic/antt-project.json',
-              '--logic-built', kit + '/logic_built', '--jobs', '1', '--links', LIBRARY + '=', '--crate-type', 'staticlib',
-              '--toolchain', kit + '/toolchain', '--backend', 'llvm', '-o', 'out/libjirrambeo.a']
+    words += [
+        '--extern', 'alias_host=' + library_of('alias_host'), '--antt-project', kit + '/rattle/logic/antt-project.json',
+        '--logic-built', kit + '/logic_built', '--jobs', '1', '--links', LIBRARY + '=', '--crate-type', 'staticlib',
+        '--toolchain', kit + '/toolchain', '--backend', 'llvm', '-o', 'out/libjirrambeo.a'
+    ]
     return words
 
 
@@ -69,8 +71,12 @@ def compiled_over_libraries(names, kit):
     """Whether the crate's archive was made over the proved libraries; what the compiler said stands in
     out/build.log."""
     with open(os.path.join(OUT, 'build.log'), 'wb') as log:
-        done = subprocess.run(over_libraries(names, kit), cwd=os.path.join(CRATES, LIBRARY), stdin=subprocess.DEVNULL, stdout=log,
-                              stderr=subprocess.STDOUT, check=False)
+        done = subprocess.run(over_libraries(names, kit),
+                              cwd=os.path.join(CRATES, LIBRARY),
+                              stdin=subprocess.DEVNULL,
+                              stdout=log,
+                              stderr=subprocess.STDOUT,
+                              check=False)
     return done.returncode == 0 and os.path.isfile(MADE)
 
 
@@ -79,7 +85,8 @@ def compiled(names, wanted, kit):
     os.makedirs(OUT, exist_ok=True)
     if os.path.exists(MADE):
         os.remove(MADE)
-    if read(PASSED) == wanted and all(map(os.path.isdir, map(library_of, names[:-1]))) and compiled_over_libraries(names, kit):
+    are_there = all(map(os.path.isdir, map(library_of, names[:-1])))
+    if read(PASSED) == wanted and are_there and compiled_over_libraries(names, kit):
         return True
     say('proving the library and the crates below it, which takes %s the first time on four processors' % FIRST_BUILD)
     with alone():
@@ -100,18 +107,21 @@ def merged(kit):
 
 
 def serving():
-    """Makes the server of the library that stands, by which the command answers for many files in one process, where there is a compiler of C."""
+    """Makes the server of the library that stands, by which the command answers for many files in one process, where
+    there is a compiler of C."""
     if is_served():
         return
     compiler = shutil.which('gcc') or shutil.which('cc') or shutil.which('clang')
     if compiler is None:
-        say('hosts/lib/serve is not made, and `lint` of source starts a process for each function: no compiler of C is there')
+        say('hosts/lib/serve is not made, and `lint` of source starts a process for each function: no compiler of C '
+            'is there')
         return
     for path in (SERVER, inference.STAMP):
         if os.path.exists(path):
             os.remove(path)
     header = os.path.join(HERE, 'hosts', 'c')
-    words = [compiler, '-std=c11', '-O2', '-I', header, os.path.join(header, 'serve.c'), ARCHIVE, '-pthread', '-o', SERVER]
+    words = [compiler, '-std=c11', '-O2', '-I', header, os.path.join(header, 'serve.c'), ARCHIVE]
+    words += ['-pthread', '-o', SERVER]
     if subprocess.run(words, check=False).returncode == 0:
         write(inference.STAMP, inference.server_digest())
 

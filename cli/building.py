@@ -17,7 +17,8 @@ import threading
 import time
 
 from cli.saying import FIRST_BUILD, NO_KIT, say
-from cli.sources import BUILT, CRATES, HERE, OUT, PARTS, PROGRAM, STAMP, crates_in_order, digest, is_built, stands_on, texts_of
+from cli.sources import (BUILT, CRATES, HERE, OUT, PARTS, PROGRAM, STAMP, crates_in_order, digest, is_built, stands_on,
+                         texts_of)
 
 SILENCE = 8  # seconds until the next line of progress
 PROCESSORS = max(1, min(4, len(os.sched_getaffinity(0))))
@@ -60,7 +61,8 @@ class Copies:
             shutil.copyfile(os.path.join(HERE, file), os.path.join(top, file))
         with open(os.path.join(top, 'crates.txt'), 'w', encoding='utf-8') as lines:
             with open(os.path.join(HERE, 'crates.txt'), encoding='utf-8') as all_lines:
-                lines.writelines(line for line in all_lines if line.partition(':')[0].split()[:1] in [[name] for name in names])
+                lines.writelines(line for line in all_lines
+                                 if line.partition(':')[0].split()[:1] in [[name] for name in names])
         for name in names:
             for part in PARTS:
                 source, copy = os.path.join(CRATES, name, part), os.path.join(top, 'crates', name, part)
@@ -127,8 +129,12 @@ class Build:
         os.makedirs(os.path.join(folder, 'out'), exist_ok=True)
         os.makedirs(os.path.join(CRATES, name, 'out'), exist_ok=True)
         with open(os.path.join(CRATES, name, 'out', 'build.log'), 'wb') as log:
-            process = subprocess.Popen(['rt', verb, '--jobs', str(jobs), *words], cwd=folder, stdin=subprocess.DEVNULL, stdout=log,
-                                       stderr=subprocess.STDOUT, start_new_session=True)
+            process = subprocess.Popen(['rt', verb, '--jobs', str(jobs), *words],
+                                       cwd=folder,
+                                       stdin=subprocess.DEVNULL,
+                                       stdout=log,
+                                       stderr=subprocess.STDOUT,
+                                       start_new_session=True)
             with self.changed:
                 self.running[name] = process
             return process.wait() == 0
@@ -146,8 +152,8 @@ class Build:
                 self.changed.notify_all()
 
     def tell(self):
-        say('%d of %d crates proved, %s; at %s' % (len(self.proved), len(self.names), minutes(int(time.monotonic() - self.begun)),
-                                                  ' '.join(sorted(self.running)) or 'no other'))
+        passed, at = minutes(int(time.monotonic() - self.begun)), ' '.join(sorted(self.running)) or 'no other'
+        say('%d of %d crates proved, %s; at %s' % (len(self.proved), len(self.names), passed, at))
 
     def stop(self):
         with self.changed:

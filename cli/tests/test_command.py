@@ -2,6 +2,7 @@
 proved."""
 import os
 import re
+import resource
 import time
 import unittest
 from unittest import mock
@@ -31,8 +32,10 @@ class Words(unittest.TestCase):
             status, text, told = there.run('infre', path=NOWHERE)
             self.assertEqual((status, text), (2, 'refused Words\n'))
             self.assertIn('is infer meant?', told)
-            for words in ([], ['infer', 'x'], ['explain', 'root', '-1'], ['explain', 'root', '1', '2'], ['made', '1', '1001'], ['made', '1', '0'],
-                          ['made', '01', '1'], ['plain', ''], ['build', 'all'], ['--version', '1'], ['']):
+            for words in ([], ['infer', 'x'], ['explain', 'root', '-1'], ['explain', 'root', '1',
+                                                                          '2'], ['made', '1', '1001'],
+                          ['made', '1', '0'], ['made', '01', '1'], ['plain', ''], ['build', 'all'], ['--version',
+                                                                                                     '1'], ['']):
                 self.assertEqual(there.run(*words, path=NOWHERE)[:2], (2, 'refused Words\n'), words)
 
     def test_the_words_of_worked_examples_are_passed_on_or_refused_as_the_program_does(self):
@@ -86,7 +89,8 @@ class Stamps(unittest.TestCase):
 
         with Installed(PASSED) as there:
             self.assertTrue(proved())
-            for change in (self.other_text, self.new_file, self.new_folder, self.same_size_and_time, self.gone, self.fewer_crates):
+            for change in (self.other_text, self.new_file, self.new_folder, self.same_size_and_time, self.gone,
+                           self.fewer_crates):
                 there.write('crates/alias_tool/src/main.rt', 'fn main() {}\n')
                 there.build(PASSED)
                 self.assertTrue(proved() and proved(), change.__name__)
@@ -121,7 +125,8 @@ class Stamps(unittest.TestCase):
         there.write('crates.txt', 'alias_tool: \n')
 
     def test_the_digest_is_computed_once_where_the_sources_are_old(self):
-        with Installed() as there, mock.patch.multiple(stamps, HERE=there.top, CRATES=os.path.join(there.top, 'crates')):
+        with Installed() as there, mock.patch.multiple(stamps, HERE=there.top, CRATES=os.path.join(there.top,
+                                                                                                   'crates')):
             with mock.patch.object(stamps, 'crates_in_order', return_value=['alias_tool']), \
                     mock.patch.object(stamps, 'digest', side_effect=['1', '2', '3', '4']):
                 # young sources are read each time
@@ -135,20 +140,24 @@ class Stamps(unittest.TestCase):
                 self.assertEqual(stamps.digest_now(), '4')
 
     def test_a_call_takes_no_time(self):
-        """A small unit through the whole command: the least of some calls, with as many sources as there are."""
+        """A small unit through the whole command, with as many sources as there are: the least of some calls, in time of a
+        processor, which other work doesn't reach."""
         with Installed(PASSED) as there:
             for number in range(2200):
                 there.write('crates/alias_tool/proofs/part%d/Law%d.antt' % (number % 200, number), 'law\n')
             there.build(PASSED)
             time.sleep(2.1)
             there.run('infer')
-            taken = []
-            for _ in range(7):
-                begun = time.perf_counter()
-                there.run('infer')
-                taken.append(time.perf_counter() - begun)
-            print('a call over 2,200 sources takes %.0f ms' % (min(taken) * 1000))
+            taken = [self.processor_time(there) for _ in range(7)]
+            print('a call over 2,200 sources takes %.0f ms of a processor' % (min(taken) * 1000))
             self.assertLess(min(taken), 0.25)
+
+    @staticmethod
+    def processor_time(there):
+        before = resource.getrusage(resource.RUSAGE_CHILDREN)
+        there.run('infer')
+        after = resource.getrusage(resource.RUSAGE_CHILDREN)
+        return after.ru_utime + after.ru_stime - before.ru_utime - before.ru_stime
 
 
 if __name__ == '__main__':
