@@ -472,9 +472,9 @@ class Body:
         elif kind in ('If', 'Branch'):
             t.update(test=self.place(), consequent=to(), alternate=to())
         elif kind == 'Switch':
-            cases = [{'test': self.place() if self.m.chance(0.7) else None, 'block': to()}
-                     for _ in range(1 + self.m.few(3))]
-            t.update(test=self.place(), cases=cases)
+            t['test'] = self.place()
+            t['cases'] = [{'test': self.place() if self.m.chance(0.7) else None, 'block': to()}
+                          for _ in range(1 + self.m.few(3))]
         elif kind in ('For', 'ForOf', 'ForIn'):
             t['init'] = to()
         elif kind == 'DoWhile':

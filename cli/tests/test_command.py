@@ -140,8 +140,8 @@ class Stamps(unittest.TestCase):
                 self.assertEqual(stamps.digest_now(), '4')
 
     def test_a_call_takes_no_time(self):
-        """A small unit through the whole command, with as many sources as there are: the least of some calls, in time of a
-        processor, which other work doesn't reach."""
+        """A small unit through the whole command, with as many sources as there are: the least of some calls, in time
+        of a processor, which other work doesn't reach."""
         with Installed(PASSED) as there:
             for number in range(2200):
                 there.write('crates/alias_tool/proofs/part%d/Law%d.antt' % (number % 200, number), 'law\n')
