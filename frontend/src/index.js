@@ -16,12 +16,13 @@
  * @property {{reason: string, message: string} & Position} [refused] where it wasn't, and why
  */
 const {parse} = require('./parse.js');
-const {names} = require('./scope.js');
-const {outermost} = require('./kinds.js');
-const {lower} = require('./lower.js');
-const {enterSsa} = require('./ssa.js');
-const {inferTypes} = require('./types.js');
-const {emit, wrapped} = require('./emit.js');
+const {fromESTree, isESTree} = require('./fromESTree.js');
+const {resolveNames} = require('./scope.js');
+const {markInlined} = require('./sharing.js');
+const {memoName} = require('./lower/memo.js');
+const {findFunctions} = require('./findFunctions.js');
+const {compile, emit} = require('./compile.js');
+const {children} = require('./syntax.js');
 const {Refused} = require('./refused.js');
 const {Positions} = require('./positions.js');
 
@@ -32,7 +33,9 @@ const {Positions} = require('./positions.js');
  * @property {'nested'|'root'} [others] functions that are no component and no hook stand below a root that
  *   makes them (the default): their parameters, and `this` as the last one, are whatever callers hand in. As
  *   roots their parameters are taken to be frozen, as the React Compiler's mode `all` has it
- * @property {boolean} [dropMemo] see lower.js
+ * @property {boolean} [dropMemo] whether useMemo and useCallback become what they do, between memo markers; they do
+ *   unless it is false
+ * @property {boolean} [compiler] the React Compiler's own way of lowering, where this front end has a better one
  * @property {object} [config] of the unit
  */
 
@@ -46,25 +49,52 @@ function unitsOf(text, options = {}) {
 }
 
 /**
+ * The names of a file, and its functions that get units.
  * @param {object} file a Babel tree
- * @param {string} text
- * @param {Options} [options]
- * @returns {Array<Made>}
+ * @param {Options} options
  */
-function unitsOfProgram(file, text, options = {}) {
-  const all = names(file);
+function functionsOf(file, options) {
+  const names = resolveNames(file.program);
+  markInlined(names, call => options.dropMemo !== false && memoName(names, call) === 'useMemo');
+  return {names, functions: findFunctions(file, names)};
+}
+
+/** The node that is nested most deeply. @param {object} top */
+function deepest(top) {
+  let level = [top];
+  for (let next = level; next.length > 0; next = level.flatMap(children)) level = next;
+  return level[0];
+}
+
+/** What goes out of the machine's stack is no program that can be read. */
+function guarded(ast, run) {
+  try {
+    return run();
+  } catch (error) {
+    if (!(error instanceof RangeError)) throw error;
+    const node = deepest(ast);
+    throw Object.assign(new SyntaxError('It is nested too deeply'), {pos: node.start ?? node.range[0]});
+  }
+}
+
+/**
+ * @param {object} ast a tree of Babel's parser, or of ESTree (espree, acorn, @typescript-eslint/parser, Babel's with
+ *   its `estree` plugin): a program, or a file of one. Its nodes have `start` and `end`, or `range`. It isn't changed
+ * @param {string} text of which it is the tree
+ * @param {Options} [options]
+ * @returns {Array<Made>} one for each outermost function, and for components and hooks in those that are neither
+ */
+function unitsOfProgram(ast, text, options = {}) {
+  const {names, functions} = guarded(ast, () => functionsOf(isESTree(ast) ? fromESTree(ast) : ast.type === 'File' ? ast : {program: ast}, options));
   const positions = new Positions(text, options.offsets);
-  return outermost(file, all).map(({func, name, kind}) => {
-    const made = {name, kind: kind.toLowerCase(), at: positions.position(func.node.start)};
+  return functions.map(({func, name, kind}) => {
+    /** @type {Made} */
+    const made = {name, kind: /** @type {Made['kind']} */ (kind.toLowerCase()), at: positions.position(func.node.start)};
     try {
-      const isNested = kind === 'Other' && options.others !== 'root';
-      let fn = lower(all, func, {dropMemo: options.dropMemo, allowThis: isNested});
-      fn.kind = kind;
-      if (isNested) fn = wrapped(fn);
-      enterSsa(fn);
-      inferTypes(fn);
-      made.unit = emit(fn, {config: options.config, offset: i => positions.offset(i)});
-    } catch (error) {
+      const {root} = compile(names, func, kind, options);
+      made.unit = emit(root, {config: options.config, compiler: options.compiler, offset: i => positions.offset(i)});
+    } catch (given) {
+      const error = given instanceof RangeError ? new Refused('it is nested too deeply', deepest(func.node)) : given;
       if (!(error instanceof Refused)) throw error;
       made.refused = {reason: error.reason, message: error.message, ...positions.position(error.start)};
     }
@@ -72,4 +102,4 @@ function unitsOfProgram(file, text, options = {}) {
   });
 }
 
-module.exports = {unitsOf, unitsOfProgram, Refused, Positions, ...require('./sourcemap.js')};
+module.exports = {unitsOf, unitsOfProgram, functionsOf, Refused, Positions, ...require('./sourcemap.js')};

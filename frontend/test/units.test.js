@@ -20,7 +20,7 @@ const units = (words, input = '') => spawnSync(process.execPath, [PROGRAM, ...wo
 const linesOf = text => text.split('\n').filter(Boolean).map(l => JSON.parse(l));
 
 test('a line for each outermost function', () => {
-  const file = fileOf('a.jsx', 'const C = () => <b/>;\nfunction useX() { return useState(1); }\nclass A { m() { return super.m(); } }\n');
+  const file = fileOf('a.jsx', 'const C = () => <b/>;\nfunction useX() { return useState(1); }\nclass A { *m() { yield 1; } }\n');
   const {stdout, status} = units([file]);
   assert.strictEqual(status, 0);
   const found = linesOf(stdout);
@@ -29,7 +29,7 @@ test('a line for each outermost function', () => {
     [file, 'useX', 'hook', {line: 2, column: 1, offset: 22}],
     [file, 'm', 'other', {line: 3, column: 11, offset: 72}],
   ]);
-  assert.deepStrictEqual(found.map(f => f.unit ? f.unit.format : f.refused.reason), [1, 1, '`super`']);
+  assert.deepStrictEqual(found.map(f => f.unit ? f.unit.format : f.refused.reason), [1, 1, 'a generator']);
 });
 
 test('a file that has no functions to give is told, and the others go on', () => {
@@ -58,7 +58,7 @@ test('the server answers each request, in order', () => {
 });
 
 test('the unit of one function alone', () => {
-  const file = fileOf('c.js', 'function f() {}\nfunction g() { return super.x; }\n');
+  const file = fileOf('c.js', 'function f() {}\nfunction* g() {}\n');
   assert.strictEqual(JSON.parse(units(['--only=f', file]).stdout).format, 1);
   const {stderr, status} = units(['--only=g', file]);
   assert.strictEqual(status, 2);

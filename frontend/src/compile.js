@@ -1,0 +1,30 @@
+'use strict';
+/** The stages from a function of a file to its unit. */
+const {lower} = require('./lower/index.js');
+const {enterSSA} = require('./enterSSA.js');
+const {eliminateRedundantPhi} = require('./eliminateRedundantPhi.js');
+const {inferTypes} = require('./inferTypes.js');
+const {optimizePropsMethodCalls} = require('./optimizePropsMethodCalls.js');
+const {emit, wrapped} = require('./unit.js');
+
+/**
+ * @param {import('./scope.js').Names} names
+ * @param {import('./scope.js').Func} func
+ * @param {'Component'|'Hook'|'Other'} kind
+ * @param {import('./index.js').Options} options
+ * @returns {{fn: import('./HIR.js').Fn, root: import('./HIR.js').Fn}} the function, in single assignment and with
+ *   types, and the root of its unit: itself, or one that makes it
+ */
+function compile(names, func, kind, options) {
+  const isNested = kind === 'Other' && options.others !== 'root';
+  let fn = lower(names, func, {dropMemo: options.dropMemo, allowThis: isNested, compiler: options.compiler});
+  fn.kind = kind;
+  const root = isNested ? wrapped(fn) : fn;
+  if (isNested) fn = root.blocks.get(root.entry).instructions[0].value.fn;
+  eliminateRedundantPhi(root, enterSSA(root));
+  inferTypes(root, options);
+  optimizePropsMethodCalls(root);
+  return {fn, root};
+}
+
+module.exports = {compile, emit};

@@ -1,0 +1,132 @@
+'use strict';
+/**
+ * An ESTree program to the tree that Babel's parser gives, which is what all else reads: of espree, acorn,
+ * @typescript-eslint/parser, and Babel's own with its `estree` plugin. The given tree isn't changed.
+ *
+ * @typedef {import('./syntax.js').Node} Node
+ */
+const {isNode} = require('./syntax.js');
+
+const LEFT_OUT = new Set(['parent', 'loc', 'range', 'tokens', 'comments', 'leadingComments', 'trailingComments', 'innerComments']);
+/** Types of TypeScript's parser that are called something else in Babel's tree. */
+const RENAMED = {
+  PropertyDefinition: 'ClassProperty', TSEmptyBodyFunctionExpression: 'TSDeclareMethod',
+  TSAbstractMethodDefinition: 'TSDeclareMethod', TSAbstractPropertyDefinition: 'TSDeclareField',
+  TSAbstractAccessorProperty: 'TSDeclareField', AccessorProperty: 'ClassAccessorProperty',
+};
+
+/** A node's place: that of its own, or of its range. @param {*} node */
+const placeOf = node => (typeof node.start === 'number' ? {start: node.start, end: node.end}
+  : {start: node.range[0], end: node.range[1]});
+
+/** A copy of the node with all nodes below it turned. @param {*} node */
+function copied(node) {
+  /** @type {Node} */
+  const out = {type: RENAMED[node.type] || node.type, ...placeOf(node)};
+  for (const [key, value] of Object.entries(node)) {
+    if (LEFT_OUT.has(key) || key === 'type' || key === 'start' || key === 'end') continue;
+    out[key] = Array.isArray(value) ? value.filter(x => !isDirective(x)).map(turned) : turned(value);
+  }
+  return out;
+}
+
+/** As "use strict": Babel keeps them apart. @param {*} x */
+const isDirective = x => isNode(x) && x.type === 'ExpressionStatement' && typeof x.directive === 'string';
+
+function turned(value) {
+  if (!isNode(value)) return value;
+  const turn = TURNS[value.type];
+  return turn ? turn(value) : copied(value);
+}
+
+function literal(node) {
+  const at = placeOf(node);
+  if (node.regex) return {type: 'RegExpLiteral', ...at, pattern: node.regex.pattern, flags: node.regex.flags};
+  if (node.bigint) return {type: 'BigIntLiteral', ...at, value: node.bigint.replace(/_|n$/g, '')};
+  if (node.value === null) return {type: 'NullLiteral', ...at};
+  const type = {string: 'StringLiteral', number: 'NumericLiteral', boolean: 'BooleanLiteral'}[typeof node.value];
+  return {type, ...at, value: node.value};
+}
+
+/** The function that a method's value is, with the place and the key of the method. */
+function method(node, type) {
+  const {params, body, async, generator, returnType, typeParameters} = copied(node.value);
+  if (!body) return {type: 'TSDeclareMethod', ...placeOf(node)};
+  return {type, ...placeOf(node), key: turned(node.key), computed: node.computed, params, body, async, generator,
+    returnType, typeParameters, kind: node.kind === 'init' ? 'method' : node.kind, static: node.static};
+}
+
+function property(node) {
+  if (node.method || node.kind === 'get' || node.kind === 'set') return method(node, 'ObjectMethod');
+  return {...copied(node), type: 'ObjectProperty'};
+}
+
+/** Within an optional chain Babel has nodes of their own. */
+function chain(node) {
+  const inner = node.expression;
+  if (inner.type === 'TSNonNullExpression') return {...copied(inner), expression: chain({...node, expression: inner.expression})};
+  return link(inner);
+}
+
+/** Whether a `?.` stands in the chain up to here. */
+function isOptional(node) {
+  if (node.type === 'ChainExpression') return false;
+  if (node.optional) return true;
+  if (node.type === 'MemberExpression') return isOptional(node.object);
+  if (node.type === 'CallExpression') return isOptional(node.callee);
+  return node.type === 'TSNonNullExpression' && isOptional(node.expression);
+}
+
+function link(node) {
+  if (!isOptional(node)) return turned(node);
+  if (node.type === 'TSNonNullExpression') return {...copied(node), expression: link(node.expression)};
+  const out = copied({...node, object: null, callee: null});
+  if (node.type === 'MemberExpression') return {...out, type: 'OptionalMemberExpression', object: link(node.object)};
+  return {...out, type: 'OptionalCallExpression', callee: link(node.callee)};
+}
+
+/** @type {Record<string, (node: any) => any>} */
+const TURNS = {
+  Literal: literal,
+  Property: property,
+  MethodDefinition: node => method(node, node.key.type === 'PrivateIdentifier' || node.key.type === 'PrivateName' ? 'ClassPrivateMethod' : 'ClassMethod'),
+  PrivateIdentifier: node => ({type: 'PrivateName', ...placeOf(node), id: {type: 'Identifier', ...placeOf(node), name: node.name}}),
+  PropertyDefinition(node) {
+    const out = copied(node);
+    return node.key.type === 'PrivateIdentifier' || node.key.type === 'PrivateName' ? {...out, type: 'ClassPrivateProperty'} : out;
+  },
+  ChainExpression: chain,
+  ImportExpression: node => ({type: 'CallExpression', ...placeOf(node), callee: {type: 'Import', ...placeOf(node)},
+    arguments: [node.source, node.options, node.attributes].filter(isNode).map(turned)}),
+  /** espree's texts of a template begin and end with what is around them. */
+  TemplateLiteral(node) {
+    const out = copied(node);
+    if (placeOf(node.quasis[0]).start === out.start) {
+      for (const q of out.quasis) {
+        q.start += 1;
+        q.end -= q.tail ? 1 : 2;
+      }
+    }
+    return out;
+  },
+  JSXText: node => ({type: 'JSXText', ...placeOf(node), value: node.value}),
+  /** In Babel's tree an export of all under a name is one of a specifier. */
+  ExportAllDeclaration: node => ({type: 'ExportAllDeclaration', ...placeOf(node)}),
+};
+
+/** Whether the tree is an ESTree one. @param {*} ast */
+function isESTree(ast) {
+  if (ast.type === 'File') return isESTree(ast.program);
+  return !Array.isArray(ast.directives);
+}
+
+/**
+ * @param {*} ast a program, or a file of one
+ * @returns {{type: string, program: Node}}
+ */
+function fromESTree(ast) {
+  const program = ast.type === 'File' ? ast.program : ast;
+  return {type: 'File', program: turned(program)};
+}
+
+module.exports = {fromESTree, isESTree};
