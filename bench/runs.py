@@ -75,6 +75,9 @@ class Input:
     def instructions(self, words):
         """How many instructions the program executes, by valgrind."""
         with open(self.file.name, 'rb') as source:
-            told = subprocess.run(['valgrind', '--tool=callgrind', '--callgrind-out-file=/dev/null', *words], stdin=source,
-                                  stdout=subprocess.DEVNULL, stderr=subprocess.PIPE, check=False).stderr.decode()
+            told = subprocess.run(['valgrind', '--tool=callgrind', '--callgrind-out-file=/dev/null', *words],
+                                  stdin=source,
+                                  stdout=subprocess.DEVNULL,
+                                  stderr=subprocess.PIPE,
+                                  check=False).stderr.decode()
         return int(re.search(r'Collected : (\d+)', told).group(1))

@@ -60,8 +60,10 @@ class Unit:
     def text(self, functions=()):
         root = {'fn_type': 'Other', 'returns': 0, 'entry': 0, 'instructions': self.instructions, 'blocks': self.blocks}
         identifiers = [{'declaration': i, 'type': self.typed.get(i, 0)} for i in range(self.identifiers)]
-        unit = {'format': 1, 'config': self.config, 'types': self.types, 'shapes': self.shapes, 'identifiers': identifiers,
-                'functions': list(functions), 'root': root}
+        unit = {
+            'format': 1, 'config': self.config, 'types': self.types, 'shapes': self.shapes, 'identifiers': identifiers,
+            'functions': list(functions), 'root': root
+        }
         return json.dumps(unit).encode()
 
 
@@ -231,7 +233,9 @@ def call(size):
 def storing(size):
     unit = Unit()
     unit.types.append({'kind': 'Function', 'shape_id': 'store', 'return_type': {'kind': 'Var'}})
-    signature = {'positional_params': ['Store', 'Capture'] * (size // 2), 'return_value_kind': 'Mutable', 'callee_effect': 'Read'}
+    signature = {
+        'positional_params': ['Store', 'Capture'] * (size // 2), 'return_value_kind': 'Mutable', 'callee_effect': 'Read'
+    }
     unit.shapes.append({'id': 'store', 'signature': signature})
     numbers, made = objects(unit, size + 1)
     unit.typed[made[0]] = 1
@@ -281,12 +285,16 @@ def outside(size):
 
 PLACE_KINDS = {
     'Await': ['value'], 'ComputedDelete': ['object', 'property'], 'ComputedLoad': ['object', 'property'],
-    'ComputedStore': ['object', 'property', 'value'], 'GetIterator': ['collection'], 'IteratorNext': ['iterator', 'collection'],
+    'ComputedStore': ['object', 'property',
+                      'value'], 'GetIterator': ['collection'], 'IteratorNext': ['iterator', 'collection'],
     'NextPropertyOf': ['value'], 'PropertyDelete': ['object'], 'PropertyLoad': ['object'], 'LoadContext': ['place'],
-    'LoadLocal': ['place'], 'TypeCastExpression': ['value'], 'FinishMemoize': ['decl'], 'TaggedTemplateExpression': ['tag'],
-    'BinaryExpression': ['left', 'right'], 'UnaryExpression': ['value'], 'Primitive': [], 'LoadGlobal': [], 'Debugger': [],
-    'JSXText': [], 'MetaProperty': [], 'RegExpLiteral': []}
-LIST_KINDS = {'JsxFragment': 'children', 'StartMemoize': 'deps', 'TemplateLiteral': 'subexprs', 'ArrayExpression': 'elements'}
+    'LoadLocal': ['place'], 'TypeCastExpression': ['value'], 'FinishMemoize': ['decl'],
+    'TaggedTemplateExpression': ['tag'], 'BinaryExpression': ['left', 'right'], 'UnaryExpression': ['value'],
+    'Primitive': [], 'LoadGlobal': [], 'Debugger': [], 'JSXText': [], 'MetaProperty': [], 'RegExpLiteral': []
+}
+LIST_KINDS = {
+    'JsxFragment': 'children', 'StartMemoize': 'deps', 'TemplateLiteral': 'subexprs', 'ArrayExpression': 'elements'
+}
 
 
 def one_of_each_kind(unit, place, nested):
@@ -362,8 +370,10 @@ def handlers(size):
 def levels(size):
     unit = Unit()
     number, made = unit.add('ObjectExpression')
-    functions = [function_of(unit, made, [{'lvalue': unit.new(), 'value': {'kind': 'FunctionExpression', 'function': i + 1}}])
-                 for i in range(size - 1)]
+    functions = [
+        function_of(unit, made, [{'lvalue': unit.new(), 'value': {'kind': 'FunctionExpression', 'function': i + 1}}])
+        for i in range(size - 1)
+    ]
     functions.append(loading(unit, made))
     created, result = unit.add('FunctionExpression', function=0)
     unit.block([number, created], 'Return', value=result)
@@ -383,8 +393,10 @@ def called(size):
 def parameters(size):
     unit = Unit()
     params = [unit.new() for _ in range(size)]
-    stores = [{'lvalue': unit.new(), 'value': {'kind': 'PropertyStore', 'object': params[(i + 1) % size], 'property': 'a', 'value': param}}
-              for i, param in enumerate(params)]
+    stores = [{
+        'lvalue': unit.new(),
+        'value': {'kind': 'PropertyStore', 'object': params[(i + 1) % size], 'property': 'a', 'value': param}
+    } for i, param in enumerate(params)]
     function = {**function_of(unit, None, stores), 'context': [], 'params': params}
     number, result = unit.add('FunctionExpression', function=0)
     unit.block([number], 'Return', value=result)

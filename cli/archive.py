@@ -106,18 +106,21 @@ def merged(kit):
 
 
 def serving():
-    """Makes the server of the library that stands, by which the command answers for many files in one process, where there is a compiler of C."""
+    """Makes the server of the library that stands, by which the command answers for many files in one process, where
+    there is a compiler of C."""
     if is_served():
         return
     compiler = shutil.which('gcc') or shutil.which('cc') or shutil.which('clang')
     if compiler is None:
-        say('hosts/lib/serve is not made, and `lint` of source starts a process for each function: no compiler of C is there')
+        say('hosts/lib/serve is not made, and `lint` of source starts a process for each function: no compiler of C '
+            'is there')
         return
     for path in (SERVER, inference.STAMP):
         if os.path.exists(path):
             os.remove(path)
     header = os.path.join(HERE, 'hosts', 'c')
-    words = [compiler, '-std=c11', '-O2', '-I', header, os.path.join(header, 'serve.c'), ARCHIVE, '-pthread', '-o', SERVER]
+    words = [compiler, '-std=c11', '-O2', '-I', header, os.path.join(header, 'serve.c'), ARCHIVE]
+    words += ['-pthread', '-o', SERVER]
     if subprocess.run(words, check=False).returncode == 0:
         write(inference.STAMP, inference.server_digest())
 

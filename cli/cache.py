@@ -1,7 +1,9 @@
-"""A file that keeps what was told of files of source, so that one whose text, options and program are the same isn't looked at again.
+"""A file that keeps what was told of files of source, so that one whose text, options and program are the same isn't
+looked at again.
 
-It may be lost, and is never wrong: what it has of a file counts only for the digest of the file's bytes, over the same program, front end, parser, Node and
-options, and each line has a digest of itself, so that a damaged one isn't taken."""
+It may be lost, and is never wrong: what it has of a file counts only for the digest of the file's bytes, over the
+same program, front end, parser, Node and options, and each line has a digest of itself, so that a damaged one isn't
+taken."""
 import glob
 import hashlib
 import json
@@ -21,14 +23,21 @@ def stat_of(path):
 
 
 def front_files():
-    return sorted(path for path in glob.glob(os.path.join(front.FOLDER, '**', '*.js*'), recursive=True) if 'node_modules' not in path)
+    return sorted(path for path in glob.glob(os.path.join(front.FOLDER, '**', '*.js*'), recursive=True)
+                  if 'node_modules' not in path)
 
 
 def key_of(options):
     """A digest of all but the file that an answer depends on."""
     parser = front.parser_folder()
-    parts = [stat_of(front.node()), stat_of(os.path.join(parser, 'package.json')), stat_of(os.path.join(parser, 'lib', 'index.js')), digest_now(),
-             digest_of([*front_files(), *(os.path.join(HERE, 'cli', name) for name in PARTS)]), list(options)]
+    parts = [
+        stat_of(front.node()),
+        stat_of(os.path.join(parser, 'package.json')),
+        stat_of(os.path.join(parser, 'lib', 'index.js')),
+        digest_now(),
+        digest_of([*front_files(), *(os.path.join(HERE, 'cli', name) for name in PARTS)]),
+        list(options)
+    ]
     return hashlib.sha256(json.dumps(parts).encode()).hexdigest()
 
 
@@ -37,7 +46,8 @@ def seal(key, file, digest, told):
 
 
 class Cache:
-    """What is kept: of each file the digest of its bytes and what was told, as JSON. Without a path it keeps nothing."""
+    """What is kept: of each file the digest of its bytes and what was told, as JSON. Without a path it keeps
+    nothing."""
 
     def __init__(self, path, options=()):
         self.path, self.key, self.kept, self.is_changed = path, None, {}, False

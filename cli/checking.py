@@ -11,7 +11,9 @@ from cli.program import answer, run
 
 
 def options(words):
-    parser = argparse.ArgumentParser(prog='jirrambeo check', description=__doc__, formatter_class=argparse.RawDescriptionHelpFormatter)
+    parser = argparse.ArgumentParser(prog='jirrambeo check',
+                                     description=__doc__,
+                                     formatter_class=argparse.RawDescriptionHelpFormatter)
     parser.add_argument('unit', metavar='UNIT.json')
     parser.add_argument('certificate', metavar='CERTIFICATE', help='a file, or - for standard input')
     return parser.parse_args(words)

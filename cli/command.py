@@ -58,30 +58,34 @@ class Command:
 
 
 WIDTH = 34
-PARTS = (
-    ('On source (JavaScript, TypeScript, Flow annotations, JSX):', (
-        Command('lint', 'FILE..', 'prints what its code does wrong, as frames of the source, JSON, SARIF or for GitHub', part('linting', 'lint')),
-        Command('view', 'FILE > page.html', 'makes a page: the source, its instructions, ranges, and why they end', part('viewing', 'view')),
-        Command('units', 'FILE..', 'prints the unit of each function, or why it has none, as JSON', part('sourcing', 'units')))),
-    ('On a unit (JSON: docs/FORMAT.md):', (
-        Command('infer', '< UNIT', 'effects, mutable ranges, summaries and reports', program, ''),
-        Command('certify', '< UNIT', 'the same, and what it can be checked by', program, ''),
-        Command('check', 'UNIT CERTIFICATE', 'whether that is a certificate of the unit', part('checking', 'check')),
-        Command('lint', '< UNIT', 'the reports, with the instructions that they come from', None),
-        Command('explain', 'FUNCTION [IDENTIFIER] < UNIT', 'why a range ends where it does', program, r'(root|%s)( %s)?' % (NUMBER, NUMBER)),
-        Command('plain', '< UNIT', 'whether no rule of the inference can refuse it', program, ''),
-        Command('view', 'UNIT > page.html', 'makes its page', None),
-        Command('made', 'SEED SIZE', 'how much is inferred of a made unit', program, r'%s ([1-9]\d{0,2}|1000)' % NUMBER))),
-    ('Besides:', (
-        Command('build', '', 'proves and builds the program', build, ''),
-        Command('--help', '', 'prints this; so does --help behind lint, view, units and check of theirs', help_of_all, ''),
-        Command('--version', '', 'prints name and version', version, ''))))
+ON_SOURCE = (
+    Command('lint', 'FILE..', 'what its code does wrong, as frames of the source, JSON, SARIF or for GitHub',
+            part('linting', 'lint')),
+    Command('view', 'FILE > page.html', 'a page: the source, its instructions, ranges, and why they end',
+            part('viewing', 'view')),
+    Command('units', 'FILE..', 'the unit of each function, or why it has none, as JSON', part('sourcing', 'units')))
+ON_UNITS = (
+    Command('infer', '< UNIT', 'effects, mutable ranges, summaries and reports', program, ''),
+    Command('certify', '< UNIT', 'the same, and what it can be checked by', program, ''),
+    Command('check', 'UNIT CERTIFICATE', 'whether that is a certificate of the unit', part('checking', 'check')),
+    Command('lint', '< UNIT', 'the reports, with the instructions that they come from', None),
+    Command('explain', 'FUNCTION [IDENTIFIER] < UNIT', 'why a range ends where it does, or all of a function', program,
+            r'(root|%s)( %s)?' % (NUMBER, NUMBER)),
+    Command('plain', '< UNIT', 'whether no rule of the inference can refuse it', program, ''),
+    Command('view', 'UNIT.json > page.html', 'its page', None),
+    Command('made', 'SEED SIZE', 'how much is inferred of a made unit', program, r'%s ([1-9]\d{0,2}|1000)' % NUMBER))
+BESIDES = (
+    Command('build', '', 'proves and builds the program', build, ''),
+    Command('--help', '', 'this; lint, view, units and check have a --help of theirs', help_of_all, ''),
+    Command('--version', '', 'name and version', version, ''))
+PARTS = (('On source (JavaScript, TypeScript, Flow annotations, JSX):', ON_SOURCE),
+         ('On a unit (JSON: docs/FORMAT.md):', ON_UNITS), ('Besides:', BESIDES))
 TABLE = {command.name: command for _, commands in PARTS for command in commands if command.call}
 STATUSES = """Statuses on source: 0 no reports, 1 some, 2 a file can't be read or parsed, or what reads it isn't there.
 Statuses on a unit: 0 done, 2 the words are no command, and others that docs/FORMAT.md describes.
-Where the proved program isn't there, built from exactly the sources beside this file, the sources are run without a proof,
-with checks at run time, and a line on standard error says so. With JIRRAMBEO_PROVED=1 in the environment that ends in
-status 1 instead, with nothing on standard output."""
+Where the proved program isn't there, built from exactly the sources beside this file, the sources are run without a
+proof, with checks at run time, and a line on standard error says so. With JIRRAMBEO_PROVED=1 in the environment that
+ends in status 1 instead, with nothing on standard output."""
 
 
 def usage():
@@ -103,7 +107,8 @@ def no_command(words):
         say('%s takes other words: ./jirrambeo %s %s' % (command.name, command.name, command.words))
     else:
         near = get_close_matches(words[0], TABLE, 1)
-        say('%s is no command%s; `./jirrambeo --help` lists them' % (words[0], ': is %s meant?' % near[0] if near else ''))
+        say('%s is no command%s; `./jirrambeo --help` lists them' %
+            (words[0], ': is %s meant?' % near[0] if near else ''))
     return 2
 
 

@@ -1,4 +1,5 @@
-"""Why ranges end, of all identifiers of a function: by one call of `explain` where the program takes it, or by one for each identifier, side by side."""
+"""Why ranges end, of all identifiers of a function: by one call of `explain` where the program takes it, or by one
+for each identifier, side by side."""
 import os
 from concurrent.futures import ThreadPoolExecutor
 
@@ -11,7 +12,8 @@ PROCESSORS = len(os.sched_getaffinity(0))
 
 
 def each_alone(asked, is_proved, data):
-    """What is told of each pair of a function and an identifier, over one process for each processor, or one for each question."""
+    """What is told of each pair of a function and an identifier, over one process for each processor, or one for each
+    question."""
     def ask(part):
         program = inference(is_proved)
         try:

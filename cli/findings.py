@@ -28,7 +28,8 @@ class SourceLint(Lint):
     """A report on source, which comes from a function that has a name and a kind there."""
 
     def __init__(self, lint, name, kind):
-        super().__init__(lint.function, lint.block, lint.instruction, lint.category, lint.message, lint.help, lint.labels)
+        super().__init__(lint.function, lint.block, lint.instruction, lint.category, lint.message, lint.help,
+                         lint.labels)
         self.name, self.kind = name, kind
 
     def where(self):
@@ -36,7 +37,8 @@ class SourceLint(Lint):
 
 
 class Failed(Lint):
-    """Why a file, or a function in it, has no answer, and where, if somewhere: as a report on nothing that the program said."""
+    """Why a file, or a function in it, has no answer, and where, if somewhere: as a report on nothing that the
+    program said."""
 
     def __init__(self, kind, message, offset=None):
         labels = [] if offset is None else [Label(offset, offset, None)]
@@ -63,9 +65,12 @@ class Found:
         """Puts reports in the order of the source, each once."""
         seen = {}
         for lint in self.lints:
-            words = (lint.category, lint.message, lint.help, tuple((label.start, label.end, label.text) for label in lint.labels))
+            words = (lint.category, lint.message, lint.help,
+                     tuple((label.start, label.end, label.text) for label in lint.labels))
             seen.setdefault(words, lint)
-        self.lints = [lint for _, lint in sorted(seen.items(), key=lambda pair: (start_of(pair[1]), pair[0][0], pair[0][1]))]
+        self.lints = [
+            lint for _, lint in sorted(seen.items(), key=lambda pair: (start_of(pair[1]), pair[0][0], pair[0][1]))
+        ]
         self.refused.sort(key=lambda refused: refused.offset)
         return self
 
@@ -111,12 +116,14 @@ def units_of(front, file, data):
     told = front.functions(file, data)
     for function in told.get('functions', ()):
         if 'unit' in function:
-            function['unit'] = json.dumps(function['unit'], ensure_ascii=False, separators=(',', ':')).encode(errors='replace')
+            function['unit'] = json.dumps(function['unit'], ensure_ascii=False,
+                                          separators=(',', ':')).encode(errors='replace')
     return told
 
 
 def told_of(front, inference, file, data):
-    """What is told of a file with these bytes: each function with the status and the text of `lint`, in place of its unit."""
+    """What is told of a file with these bytes: each function with the status and the text of `lint`, in place of its
+    unit."""
     told = units_of(front, file, data)
     for function in told.get('functions', ()):
         if 'unit' in function:

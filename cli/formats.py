@@ -18,7 +18,8 @@ def place_in(source, label):
 
 
 def object_of(lint, source):
-    labels = [{'start': label.start, 'end': label.end, 'text': label.text, **place_in(source, label)} for label in lint.labels]
+    labels = [{'start': label.start, 'end': label.end, 'text': label.text, **place_in(source, label)}
+              for label in lint.labels]
     made = {'category': lint.category, 'message': lint.message, 'help': lint.help, 'labels': labels,
             'function': lint.function, 'block': lint.block, 'instruction': lint.instruction}
     if source:
@@ -69,14 +70,17 @@ def result(lint, source):
     elif source:
         made['locations'] = [{'physicalLocation': {'artifactLocation': artifact(name_of(source))}}]
     if lint.labels[1:]:
-        made['relatedLocations'] = [{'id': number, **location(label, source)} for number, label in enumerate(lint.labels[1:])]
+        made['relatedLocations'] = [{'id': number, **location(label, source)}
+                                    for number, label in enumerate(lint.labels[1:])]
     return made
 
 
 def driver_of(lints):
     """What a run says of the tool, with the rules of these reports."""
     rules = [{'id': name, 'shortDescription': {'text': name}} for name in sorted({lint.category for lint in lints})]
-    return {'tool': {'driver': {'name': 'jirrambeo', 'version': VERSION, 'rules': rules}}, 'columnKind': 'unicodeCodePoints'}
+    return {
+        'tool': {'driver': {'name': 'jirrambeo', 'version': VERSION, 'rules': rules}}, 'columnKind': 'unicodeCodePoints'
+    }
 
 
 def sarif(lints, source):

@@ -3,7 +3,10 @@ from cli.source import shown
 
 MOST = 8  # lines of a span that are shown before its middle is left out
 PLAIN = {'error': '', 'bold': '', 'gutter': '', 'primary': '', 'other': '', 'end': ''}
-COLOURED = {'error': '\x1b[1;31m', 'bold': '\x1b[1m', 'gutter': '\x1b[1;34m', 'primary': '\x1b[1;31m', 'other': '\x1b[1;36m', 'end': '\x1b[0m'}
+COLOURED = {
+    'error': '\x1b[1;31m', 'bold': '\x1b[1m', 'gutter': '\x1b[1;34m', 'primary': '\x1b[1;31m', 'other': '\x1b[1;36m',
+    'end': '\x1b[0m'
+}
 
 
 class Mark:
@@ -65,15 +68,18 @@ class Frame:
         """The rows under a line: all underlines in one row, with the last label's text behind them, and a row for
         each other text."""
         _, columns = shown(self.source.lines[line])
-        marks = sorted((mark for mark in self.marks if mark.is_within_line() and mark.start[0] == line), key=lambda mark: mark.start)
+        marks = sorted((mark for mark in self.marks if mark.is_within_line() and mark.start[0] == line),
+                       key=lambda mark: mark.start)
         if not marks:
             return
-        spots = [(columns[mark.start[1]], max(columns[mark.end[1]], columns[mark.start[1]] + 1), mark) for mark in marks]
+        spots = [(columns[mark.start[1]], max(columns[mark.end[1]], columns[mark.start[1]] + 1), mark)
+                 for mark in marks]
         row, at = '', 0
         for start, end, mark in spots:
             if end <= at:
                 continue
-            row += ' ' * (start - at) + self.painter.paint(self.colour(mark), ('^' if mark.is_primary else '-') * (end - max(start, at)))
+            row += ' ' * (start - at) + self.painter.paint(self.colour(mark),
+                                                           ('^' if mark.is_primary else '-') * (end - max(start, at)))
             at = end
         last = spots[-1][2]
         yield row + (' ' + self.painter.paint(self.colour(last), last.text) if last.text else '')
@@ -125,12 +131,14 @@ def frame(lint, source, is_coloured):
         first = min(marks, key=lambda mark: not mark.is_primary)
         shape = Frame(source, marks, painter)
         width = shape.width
-        yield '%s%s %s:%d:%d' % (' ' * width, painter.paint('gutter', '-->'), source.name, first.start[0] + 1, first.start[1] + 1)
+        yield '%s%s %s:%d:%d' % (' ' * width, painter.paint('gutter',
+                                                            '-->'), source.name, first.start[0] + 1, first.start[1] + 1)
         yield from shape.rows()
     note = ' ' * width + ' ' + painter.paint('gutter', '=') + ' '
     for label in lint.labels:
         if not (source and source.span(label.start, label.end)):
-            yield note + painter.paint('bold', '%d..%d' % (label.start, label.end)) + (': ' + label.text if label.text else '')
+            yield note + painter.paint('bold', '%d..%d' %
+                                       (label.start, label.end)) + (': ' + label.text if label.text else '')
     if lint.help:
         yield note + painter.paint('bold', 'help') + ': ' + lint.help
     if lint.where():

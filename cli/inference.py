@@ -1,4 +1,5 @@
-"""Answers of the program to many questions: through one process over a pipe where the library is built, or a process for each."""
+"""Answers of the program to many questions: through one process over a pipe where the library is built, or a process
+for each."""
 import os
 import struct
 import subprocess

@@ -1,11 +1,13 @@
-"""`./jirrambeo lint FILE..` of source, and `./jirrambeo lint < unit.json` of a unit: reports for a person or for another tool.
+"""`./jirrambeo lint FILE..` of source, and `./jirrambeo lint < unit.json` of a unit: reports for a person or for
+another tool.
 
-  --pretty             frames: the source lines that a report points at, with its labels under them; so it is at a terminal
+  --pretty             frames: the source lines that a report points at, with its labels under them; so it is at a
+                       terminal
   --format FORMAT      text (a line for each report, so it is where nobody looks on), pretty, json (an object a line),
                        sarif (a SARIF 2.1.0 log), or github (commands of GitHub's runner)
 
-FILE is a file of source (JavaScript, TypeScript, Flow annotations, JSX) or a folder of such. The exit status is 0 without
-reports, 1 with some, and 2 where a file can't be read or parsed, or what reads it isn't there.
+FILE is a file of source (JavaScript, TypeScript, Flow annotations, JSX) or a folder of such. The exit status is 0
+without reports, 1 with some, and 2 where a file can't be read or parsed, or what reads it isn't there.
 
 Without FILE a unit is read from standard input, and text is the program's own lines. The exit status is the program's,
 and 2 where the source can't be read. Then these say more:
@@ -30,7 +32,9 @@ from cli.sourcing import add_options, lint_source
 
 
 def options(words):
-    parser = argparse.ArgumentParser(prog='jirrambeo lint', description=__doc__, formatter_class=argparse.RawDescriptionHelpFormatter)
+    parser = argparse.ArgumentParser(prog='jirrambeo lint',
+                                     description=__doc__,
+                                     formatter_class=argparse.RawDescriptionHelpFormatter)
     parser.add_argument('files', nargs='*', metavar='FILE', help=argparse.SUPPRESS)
     parser.add_argument('--pretty', action='store_true', help=argparse.SUPPRESS)
     parser.add_argument('--format', choices=('text', 'pretty', 'json', 'sarif', 'github'), help=argparse.SUPPRESS)
@@ -39,11 +43,13 @@ def options(words):
     parser.add_argument('--offsets', choices=('bytes', 'utf16'), help=argparse.SUPPRESS)
     add_options(parser.add_argument_group('of files of source'))
     given = parser.parse_args(words)
-    of_unit, of_source = given.source or given.name or given.offsets, given.cache or given.shard or given.ignore or given.notes or given.watch
+    of_unit = given.source or given.name or given.offsets
+    of_source = given.cache or given.shard or given.ignore or given.notes or given.watch
     if given.files and of_unit:
         parser.error('--source, --name and --offsets are of a unit, which is read from standard input')
     if not given.files and (of_source or given.format == 'github'):
-        parser.error('which files? --cache, --shard, --ignore, --notes, --watch and --format github are of files of source')
+        parser.error(
+            'which files? --cache, --shard, --ignore, --notes, --watch and --format github are of files of source')
     if given.format is None:
         given.format = 'pretty' if given.pretty or sys.stdout.isatty() else 'text'
     return given
@@ -80,7 +86,10 @@ def lint(words):
         return status
     lints = lints_from(text)
     is_coloured = sys.stdout.isatty() and 'NO_COLOR' not in os.environ
-    shapes = {'pretty': lambda: pretty(lints, source, is_coloured), 'json': lambda: json_lines(lints, source), 'sarif': lambda: [sarif(lints, source)]}
+    shapes = {
+        'pretty': lambda: pretty(lints, source, is_coloured), 'json': lambda: json_lines(lints, source),
+        'sarif': lambda: [sarif(lints, source)]
+    }
     text = ''.join(line + '\n' for line in shapes[given.format]())
     sys.stdout.buffer.write(text.encode('utf-8', errors='surrogateescape'))
     return status

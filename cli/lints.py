@@ -46,7 +46,8 @@ def lint_from(line):
     """The report of one line."""
     head = re.match(r'lint (root|\d+) (\d+) (end|\d+) ', line)
     function, block, instruction = head.groups()
-    return Lint(None if function == 'root' else int(function), int(block), None if instruction == 'end' else int(instruction), *report_from(line, head.end()))
+    return Lint(None if function == 'root' else int(function), int(block),
+                None if instruction == 'end' else int(instruction), *report_from(line, head.end()))
 
 
 def lints_from(text):

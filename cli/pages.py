@@ -8,7 +8,8 @@ from cli.lints import report_from
 PAGE = os.path.join(os.path.dirname(os.path.abspath(__file__)), 'page')
 SCRIPTS = ('base.js', 'function.js', 'graph.js', 'panel.js', 'source.js', 'start.js')
 NAME = re.compile(r'[\w$]+', re.UNICODE)
-LISTS = ('elements', 'properties', 'args', 'props', 'children', 'deps', 'subexprs', 'array', 'object')  # keys of lists; `object` of a pattern alone
+LISTS = ('elements', 'properties', 'args', 'props', 'children', 'deps', 'subexprs', 'array', 'object'
+         )  # keys of lists; `object` of a pattern alone
 
 
 def number_of(place):
@@ -61,34 +62,53 @@ def lines_of(source, span):
 
 def instruction_of(instruction, source):
     value = instruction['value']
-    return {'order': instruction['id'], 'lvalue': number_of(instruction['lvalue']), 'kind': value['kind'], 'function': value.get('function'),
-            'places': places_in(value), 'property': value.get('property') if isinstance(value.get('property'), str) else None,
-            'text': text_at(source, instruction.get('span')), 'lines': lines_of(source, instruction.get('span'))}
+    return {
+        'order': instruction['id'], 'lvalue': number_of(instruction['lvalue']), 'kind': value['kind'],
+        'function': value.get('function'), 'places': places_in(value),
+        'property': value.get('property') if isinstance(value.get('property'), str) else None,
+        'text': text_at(source, instruction.get('span')), 'lines': lines_of(source, instruction.get('span'))
+    }
 
 
 def terminal_of(terminal):
     """The kind and order of a terminal, the blocks that it leads to, and the places that it names."""
     cases = terminal.get('cases', [])
     tests_a_place = terminal['kind'] in ('If', 'Branch', 'Switch')
-    keys = ('block', 'consequent', 'alternate', 'init', 'loop_block', 'continuation', 'handler') + (() if tests_a_place else ('test',))
+    own = () if tests_a_place else ('test',)
+    keys = ('block', 'consequent', 'alternate', 'init', 'loop_block', 'continuation', 'handler', *own)
     blocks = [terminal[key] for key in keys if terminal.get(key) is not None] + [case['block'] for case in cases]
-    places = [terminal[key] for key in ('value', 'handler_binding') + (('test',) if tests_a_place else ()) if terminal.get(key) is not None]
+    places = [
+        terminal[key] for key in ('value', 'handler_binding') + (('test', ) if tests_a_place else ())
+        if terminal.get(key) is not None
+    ]
     places += [case['test'] for case in cases if case.get('test') is not None]
-    return {'kind': terminal['kind'], 'order': terminal['id'], 'blocks': blocks, 'places': [number_of(place) for place in places]}
+    return {
+        'kind': terminal['kind'], 'order': terminal['id'], 'blocks': blocks,
+        'places': [number_of(place) for place in places]
+    }
 
 
 def block_of(block):
-    phis = [{'place': number_of(phi['place']), 'operands': [[edge, number_of(place)] for edge, place in phi['operands']]} for phi in block.get('phis', [])]
-    return {'id': block['id'], 'instructions': block.get('instructions', []), 'terminal': terminal_of(block['terminal']), 'phis': phis}
+    phis = [{
+        'place': number_of(phi['place']), 'operands': [[edge, number_of(place)] for edge, place in phi['operands']]
+    } for phi in block.get('phis', [])]
+    return {
+        'id': block['id'], 'instructions': block.get('instructions', []), 'terminal': terminal_of(block['terminal']),
+        'phis': phis
+    }
 
 
 def function_data(name, func, certified, source):
     found = certified.data()
-    return {'name': name, 'type': func.get('fn_type'), 'params': [number_of(param_of(param)) for param in func.get('params', [])],
-            'context': [number_of(place) for place in func.get('context', [])], 'returns': number_of(func['returns']), 'entry': func['entry'],
-            'instructions': [instruction_of(instruction, source) for instruction in func.get('instructions', [])],
-            'blocks': [block_of(block) for block in func['blocks']], 'blocks_by_number': found['blocks'],
-            'visits': found['visits'], 'summary': found['summary'], 'temporaries': found['temporaries']}
+    return {
+        'name': name, 'type': func.get('fn_type'),
+        'params': [number_of(param_of(param)) for param in func.get('params', [])],
+        'context': [number_of(place) for place in func.get('context', [])],
+        'returns': number_of(func['returns']), 'entry': func['entry'],
+        'instructions': [instruction_of(instruction, source) for instruction in func.get('instructions', [])],
+        'blocks': [block_of(block) for block in func['blocks']], 'blocks_by_number': found['blocks'],
+        'visits': found['visits'], 'summary': found['summary'], 'temporaries': found['temporaries']
+    }
 
 
 def function_of(unit, name):
@@ -108,23 +128,34 @@ def identifiers_of(function):
 def label_of(label, source):
     """A label, with the line, the column and the text of its span where it is one of the source."""
     place = source.span(label.start, label.end) if source else None
-    told = {'place': '%d:%d' % (place[0][0] + 1, place[0][1] + 1), 'source': text_at(source, (label.start, label.end))} if place else {}
+    told = {}
+    if place:
+        at, text = (place[0][0] + 1, place[0][1] + 1), text_at(source, (label.start, label.end))
+        told = {'place': '%d:%d' % at, 'source': text}
     return {'start': label.start, 'end': label.end, 'text': label.text, **told}
 
 
 def report_of(line, source):
     category, message, help_text, labels = report_from(line, 0)
-    return {'category': category, 'message': message, 'help': help_text, 'labels': [label_of(label, source) for label in labels]}
+    return {
+        'category': category, 'message': message, 'help': help_text,
+        'labels': [label_of(label, source) for label in labels]
+    }
 
 
 def names_of(unit):
     """The names that identifiers have in the source."""
-    return {number: identifier['name'] for number, identifier in enumerate(unit.get('identifiers', [])) if isinstance(identifier.get('name'), str)}
+    return {
+        number: identifier['name']
+        for number, identifier in enumerate(unit.get('identifiers', [])) if isinstance(identifier.get('name'), str)
+    }
 
 
 def extent_of(functions):
     """The first and the last line that an instruction comes from, or None."""
-    lines = [at for function in functions for instruction in function['instructions'] for at in instruction['lines'] or ()]
+    lines = [
+        at for function in functions for instruction in function['instructions'] for at in instruction['lines'] or ()
+    ]
     return [min(lines), max(lines)] if lines else None
 
 
@@ -132,8 +163,12 @@ def unit_data(unit, certified, source, explains, name=None):
     """What the page shows of a unit. `explains` tells of its functions why ranges end."""
     told = sorted(certified.functions, key=lambda found: -1 if found.name == 'root' else int(found.name))
     functions = [function_data(found.name, function_of(unit, found.name), found, source) for found in told]
-    return {'name': name, 'functions': functions, 'names': names_of(unit), 'ranges': certified.ranges, 'lines': extent_of(functions),
-            'reports': [report_of(line, source) for line in dict.fromkeys(certified.reports)], 'explains': explains(functions)}
+    return {
+        'name': name, 'functions': functions, 'names': names_of(unit), 'ranges': certified.ranges,
+        'lines': extent_of(functions),
+        'reports': [report_of(line, source) for line in dict.fromkeys(certified.reports)],
+        'explains': explains(functions)
+    }
 
 
 def utf16(text):
@@ -150,15 +185,20 @@ def spans_of(function):
 
 
 def uses_in(at, unit, source):
-    """Where names of the source stand that are identifiers of a unit, with its number: by line, what the page needs to choose them."""
-    for name, function in [('root', unit['root']), *((str(number), func) for number, func in enumerate(unit.get('functions', [])))]:
+    """Where names of the source stand that are identifiers of a unit, with its number: by line, what the page needs
+    to choose them."""
+    for name, function in [('root', unit['root']),
+                           *((str(number), func) for number, func in enumerate(unit.get('functions', [])))]:
         for identifier, start, end in spans_of(function):
             span = source.span(start, end)
             if span and span[0][0] == span[1][0]:
                 (line, column), (_, last) = span
                 text = source.lines[line]
                 if NAME.fullmatch(text[column:last]):
-                    yield line, {'column': utf16(text[:column]), 'length': utf16(text[column:last]), 'unit': at, 'function': name, 'id': identifier}
+                    yield line, {
+                        'column': utf16(text[:column]), 'length': utf16(text[column:last]), 'unit': at,
+                        'function': name, 'id': identifier
+                    }
 
 
 def uses_of(units, source):
@@ -172,19 +212,24 @@ def uses_of(units, source):
 
 def page_data(title, units, shown, source=None, notes=()):
     """The data of a page of units, each a pair of its JSON and what the page shows of it."""
-    return {'title': title, 'units': [data for _, data in units], 'shown': shown, 'source': source.lines if source else None,
-            'uses': uses_of([unit for unit, _ in units], source) if source else {}, 'notes': list(notes)}
+    return {
+        'title': title, 'units': [data for _, data in units], 'shown': shown,
+        'source': source.lines if source else None,
+        'uses': uses_of([unit for unit, _ in units], source) if source else {}, 'notes': list(notes)
+    }
 
 
 def page(data):
-    """The page: its parts in one file. No `<` of the data is written as such, so that nothing in it ends its script or begins a remark."""
+    """The page: its parts in one file. No `<` of the data is written as such, so that nothing in it ends its script
+    or begins a remark."""
     def part(name):
         with open(os.path.join(PAGE, name), encoding='utf-8') as file:
             return file.read()
 
     text = json.dumps(data, ensure_ascii=False).replace('<', '\\u003c')
     made = part('view.html')
-    for mark, content in (('/*STYLE*/', part('view.css')), ('/*SCRIPT*/', ''.join(map(part, SCRIPTS))), ('/*DATA*/', text)):
+    for mark, content in (('/*STYLE*/', part('view.css')), ('/*SCRIPT*/', ''.join(map(part,
+                                                                                      SCRIPTS))), ('/*DATA*/', text)):
         before, _, after = made.partition(mark)
         made = before + content + after
     return made

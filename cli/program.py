@@ -7,8 +7,10 @@ from cli.saying import FIRST_BUILD, NO_KIT, say
 from cli.sources import BUILT, is_built
 from cli.stamps import digest_now
 
-UNPROVED = ('not proved on this machine: `./jirrambeo build` proves and builds it, in %s; until then each call takes a minute or more'
-            % FIRST_BUILD)
+UNPROVED = (
+    'not proved on this machine: `./jirrambeo build` proves and builds it, in %s; until then each call takes a '
+    'minute or more'
+    % FIRST_BUILD)
 
 
 def is_proved():

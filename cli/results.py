@@ -59,8 +59,10 @@ def explained(text):
     for line in text.split('\n'):
         words = line.split()
         if words[:1] == ['step']:
-            made['path'].append({'identifier': int(words[1]), 'transitive': words[2] == 'transitive', 'forwards': words[3] == 'Forwards',
-                                 'definite': words[4] == 'Definite'})
+            made['path'].append({
+                'identifier': int(words[1]), 'transitive': words[2] == 'transitive', 'forwards': words[3] == 'Forwards',
+                'definite': words[4] == 'Definite'
+            })
         elif words and words[0] in ('unset', 'defined', 'mutated', 'nocause'):
             made['cause'] = words[0]
             made['instruction'] = int(words[1]) if len(words) > 1 else None
@@ -68,7 +70,8 @@ def explained(text):
 
 
 def explained_all(text):
-    """The same of each identifier of a function, by the lines that begin with its number: `identifier <number>`, and then those of one."""
+    """The same of each identifier of a function, by the lines that begin with its number: `identifier <number>`, and
+    then those of one."""
     found, lines = {}, None
     for line in text.split('\n'):
         word, _, rest = line.partition(' ')

@@ -42,7 +42,8 @@ class Source:
 
     def length(self, text):
         """How many offsets the text takes."""
-        size = len(text.encode(self.encoding, errors='surrogateescape' if self.encoding == 'utf-8' else 'surrogatepass'))
+        size = len(text.encode(self.encoding,
+                               errors='surrogateescape' if self.encoding == 'utf-8' else 'surrogatepass'))
         return size if self.encoding == 'utf-8' else size // 2
 
     def place(self, offset):

@@ -5,7 +5,9 @@ from cli.formats import SCHEMA, artifact, driver_of, location, object_of, place_
 from cli.frames import frame, summary
 from cli.lints import Label
 
-SYNTAX = {'syntax': 'Syntax', 'unreadable': 'Unreadable', 'nottext': 'NotText', 'toolarge': 'TooLarge', 'internal': 'Internal'}
+SYNTAX = {
+    'syntax': 'Syntax', 'unreadable': 'Unreadable', 'nottext': 'NotText', 'toolarge': 'TooLarge', 'internal': 'Internal'
+}
 
 
 def place(found, offset):
@@ -99,16 +101,21 @@ class Json(Text):
         at = place(found, offset)
         return {} if at is None else {'line': at[0], 'column': at[1]}
 
+    @staticmethod
+    def line(made):
+        return json.dumps(made, ensure_ascii=False)
+
     def of(self, found):
         for lint in found.failed:
-            yield json.dumps({'file': found.file, 'error': lint.category, 'message': lint.message, **self.placed(found, start(lint))}, ensure_ascii=False)
+            yield self.line({'file': found.file, 'error': lint.category, 'message': lint.message,
+                             **self.placed(found, start(lint))})
         for lint in found.lints:
             made = object_of(lint, found.source)
-            made = {'file': found.file, 'name': lint.name, 'kind': lint.kind, **{key: made[key] for key in made if key != 'file'}}
-            yield json.dumps(made, ensure_ascii=False)
+            made.pop('file', None)
+            yield self.line({'file': found.file, 'name': lint.name, 'kind': lint.kind, **made})
         for refused in found.refused:
-            yield json.dumps({'file': found.file, 'name': refused.function, 'kind': refused.kind, 'refused': refused.reason,
-                              **self.placed(found, refused.offset)}, ensure_ascii=False)
+            yield self.line({'file': found.file, 'name': refused.function, 'kind': refused.kind,
+                             'refused': refused.reason, **self.placed(found, refused.offset)})
 
 
 class Sarif(Text):
@@ -131,14 +138,19 @@ class Sarif(Text):
         self.lints += found.lints
         self.results += [result(lint, found.source) for lint in found.lints]
         self.notes_told += [self.notification(found, start(lint), 'error', lint.message) for lint in found.failed]
-        self.notes_told += [self.notification(found, refused.offset, 'note', '%s is not analysed: %s' % (refused.what(), refused.reason))
-                            for refused in found.refused]
+        self.notes_told += [
+            self.notification(found, refused.offset, 'note',
+                              '%s is not analysed: %s' % (refused.what(), refused.reason)) for refused in found.refused
+        ]
         return ()
 
     def end(self, totals):
         invocation = {'executionSuccessful': not totals.failed, 'toolExecutionNotifications': self.notes_told}
         run = {**driver_of(self.lints), 'invocations': [invocation], 'results': self.results}
         yield json.dumps({'$schema': SCHEMA, 'version': '2.1.0', 'runs': [run]}, indent=2, ensure_ascii=False)
+
+
+SHORT = {'startLine': 'line', 'startColumn': 'col'}  # as GitHub's runner calls them
 
 
 def data_text(text):
@@ -156,18 +168,19 @@ class GitHub(Text):
     def command(level, found, label, title, text):
         told = {'file': found.file}
         region = place_in(found.source, label) if label is not None else {}
-        for key, name in (('line', 'startLine'), ('col', 'startColumn'), ('endLine', 'endLine'), ('endColumn', 'endColumn')):
-            if name in region:
-                told[key] = region[name]
+        told |= {SHORT.get(key, key): region[key] for key in region}
         told['title'] = title
-        return '::%s %s::%s' % (level, ','.join('%s=%s' % (key, property_text(str(value))) for key, value in told.items()), data_text(text))
+        properties = ','.join('%s=%s' % (key, property_text(str(value))) for key, value in told.items())
+        return '::%s %s::%s' % (level, properties, data_text(text))
 
     def of(self, found):
         for lint in found.failed + found.lints:
             texts = [lint.message, *(label.text for label in lint.labels if label.text), *filter(None, [lint.help])]
-            yield self.command('error', found, lint.labels[0] if lint.labels else None, SYNTAX.get(lint.category, lint.category), '\n'.join(texts))
+            yield self.command('error', found, lint.labels[0] if lint.labels else None,
+                               SYNTAX.get(lint.category, lint.category), '\n'.join(texts))
         for refused in found.refused if self.has_notes else ():
-            yield self.command('notice', found, Label(refused.offset, refused.offset, None), 'not analysed', refused.reason)
+            yield self.command('notice', found, Label(refused.offset, refused.offset, None), 'not analysed',
+                               refused.reason)
 
     def end(self, totals):
         yield totals.sentence()

@@ -32,11 +32,16 @@ def add_options(parser):
     parser.add_argument('--cache', action='store_true',
                         help='keeps what was told of each file, and doesn\'t look again at one that is as it was')
     parser.add_argument('--cache-location', metavar='FILE', default=PLACE, help='where (%(default)s)')
-    parser.add_argument('--shard', metavar='PART/COUNT', type=part_of, help='looks only at this part of the files, as 2/5')
+    parser.add_argument('--shard',
+                        metavar='PART/COUNT',
+                        type=part_of,
+                        help='looks only at this part of the files, as 2/5')
     parser.add_argument('--ignore', metavar='PATTERN', action='append', default=[],
                         help='leaves out files and folders whose name or path is so, as "*.test.jsx"')
     parser.add_argument('--notes', action='store_true', help='says of each function that isn\'t analysed why')
-    parser.add_argument('--watch', action='store_true', help='looks again at files that change, until it is interrupted')
+    parser.add_argument('--watch',
+                        action='store_true',
+                        help='looks again at files that change, until it is interrupted')
 
 
 def write(lines):
@@ -160,12 +165,18 @@ def units_told(front_end, _, file, data):
 
 def units(words):
     """Prints the units of files of source. Answers the exit status."""
-    parser = argparse.ArgumentParser(prog='jirrambeo units', description='Prints a line of JSON for each outermost '
-                                     'function of files of source: its file, name, kind and place, and its unit or why it has none.')
+    parser = argparse.ArgumentParser(
+        prog='jirrambeo units',
+        description='Prints a line of JSON for each outermost '
+        'function of files of source: its file, name, kind and place, and its unit or why it has none.')
     parser.add_argument('files', nargs='+', metavar='FILE')
     parser.add_argument('--only', metavar='NAME', help='prints the unit alone of the function of this name')
     parser.add_argument('--shard', metavar='PART/COUNT', type=part_of, help='looks only at this part of the files')
-    parser.add_argument('--ignore', metavar='PATTERN', action='append', default=[], help='leaves out such files and folders')
+    parser.add_argument('--ignore',
+                        metavar='PATTERN',
+                        action='append',
+                        default=[],
+                        help='leaves out such files and folders')
     given = parser.parse_args(words)
     files = files_asked(given)
     if files is None or not front.is_there():

@@ -56,11 +56,18 @@ def noted(top):
     return None
 
 
+def make_room(top):
+    """Makes the folder of that file, before what is told of the folder that it is in."""
+    try:
+        os.makedirs(os.path.dirname(noted_in(top)), exist_ok=True)
+    except OSError:
+        pass
+
+
 def note(top, total, found):
     """Notes a digest, in one step; nothing where nothing can be written there."""
     path = '%s.%d' % (noted_in(top), os.getpid())
     try:
-        os.makedirs(os.path.dirname(path), exist_ok=True)
         with open(path, 'w', encoding='utf-8', errors='surrogateescape') as file:
             file.write('\n'.join([HERE, total, *(text for pair in found.items() for text in pair)]))
         os.replace(path, noted_in(top))
@@ -72,6 +79,7 @@ def digest_now(top=PROGRAM):
     """The digest of the sources of the program, or of another crate with those below it, as they are."""
     total = noted(top)
     if total is None:
+        make_room(top)
         now, names = time.time_ns(), crates_in_order(top)
         found = seen(names)
         total = digest(names)

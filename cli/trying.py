@@ -12,7 +12,12 @@ def tried(words, data):
     of its checks is shown only where it came to no end."""
     command = ['rt', 'try', '--steps', '1', '--', *words]
     given = {'input': data} if data is not None else {}
-    run = subprocess.run(command, cwd=os.path.join(CRATES, PROGRAM), stdout=subprocess.PIPE, stderr=subprocess.PIPE, check=False, **given)
+    run = subprocess.run(command,
+                         cwd=os.path.join(CRATES, PROGRAM),
+                         stdout=subprocess.PIPE,
+                         stderr=subprocess.PIPE,
+                         check=False,
+                         **given)
     if b'\nrun=ended ' not in b'\n' + run.stderr:
         sys.stderr.buffer.write(run.stderr)
         return 1, b''

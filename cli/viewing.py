@@ -1,9 +1,9 @@
 """`./jirrambeo view FILE > page.html`: one page that shows what is inferred of a file of source, or of a unit.
 
-It stands alone, with no other file and no network: the source with a bar beside its lines for each mutable range, and per
-function its blocks and instructions with their effects, a bar for each range, why a range ends where it does, what each
-block is entered with, and the alias graph. A click on a line of the source shows its instructions, one on a name why its
-range ends. It is made of what `certify` and `explain` write, so it can't disagree with them.
+It stands alone, with no other file and no network: the source with a bar beside its lines for each mutable range, and
+per function its blocks and instructions with their effects, a bar for each range, why a range ends where it does,
+what each block is entered with, and the alias graph. A click on a line of the source shows its instructions, one on a
+name why its range ends. It is made of what `certify` and `explain` write, so it can't disagree with them.
 
 FILE is a file of source, or a unit, which ends in .json. The exit status is 0, and else 2 where a file can't be read or
 parsed, and that of `certify` where it refuses a unit; then no page is printed, and standard error says why."""
@@ -28,12 +28,17 @@ UNIT = '.json'
 
 
 def options(words):
-    parser = argparse.ArgumentParser(prog='jirrambeo view', description=__doc__, formatter_class=argparse.RawDescriptionHelpFormatter)
+    parser = argparse.ArgumentParser(prog='jirrambeo view',
+                                     description=__doc__,
+                                     formatter_class=argparse.RawDescriptionHelpFormatter)
     parser.add_argument('file', metavar='FILE')
     parser.add_argument('--only', metavar='NAME', help='shows the function of this name alone, of a file of source')
     parser.add_argument('--source', metavar='SOURCE', help='the source that the unit was made of')
     parser.add_argument('--name', help='what the source is called, in place of SOURCE')
-    parser.add_argument('--offsets', choices=('bytes', 'utf16'), default='bytes', help='what spans of a unit count in the source')
+    parser.add_argument('--offsets',
+                        choices=('bytes', 'utf16'),
+                        default='bytes',
+                        help='what spans of a unit count in the source')
     parser.add_argument('--title', help='the title of the page, in place of the name of the file')
     return parser.parse_args(words)
 
@@ -75,7 +80,8 @@ def write(data):
 
 def first_shown(units):
     """Which unit the page begins with: the first with reports, or else the first component, or the first."""
-    kinds = [(not data['reports'], unit['root'].get('fn_type') != 'Component', at) for at, (unit, data) in enumerate(units)]
+    kinds = [(not data['reports'], unit['root'].get('fn_type') != 'Component', at)
+             for at, (unit, data) in enumerate(units)]
     return min(kinds)[2]
 
 
@@ -85,7 +91,8 @@ def shown_units(functions, proved, source):
     for function in functions:
         name = called(function['kind'], function['name'])
         if 'refused' in function:
-            notes.append('line %d: %s is not analysed: %s' % (function['refused']['line'], name, function['refused']['message']))
+            notes.append('line %d: %s is not analysed: %s' %
+                         (function['refused']['line'], name, function['refused']['message']))
             continue
         shown, _, why = shown_unit(program, proved, function['unit'], source, function['name'] or '(no name)')
         if shown is None:

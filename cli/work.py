@@ -16,7 +16,8 @@ PROCESSORS = len(os.sched_getaffinity(0))
 
 
 class Worker:
-    """What a process works with: a front end and the program. A job makes the answer of a file with its bytes, by both."""
+    """What a process works with: a front end and the program. A job makes the answer of a file with its bytes, by
+    both."""
 
     def __init__(self, job, options, is_proved):
         self.job, self.front, self.program = job, FrontEnd(options), inference(is_proved)

@@ -16,7 +16,7 @@ import subprocess
 import sys
 
 sys.path.insert(0, os.path.dirname(os.path.abspath(__file__)))
-import units
+import units  # noqa: E402
 
 FORMS = ['Parameter', 'Context', 'Created', 'CreatedFrom', 'Function', 'AssignFrozen', 'AssignCopy', 'Default']
 SITE = re.compile(rb'\b(?:%s)\([^ )]*\)' % '|'.join(FORMS).encode())
@@ -25,8 +25,11 @@ WORDS = [x.encode() for x in units.KINDS + units.REASONS]
 WORD = re.compile(rb'\b(?:%s)\b' % b'|'.join(WORDS))
 KEY = re.compile(rb'(?:Named|Rest)\(.*\)$')
 ODD_NUMBERS = [b'0', b'00', b'01', b'4294967295', b'4294967296', b'-1', b'', b'x']
-ODD_LINES = [b'', b'end', b'summary', b'0', b'reports', b'reports 0', b'report', b'first', b'visits', b'range', b'block', b'block 0', b'function',
-             b'function root', b'function 0', b'value', b'variable 0', b'temporary 0 Rest(0)', b'summary x', b'end x', b'0 x', b'\xff', b'end \r']
+ODD_LINES = [
+    b'', b'end', b'summary', b'0', b'reports', b'reports 0', b'report', b'first', b'visits', b'range', b'block',
+    b'block 0', b'function', b'function root', b'function 0', b'value', b'variable 0', b'temporary 0 Rest(0)',
+    b'summary x', b'end x', b'0 x', b'\xff', b'end \r'
+]
 
 
 def replaced(line, found, text):
@@ -71,8 +74,11 @@ def other_word(text, r):
 
 
 def other_key(text, r):
-    return r.choice([b'Rest(0)', b'Rest(1)', b'Named(0,"a")', b'Named(1,"\\u0061")', b'Named(0,a)', text + b' ', text[:-1], text.replace(b'"', b''),
-                     NUMBER.sub(lambda m: other_number(m.group(), r), text, count=1)])
+    return r.choice([
+        b'Rest(0)', b'Rest(1)', b'Named(0,"a")', b'Named(1,"\\u0061")', b'Named(0,a)', text + b' ', text[:-1],
+        text.replace(b'"', b''),
+        NUMBER.sub(lambda m: other_number(m.group(), r), text, count=1)
+    ])
 
 
 def place(lines, r, end=0):
@@ -147,9 +153,15 @@ def a_byte(lines, r):
     return bytes(text).split(b'\n')
 
 
-DAMAGES = [drop, drop, double, swap, swap, move, add, copy_from, cut_off, blocks, a_byte,
-           in_line(NUMBER, other_number), in_line(NUMBER, other_number), in_line(SITE, other_site), in_line(WORD, other_word),
-           in_line(WORD, other_word), in_line(KEY, other_key)]
+DAMAGES = [
+    drop, drop, double, swap, swap, move, add, copy_from, cut_off, blocks, a_byte,
+    in_line(NUMBER, other_number),
+    in_line(NUMBER, other_number),
+    in_line(SITE, other_site),
+    in_line(WORD, other_word),
+    in_line(WORD, other_word),
+    in_line(KEY, other_key)
+]
 
 
 def damaged(text, r):

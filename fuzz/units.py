@@ -10,15 +10,23 @@ import random
 KINDS = ['Primitive', 'Global', 'Frozen', 'Mutable', 'Context', 'MaybeFrozen']
 REASONS = ['KnownReturnSignature', 'State', 'ReducerState', 'Context', 'Effect', 'HookCaptured', 'HookReturn', 'Global',
            'JsxCaptured', 'StoreLocal', 'ReactiveFunctionArgument', 'Other']
-EFFECTS = ['Unknown', 'Freeze', 'Read', 'Capture', 'ConditionallyMutateIterator', 'ConditionallyMutate', 'Mutate', 'Store']
+EFFECTS = [
+    'Unknown', 'Freeze', 'Read', 'Capture', 'ConditionallyMutateIterator', 'ConditionallyMutate', 'Mutate', 'Store'
+]
 LVALUES = ['Const', 'Let', 'Reassign', 'Catch', 'HoistedConst', 'HoistedLet', 'HoistedFunction', 'Function']
-OBJECTS = [None, 'BuiltInJsx', 'BuiltInUseRefId', 'BuiltInRefValue', 'ReanimatedSharedValueId', 'BuiltInArray', 'BuiltInSet',
-           'BuiltInMap', 'BuiltInProps']
+OBJECTS = [
+    None, 'BuiltInJsx', 'BuiltInUseRefId', 'BuiltInRefValue', 'ReanimatedSharedValueId', 'BuiltInArray', 'BuiltInSet',
+    'BuiltInMap', 'BuiltInProps'
+]
 LITERALS = ['Primitive', 'JSXText', 'RegExpLiteral', 'MetaProperty', 'Debugger', 'LoadGlobal']
 # The kinds that make a value of their own, which others can then use.
-PLAIN = LITERALS + ['TemplateLiteral', 'UnaryExpression', 'TypeCastExpression', 'BinaryExpression', 'TaggedTemplateExpression']
-STORES = ['LoadLocal', 'LoadContext', 'StoreLocal', 'StoreContext', 'DeclareLocal', 'DeclareContext', 'Destructure', 'PostfixUpdate',
-          'PrefixUpdate', 'StoreGlobal']
+PLAIN = LITERALS + [
+    'TemplateLiteral', 'UnaryExpression', 'TypeCastExpression', 'BinaryExpression', 'TaggedTemplateExpression'
+]
+STORES = [
+    'LoadLocal', 'LoadContext', 'StoreLocal', 'StoreContext', 'DeclareLocal', 'DeclareContext', 'Destructure',
+    'PostfixUpdate', 'PrefixUpdate', 'StoreGlobal'
+]
 PROPERTIES = ['ArrayExpression', 'ObjectExpression', 'PropertyLoad', 'PropertyDelete', 'PropertyStore', 'ComputedLoad',
               'ComputedDelete', 'ComputedStore']
 CALLS = ['CallExpression', 'NewExpression', 'MethodCall', 'Await', 'GetIterator', 'IteratorNext', 'NextPropertyOf']
@@ -45,8 +53,9 @@ class Maker:
         return self.r.choice(['a', 'b', 'props', 'ref', 'items', 'x"y', 'née', 'set\\x', 'line\n', ''])
 
     def a_type(self, depth=0):
-        kind = self.r.choice(['Primitive', 'Poly', 'Property', 'Var', 'ObjectMethod', 'Object', 'Object', 'Function', 'Function',
-                              'Phi'] if depth < 3 else ['Var'])
+        kind = self.r.choice(
+            ['Primitive', 'Poly', 'Property', 'Var', 'ObjectMethod', 'Object', 'Object', 'Function', 'Function', 'Phi']
+            if depth < 3 else ['Var'])
         t = {'kind': kind}
         if kind == 'Object':
             t['shape_id'] = self.r.choice(OBJECTS)
@@ -102,7 +111,8 @@ class Maker:
             if self.chance(0.6):
                 effects.append({'kind': 'Create', 'into': name, 'value': r.choice(KINDS), 'reason': r.choice(REASONS)})
             else:
-                effects.append({'kind': r.choice(['CreateFrom', 'Assign']), 'from': r.choice(known + made), 'into': name})
+                effects.append(
+                    {'kind': r.choice(['CreateFrom', 'Assign']), 'from': r.choice(known + made), 'into': name})
             made.append(name)
         for _ in range(self.few(4)):
             effects.append(self.named_effect(known + made, made))
@@ -115,12 +125,17 @@ class Maker:
         r = self.r
         if self.chance(0.03):
             known = known + ['@nothing']
-        kind = r.choice(['Freeze', 'Alias', 'Capture', 'Capture', 'ImmutableCapture', 'Impure', 'Mutate', 'MutateTransitiveConditionally',
-                         'Apply'])
+        kind = r.choice([
+            'Freeze', 'Alias', 'Capture', 'Capture', 'ImmutableCapture', 'Impure', 'Mutate',
+            'MutateTransitiveConditionally', 'Apply'
+        ])
         if kind == 'Freeze':
             return {'kind': kind, 'value': r.choice(known), 'reason': r.choice(REASONS)}
         if kind == 'Alias':
-            return {'kind': kind, 'from': r.choice(known), 'into': r.choice(made or known) if self.chance(0.93) else r.choice(known)}
+            return {
+                'kind': kind, 'from': r.choice(known),
+                'into': r.choice(made or known) if self.chance(0.93) else r.choice(known)
+            }
         if kind in ('Capture', 'ImmutableCapture'):
             return {'kind': kind, 'from': r.choice(known), 'into': r.choice(known)}
         if kind == 'Impure':
@@ -190,15 +205,23 @@ class Maker:
         self.tables()
         u = {'format': 1 if self.chance(0.4) else 2}
         if self.chance(0.9):
-            u['config'] = {flag: self.chance(0.7) for flag in (
-                'enable_validations', 'enable_preserve_existing_memoization_guarantees',
-                'enable_transitively_freeze_function_expressions', 'validate_no_impure_functions_in_render') if self.chance(0.85)}
+            u['config'] = {
+                flag: self.chance(0.7)
+                for flag in ('enable_validations', 'enable_preserve_existing_memoization_guarantees',
+                             'enable_transitively_freeze_function_expressions',
+                             'validate_no_impure_functions_in_render') if self.chance(0.85)
+            }
         outside = [self.identifier() for _ in range(self.few(2))] if self.chance(0.4) else []
         root = self.function(outside, 1)
-        u.update(types=self.types, shapes=self.shapes, identifiers=self.identifiers, functions=self.functions, root=root)
+        u.update(types=self.types,
+                 shapes=self.shapes,
+                 identifiers=self.identifiers,
+                 functions=self.functions,
+                 root=root)
         if u['format'] == 2 and self.chance(0.5):
-            u['context_values'] = [{'kind': self.r.choice(KINDS), 'reasons': [self.r.choice(REASONS) for _ in range(self.few(3))]}
-                                   for _ in root.get('context', [])]
+            u['context_values'] = [{
+                'kind': self.r.choice(KINDS), 'reasons': [self.r.choice(REASONS) for _ in range(self.few(3))]
+            } for _ in root.get('context', [])]
         return u
 
 
@@ -263,7 +286,8 @@ class Body:
 
     def lvalue(self, x):
         again = x in self.known or self.m.chance(0.02)
-        kind = self.r.choice(LVALUES if again else LVALUES[:2] + LVALUES[3:]) if self.m.chance(0.3) else 'Reassign' if again else 'Let'
+        kind = self.r.choice(LVALUES if again else LVALUES[:2] +
+                             LVALUES[3:]) if self.m.chance(0.3) else 'Reassign' if again else 'Let'
         return {'kind': kind, 'place': self.m.place(x)}
 
     def pattern(self, made):
@@ -272,7 +296,9 @@ class Body:
             made.append(x)
             return x
         if self.m.chance(0.5):
-            return {'array': ['hole' if self.m.chance(0.15) else self.m.spreadable(target()) for _ in range(self.m.few(4))]}
+            return {
+                'array': ['hole' if self.m.chance(0.15) else self.m.spreadable(target()) for _ in range(self.m.few(4))]
+            }
         properties = []
         for _ in range(self.m.few(4)):
             if self.m.chance(0.15):
@@ -372,8 +398,9 @@ class Body:
     def value(self):
         if self.level < 8 and len(self.m.functions) < 8 and self.m.chance(0.09):
             return self.created('FunctionExpression' if self.m.chance(0.8) else 'ObjectMethod')
-        family, kinds = self.r.choice([(self.plain, PLAIN), (self.store, STORES), (self.store, STORES), (self.of_object, PROPERTIES),
-                                       (self.of_object, PROPERTIES), (self.call, CALLS), (self.call, CALLS), (self.jsx, JSX)])
+        family, kinds = self.r.choice([(self.plain, PLAIN), (self.store, STORES), (self.store, STORES),
+                                       (self.of_object, PROPERTIES), (self.of_object, PROPERTIES), (self.call, CALLS),
+                                       (self.call, CALLS), (self.jsx, JSX)])
         return family(self.r.choice(kinds))
 
     # ---- blocks
@@ -434,17 +461,20 @@ class Body:
                 return self.r.choice(numbers)
             return self.r.choice(numbers[i + 1:])
         last = i + 1 == len(numbers)
-        kind = self.r.choice(['Return', 'Return', 'Return', 'Throw', 'Unreachable']) if last else self.r.choice(
-            ['Goto', 'Goto', 'If', 'If', 'Branch', 'Switch', 'Label', 'Sequence', 'Scope', 'PrunedScope', 'For', 'ForOf', 'ForIn',
-             'DoWhile', 'While', 'Logical', 'Ternary', 'Optional', 'Try', 'MaybeThrow', 'MaybeThrow', 'Return', 'Throw'])
+        kind = self.r.choice(['Return', 'Return', 'Return', 'Throw', 'Unreachable']) if last else self.r.choice([
+            'Goto', 'Goto', 'If', 'If', 'Branch', 'Switch', 'Label', 'Sequence', 'Scope', 'PrunedScope', 'For', 'ForOf',
+            'ForIn', 'DoWhile', 'While', 'Logical', 'Ternary', 'Optional', 'Try', 'MaybeThrow', 'MaybeThrow', 'Return',
+            'Throw'
+        ])
         t = {'kind': kind, 'id': self.next_order()}
         if kind in ('Goto', 'Label', 'Sequence', 'Scope', 'PrunedScope'):
             t['block'] = numbers[i + 1] if self.m.chance(0.6) else to()
         elif kind in ('If', 'Branch'):
             t.update(test=self.place(), consequent=to(), alternate=to())
         elif kind == 'Switch':
-            t.update(test=self.place(), cases=[{'test': self.place() if self.m.chance(0.7) else None, 'block': to()}
-                                              for _ in range(1 + self.m.few(3))])
+            t['test'] = self.place()
+            t['cases'] = [{'test': self.place() if self.m.chance(0.7) else None, 'block': to()}
+                          for _ in range(1 + self.m.few(3))]
         elif kind in ('For', 'ForOf', 'ForIn'):
             t['init'] = to()
         elif kind == 'DoWhile':
@@ -541,7 +571,11 @@ def damaged(u, r):
         elif what == 1 and isinstance(at, dict):
             at[key + r.choice(['', 's', '_'])] = r.choice([old, None, 0])
         elif what == 2 and isinstance(old, int) and not isinstance(old, bool):
-            at[key] = r.choice([0, old + 1, max(old - 1, 0), 4294967295, 4294967296, -1, 1.5, float(old), 10 ** 20, r.randrange(60)])
+            at[key] = r.choice(
+                [0, old + 1,
+                 max(old - 1, 0), 4294967295, 4294967296, -1, 1.5,
+                 float(old), 10**20,
+                 r.randrange(60)])
         elif what == 3:
             at[key] = r.choice([None, True, 'Other', 'hole', [], {}, 0, 7, [1, 2, 3], {'spread': 1}])
         elif what == 4 and isinstance(at, list):
@@ -568,5 +602,7 @@ def text(seed):
     data = json.dumps(u, ensure_ascii=r.random() < 0.5, separators=(',', ':') if r.random() < 0.8 else None).encode()
     if chance > 0.98:
         cut = r.randrange(len(data) + 1)
-        data = r.choice([data[:cut], data[:cut] + bytes([r.randrange(256)]) + data[cut:], data[:cut] + data[cut + 1:], data + b' x'])
+        data = r.choice([
+            data[:cut], data[:cut] + bytes([r.randrange(256)]) + data[cut:], data[:cut] + data[cut + 1:], data + b' x'
+        ])
     return data

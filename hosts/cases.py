@@ -114,7 +114,10 @@ def runs_of(program, runs):
     certified = [(data, text) for words, data, status, text in told if words == b'certify' and status == 0]
     shown = {data for _, data, _, _ in examples()}
     told += accepted_of(program, certified)
-    told += [answered(program, b'check', joined(unit, other)) for unit, text in certified if unit in shown for other in damaged(text)]
+    told += [
+        answered(program, b'check', joined(unit, other)) for unit, text in certified if unit in shown
+        for other in damaged(text)
+    ]
     return told
 
 

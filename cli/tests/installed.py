@@ -19,7 +19,9 @@ class Installed:
         for name in ('jirrambeo', 'cli', 'frontend'):
             path = os.path.join(ROOT, name)
             if name == 'cli':
-                shutil.copytree(path, os.path.join(self.top, name), ignore=shutil.ignore_patterns('__pycache__', 'tests'))
+                shutil.copytree(path,
+                                os.path.join(self.top, name),
+                                ignore=shutil.ignore_patterns('__pycache__', 'tests'))
             elif name == 'frontend':
                 os.symlink(path, os.path.join(self.top, name))
             else:
@@ -45,7 +47,11 @@ class Installed:
 
     def digest(self):
         words = 'from cli.sources import crates_in_order, digest; print(digest(crates_in_order()), end="")'
-        return subprocess.run([sys.executable, '-c', words], cwd=self.top, stdout=subprocess.PIPE, check=True, text=True).stdout
+        return subprocess.run([sys.executable, '-c', words],
+                              cwd=self.top,
+                              stdout=subprocess.PIPE,
+                              check=True,
+                              text=True).stdout
 
     def build(self, script):
         """Puts a script in the place of the proved program."""
@@ -57,8 +63,13 @@ class Installed:
         kept = {name: os.environ[name] for name in KEPT if name in os.environ}
         if path is not None:
             kept['PATH'] = path
-        done = subprocess.run([sys.executable, os.path.join(self.top, 'jirrambeo'), *words], input=given, stdout=subprocess.PIPE,
-                              stderr=subprocess.PIPE, env={**kept, **env}, cwd=self.top, check=False)
+        done = subprocess.run([sys.executable, os.path.join(self.top, 'jirrambeo'), *words],
+                              input=given,
+                              stdout=subprocess.PIPE,
+                              stderr=subprocess.PIPE,
+                              env={**kept, **env},
+                              cwd=self.top,
+                              check=False)
         return done.returncode, done.stdout.decode(), done.stderr.decode()
 
     def __enter__(self):

@@ -50,7 +50,8 @@ class BuildingTest(unittest.TestCase):
 
     def test_a_build_waits_for_another(self):
         lines = []
-        with TemporaryDirectory() as folder, patch.object(building, 'OUT', folder), patch.object(building, 'say', lines.append):
+        with TemporaryDirectory() as folder, patch.object(building, 'OUT',
+                                                          folder), patch.object(building, 'say', lines.append):
             with building.alone():
                 waiting = Thread(target=self.enter)
                 waiting.start()

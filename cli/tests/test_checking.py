@@ -57,7 +57,8 @@ class Files(unittest.TestCase):
 
     def test_the_program_is_asked_of_both(self):
         found = Output(0, b'accepted 1\n').of([self.UNIT, self.CERTIFICATE])
-        self.assertEqual(found, (0, b'accepted 1\n', (['check'], checking.joined(read(self.UNIT), read(self.CERTIFICATE)))))
+        self.assertEqual(found,
+                         (0, b'accepted 1\n', (['check'], checking.joined(read(self.UNIT), read(self.CERTIFICATE)))))
 
     def test_a_refusal_is_the_program_s(self):
         status, text, _ = Output(13, b'refused Rejected 1 0\n').of([self.UNIT, os.devnull])

@@ -31,8 +31,10 @@ class Words(unittest.TestCase):
             status, text, told = there.run('infre', path=NOWHERE)
             self.assertEqual((status, text), (2, 'refused Words\n'))
             self.assertIn('is infer meant?', told)
-            for words in ([], ['infer', 'x'], ['explain', 'root', '-1'], ['explain', 'root', '1', '2'], ['made', '1', '1001'], ['made', '1', '0'],
-                          ['made', '01', '1'], ['plain', ''], ['build', 'all'], ['--version', '1'], ['']):
+            for words in ([], ['infer', 'x'], ['explain', 'root', '-1'], ['explain', 'root', '1',
+                                                                          '2'], ['made', '1', '1001'],
+                          ['made', '1', '0'], ['made', '01', '1'], ['plain', ''], ['build', 'all'], ['--version',
+                                                                                                     '1'], ['']):
                 self.assertEqual(there.run(*words, path=NOWHERE)[:2], (2, 'refused Words\n'), words)
 
     def test_the_words_of_worked_examples_are_passed_on_or_refused_as_the_program_does(self):
@@ -86,7 +88,8 @@ class Stamps(unittest.TestCase):
 
         with Installed(PASSED) as there:
             self.assertTrue(proved())
-            for change in (self.other_text, self.new_file, self.new_folder, self.same_size_and_time, self.gone, self.fewer_crates):
+            for change in (self.other_text, self.new_file, self.new_folder, self.same_size_and_time, self.gone,
+                           self.fewer_crates):
                 there.write('crates/alias_tool/src/main.rt', 'fn main() {}\n')
                 there.build(PASSED)
                 self.assertTrue(proved() and proved(), change.__name__)
@@ -121,7 +124,8 @@ class Stamps(unittest.TestCase):
         there.write('crates.txt', 'alias_tool: \n')
 
     def test_the_digest_is_computed_once_where_the_sources_are_old(self):
-        with Installed() as there, mock.patch.multiple(stamps, HERE=there.top, CRATES=os.path.join(there.top, 'crates')):
+        with Installed() as there, mock.patch.multiple(stamps, HERE=there.top, CRATES=os.path.join(there.top,
+                                                                                                   'crates')):
             with mock.patch.object(stamps, 'crates_in_order', return_value=['alias_tool']), \
                     mock.patch.object(stamps, 'digest', side_effect=['1', '2', '3', '4']):
                 # young sources are read each time

@@ -33,7 +33,8 @@ class Lines(unittest.TestCase):
     def test_reads_places_and_texts(self):
         lint = line(help_text='"Say \\"so\\""', labels=' 3..5 "`a` - b" 7..9 -', place='2 4 end')
         self.assertEqual((lint.function, lint.block, lint.instruction, lint.help), (2, 4, None, 'Say "so"'))
-        self.assertEqual([(label.start, label.end, label.text) for label in lint.labels], [(3, 5, '`a` - b'), (7, 9, None)])
+        self.assertEqual([(label.start, label.end, label.text) for label in lint.labels], [(3, 5, '`a` - b'),
+                                                                                           (7, 9, None)])
 
 
 class Frames(unittest.TestCase):
@@ -76,7 +77,8 @@ class Frames(unittest.TestCase):
         self.assertEqual(framed(line(labels=' 8..9 "x"'), '\t漢字 x = 1')[3:5], ['1 |     漢字 x = 1', '  |          ^ x'])
 
     def test_offsets_of_utf16(self):
-        self.assertEqual(framed(line(labels=' 3..4 "x"'), '😀 x', 'utf16')[1:5], [' --> a.js:1:3', '  |', '1 | 😀 x', '  |    ^ x'])
+        self.assertEqual(
+            framed(line(labels=' 3..4 "x"'), '😀 x', 'utf16')[1:5], [' --> a.js:1:3', '  |', '1 | 😀 x', '  |    ^ x'])
 
     def test_spans_outside_and_no_source(self):
         lint = line(labels=' 5..900 "far"')
@@ -109,8 +111,11 @@ class Formats(unittest.TestCase):
 
     def test_json(self):
         made = json.loads(json_lines([self.lint], self.source)[0])
-        self.assertEqual(made['labels'][0], {'start': 51, 'end': 56, 'text': 'here', 'startLine': 3, 'startColumn': 5, 'endLine': 3, 'endColumn': 10})
-        self.assertEqual((made['file'], made['help'], made['block'], made['instruction'], made['function']), ('Card.js', 'Copy it', 0, 1, None))
+        self.assertEqual(
+            made['labels'][0],
+            {'start': 51, 'end': 56, 'text': 'here', 'startLine': 3, 'startColumn': 5, 'endLine': 3, 'endColumn': 10})
+        self.assertEqual((made['file'], made['help'], made['block'], made['instruction'], made['function']),
+                         ('Card.js', 'Copy it', 0, 1, None))
 
     def test_sarif(self):
         log = json.loads(sarif([self.lint], self.source))
@@ -134,16 +139,26 @@ class Formats(unittest.TestCase):
         return log
 
     def test_sarif_is_of_its_schema_whatever_the_labels_are(self):
-        sources = (None, self.source, Source('a b/100% é.jsx', CARD.encode()), Source('Card.js', CARD.encode(), 'utf16'), Source('', b''))
-        lints = [line(), line(labels=' 9..5 "turned"'), line(labels=' 0..900 "far"'), line(labels=' 3..3 -'), self.lint, line(labels=' 0..1 - 0..1 - 4294967295..4294967295 "x"')]
+        sources = (None, self.source, Source('a b/100% é.jsx',
+                                             CARD.encode()), Source('Card.js', CARD.encode(), 'utf16'), Source('', b''))
+        lints = [
+            line(),
+            line(labels=' 9..5 "turned"'),
+            line(labels=' 0..900 "far"'),
+            line(labels=' 3..3 -'), self.lint,
+            line(labels=' 0..1 - 0..1 - 4294967295..4294967295 "x"')
+        ]
         for source in sources:
             self.log_of(lints, source)
             self.log_of([], source)
-        self.assertEqual(self.log_of(lints, sources[2])['runs'][0]['results'][0]['locations'][0]['physicalLocation'], {'artifactLocation': {'uri': 'a%20b/100%25%20%C3%A9.jsx'}})
+        self.assertEqual(
+            self.log_of(lints, sources[2])['runs'][0]['results'][0]['locations'][0]['physicalLocation'],
+            {'artifactLocation': {'uri': 'a%20b/100%25%20%C3%A9.jsx'}})
 
     def test_sarif_holds_all_of_a_report(self):
         found = self.log_of([self.lint], Source('Card.js', CARD.encode(), 'utf16'))['runs'][0]['results'][0]
-        self.assertEqual(found['properties'], {'function': None, 'block': 0, 'instruction': 1, 'labels': [[51, 56, 'here'], [0, 8, None]]})
+        self.assertEqual(found['properties'],
+                         {'function': None, 'block': 0, 'instruction': 1, 'labels': [[51, 56, 'here'], [0, 8, None]]})
         self.assertEqual((found['ruleId'], found['message']), ('Immutability', {'text': 'No\nCopy it'}))
 
 

@@ -8,8 +8,11 @@ from cli.tests.rows import examples
 from cli.tests.schema import faults
 
 TOP = os.path.join(os.path.dirname(os.path.abspath(__file__)), '..', '..')
-WORDS = {'$schema', 'title', 'description', '$defs', '$ref', 'oneOf', 'anyOf', 'type', 'const', 'enum', 'properties', 'required', 'additionalProperties', 'items', 'prefixItems',
-         'minItems', 'maxItems', 'uniqueItems', 'minimum', 'maximum', 'pattern'}
+WORDS = {
+    '$schema', 'title', 'description', '$defs', '$ref', 'oneOf', 'anyOf', 'type', 'const', 'enum', 'properties',
+    'required', 'additionalProperties', 'items', 'prefixItems', 'minItems', 'maxItems', 'uniqueItems', 'minimum',
+    'maximum', 'pattern'
+}
 
 
 def read(*path):
@@ -66,7 +69,8 @@ class Schema(unittest.TestCase):
         self.assertGreater(tried, 400)
 
     def test_what_is_wrong(self):
-        for unit in ({}, {'format': 1}, {'format': 3, 'root': {}}, {'format': 1, 'root': {'fn_type': 'Other', 'returns': -1, 'entry': 0, 'blocks': []}}):
+        for unit in ({}, {'format': 1}, {'format': 3, 'root': {}},
+                     {'format': 1, 'root': {'fn_type': 'Other', 'returns': -1, 'entry': 0, 'blocks': []}}):
             self.assertNotEqual(list(faults(self.schema, unit)), [])
 
 

@@ -1,4 +1,5 @@
-"""The server of the library, hosts/c/serve.c, over a stand-in for the library; and what the command does where it ends early."""
+"""The server of the library, hosts/c/serve.c, over a stand-in for the library; and what the command does where it
+ends early."""
 import os
 import random
 import shutil
@@ -12,13 +13,14 @@ from cli import inference
 from cli.tests.installed import ROOT
 
 COMPILER = shutil.which('gcc') or shutil.which('cc')
-# The text is the line, a newline and the input; the status is the length of the line. The line "end" ends the process, and "long" has a text of 3 MB.
+# The text is the line, a newline and the input; the status is the length of the line. The line "end" ends the
+# process, and "long" has a text of 3 MB.
 STAND_IN = r'''
 #include <stdint.h>
 #include <stdlib.h>
 #include <string.h>
-uint8_t jirrambeo_run(const uint8_t *line, size_t line_length, const uint8_t *input, size_t input_length, uint8_t *room, size_t room_size,
-                      size_t *text_length) {
+uint8_t jirrambeo_run(const uint8_t *line, size_t line_length, const uint8_t *input, size_t input_length,
+                      uint8_t *room, size_t room_size, size_t *text_length) {
     if (line_length == 3 && memcmp(line, "end", 3) == 0) exit(3);
     if (line_length == 6) {
         *text_length = 0;
@@ -45,8 +47,11 @@ class Serving(unittest.TestCase):
         with open(source, 'w', encoding='ascii') as file:
             file.write(STAND_IN)
         header = os.path.join(ROOT, 'hosts', 'c')
-        subprocess.run([COMPILER, '-std=c11', '-Wall', '-Wextra', '-Werror', '-I', header, os.path.join(header, 'serve.c'), source, '-pthread',
-                        '-o', cls.server], check=True)
+        subprocess.run([
+            COMPILER, '-std=c11', '-Wall', '-Wextra', '-Werror', '-I', header,
+            os.path.join(header, 'serve.c'), source, '-pthread', '-o', cls.server
+        ],
+                       check=True)
 
     @classmethod
     def tearDownClass(cls):
@@ -84,7 +89,8 @@ class Serving(unittest.TestCase):
             self.assertEqual(status(whole + whole[:length]), 1)
 
     def test_no_server_is_taken_that_is_of_other_sources(self):
-        with mock.patch.object(inference, 'SERVER', self.server), mock.patch.object(inference, 'STAMP', self.server + '_built_from'):
+        with mock.patch.object(inference, 'SERVER', self.server), mock.patch.object(inference, 'STAMP',
+                                                                                    self.server + '_built_from'):
             self.assertFalse(inference.is_served())
             with open(inference.STAMP, 'w', encoding='ascii') as file:
                 file.write(inference.server_digest())

@@ -1,4 +1,5 @@
-"""`lint` and `units` of files of source, through the front end, with a stand-in for the program that reports each property that a unit stores."""
+"""`lint` and `units` of files of source, through the front end, with a stand-in for the program that reports each
+property that a unit stores."""
 import json
 import os
 import shutil
@@ -27,12 +28,17 @@ for name, function in functions:
             start, end = instruction['span']
             place = (name, number, json.dumps(MESSAGE), start, end)
             found.append('lint %%s 0 %%d Immutability %%s "Copy\\\\nit" %%d..%%d "here, see: this"' %% place)
-if any(function['instructions'][0]['value']['kind'] == 'Debugger' for _, function in functions if function['instructions']):
+if any(one['value']['kind'] == 'Debugger' for _, function in functions for one in function['instructions'][:1]):
     print('refused SpreadArgument root 1')
     sys.exit(6)
 print('\\n'.join(found + found[:1] + ['lints %%d' %% (len(found) + len(found[:1]))]))
 ''' % sys.executable
-CARD = 'export function Card(props) {\n  const f = () => { props.b = 2; };\n  props.a = 1;\n  return <p onClick={f} />;\n}\n'
+CARD = '''export function Card(props) {
+  const f = () => { props.b = 2; };
+  props.a = 1;
+  return <p onClick={f} />;
+}
+'''
 GOOD = 'export const Row = (props) => <b>{props.a}</b>;\n'
 MESSAGE = "Immutability: `a` can't, 100%"
 
@@ -71,13 +77,15 @@ class Source(unittest.TestCase):
 class Lint(Source):
     def test_lines_in_the_order_of_the_source_each_once(self):
         status, text, told = self.lint('app')
-        self.assertEqual((status, text.split('\n'), told), (1, ['app/card.jsx:2:21: ' + MESSAGE, 'app/card.jsx:3:3: ' + MESSAGE, ''], ''))
+        self.assertEqual((status, text.split('\n'), told),
+                         (1, ['app/card.jsx:2:21: ' + MESSAGE, 'app/card.jsx:3:3: ' + MESSAGE, ''], ''))
 
     def test_statuses(self):
         self.assertEqual(self.lint('app/row.jsx'), (0, '', ''))
         self.there.write('app/bad.jsx', 'function A( {\n  return 1\n')
         self.assertEqual(self.lint('app/row.jsx', 'app/bad.jsx')[0], 2)
-        self.assertEqual(self.lint('app/missing.jsx'), (2, '', 'jirrambeo: app/missing.jsx: No such file or directory\n'))
+        self.assertEqual(self.lint('app/missing.jsx'),
+                         (2, '', 'jirrambeo: app/missing.jsx: No such file or directory\n'))
         os.mkdir(os.path.join(self.there.top, 'none'))
         self.assertEqual(self.lint('none'), (2, '', 'jirrambeo: none: no file of source is in it\n'))
         self.assertEqual(self.lint('app', '--source', 'x')[0], 2)
@@ -100,8 +108,10 @@ class Lint(Source):
     def test_json(self):
         status, text, _ = self.lint('app', '--format', 'json')
         made = [json.loads(line) for line in text.splitlines()]
-        self.assertEqual([(it['file'], it['name'], it['kind'], it['labels'][0]['startLine'], it['labels'][0]['startColumn']) for it in made],
-                         [('app/card.jsx', 'Card', 'component', 2, 21), ('app/card.jsx', 'Card', 'component', 3, 3)])
+        self.assertEqual(
+            [(it['file'], it['name'], it['kind'], it['labels'][0]['startLine'], it['labels'][0]['startColumn'])
+             for it in made], [('app/card.jsx', 'Card', 'component', 2, 21),
+                               ('app/card.jsx', 'Card', 'component', 3, 3)])
         self.there.write('app/bad.jsx', 'const = 1')
         made = json.loads(self.lint('app/bad.jsx', '--format', 'json')[1])
         self.assertEqual((made['file'], made['error'], made['line'], made['column']), ('app/bad.jsx', 'syntax', 1, 7))
@@ -123,11 +133,13 @@ class Lint(Source):
 
     def test_commands_of_github(self):
         status, text, _ = self.lint('app', '--format', 'github')
-        self.assertEqual(text.splitlines()[1], '::error file=app/card.jsx,line=3,col=3,endLine=3,endColumn=14,title=Immutability::'
-                         "`a` can't, 100%25%0Ahere, see: this%0ACopy%0Ait")
+        self.assertEqual(
+            text.splitlines()[1], '::error file=app/card.jsx,line=3,col=3,endLine=3,endColumn=14,title=Immutability::'
+            "`a` can't, 100%25%0Ahere, see: this%0ACopy%0Ait")
 
     def test_byte_order_marks_line_ends_and_wide_characters(self):
-        self.there.write('odd.jsx', '\ufeffexport function Card(p) { p.a = 1;\r\n/* 日本 😀 */ p.b = 1; return <b/>; }\r\n')
+        self.there.write('odd.jsx',
+                         '\ufeffexport function Card(p) { p.a = 1;\r\n/* 日本 😀 */ p.b = 1; return <b/>; }\r\n')
         text = self.lint('odd.jsx')[1]
         self.assertEqual([line.split(': ')[0] for line in text.splitlines()], ['odd.jsx:1:27', 'odd.jsx:2:12'])
 
@@ -146,7 +158,8 @@ class Lint(Source):
         self.assertEqual(self.lint('gone')[:2], (2, 'gone/link.js: Unreadable: No such file or directory\n'))
 
     def test_no_code_of_a_file_runs(self):
-        self.there.write('evil.js', 'require("fs").writeFileSync("ran", ""); process.exit(7); export function A() { return <a/>; }')
+        self.there.write(
+            'evil.js', 'require("fs").writeFileSync("ran", ""); process.exit(7); export function A() { return <a/>; }')
         self.assertEqual(self.lint('evil.js')[0], 0)
         self.assertFalse(os.path.exists(os.path.join(self.there.top, 'ran')))
 
@@ -168,10 +181,12 @@ class Lint(Source):
         for number in range(40):
             self.there.write('many/%02d.jsx' % number, CARD)
         status, text, _ = self.lint('many')
-        self.assertEqual([line.split(':')[0] for line in text.splitlines()], ['many/%02d.jsx' % (number // 2) for number in range(80)])
+        self.assertEqual([line.split(':')[0] for line in text.splitlines()],
+                         ['many/%02d.jsx' % (number // 2) for number in range(80)])
 
     def test_folders_that_are_left_out(self):
-        for name in ('app/node_modules/x/a.jsx', 'app/.next/a.jsx', 'app/a.d.ts', 'app/a.css', 'app/old/card.jsx', 'app/card.test.jsx'):
+        for name in ('app/node_modules/x/a.jsx', 'app/.next/a.jsx', 'app/a.d.ts', 'app/a.css', 'app/old/card.jsx',
+                     'app/card.test.jsx'):
             self.there.write(name, CARD)
         text = self.lint('app', 'app/card.jsx', '--ignore', 'old', '--ignore', '*.test.jsx')[1]
         self.assertEqual({line.split(':')[0] for line in text.splitlines()}, {'app/card.jsx'})
@@ -251,9 +266,10 @@ class Units(Source):
         self.there.write('app/gen.jsx', 'function* g() { yield 1; }\n')
         status, text, _ = self.there.run('units', 'app')
         made = [json.loads(line) for line in text.splitlines()]
-        self.assertEqual((status, [(it['file'], it['name'], it['kind'], it['at']['line'], 'unit' in it) for it in made]),
-                         (0, [('app/card.jsx', 'Card', 'component', 1, True), ('app/gen.jsx', 'g', 'other', 1, False),
-                              ('app/row.jsx', 'Row', 'component', 1, True)]))
+        self.assertEqual((status, [(it['file'], it['name'], it['kind'], it['at']['line'], 'unit' in it)
+                                   for it in made]), (0, [('app/card.jsx', 'Card', 'component', 1, True),
+                                                          ('app/gen.jsx', 'g', 'other', 1, False),
+                                                          ('app/row.jsx', 'Row', 'component', 1, True)]))
         self.assertIn('generator', made[1]['refused']['message'])
 
     def test_one_unit(self):
