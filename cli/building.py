@@ -1,4 +1,5 @@
-"""Proves and builds the program, or the library for hosts, by the kit's gate (`rt ci`) over a copy of the crates that it stands on.
+"""Proves and builds the program, or the library for hosts, by the kit's gate (`rt ci`) over a copy of the crates that
+it stands on.
 
 The gate proves crates side by side, the longest chain first, each over the statements alone of those below it, and
 keeps what it passed on this machine. So a build takes over what `./check` proved, and `./check` what a build did. The

@@ -80,7 +80,9 @@ def answered(program, words, data):
 
 def asked_of(program, inputs):
     """What the program writes of these inputs for every command that reads a unit alone."""
-    for words in (b'infer', b'certify', b'lint', b'plain', b'explain root 0', b'explain root 2', b'explain 0 1', b'explain root', b'explain 0'):
+    asked = (b'infer', b'certify', b'lint', b'plain', b'explain root 0', b'explain root 2', b'explain 0 1',
+             b'explain root', b'explain 0')
+    for words in asked:
         for data in inputs:
             yield answered(program, words, data)
 

@@ -1,4 +1,5 @@
-"""What a build gives the gate, what it reads of it, and what it ends with where a crate is refused. Nothing is proved here."""
+"""What a build gives the gate, what it reads of it, and what it ends with where a crate is refused. Nothing is proved
+here."""
 import os
 import sys
 import unittest
@@ -38,13 +39,15 @@ class BuildingTest(unittest.TestCase):
             self.assertTrue(os.path.isfile(os.path.join(top, 'crates', 'alias_tool', 'args')))
 
     def test_crates_that_are_proved_or_kept_count(self):
-        gate, passed = ran(['rt: low is kept: an earlier run on this machine proved the same files', 'rt: high proved', '2 passed, 0 failed'], 0)
+        kept = 'rt: low is kept: an earlier run on this machine proved the same files'
+        gate, passed = ran([kept, 'rt: high proved', '2 passed, 0 failed'], 0)
         self.assertTrue(passed)
         self.assertEqual((gate.proved, gate.refused), ({'low', 'high'}, []))
         self.assertTrue(gate.told().startswith('2 of 2 crates proved, 0:0'))
 
     def test_a_refused_crate_is_named(self):
-        gate, passed = ran(['rt: low NOT PROVED', 'rt: high NOT PROVED: its library low failed', '0 passed, 2 failed'], 1)
+        above = 'rt: high NOT PROVED: its library low failed'
+        gate, passed = ran(['rt: low NOT PROVED', above, '0 passed, 2 failed'], 1)
         self.assertFalse(passed)
         self.assertEqual((gate.proved, gate.refused), (set(), ['low']))
 

@@ -2,7 +2,6 @@
 proved."""
 import os
 import re
-import time
 import unittest
 from unittest import mock
 
