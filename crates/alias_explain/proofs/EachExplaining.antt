@@ -21,16 +21,19 @@ module _ (u : HirUnit) (function : Option FunctionId) where
   one_more [] x h is = (is, tt)
   one_more (y ∷ ys) x h is = (h.0, one_more ys x h.1 is)
 
-  each_of : (ns : List ℕ) (found xs : List IdentifierExplanation) → Alone found → each_explained u function found ns ≡ Ok xs → Alone xs
-
+  -- of the next identifier, where it is so of those that are left
   next_of : (n : ℕ) (ns : List ℕ) (found xs : List IdentifierExplanation) (r : Result Explanation ExplainFault) → explained u function (numbered n) ≡ r → Alone found
-      → (if_here r >>= (λ e. each_explained u function (with_found found (numbered n) e) ns)) ≡ Ok xs → Alone xs
-  next_of n ns found xs (Ok e) is h all = each_of ns (found ++ record { identifier = numbered n; explanation = e } ∷ []) xs (one_more found (record { identifier = numbered n; explanation = e }) h is) all
-  next_of n ns found xs (Err NotHere) is h all = each_of ns found xs h all
-  next_of n ns found xs (Err (TooMany which)) is h all = cc
-  next_of n ns found xs (Err (Memory e)) is h all = cc
+      → ((more : List IdentifierExplanation) → Alone more → each_explained u function more ns ≡ Ok xs → Alone xs) → (if_here r >>= (λ e. each_explained u function (with_found found (numbered n) e) ns)) ≡ Ok xs → Alone xs
+  next_of n ns found xs (Ok e) is h rest all =
+      let x : IdentifierExplanation = record { identifier = numbered n; explanation = e } in
+      rest (found ++ x ∷ []) (one_more found x h is) all
+  next_of n ns found xs (Err NotHere) is h rest all = rest found h all
+  next_of n ns found xs (Err (TooMany which)) is h rest all = cc
+  next_of n ns found xs (Err (Memory e)) is h rest all = cc
+
+  each_of : (ns : List ℕ) (found xs : List IdentifierExplanation) → Alone found → each_explained u function found ns ≡ Ok xs → Alone xs
   each_of [] found xs h all = let same : found ≡ xs = cc in subst Alone same h
-  each_of (n ∷ ns) found xs h all = next_of n ns found xs (explained u function (numbered n)) refl h all
+  each_of (n ∷ ns) found xs h all = next_of n ns found xs (explained u function (numbered n)) refl h (λ more g e. each_of ns more xs g e) all
 
   there_alone : (f : Option HirFunction) (xs : List IdentifierExplanation) → explained_there u function f ≡ Ok xs → Alone xs
   there_alone None xs h = cc

@@ -89,16 +89,16 @@ pub function_done : (f : Option FunctionId) (i : UnitInference) (xs : List Ident
 function_done f i xs o is caused h alone = subst (λ (z : Outcome). IsFunctionExplainedOf f i z.status z.answer) (sym is) (h, all_caused f i xs caused alone)
 
 module _ (u : HirUnit) (f : Option FunctionId) (never : (id : IdentifierId) (which : Counter) → explained u f id ≡ Err (explain.TooMany which) → ⊥) where
-  each_numbered : (ns : List ℕ) (found : List IdentifierExplanation) (which : Counter) → each_explained u f found ns ≡ Err (explain.TooMany which) → ⊥
-
   next_numbered : (n : ℕ) (ns : List ℕ) (found : List IdentifierExplanation) (which : Counter) (r : Result Explanation ExplainFault) → explained u f (numbered n) ≡ r
-      → (if_here r >>= (λ e. each_explained u f (with_found found (numbered n) e) ns)) ≡ Err (explain.TooMany which) → ⊥
-  next_numbered n ns found which (Ok e) is h = each_numbered ns (with_found found (numbered n) (Some e)) which h
-  next_numbered n ns found which (Err explain.NotHere) is h = each_numbered ns found which h
-  next_numbered n ns found which (Err (explain.TooMany other)) is h = never (numbered n) other is
-  next_numbered n ns found which (Err (explain.Memory e)) is h = cc
+      → ((more : List IdentifierExplanation) → each_explained u f more ns ≡ Err (explain.TooMany which) → ⊥) → (if_here r >>= (λ e. each_explained u f (with_found found (numbered n) e) ns)) ≡ Err (explain.TooMany which) → ⊥
+  next_numbered n ns found which (Ok e) is rest h = rest (with_found found (numbered n) (Some e)) h
+  next_numbered n ns found which (Err explain.NotHere) is rest h = rest found h
+  next_numbered n ns found which (Err (explain.TooMany other)) is rest h = never (numbered n) other is
+  next_numbered n ns found which (Err (explain.Memory e)) is rest h = cc
+
+  each_numbered : (ns : List ℕ) (found : List IdentifierExplanation) (which : Counter) → each_explained u f found ns ≡ Err (explain.TooMany which) → ⊥
   each_numbered [] found which h = cc
-  each_numbered (n ∷ ns) found which h = next_numbered n ns found which (explained u f (numbered n)) refl h
+  each_numbered (n ∷ ns) found which h = next_numbered n ns found which (explained u f (numbered n)) refl (λ more e. each_numbered ns more which e) h
 
   there_numbered : (func : Option HirFunction) (which : Counter) → explained_there u f func ≡ Err (explain.TooMany which) → ⊥
   there_numbered None which h = cc
