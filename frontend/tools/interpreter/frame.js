@@ -63,7 +63,7 @@ class Frame {
     const made = function (...args) {
       return new constructor(machine, fn, steps).run(args, held, this);
     };
-    machine.made(made, this, instruction, held);
+    machine.created(made, this, instruction, held);
     return machine.named(made, fn);
   }
 
