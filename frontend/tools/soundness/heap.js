@@ -10,6 +10,7 @@ class Ref {
 
 const isObject = x => (typeof x === 'object' && x !== null) || typeof x === 'function';
 const isIterator = x => isObject(x) && !Array.isArray(x) && typeof x.next === 'function' && typeof x[Symbol.iterator] === 'function';
+/** @type {Array<*>} */
 const BUILTINS = [Object, Array, Map, Set, Math, Function, String, Number, Boolean, Date, RegExp, Error, Symbol, JSON, Reflect, Promise];
 
 class Heap {
@@ -22,6 +23,7 @@ class Heap {
     /** @type {Map<Function, Set<number>>} and what the inference says that they capture */
     this.captures = new Map();
     this.sourceOf = new Map(); // of iterators
+    /** @type {(ident: object) => ?number} */
     this.number = () => undefined;
   }
 
@@ -46,7 +48,7 @@ class Heap {
     return (this.held.get(f) || []).filter(([ident]) => !only || only.has(this.number(ident))).map(([, v]) => v);
   }
 
-  /** All that is reached from the roots; what `skip` says isn't entered. */
+  /** All that is reached from the roots; what `skip` says isn't entered. @param {Array<*>} roots @param {(x: *) => boolean} [skip] */
   reachable(roots, skip = x => false) { // eslint-disable-line no-unused-vars
     const seen = new Set();
     const todo = roots.filter(isObject);

@@ -34,7 +34,8 @@ function silenceOf(w) {
  * @param {string} source @param {() => Array<Array<*>>} inputs
  * @param {{shorter?: number}} [options]
  */
-async function trial(source, inputs, {shorter = 0} = {}) {
+async function trial(source, inputs, options = {}) {
+  const {shorter = 0} = options;
   const made = await inferred(source, shorter);
   if (made.refused) return {refused: made.refused, source};
   const seen = watched(made, inputs(), globals);
