@@ -10,6 +10,7 @@ const path = require('node:path');
 const {trial} = require('../tools/soundness/trial.js');
 const {tried, programs, options} = require('../tools/soundness/main.js');
 const {CAUSES} = require('../tools/soundness/causes.js');
+const {printed, COMPONENT} = require('../tools/soundness/printed.js');
 const inputs = require('../tools/soundness/inputs.js');
 const {skip} = require('../tools/program.js');
 
@@ -20,24 +21,28 @@ const run = (...words) => tried(programs(options(words)), options(words));
 const NONE = new Set(['nobody reads the identifier', 'it is reported', 'it was frozen', 'only a function that reads it reaches it',
   'a ref, or reached by one', 'the identifier is of a part that was left']);
 
-for (const {title, reason, source, instead, isComponent} of CAUSES) {
+for (const cause of CAUSES) {
+  const {title, reason, source, instead, isComponent} = cause;
   test(`a cause: ${title}`, {skip}, async () => {
-    const of = isComponent ? () => [[{x: {}, l: [{}], c: 1}]] : inputs.HAND;
+    const of = isComponent ? COMPONENT : inputs.HAND;
     const reasonsOf = async text => {
       const t = await trial(text, of);
       assert.ok(!t.refused, t.refused);
       return new Set([...t.reasons, ...t.silences].map(x => x.reason).filter(x => !NONE.has(x)));
     };
     assert.ok((await reasonsOf(source)).has(reason), source);
-    if (instead !== null) assert.deepStrictEqual([...await reasonsOf(instead)], [], instead);
+    assert.deepStrictEqual([...await reasonsOf(instead)], [], instead);
+    const told = (await printed(cause)).replace(/^(lint|infer) /, '`$1` ');
+    assert.ok(page.includes(`${source} ${told}.`), told);
   });
 }
 
+const page = fs.readFileSync(path.join(__dirname, '../../docs/BLINDSPOTS.md'), 'utf8').replace(/\s+/g, ' ');
+
 test('the page has each cause, in order', () => {
-  const page = fs.readFileSync(path.join(__dirname, '../../docs/BLINDSPOTS.md'), 'utf8');
   let at = 0;
   for (const {title, source, instead} of CAUSES) {
-    for (const part of [`## ${title}`, source, instead].filter(Boolean)) {
+    for (const part of [`## ${title}`, source, instead]) {
       assert.ok(page.indexOf(part, at) >= at, part);
       at = page.indexOf(part, at);
     }

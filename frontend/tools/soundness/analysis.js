@@ -175,6 +175,7 @@ function parseOutput(text, shorter) {
 /**
  * The last function of the source: lowered, emitted and inferred.
  * @param {string} source @param {number} [shorter]
+ * @returns {Promise<*>} what is told, or {refused}
  */
 async function inferred(source, shorter = 0) {
   const {names, functions} = functionsOf(parse(source, 'a.jsx'), {});

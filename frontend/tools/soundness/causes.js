@@ -6,7 +6,7 @@
  *
  * `isComponent` of those that are about frozen values: their functions are called with props {x: {}, l: [{}], c: 1}.
  *
- * @typedef {{title: string, reason: string, source: string, instead: ?string, isComponent?: boolean}} Cause
+ * @typedef {{title: string, reason: string, source: string, instead: string, isComponent?: boolean}} Cause
  */
 
 /** @type {Array<Cause>} */
