@@ -86,6 +86,8 @@ class Lint(Source):
         self.assertEqual(self.lint('app/row.jsx', 'app/bad.jsx')[0], 2)
         self.assertEqual(self.lint('app/missing.jsx'),
                          (2, '', 'jirrambeo: app/missing.jsx: No such file or directory\n'))
+        self.there.write('unit.json', '{}')
+        self.assertIn('./jirrambeo lint < unit.json', self.lint('unit.json')[2])
         os.mkdir(os.path.join(self.there.top, 'none'))
         self.assertEqual(self.lint('none'), (2, '', 'jirrambeo: none: no file of source is in it\n'))
         self.assertEqual(self.lint('app', '--source', 'x')[0], 2)
