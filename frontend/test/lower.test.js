@@ -156,6 +156,7 @@ test('types of builtins and hooks reach the unit', () => {
 });
 
 test('units of random functions are accepted and inferred', {skip}, async () => {
+  /** @type {Array<*>} */
   const cases = [];
   for (let seed = 0; cases.length < 24; seed++) {
     const source = program(seed);
