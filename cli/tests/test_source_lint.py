@@ -179,6 +179,19 @@ class Lint(Source):
         self.assertEqual((status, text), (2, ''))
         self.assertRegex(told, r'^jirrambeo: source is read by Node [^\n]*apt-get install nodejs node-babel7[^\n]*\n$')
 
+    def test_an_old_node(self):
+        folder = os.path.join(self.there.top, 'path')
+        os.chmod(self.there.write('path/node', '#!/bin/sh\necho v12.22.12\n'), 0o755)
+        status, text, told = self.lint('app', path=folder)
+        self.assertEqual((status, text), (2, ''))
+        self.assertIn('node is older: apt-get install', told)
+
+    def test_no_front_end(self):
+        os.remove(os.path.join(self.there.top, 'frontend'))
+        status, text, told = self.lint('app')
+        self.assertEqual((status, text, told.count('\n')), (2, '', 1))
+        self.assertIn('the front end', told)
+
     def test_many_files_in_order(self):
         for number in range(40):
             self.there.write('many/%02d.jsx' % number, CARD)
