@@ -52,6 +52,13 @@ class Explanations(unittest.TestCase):
         self.assertEqual(self.told_by(program), WANTED)
         self.assertEqual(sorted(program.asked), sorted([['explain', 'root'], *(['explain', *pair] for pair in TOLD)]))
 
+    def test_answers_stand_in_the_order_of_their_questions(self):
+        program = mock.Mock(ask=lambda words, data: (0, words[0].encode()))
+        with mock.patch.object(explaining, 'inference', return_value=program):
+            for count in (0, 1, 3, 4, 5, 30):
+                told = explaining.answers_of([[str(number)] for number in range(count)], True, b'')
+                self.assertEqual(told, [(0, str(number).encode()) for number in range(count)])
+
 
 if __name__ == '__main__':
     unittest.main()
