@@ -20,7 +20,7 @@
 const fs = require('fs');
 const {unitsOf, Positions} = require('./index.js');
 
-const MOST_BYTES = 16 * 1024 * 1024;
+const MOST_BYTES = 8 * 1024 * 1024;
 
 /** Why a file has no answer. */
 class Unanswered extends Error {
