@@ -26,7 +26,7 @@ def part(module, name):
         from importlib import import_module
 
         from cli.building import called
-        return called(lambda: getattr(import_module('cli.' + module), name)(words[1:]))
+        return called(lambda: getattr(import_module('cli.' + module), name)(words[1:]), 'interrupted')
     return call
 
 

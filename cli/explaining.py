@@ -1,5 +1,5 @@
-"""Why ranges end, of all identifiers of a function: by one call of `explain` where the program takes it, or by one
-for each identifier, side by side."""
+"""Why ranges end, of all identifiers of a function: by one call of `explain` where the program takes it, or by one for
+each identifier. The calls go side by side."""
 import os
 from concurrent.futures import ThreadPoolExecutor
 
@@ -11,35 +11,46 @@ WORDS = 2  # the status of words that are no command
 PROCESSORS = len(os.sched_getaffinity(0))
 
 
-def each_alone(asked, is_proved, data):
-    """What is told of each pair of a function and an identifier, over one process for each processor, or one for each
-    question."""
+def answers_of(questions, is_proved, data):
+    """The status and the text of each question, over one process for each processor, or one for each question."""
     def ask(part):
         program = inference(is_proved)
         try:
-            return [(pair, program.ask(['explain', *map(str, pair)], data)) for pair in part]
+            return [program.ask(words, data) for words in part]
         finally:
             program.close()
 
-    parts = [asked[at::PROCESSORS] for at in range(PROCESSORS)]
     with ThreadPoolExecutor(PROCESSORS) as pool:
-        return [answer for answers in pool.map(ask, filter(None, parts)) for answer in answers]
+        parts = list(pool.map(ask, [questions[at::PROCESSORS] for at in range(PROCESSORS)]))
+    return [parts[at % PROCESSORS][at // PROCESSORS] for at in range(len(questions))]
+
+
+def by_function(functions, is_proved, data):
+    """What is told of functions as a whole, or None where the program doesn't take such a question."""
+    questions = [['explain', function['name']] for function in functions]
+    first = answers_of(questions[:1], is_proved, data)
+    if first[0][0] == WORDS:
+        return None
+    answers = first + answers_of(questions[1:], is_proved, data)
+    return {function['name']: explained_all(text.decode()) if status == 0 else {}
+            for function, (status, text) in zip(functions, answers)}
+
+
+def by_identifier(functions, ranges, is_proved, data):
+    """What is told of each identifier that has a range."""
+    pairs = [(function['name'], identifier) for function in functions
+             for identifier in identifiers_of(function) if identifier in ranges]
+    made = {function['name']: {} for function in functions}
+    answers = answers_of([['explain', name, str(identifier)] for name, identifier in pairs], is_proved, data)
+    for (name, identifier), (status, text) in zip(pairs, answers):
+        if status == 0:
+            made[name][identifier] = explained(text.decode())
+    return made
 
 
 def explanations(functions, ranges, is_proved, data):
     """Why the range of each identifier ends, by function. Data is the unit."""
-    made, program = {}, inference(is_proved)
-    try:
-        for function in functions:
-            status, text = program.ask(['explain', function['name']], data)
-            if status == WORDS:
-                break
-            made[function['name']] = explained_all(text.decode()) if status == 0 else {}
-    finally:
-        program.close()
-    left = [(function['name'], identifier) for function in functions if function['name'] not in made
-            for identifier in identifiers_of(function) if identifier in ranges]
-    for (name, identifier), (status, text) in each_alone(left, is_proved, data):
-        if status == 0:
-            made.setdefault(name, {})[identifier] = explained(text.decode())
-    return {function['name']: made.get(function['name'], {}) for function in functions}
+    if not functions:
+        return {}
+    told = by_function(functions, is_proved, data)
+    return by_identifier(functions, ranges, is_proved, data) if told is None else told

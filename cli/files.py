@@ -32,8 +32,10 @@ def named(path):
         if not found:
             raise Missing('%s: no file of source is in it' % path)
         return found
-    if not os.path.exists(path):
+    if not os.path.lexists(path):
         raise Missing('%s: No such file or directory' % path)
+    if path.endswith('.json'):
+        raise Missing('%s is no source; a unit is read from standard input: ./jirrambeo lint < %s' % (path, path))
     return [os.path.normpath(path)]
 
 

@@ -1,6 +1,8 @@
 """The front end, which makes units of source: a process of Node that is asked over a pipe, file by file."""
+import functools
 import json
 import os
+import re
 import shutil
 import subprocess
 
@@ -33,11 +35,26 @@ def parser_folder():
     return found if os.path.isfile(os.path.join(found, 'package.json')) else None
 
 
+def version_of(path):
+    """The first number of the version of a Node, as 20; 0 where it doesn't tell one."""
+    try:
+        told = subprocess.run([path, '--version'], stdout=subprocess.PIPE, stderr=subprocess.DEVNULL, check=False)
+        found = re.match(rb'v(\d+)\.', told.stdout)
+    except OSError:
+        found = None
+    return int(found[1]) if found else 0
+
+
+@functools.lru_cache
 def node():
-    """The path of Node."""
+    """The path of Node, where all is there that source is read by."""
     path = shutil.which('node') or shutil.which('nodejs')
     if path is None:
         raise NoFrontEnd(NO_NODE % (OLDEST, 'Node is not on the path', FOLDER))
+    if version_of(path) < OLDEST:
+        raise NoFrontEnd(NO_NODE % (OLDEST, '%s is older' % path, FOLDER))
+    if not os.path.isfile(PROGRAM):
+        raise NoFrontEnd('source is read by the front end, and %s is not there' % PROGRAM)
     if parser_folder() is None:
         raise NoFrontEnd(NO_NODE % (OLDEST, 'the parser is not there', FOLDER))
     return path

@@ -185,29 +185,31 @@ def spans_of(function):
 
 
 def uses_in(at, unit, source):
-    """Where names of the source stand that are identifiers of a unit, with its number: by line, what the page needs
-    to choose them."""
-    for name, function in [('root', unit['root']),
-                           *((str(number), func) for number, func in enumerate(unit.get('functions', [])))]:
+    """Where names of the source stand that are identifiers of a unit, with its number: of each the line, whether the
+    identifier has that name, and what the page needs to choose it."""
+    names, functions = names_of(unit), enumerate(unit.get('functions', []))
+    for name, function in [('root', unit['root']), *((str(number), func) for number, func in functions)]:
         for identifier, start, end in spans_of(function):
             span = source.span(start, end)
-            if span and span[0][0] == span[1][0]:
-                (line, column), (_, last) = span
-                text = source.lines[line]
-                if NAME.fullmatch(text[column:last]):
-                    yield line, {
-                        'column': utf16(text[:column]), 'length': utf16(text[column:last]), 'unit': at,
-                        'function': name, 'id': identifier
-                    }
+            if not span or span[0][0] != span[1][0]:
+                continue
+            (line, column), (_, last) = span
+            text, front = source.lines[line][column:last], source.lines[line][:column]
+            if NAME.fullmatch(text):
+                use = {'column': utf16(front), 'length': utf16(text), 'unit': at, 'function': name, 'id': identifier}
+                yield line, names.get(identifier) == text, use
 
 
 def uses_of(units, source):
-    """Those of all units, each place once, in the order of the lines."""
+    """Those of all units, each place once, in the order of the lines: a value that is loaded stands where the variable
+    does, which goes before it."""
     found = {}
     for at, unit in enumerate(units):
-        for line, use in uses_in(at, unit, source):
-            found.setdefault(line, {}).setdefault(use['column'], use)
-    return {line: [uses[column] for column in sorted(uses)] for line, uses in found.items()}
+        for line, is_named, use in uses_in(at, unit, source):
+            known = found.setdefault(line, {})
+            if use['column'] not in known or is_named and not known[use['column']][0]:
+                known[use['column']] = is_named, use
+    return {line: [uses[column][1] for column in sorted(uses)] for line, uses in found.items()}
 
 
 def page_data(title, units, shown, source=None, notes=()):

@@ -75,7 +75,7 @@ def told_by(cache, files, proved):
             cache.put(*answer)
         yield answer
     bar.close()
-    anew.close()
+    next(anew, None)  # there is none more: its processes end
 
 
 def is_coloured():

@@ -73,9 +73,10 @@ class Bar:
             self.stream.flush()
 
 
-def answers(files, job, options=(), is_proved=False):
-    """Of each file, in their order: its path, its bytes, and what is told of it."""
-    if len(files) <= FEW or PROCESSORS == 1:
+def answers(files, job, options=(), is_proved=True):
+    """Of each file, in their order: its path, its bytes, and what is told of it. Whether the program is proved says
+    nothing to a job that doesn't ask it."""
+    if len(files) <= FEW or PROCESSORS == 1 or not is_proved:  # runs of the sources lock each other out
         alone = Worker(job, options, is_proved)
         try:
             yield from map(alone.answer, files)

@@ -67,7 +67,7 @@ def rows():
 
 
 def examples():
-    for path in sorted(glob.glob(os.path.join(TOP, 'examples', '*.json'))):
+    for path in sorted(glob.glob(os.path.join(TOP, 'examples', '**', '*.json'), recursive=True)):
         text = read(path[:-len('json')] + 'txt')
         yield b'infer', read(path), 6 if text.startswith(b'refused ') else 0, text  # the inference alone refuses some
 

@@ -86,6 +86,8 @@ class Lint(Source):
         self.assertEqual(self.lint('app/row.jsx', 'app/bad.jsx')[0], 2)
         self.assertEqual(self.lint('app/missing.jsx'),
                          (2, '', 'jirrambeo: app/missing.jsx: No such file or directory\n'))
+        self.there.write('unit.json', '{}')
+        self.assertIn('./jirrambeo lint < unit.json', self.lint('unit.json')[2])
         os.mkdir(os.path.join(self.there.top, 'none'))
         self.assertEqual(self.lint('none'), (2, '', 'jirrambeo: none: no file of source is in it\n'))
         self.assertEqual(self.lint('app', '--source', 'x')[0], 2)
@@ -176,6 +178,19 @@ class Lint(Source):
         status, text, told = self.lint('app', path=folder)
         self.assertEqual((status, text), (2, ''))
         self.assertRegex(told, r'^jirrambeo: source is read by Node [^\n]*apt-get install nodejs node-babel7[^\n]*\n$')
+
+    def test_an_old_node(self):
+        folder = os.path.join(self.there.top, 'path')
+        os.chmod(self.there.write('path/node', '#!/bin/sh\necho v12.22.12\n'), 0o755)
+        status, text, told = self.lint('app', path=folder)
+        self.assertEqual((status, text), (2, ''))
+        self.assertIn('node is older: apt-get install', told)
+
+    def test_no_front_end(self):
+        os.remove(os.path.join(self.there.top, 'frontend'))
+        status, text, told = self.lint('app')
+        self.assertEqual((status, text, told.count('\n')), (2, '', 1))
+        self.assertIn('the front end', told)
 
     def test_many_files_in_order(self):
         for number in range(40):

@@ -8,12 +8,12 @@
  *                              stdout, in the order of the requests: {id, file, functions} or {id, file, error}
  * units.js --only=NAME FILE    the unit of that function alone, as the program reads it
  *
- * Options: --offsets=bytes|utf16  --others=nested|root  --keep-memo  --impure
+ * Options: --offsets=bytes|utf16  --others=nested|root  --keep-memo  --compiler  --impure
  */
 const readline = require('readline');
 const {answer} = require('../src/answers.js');
 
-const USAGE = 'usage: units.js [--offsets=bytes|utf16] [--others=nested|root] [--keep-memo] [--impure] [--only=NAME] FILE.. | --stdio';
+const USAGE = 'usage: units.js [--offsets=bytes|utf16] [--others=nested|root] [--keep-memo] [--compiler] [--impure] [--only=NAME] FILE.. | --stdio';
 
 function words(argv) {
   const asked = {options: {config: {}}, files: [], only: null, isServer: false};
@@ -23,6 +23,7 @@ function words(argv) {
     else if (key === '--offsets' && /^(bytes|utf16)$/.test(value)) asked.options.offsets = value;
     else if (key === '--others' && /^(nested|root)$/.test(value)) asked.options.others = value;
     else if (key === '--keep-memo') asked.options.dropMemo = false;
+    else if (key === '--compiler') asked.options.compiler = true;
     else if (key === '--impure') asked.options.config.validate_no_impure_functions_in_render = true;
     else if (key === '--only' && value) asked.only = value;
     else if (key === '--stdio') asked.isServer = true;

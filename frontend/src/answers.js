@@ -15,7 +15,7 @@
  * @property {number} [column]
  * @property {number} [offset]
  *
- * @typedef {{id?: *, file: string, functions: Array<import('./index.js').Made>}|{id?: *, file: string, error: FileError}} Answer
+ * @typedef {{id?: *, file: string, functions?: Array<import('./index.js').Made>, error?: FileError}} Answer has one of the two
  */
 const fs = require('fs');
 const {unitsOf, Positions} = require('./index.js');
@@ -57,7 +57,8 @@ function textOf(file) {
   return text;
 }
 
-function functionsOf({file, text: given, options = {}}) {
+/** @param {Request} request */
+function functionsOf({file, text: given, options}) {
   const text = given === undefined || given === null ? textOf(file) : given;
   sizeChecked(Buffer.byteLength(text));
   try {
@@ -65,7 +66,7 @@ function functionsOf({file, text: given, options = {}}) {
   } catch (error) {
     if (!(error instanceof SyntaxError)) throw error;
     const message = error.message.replace(/ \(\d+:\d+\)$/, '');
-    throw new Unanswered('syntax', message, new Positions(text, options.offsets).position(error.pos || 0));
+    throw new Unanswered('syntax', message, new Positions(text, options ? options.offsets : undefined).position(/** @type {*} */ (error).pos || 0));
   }
 }
 

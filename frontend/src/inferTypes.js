@@ -98,7 +98,7 @@ class Equations {
   /** @param {import('./HIR.js').Fn} fn */
   addFunction(fn) {
     if (fn.kind === 'Component') {
-      const [props, ref] = fn.params;
+      const [props, ref] = /** @type {Array<*>} */ (fn.params);
       if (props && !props.spread) unify(props.ident.type, object('BuiltInProps'));
       if (ref && !ref.spread) unify(ref.ident.type, object('BuiltInUseRefId'));
     }

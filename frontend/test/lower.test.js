@@ -94,6 +94,15 @@ test('what is not lowered is refused, with its place', () => {
   }
 });
 
+test('what no unit may have is refused', () => {
+  const list = n => Array.from({length: n}, (_, i) => i).join(', ');
+  assert.strictEqual(refusedFor(`function f() { g(${list(1025)}); }`), 'a call of more than 1,024 arguments');
+  assert.strictEqual(refusedFor(`function f() { g(${list(1024)}); }`), null);
+  const nested = n => `const f = ${'() => '.repeat(n)}1;`;
+  assert.strictEqual(refusedFor(nested(65)), 'functions on more than 64 levels');
+  assert.strictEqual(refusedFor(nested(64)), null);
+});
+
 test('a private name is a property', () => {
   const {unit} = lowered('class A { #x; m(o) { o.#x = #x in o; return o.#x; } }');
   assert.deepStrictEqual(unit.root.instructions.map(i => i.value.kind).filter(k => /Property/.test(k)), ['PropertyStore', 'PropertyLoad']);
@@ -156,6 +165,7 @@ test('types of builtins and hooks reach the unit', () => {
 });
 
 test('units of random functions are accepted and inferred', {skip}, async () => {
+  /** @type {Array<*>} */
   const cases = [];
   for (let seed = 0; cases.length < 24; seed++) {
     const source = program(seed);

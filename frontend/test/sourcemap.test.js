@@ -12,7 +12,7 @@ function C(props) {
 }`;
 
 test('identifiers and instructions have lines and columns', () => {
-  for (const offsets of ['bytes', 'utf16']) {
+  for (const offsets of /** @type {Array<'bytes'|'utf16'>} */ (['bytes', 'utf16'])) {
     const {unit} = unitsOf(SOURCE, {filename: 'a.jsx', offsets})[0];
     const map = sourceMap(unit, new Positions(SOURCE, offsets));
     const a = map.identifiers.find(i => i.name === 'a');

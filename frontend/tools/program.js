@@ -48,7 +48,7 @@ async function inParallel(jobs) {
 
 /**
  * Each case has one function, or names the last: its unit, and what the program says of it.
- * @param {Array<{source: string, filename?: string, config?: object, others?: string}>} cases
+ * @param {Array<{source: string} & import('../src/index.js').Options>} cases
  * @returns {Promise<Array<{unit?: object, refused?: object, status?: number, lints?: Array<string>, text?: string}>>}
  */
 function answers(cases) {

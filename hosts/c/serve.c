@@ -31,31 +31,41 @@ static uint8_t *read_block(size_t length) {
     return block;
 }
 
-/* Answers a request. Says whether it could. */
-static int answer(const char *line, const uint8_t *input, size_t input_length) {
-    uint8_t head[8], *text;
-    size_t text_length;
-    uint8_t status = jirrambeo_call(line, input, input_length, &text, &text_length);
+static int write_answer(uint8_t status, const uint8_t *text, size_t text_length) {
+    uint8_t head[8];
     if (text_length > UINT32_MAX) {
-        jirrambeo_free(text);
         return 0;
     }
     put_number(head, status);
     put_number(head + 4, (uint32_t)text_length);
-    int is_written = fwrite(head, 1, sizeof head, stdout) == sizeof head && fwrite(text, 1, text_length, stdout) == text_length && fflush(stdout) == 0;
+    return fwrite(head, 1, sizeof head, stdout) == sizeof head && fwrite(text, 1, text_length, stdout) == text_length && fflush(stdout) == 0;
+}
+
+/* Answers a request, where there is room for all texts of this process, and without it by a block for each. Says whether it could. */
+static int answer(uint8_t *room, const char *line, size_t line_length, const uint8_t *input, size_t input_length) {
+    uint8_t *text;
+    size_t text_length;
+    if (room != NULL) {
+        uint8_t status = jirrambeo_run((const uint8_t *)line, line_length, input, input_length, room, JIRRAMBEO_ROOM, &text_length);
+        if (status == JIRRAMBEO_MEMORY || text_length <= JIRRAMBEO_ROOM) {
+            return write_answer(status, room, text_length);
+        }
+    }
+    uint8_t status = jirrambeo_call_in_block(line, input, input_length, &text, &text_length);
+    int is_written = write_answer(status, text, text_length);
     jirrambeo_free(text);
     return is_written;
 }
 
 /* All requests. Null where the input ended between two. */
 static void *serve(void *failed) {
-    uint8_t head[8];
+    uint8_t head[8], *room = jirrambeo_room();
     size_t count;
     while ((count = fread(head, 1, sizeof head, stdin)) == sizeof head) {
-        size_t input_length = number(head + 4);
-        uint8_t *line = read_block(number(head));
+        size_t line_length = number(head), input_length = number(head + 4);
+        uint8_t *line = read_block(line_length);
         uint8_t *input = line == NULL ? NULL : read_block(input_length);
-        int is_answered = input != NULL && answer((const char *)line, input, input_length);
+        int is_answered = input != NULL && answer(room, (const char *)line, line_length, input, input_length);
         free(line);
         free(input);
         if (!is_answered) {

@@ -12,11 +12,12 @@ const expressions = require('./expressions.js');
 
 const MEMOS = new Set(['useMemo', 'useCallback']);
 
-/** Which of the two hooks the call calls; null where it is neither. @param {import('../scope.js').Names} names @param {Node} call */
-function memoName(names, {callee}) {
-  /** @param {Node} node */
-  const outside = node => {
-    const binding = names.bindingOf.get(node);
+/** Which of the two hooks the call calls; null where it is neither. @param {import('../scope.js').Names} names @param {Node} node */
+function memoName(names, node) {
+  const {callee} = node;
+  /** @param {Node} name */
+  const outside = name => {
+    const binding = names.bindingOf.get(name);
     return binding === undefined ? {from: null, isGlobal: true} : binding.fn === null ? {from: binding.from, isGlobal: false} : null;
   };
   let name = null;

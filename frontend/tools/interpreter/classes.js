@@ -1,7 +1,7 @@
 'use strict';
 /** A class of a unit, made of the object of its methods. Its fields are those that it was lowered with. */
 
-/** @param {import('./frame.js').Frame} frame @param {object} v the ObjectExpression */
+/** @param {import('./frame.js').Frame} frame @param {*} v the ObjectExpression */
 function classOf(frame, v) {
   const methods = v.properties.filter(p => p.key === 'method');
   const parent = v.properties.find(p => p.key === 'prototype');

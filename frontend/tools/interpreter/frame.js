@@ -36,7 +36,19 @@ const isTaken = {
 class Frame {
   /** @param {import('./machine.js').Machine} machine @param {import('../../src/HIR.js').Fn} fn @param {object} steps by kind */
   constructor(machine, fn, steps) {
-    Object.assign(this, {machine, fn, steps, table: tableOf(fn), values: new Map(), loops: new Map(), exit: null, current: null, block: null});
+    /** @type {*} */
+    this.machine = machine;
+    /** @type {*} */
+    this.fn = fn;
+    this.steps = steps;
+    this.table = tableOf(fn);
+    /** @type {Map<object, *>} */
+    this.values = new Map();
+    this.loops = new Map();
+    this.exit = null; // where a loop that is over goes
+    /** @type {*} */
+    this.current = null;
+    this.block = null;
   }
 
   get(place) {
@@ -59,11 +71,12 @@ class Frame {
   /** A function of the unit, with what it holds. */
   make(fn, instruction) {
     const held = fn.context.map(p => [p.ident, this.values.get(p.ident)]);
-    const {machine, steps, constructor} = this;
+    const {machine, steps} = this;
+    const Own = /** @type {typeof Frame} */ (this.constructor);
     const made = function (...args) {
-      return new constructor(machine, fn, steps).run(args, held, this);
+      return new Own(machine, fn, steps).run(args, held, this);
     };
-    machine.made(made, this, instruction, held);
+    machine.created(made, this, instruction, held);
     return machine.named(made, fn);
   }
 
@@ -72,8 +85,10 @@ class Frame {
     this.block = this.fn.blocks.get(this.fn.entry);
     const given = this.fn.hasThis ? [...args.slice(0, this.fn.params.length - 1)] : args;
     if (this.fn.hasThis) given[this.fn.params.length - 1] = self;
-    this.fn.params.forEach((p, i) => this.set(p.spread || p, p.spread ? args.slice(i) : given[i]));
-    this.machine.enter(this, [...held.map(([, v]) => v), ...this.fn.params.map((p, i) => (p.spread ? args.slice(i) : given[i]))]);
+    /** @type {Array<*>} */
+    const params = this.fn.params;
+    params.forEach((p, i) => this.set(p.spread || p, p.spread ? args.slice(i) : given[i]));
+    this.machine.enter(this, [...held.map(([, v]) => v), ...params.map((p, i) => (p.spread ? args.slice(i) : given[i]))]);
     try {
       return this.go();
     } finally {

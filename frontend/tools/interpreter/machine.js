@@ -36,7 +36,7 @@ class Machine {
   write(object, how) {} // eslint-disable-line no-unused-vars
 
   /** A function of the unit was made. */
-  made(f, frame, instruction) {} // eslint-disable-line no-unused-vars
+  created(f, frame, instruction, held) {} // eslint-disable-line no-unused-vars
 
   /** A function was entered, or left. */
   enter(frame, given) {} // eslint-disable-line no-unused-vars

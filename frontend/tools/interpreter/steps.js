@@ -46,7 +46,9 @@ function storeContext(frame, v) {
 
 function update(frame, v) {
   const old = frame.get(v.value);
+  /** @type {*} */
   const before = typeof old === 'bigint' ? old : Number(old);
+  /** @type {*} */
   const one = typeof before === 'bigint' ? 1n : 1;
   const now = v.operator === '++' ? before + one : before - one;
   frame.set(v.lvalue, now);

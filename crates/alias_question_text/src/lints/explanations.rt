@@ -98,6 +98,7 @@ fn push_identifier_line(out: &mut Text, identifier: IdentifierId) -> Result<(), 
     out.push_str("\n")
 }
 
+#[tactic(auto, unfolding(crate::specs::lints::Explanations::identifier_text))]
 fn push_identifier(out: &mut Text, explained: &IdentifierExplanation) -> Result<(), AllocError>
     ensures { OnOk result (out.new ≡ out.old ++ identifier_text explained.now) }
 {
