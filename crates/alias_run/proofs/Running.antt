@@ -1,5 +1,5 @@
 -- From what a layer finds to what the run comes to.
-use Rattle.std.proofs.Common.{◌≡◌, false, ℕ, ◌≤◌, ⊎_elim, inr, List, [], length, take, Option, Some, None, refl, sym, ◌∙◌, ap, subst}
+use Rattle.std.proofs.Common.{◌≡◌, false, ℕ, ◌≤◌, ⊎_elim, inl, inr, List, [], length, take, Option, Some, None, refl, sym, ◌∙◌, ap, subst}
 use Rattle.std.specs.Prelude.{Result, Ok, Err, ⊤}
 use Rattle.std.proofs.lemmas.List.{append-nil}
 use Rattle.std.proofs.Math.Seq.{take-length}
