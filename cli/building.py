@@ -180,12 +180,12 @@ def interrupted(number, frame):
     raise KeyboardInterrupt
 
 
-def called(call):
+def called(call, told='interrupted; what was proved is kept, and the next call goes on'):
     """What a call answers; 130 where a signal ends it first, and then the gate that goes on has been ended too."""
     for number in (signal.SIGTERM, signal.SIGHUP):
         signal.signal(number, interrupted)
     try:
         return call()
     except KeyboardInterrupt:
-        say('interrupted; what was proved is kept, and the next call goes on')
+        say(told)
         return 130
