@@ -88,7 +88,7 @@ class Gate:
                                    stderr=subprocess.STDOUT, text=True, errors='replace', start_new_session=True)
         telling.start()
         try:
-            with open(os.path.join(folder, 'build.log'), 'w', encoding='utf-8') as log:
+            with process.stdout, open(os.path.join(folder, 'build.log'), 'w', encoding='utf-8') as log:
                 for line in process.stdout:
                     log.write(line)
                     self.read(line)
