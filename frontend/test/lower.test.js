@@ -94,6 +94,14 @@ test('what is not lowered is refused, with its place', () => {
   }
 });
 
+test('a class in a function may read what is around it, and not write it', () => {
+  const of = body => refusedFor(`function f(o) { let x; class A { m() { ${body} } } return A; }`);
+  for (const body of ['x = 1;', 'o.p = 1;', 'o.p.q++;', 'delete o.p;', '[x] = [1];', '({a: o.b = 2, ...x} = {});', 'for (x of [1]) ;', '(() => { x ??= 1; })();']) {
+    assert.strictEqual(of(body), 'a class in a function', body);
+  }
+  for (const body of ['return x;', 'this.p = o;', 'let y; y = o;', 'for (const z of o) { z.w = 1; }']) assert.strictEqual(of(body), null, body);
+});
+
 test('what no unit may have is refused', () => {
   const list = n => Array.from({length: n}, (_, i) => i).join(', ');
   assert.strictEqual(refusedFor(`function f() { g(${list(1025)}); }`), 'a call of more than 1,024 arguments');

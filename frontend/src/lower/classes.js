@@ -49,8 +49,7 @@ function lowerField(b, m) {
 /** Refuses a write of a variable from around the class, or of a property of one. */
 function refuseWrites(b, node, below) {
   for (const child of children(below)) {
-    const written = writtenRoot(child);
-    if (written) {
+    for (const written of writtenRoots(child)) {
       const binding = b.shared.names.bindingOf.get(written);
       const isAround = binding && binding.kind !== 'this' && b.isInside(binding.fn) && !isWithin(binding.node, node);
       if (isAround) throw new Refused('a class in a function', child, `which writes \`${binding.name}\` of the function around it`);
@@ -59,13 +58,21 @@ function refuseWrites(b, node, below) {
   }
 }
 
-/** The variable of which an assignment, update or `delete` writes, or writes a part. @returns {?Node} */
-function writtenRoot(node) {
-  const isDelete = node.type === 'UnaryExpression' && node.operator === 'delete';
-  if (node.type !== 'AssignmentExpression' && node.type !== 'UpdateExpression' && !isDelete) return null;
-  let root = bare(node.left || node.argument);
+/** The variables of which an assignment, update, `delete` or loop writes, or writes a part. @returns {Array<Node>} */
+function writtenRoots(node) {
+  if (node.type === 'AssignmentExpression' || node.type === 'ForOfStatement' || node.type === 'ForInStatement') return targetRoots(node.left);
+  const isWrite = node.type === 'UpdateExpression' || (node.type === 'UnaryExpression' && node.operator === 'delete');
+  return isWrite ? targetRoots(node.argument) : [];
+}
+
+function targetRoots(target) {
+  let root = bare(target);
+  if (root.type === 'ObjectPattern') return root.properties.flatMap(p => targetRoots(p.type === 'RestElement' ? p.argument : p.value));
+  if (root.type === 'ArrayPattern') return root.elements.filter(Boolean).flatMap(targetRoots);
+  if (root.type === 'AssignmentPattern') return targetRoots(root.left);
+  if (root.type === 'RestElement') return targetRoots(root.argument);
   while (root.type === 'MemberExpression') root = bare(root.object);
-  return root.type === 'Identifier' ? root : null;
+  return root.type === 'Identifier' ? [root] : [];
 }
 
 exports.lowerClass = lowerClass;

@@ -116,12 +116,12 @@ function dominators(fn) {
   return dom;
 }
 
-/** From temporaries to the variables that they were loaded from. */
+/** From temporaries to the variables that they were loaded from. What a shared one gives has no name for the rules. */
 function loads(fn) {
   const from = new Map();
   for (const b of fn.blocks.values()) {
     for (const {value, lvalue} of b.instructions) {
-      if (value.kind === 'LoadLocal' || value.kind === 'LoadContext') from.set(lvalue.ident, from.get(value.place.ident) || value.place.ident);
+      if (value.kind === 'LoadLocal') from.set(lvalue.ident, from.get(value.place.ident) || value.place.ident);
     }
   }
   return from;

@@ -52,7 +52,7 @@ class Events {
     const args = i.value.args || [];
     if (i.value.kind === 'NewExpression') this.note('what is called by new', heap.reachable([operands[0]]));
     if (args.some(a => a.spread)) this.note('a spread argument', before);
-    const isInVariable = a => !a.spread && heap.held.has(frame.get(a)) && frame.sourceOf(a.ident) !== a.ident;
+    const isInVariable = a => !a.spread && heap.held.has(frame.get(a)) && /^Load|^phi/.test(frame.fn.watched.defs.get(a.ident));
     if (args.some(isInVariable) && !heap.held.has(operands[0])) this.note('a callback in a variable', before);
     for (const x of before) if (x instanceof RegExp) this.note('a regular expression has a state', [x]);
   }
