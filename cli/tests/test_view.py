@@ -190,7 +190,7 @@ class Browser(unittest.TestCase):
                 'about:blank'
             ]
             try:
-                subprocess.run(words, stdout=subprocess.DEVNULL, stderr=subprocess.DEVNULL, check=True, timeout=60)
+                subprocess.run(words, stdout=subprocess.DEVNULL, stderr=subprocess.DEVNULL, check=True, timeout=200)
             except (OSError, subprocess.SubprocessError):
                 raise unittest.SkipTest('the browser does not start here') from None
 
@@ -209,7 +209,7 @@ class Browser(unittest.TestCase):
                 '--user-data-dir=' + folder, '--dump-dom', 'file://' + path
             ]
             dom = subprocess.run(words, stdout=subprocess.PIPE, stderr=subprocess.DEVNULL, check=True,
-                                 timeout=120).stdout.decode()
+                                 timeout=400).stdout.decode()
         told = re.search(r'<pre id="told">(.*?)</pre>', dom, re.S)[1]
         for mark, character in (('&lt;', '<'), ('&gt;', '>'), ('&amp;', '&')):
             told = told.replace(mark, character)
@@ -335,8 +335,8 @@ class Browser(unittest.TestCase):
             'return [counts, DATA.units.map((one) => one.functions.length), '
             'document.getElementById("title").textContent === DATA.title];'
         )
-        for first in range(0, RANDOM_UNITS, 20):
-            counts, functions, is_titled = self.run_in(drawn_page(range(first, first + 20)), script)
+        for first in range(0, RANDOM_UNITS, 10):
+            counts, functions, is_titled = self.run_in(drawn_page(range(first, first + 10)), script)
             self.assertEqual((counts, is_titled), (functions, True), first)
 
     def test_escape_leaves_and_a_space_opens_a_block(self):
