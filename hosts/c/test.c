@@ -176,6 +176,7 @@ static void rooms(void) {
     expect(jirrambeo_run(NULL, 0, NULL, 0, NULL, 0, &length) == JIRRAMBEO_WORDS && length == 14, "null pointers without bytes");
     expect(jirrambeo_run(bytes("infer\xff"), 6, NULL, 0, NULL, 0, &length) == JIRRAMBEO_WORDS, "a line that isn't UTF-8");
     expect(jirrambeo_run(bytes(" infer"), 6, NULL, 0, NULL, 0, &length) == JIRRAMBEO_WORDS, "a space before the word");
+    expect(jirrambeo_run(bytes("made  1 1"), 9, NULL, 0, NULL, 0, &length) == JIRRAMBEO_WORDS, "two spaces between words");
 }
 
 static void nulls(void) {

@@ -4,8 +4,6 @@
 mod bytes;
 mod host;
 mod reply;
-#[cfg(test)]
-mod tests;
 mod words;
 
 pub use bytes::{BytesSink, SliceSource};
