@@ -1,5 +1,8 @@
 'use strict';
-/** Copies into `vendor` what a package holds besides its own sources: `npm pack` runs it. */
+/**
+ * Copies into `vendor` what a package holds besides its own sources, and with `--clear` takes it away again, so that a checkout goes on with
+ * its own: `npm pack` runs both.
+ */
 const fs = require('fs');
 const path = require('path');
 
@@ -12,13 +15,19 @@ const FROM = {
   'node/jirrambeo.node': 'hosts/lib/jirrambeo.node',
 };
 
-fs.rmSync(VENDOR, {recursive: true, force: true});
-fs.copyFileSync(path.join(TOP, 'LICENSE'), path.join(__dirname, 'LICENSE'));
-for (const [to, from] of Object.entries(FROM)) {
-  const source = path.join(TOP, from);
-  if (!fs.existsSync(source)) {
-    fs.rmSync(VENDOR, {recursive: true, force: true});
-    throw new Error(`${from} isn't there: hosts/build and then hosts/node/build make it`);
-  }
-  fs.cpSync(source, path.join(VENDOR, to), {recursive: true});
+const LICENSE = path.join(__dirname, 'LICENSE');
+
+function clear() {
+  fs.rmSync(VENDOR, {recursive: true, force: true});
+  fs.rmSync(LICENSE, {force: true});
 }
+
+function copy() {
+  const missing = Object.values(FROM).find(from => !fs.existsSync(path.join(TOP, from)));
+  if (missing) throw new Error(`${missing} isn't there: hosts/build and then hosts/node/build make it`);
+  fs.copyFileSync(path.join(TOP, 'LICENSE'), LICENSE);
+  for (const [to, from] of Object.entries(FROM)) fs.cpSync(path.join(TOP, from), path.join(VENDOR, to), {recursive: true});
+}
+
+clear();
+if (process.argv[2] !== '--clear') copy();

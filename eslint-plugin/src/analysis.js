@@ -24,10 +24,11 @@ const locOf = ({line, column, endLine, endColumn}) => ({start: {line, column: co
 /** A sentence ends with a point. @param {string} text */
 const sentence = text => (/[.!?]$/.test(text) ? text : `${text}.`);
 
-/** All that a report says in one text: what is wrong, its label, other labels with their lines, and what helps. */
+/** All that a report says in one text: what is wrong, its label where that says more, other labels with their lines, and what helps. */
 function messageOf({message, help, labels}) {
   const [first, ...others] = labels;
-  const parts = [sentence(first && first.text ? `${message}: ${first.text}` : message)];
+  const isMore = first && first.text && !message.toLowerCase().includes(first.text.toLowerCase());
+  const parts = [sentence(isMore ? `${message}: ${first.text}` : message)];
   for (const {range, text} of others) parts.push(sentence(`Line ${range.line}: ${text || 'here'}`));
   if (help) parts.push(sentence(help));
   return parts.join(' ');

@@ -38,12 +38,4 @@ function messages(text, rules = plugin.configs.recommended.rules, more = {}) {
   return linterOf().verify(text, {parserOptions: PARSER_OPTIONS, rules, ...more}, {filename: 'file.js'});
 }
 
-const parserPath = name => {
-  try {
-    return require.resolve(name);
-  } catch {
-    return null;
-  }
-};
-
-module.exports = {eslint, skip, plugin, PARSER_OPTIONS, linterOf, messages, given, parserPath, FIXTURES: path.join(__dirname, 'fixtures')};
+module.exports = {eslint, skip, plugin, PARSER_OPTIONS, linterOf, messages, given, FIXTURES: path.join(__dirname, 'fixtures')};

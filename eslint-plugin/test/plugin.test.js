@@ -2,7 +2,7 @@
 /** The plugin around the rules: one analysis a file, configurations, comments, parsers, refusals, what isn't there. */
 const test = require('node:test');
 const assert = require('node:assert');
-const {eslint, skip, plugin, PARSER_OPTIONS, linterOf, messages, parserPath} = require('./data.js');
+const {eslint, skip, plugin, PARSER_OPTIONS, linterOf, messages, given: parser} = require('./data.js');
 const {analysis} = skip ? {analysis: null} : require('../src/analysis.js');
 const {lint} = require('../src/inference.js');
 
@@ -28,7 +28,7 @@ test('a report has its whole place and says what helps', {skip}, () => {
   const [{ruleId, message, line, column, endLine, endColumn}, ...more] = messages(PROPS);
   assert.deepStrictEqual(more, []);
   assert.deepStrictEqual([ruleId, line, column, endLine, endColumn], ['jirrambeo/immutability', 2, 3, 2, 8]);
-  assert.strictEqual(message, 'This value cannot be modified: `props` cannot be modified. ' +
+  assert.strictEqual(message, 'This value cannot be modified. ' +
     'Modifying component props or hook arguments is not allowed. Consider using a local variable instead.');
 });
 
@@ -39,8 +39,9 @@ test('other labels stand in the message, with their lines', {skip}, () => {
 });
 
 test('places count as the editor does', {skip}, () => {
-  const [{line, column}] = messages('const é = "𝒳𝒳"; function C(props) { /* ü𝒳 */ props.n = 1; return <b/>; }');
-  assert.deepStrictEqual([line, column], [1, 48]);
+  const text = 'const é = "𝒳𝒳"; function C(props) { /* ü𝒳 */ props.n = 1; return <b/>; }';
+  const [{line, column}] = messages(text);
+  assert.deepStrictEqual([line, column], [1, text.indexOf('props.n') + 1]);
   const [marked] = messages(`\ufeff${PROPS}`);
   assert.deepStrictEqual([marked.line, marked.column], [2, 3]);
   const [returned] = messages(PROPS.replace(/\n/g, '\r\n'));
@@ -81,9 +82,24 @@ test('a flat configuration works', {skip: skip || (Number(eslint.Linter.version.
   assert.deepStrictEqual(found.map(m => m.ruleId), ['jirrambeo/immutability']);
 });
 
-test('@babel/eslint-parser', {skip: skip || (parserPath('@babel/eslint-parser') ? false : 'the parser is not there')}, () => {
+test('a tree of Babel\'s parser with its plugin `estree`, with types', {skip: skip || (parser('@babel/parser') ? false : 'the parser is not there')}, () => {
   const linter = linterOf();
-  linter.defineParser('babel', require(parserPath('@babel/eslint-parser')));
+  const parse = plugins => ({parse(text) {
+    const {program, comments} = parser('@babel/parser').parse(text, {sourceType: 'module', ranges: true, plugins: ['estree', 'jsx', ...plugins]});
+    return Object.assign(program, {tokens: [], comments: comments.map(c => ({...c, range: [c.start, c.end], type: c.type.replace('Comment', '')}))});
+  }});
+  linter.defineParser('flow', parse(['flow']));
+  linter.defineParser('typescript', parse(['typescript']));
+  const verify = (name, text) => linter.verify(text, {parser: name, rules: plugin.configs.recommended.rules, parserOptions: PARSER_OPTIONS});
+  const flow = verify('flow', '// @flow\nfunction C(props: {n?: ?number}) {\n  props.n = 1;\n  return <b>{props?.n}</b>;\n}\n');
+  const typed = verify('typescript', 'export function C<T>(props: {n: T}) {\n  (props as any).n = 1;\n  return <b>{props!.n}</b>;\n}\n');
+  assert.deepStrictEqual(flow.map(m => [m.ruleId, m.line]), [['jirrambeo/immutability', 3]]);
+  assert.deepStrictEqual(typed.map(m => [m.ruleId, m.line]), [['jirrambeo/immutability', 2]]);
+});
+
+test('@babel/eslint-parser', {skip: skip || (parser('@babel/eslint-parser') ? false : 'the parser is not there')}, () => {
+  const linter = linterOf();
+  linter.defineParser('babel', parser('@babel/eslint-parser'));
   const config = plugins => ({parser: 'babel', rules: plugin.configs.recommended.rules,
     parserOptions: {requireConfigFile: false, sourceType: 'module', babelOptions: {parserOpts: {plugins}}}});
   const flow = linter.verify('// @flow\nfunction C(props: {n?: ?number}) {\n  props.n ??= 1;\n  return <b>{props?.n}</b>;\n}\n', config(['jsx', 'flow']));
@@ -92,9 +108,9 @@ test('@babel/eslint-parser', {skip: skip || (parserPath('@babel/eslint-parser') 
   assert.deepStrictEqual(typed.map(m => [m.ruleId, m.line]), [['jirrambeo/immutability', 2]]);
 });
 
-test('@typescript-eslint/parser', {skip: skip || (parserPath('@typescript-eslint/parser') ? false : 'the parser is not there')}, () => {
+test('@typescript-eslint/parser', {skip: skip || (parser('@typescript-eslint/parser') ? false : 'the parser is not there')}, () => {
   const linter = linterOf();
-  linter.defineParser('typescript', require(parserPath('@typescript-eslint/parser')));
+  linter.defineParser('typescript', parser('@typescript-eslint/parser'));
   const found = linter.verify('export function C<T>(props: {n: T}) {\n  (props as any).n = 1;\n  return <b>{props!.n}</b>;\n}\n',
     {parser: 'typescript', rules: plugin.configs.recommended.rules, parserOptions: PARSER_OPTIONS});
   assert.deepStrictEqual(found.map(m => [m.ruleId, m.line]), [['jirrambeo/immutability', 2]]);
@@ -105,5 +121,5 @@ test('without the inference a sentence says what to do', () => {
 });
 
 test('a server that ends early is told', () => {
-  assert.throws(() => lint([{}], {addon: '/nowhere', server: '/bin/true'}), /\/bin\/true failed: status 0/);
+  assert.throws(() => lint([{}], {addon: '/nowhere', server: '/bin/true'}), /\/bin\/true failed: /);
 });
