@@ -7,7 +7,7 @@
  */
 const {isNode} = require('./syntax.js');
 
-const LEFT_OUT = new Set(['parent', 'loc', 'range', 'tokens', 'comments', 'leadingComments', 'trailingComments', 'innerComments']);
+const LEFT_OUT = new Set(['type', 'start', 'end', 'parent', 'loc', 'range', 'tokens', 'comments', 'leadingComments', 'trailingComments', 'innerComments']);
 /** Types of TypeScript's parser that are called something else in Babel's tree. */
 const RENAMED = {
   PropertyDefinition: 'ClassProperty', TSEmptyBodyFunctionExpression: 'TSDeclareMethod',
@@ -23,9 +23,11 @@ const placeOf = node => (typeof node.start === 'number' ? {start: node.start, en
 function copied(node) {
   /** @type {Node} */
   const out = {type: RENAMED[node.type] || node.type, ...placeOf(node)};
-  for (const [key, value] of Object.entries(node)) {
-    if (LEFT_OUT.has(key) || key === 'type' || key === 'start' || key === 'end') continue;
-    out[key] = Array.isArray(value) ? value.filter(x => !isDirective(x)).map(turned) : turned(value);
+  for (const key of Object.keys(node)) {
+    if (LEFT_OUT.has(key)) continue;
+    const value = node[key];
+    if (value === null || typeof value !== 'object') out[key] = value;
+    else out[key] = Array.isArray(value) ? value.filter(x => !isDirective(x)).map(turned) : turned(value);
   }
   return out;
 }

@@ -11,6 +11,7 @@ declare module 'node:module';
 declare module 'node:os';
 declare module 'node:path';
 declare module 'node:test';
+declare module 'node:worker_threads';
 declare const process: any;
 declare const Buffer: any;
 declare const __dirname: string;
