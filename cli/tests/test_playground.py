@@ -23,15 +23,17 @@ class Said:
     is_proved, AT_ONCE = True, 1
 
     def __init__(self):
-        self.front, self.asked = mock.Mock(), []
+        self.front, self.asked, self.stopped = mock.Mock(), [], threading.Event()
         self.front.functions.side_effect = self.functions
 
     def functions(self, file, data):
         self.asked.append(data.decode())
+        if data == b'long':
+            self.stopped.wait()
         return {'functions': []}
 
     def stop(self):
-        pass
+        self.stopped.set()
 
     def close(self):
         pass
@@ -128,6 +130,13 @@ class Serving(unittest.TestCase):
         status, text = self.told({'text': 'x' * 9 * playground.MOST})
         self.assertEqual((status, 'too long' in json.loads(text)['sentence']), (413, True))
         self.assertEqual(self.told({'text': ' ' * playground.MOST})[0], 200)
+
+    def test_what_takes_too_long_is_ended(self):
+        with mock.patch.object(playground, 'TIME', 0.05):
+            told = json.loads(self.told({'text': 'long'})[1])
+        self.assertEqual(told, {'sentence': 'There is no answer after 0 seconds.'})
+        self.assertTrue(self.said.stopped.is_set())
+        self.assertIn('units', json.loads(self.told({'text': 'x'})[1]))
 
     def test_what_is_no_question(self):
         for question in (1, [], {}, {'text': 1}, {'text': 'x', 'unit': 'y'}):
