@@ -134,13 +134,11 @@ fn unit_keys(alloc: Global, format: Format, path: &Path, value: &Tree) -> Result
     }
 }
 
-fn with_context_values(root: HirFunction, context_values: List<ContextValue>) -> HirFunction
+fn with_context_values(mut root: HirFunction, context_values: List<ContextValue>) -> HirFunction
     ensures { result ≡ with_context_values root context_values }
 {
-    HirFunction {
-        context_values,
-        ..root
-    }
+    root.context_values = context_values;
+    root
 }
 
 fn environment(alloc: Global, path: &Path, value: &Tree) -> Result<Environment, ValueFault>
