@@ -1,7 +1,9 @@
 -- The names of the kinds of instruction.
 use Rattle.std.specs.Prelude.{ℕ, List, [], ◌∷◌, codes}
 use Rattle.alias_read.specs.declared.value_kinds.InstructionValueKind.{InstructionValueKind}
-use Rattle.alias_read.specs.declared.value_kinds.InstructionValueKind.TheVariants.{Plain, OnePlace, TwoPlaces, PlaceList, Function, Declare, Store, Call, ArrayExpression, ObjectExpression, MethodCall, PropertyStore, ComputedStore, JsxExpression, Destructure, StoreGlobal}
+use Rattle.alias_read.specs.declared.value_kinds.InstructionValueKind.TheVariants.{Plain, OnePlace, TwoPlaces,
+    PlaceList, Function, Declare, Store, Call, ArrayExpression, ObjectExpression, MethodCall, PropertyStore,
+    ComputedStore, JsxExpression, Destructure, StoreGlobal}
 use Rattle.alias_read.specs.declared.value_kinds.PlainKind.TheVariants as plain
 use Rattle.alias_read.specs.declared.value_kinds.OnePlaceKind.TheVariants as one
 use Rattle.alias_read.specs.declared.value_kinds.TwoPlacesKind.TheVariants as two

@@ -17,16 +17,20 @@ use Rattle.alias_cause_laws.proofs.causes.Walking.{flows_listed}
 use Rattle.alias_cause_laws.specs.nested.Leaving.{LeavesRanges}
 
 -- what holds of the listing holds of what is recorded
-pub of_recorded : (f : HirFunction) (l : Listing) (P : Listing → Type 0) → recorded f ≡ Ok l → P l → IsOkAnd (recorded f) P
+pub of_recorded : (f : HirFunction) (l : Listing) (P : Listing → Type 0) → recorded f ≡ Ok l → P l
+    → IsOkAnd (recorded f) P
 of_recorded f l P is h = subst (λ (q : Result Listing InferError). IsOkAnd q P) (sym is) h
 
-pub pass_ranges : (b : Bool) (f : HirFunction) (env : Environment) (r : Ranged) → function_fits f env ≡ true → range_pass b f env ≡ Ok r → LeavesRanges f env r
+pub pass_ranges : (b : Bool) (f : HirFunction) (env : Environment) (r : Ranged) → function_fits f env ≡ true
+    → range_pass b f env ≡ Ok r → LeavesRanges f env r
 pass_ranges b f env r fits h =
     let c = ranged_covers b f env r fits h in
     let left = pass_leaves b f env r h in
     record {
       cover = of_recorded f c.0 (λ l. Covers (graph_listed l) l.mutations r.after.1.identifiers) c.1 c.2;
       heap = heap_is_covered f r.after.1.identifiers c.0 c.1 c.2;
-      cause = of_recorded f left.listing (λ l. Causes (graph_listed l) l.mutations f.instructions env.identifiers r.after.1.identifiers) left.recorded left.causes;
+      cause = of_recorded f left.listing (λ l.
+          Causes (graph_listed l) l.mutations f.instructions env.identifiers r.after.1.identifiers) left.recorded
+          left.causes;
       flows = flows_listed b f env r fits h;
     }

@@ -5,7 +5,8 @@ use Rattle.alias_hir.specs.declared.hir.HirFunction.{HirFunction}
 use Rattle.alias_ranges.specs.Ranges.{RangesCover, RangesHaveCauses, ListsFlows}
 use Rattle.alias_range_pass.specs.Passes.{Ranged}
 
--- ranges cover what the function records, and the heap; each end is that of before or has a cause; and the summary ends with the flows
+-- ranges cover what the function records, and the heap; each end is that of before or has a cause; and the summary ends
+-- with the flows
 pub record LeavesRanges (f : HirFunction) (env : Environment) (r : Ranged) : Type 0 where
   pub cover : RangesCover f r.after.1.identifiers
   pub heap : HeapIsCovered f r.after.1.identifiers
