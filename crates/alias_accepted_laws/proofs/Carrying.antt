@@ -18,12 +18,12 @@ use Rattle.alias_step.specs.declared.block.recorded.BlockEffects.{BlockEffects}
 use Rattle.alias_step.specs.declared.block.recorded.InstructionEffects.{InstructionEffects}
 use Rattle.alias_step.specs.declared.block.recorded.TerminalEffects.{TerminalEffects}
 use Rattle.alias_effects.specs.Inference.{instructions_recorded, terminal_recorded}
-use Rattle.alias_effects.specs.Recording.{recorded_instructions, block_with, with_terminal_at, recorded_terminals,
-    with_effects_of}
+use Rattle.alias_effects.specs.Recording.{recorded_instructions, block_with, with_terminal_at, recorded_terminals}
+use Rattle.alias_effects.specs.Recording.{with_effects_of}
 use Rattle.alias_effects.specs.declared.solved.Solved.{Solved}
 use Rattle.alias_certificate_laws.specs.accepting.Alike.{Paired, none, more, Maybe, nothing, just, Alike, AlikeEffects}
-use Rattle.alias_certificate_laws.specs.accepting.AlikeBlocks.{AlikeInstruction, of_instruction, AlikeTerminal,
-    of_terminal, AlikeRecorded}
+use Rattle.alias_certificate_laws.specs.accepting.AlikeBlocks.{AlikeInstruction, of_instruction, AlikeTerminal}
+use Rattle.alias_certificate_laws.specs.accepting.AlikeBlocks.{of_terminal, AlikeRecorded}
 use Rattle.alias_certificate_laws.proofs.accepting.Likeness.{paired_self, paired_append, paired_get, alike_self}
 use Rattle.alias_range_alike_laws.specs.Ranging.{CarryAlike, carried, EndAlike, stays, ended, CarriesAlike}
 use Rattle.alias_accepted_laws.proofs.Seen.{paired_set}
@@ -48,20 +48,20 @@ terminals_alike rs qs (more {xs = xs} {ys = ys} (just a) rest) = paired_append a
 put_at : (n : ℕ) (es fs : List AliasingEffect) → AlikeEffects es fs
     → (xs ys : List Instruction) (o p : Option Instruction) → Maybe CarryAlike o p → Paired CarryAlike xs ys
     → Paired CarryAlike (option_map_or (λ (x : Instruction). slice_set xs n (record x { effects = Some es })) o xs)
-        (option_map_or (λ (x : Instruction). slice_set ys n (record x { effects = Some fs })) p ys)
+    (option_map_or (λ (x : Instruction). slice_set ys n (record x { effects = Some fs })) p ys)
 put_at n es fs a xs ys o p nothing all = all
 put_at n es fs a xs ys o p (just (carried i effects m)) all =
     paired_set CarryAlike n (record i { effects = Some es }) (record i { effects = Some fs })
-        (carried (record i { effects = Some es }) (Some fs) (just a)) all
+    (carried (record i { effects = Some es }) (Some fs) (just a)) all
 
 put_all : (is js : List InstructionEffects) → Paired AlikeInstruction is js → (xs ys : List Instruction)
     → Paired CarryAlike xs ys → Paired CarryAlike (recorded_instructions is xs) (recorded_instructions js ys)
 put_all is js none xs ys all = all
 put_all is js (more {xs = us} {ys = vs} (of_instruction n es fs a) rest) xs ys all =
     let later : Paired CarryAlike (recorded_instructions us xs) (recorded_instructions vs ys) =
-        put_all us vs rest xs ys all in
+    put_all us vs rest xs ys all in
     put_at n.0 es fs a (recorded_instructions us xs) (recorded_instructions vs ys) _ _
-        (paired_get n.0 (recorded_instructions us xs) (recorded_instructions vs ys) later) later
+    (paired_get n.0 (recorded_instructions us xs) (recorded_instructions vs ys) later) later
 
 effects_self : (o : Option (List AliasingEffect)) → Maybe AlikeEffects o o
 effects_self None = nothing
@@ -89,7 +89,7 @@ end_by : (b : BlockId) (block : BasicBlock) (es fs : List AliasingEffect) (t : T
     ≡ with_terminal_effects block.terminal fs → EndAlike (b, block_with block es) (b, record block { terminal = t })
 end_by b block es fs t a e =
     subst (λ (z : Terminal). EndAlike (b, block_with block es) (b, record block { terminal = z }))
-        (put_again block.terminal es fs ∙ sym e) (ended b (block_with block es) fs (put_alike block.terminal es fs a))
+    (put_again block.terminal es fs ∙ sym e) (ended b (block_with block es) fs (put_alike block.terminal es fs a))
 
 new_end : (x y : BlockId × BasicBlock) (es fs : List AliasingEffect) → AlikeEffects es fs → EndAlike x y
     → EndAlike (x.0, block_with x.1 es) (y.0, block_with y.1 fs)
@@ -111,7 +111,7 @@ value_put zero bs cs x y v w (more {a = a} {b = b} q rest) at there new =
     let first : a ≡ x = cc in
     let second : b ≡ y = cc in
     more (subst (λ (z : BlockId × BasicBlock). EndAlike (z.0, v) (b.0, w)) (sym first)
-        (subst (λ (z : BlockId × BasicBlock). EndAlike (x.0, v) (z.0, w)) (sym second) new)) rest
+    (subst (λ (z : BlockId × BasicBlock). EndAlike (x.0, v) (z.0, w)) (sym second) new)) rest
 value_put (suc n) bs cs x y v w (more {xs = xs} {ys = ys} q rest) at there new =
     more q (value_put n xs ys x y v w rest at there new)
 
@@ -119,7 +119,7 @@ end_put : (n : ℕ) (es fs : List AliasingEffect) → AlikeEffects es fs
     → (bs cs : List (BlockId × BasicBlock)) (o p : Option (BlockId × BasicBlock)) → slice_get bs n ≡ o → slice_get cs n
     ≡ p → Maybe EndAlike o p → Paired EndAlike bs cs
     → Paired EndAlike (option_map_or (λ (x : BlockId × BasicBlock). set_value_at bs n (block_with x.1 es)) o bs)
-        (option_map_or (λ (x : BlockId × BasicBlock). set_value_at cs n (block_with x.1 fs)) p cs)
+    (option_map_or (λ (x : BlockId × BasicBlock). set_value_at cs n (block_with x.1 fs)) p cs)
 end_put n es fs a bs cs o p at there nothing all = all
 end_put n es fs a bs cs o p at there (just {a = x} {b = y} q) all =
     value_put n bs cs x y (block_with x.1 es) (block_with y.1 fs) all at there (new_end x y es fs a q)
@@ -137,11 +137,11 @@ ends_all is js none bs cs all = all
 ends_all is js (more {xs = us} {ys = vs} (of_terminal b es fs a) rest) bs cs all =
     let later : Paired EndAlike (recorded_terminals us bs) (recorded_terminals vs cs) = ends_all us vs rest bs cs all in
     subst (λ ks. Paired EndAlike (option_map_or (with_terminal_at es (recorded_terminals us bs))
-        (position (same_block b) (keys_of (recorded_terminals us bs))) (recorded_terminals us bs))
+    (position (same_block b) (keys_of (recorded_terminals us bs))) (recorded_terminals us bs))
     (option_map_or (with_terminal_at fs (recorded_terminals vs cs)) (position (same_block b) ks)
-        (recorded_terminals vs cs))) (sym (same_keys (recorded_terminals us bs) (recorded_terminals vs cs) later))
+    (recorded_terminals vs cs))) (sym (same_keys (recorded_terminals us bs) (recorded_terminals vs cs) later))
     (ends_put b es fs a (recorded_terminals us bs) (recorded_terminals vs cs) later
-        (position (same_block b) (keys_of (recorded_terminals us bs))))
+    (position (same_block b) (keys_of (recorded_terminals us bs))))
 
 -- ---- a function
 

@@ -1,7 +1,7 @@
 -- The check of a function accepts the certificate that says its solution, and ends with what is alike.
 use Rattle.std.specs.Prelude.{map, slice_get, Result}
-use Rattle.std.proofs.Common.{◌≡◌, ℕ, zero, suc, ◌⊎◌, ⊎_elim, Bool, true, List, [], ◌∷◌, length, replicate, Option,
-    Some, None, Ok, Err, refl, ap, sym, ◌∙◌, subst, arith}
+use Rattle.std.proofs.Common.{◌≡◌, ℕ, zero, suc, ◌⊎◌, ⊎_elim, Bool, true, List, [], ◌∷◌, length, replicate, Option}
+use Rattle.std.proofs.Common.{Some, None, Ok, Err, refl, ap, sym, ◌∙◌, subst, arith}
 use Rattle.std.specs.Option.{is_some}
 use Rattle.alias_base.specs.Answer.{◌>>=◌}
 use Rattle.alias_base.specs.Find.{value_at}
@@ -35,14 +35,14 @@ use Rattle.alias_cert.specs.function.Faults.{faulted}
 use Rattle.alias_cert.specs.function.Functions.{checked_end, function_solved}
 use Rattle.alias_cert.specs.function.Temporaries.{temporaries_stated}
 use Rattle.alias_certificate_laws.specs.accepting.Accepting.{rules, rules_of, IsAcceptedOrFull, accepted, full}
-use Rattle.alias_certificate_laws.specs.accepting.Alike.{Paired, none, more, Maybe, nothing, just, AlikeTemporaries,
-    Gives, given, excused, Elsewhere, elsewhere}
+use Rattle.alias_certificate_laws.specs.accepting.Alike.{Paired, none, more, Maybe, nothing, just, AlikeTemporaries}
+use Rattle.alias_certificate_laws.specs.accepting.Alike.{Gives, given, excused, Elsewhere, elsewhere}
 use Rattle.alias_certificate_laws.specs.accepting.AlikeBlocks.{AlikeRecorded, AlikeOut, out, IsBlockFull}
 use Rattle.alias_certificate_laws.specs.accepting.Certifying.{IsSolution}
 use Rattle.alias_certificate_laws.specs.accepting.Saying.{said_temporary, said_function}
 use Rattle.alias_certificate_laws.proofs.accepting.Blocking.{away, same_infer_block}
-use Rattle.alias_certificate_laws.proofs.accepting.Certifying.{some_or_none, laws, asked as asked_of, remade,
-    begun as begun_of, before, steps_accepted}
+use Rattle.alias_certificate_laws.proofs.accepting.Certifying.{some_or_none, laws, asked as asked_of, remade}
+use Rattle.alias_certificate_laws.proofs.accepting.Certifying.{begun as begun_of, before, steps_accepted}
 use Rattle.alias_certificate_laws.proofs.accepting.Knowing.{facts_elsewhere}
 use Rattle.alias_certificate_laws.proofs.accepting.Solutions.{stepped_is, reached_there}
 use Rattle.alias_accepted_laws.specs.Following.{OrFull, done, full as full_check}
@@ -95,7 +95,7 @@ module _ (env : Environment) (func : HirFunction) (e : Bool) (o : Elsewhere env)
   block_steps_alike block x y z k q tables there first second likes =
       given_alike tables.temporaries y z k q there (infer_block (away here o) block.0 block.1 x there) second
       ((same_infer_block here o block.0 block.1 x).again tables tables there (y, k) first
-          (grows_self tables.temporaries) likes)
+      (grows_self tables.temporaries) likes)
 
   steps_alike_at : (x y z : State) (k q : BlockEffects) (tables there : TableLists) (b : Option (BlockId × BasicBlock))
       → step_at here b tables x ≡ Stepped y tables k → step_at (context_of (elsewhere env o) func e) b there x
@@ -105,12 +105,12 @@ module _ (env : Environment) (func : HirFunction) (e : Bool) (o : Elsewhere env)
       let mine : no_effects ≡ k = cc in
       let other : no_effects ≡ q = cc in
       subst (λ r. AlikeRecorded r q) mine (subst (λ r. AlikeRecorded no_effects r) other
-          (record { instructions = none; terminal = none }))
+      (record { instructions = none; terminal = none }))
   steps_alike_at x y z k q tables there (Some block) first second likes =
       block_steps_alike block x y z k q tables there
-          (stepped_is (infer_block here block.0 block.1 x tables) y k tables first)
+      (stepped_is (infer_block here block.0 block.1 x tables) y k tables first)
       (stepped_is (infer_block (away here o) block.0 block.1 x there) z q there
-          (ap (λ c. outcome_of (infer_block c block.0 block.1 x there)) (sym context_there) ∙ second)) likes
+      (ap (λ c. outcome_of (infer_block c block.0 block.1 x there)) (sym context_there) ∙ second)) likes
 
   steps_alike : (b : ℕ) (x y z : State) (k q : BlockEffects) (tables there : TableLists)
       → (rules env func e).flow.step tables b x ≡ Stepped y tables k
@@ -123,8 +123,8 @@ module _ (env : Environment) (func : HirFunction) (e : Bool)
     (entered : is_some (value_at func.body.blocks func.body.entry) ≡ true) (tables : TableLists)
     (entries : List (Option State)) (recorded : List (Option BlockEffects))
     (s : IsSolution env func e tables entries recorded)
-        (others : KeepsOthers (entry_at entries) (replicate (length func.body.blocks) None) recorded)
-        (o : Elsewhere env) (id : Option FunctionId) (summary : List (List ℕ)) where
+    (others : KeepsOthers (entry_at entries) (replicate (length func.body.blocks) None) recorded)
+    (o : Elsewhere env) (id : Option FunctionId) (summary : List (List ℕ)) where
   abbrev abroad : Environment
   abroad = elsewhere env o
 
@@ -181,15 +181,15 @@ module _ (env : Environment) (func : HirFunction) (e : Bool)
         let t = there_keeps b x is in
         let a : AlikeRecorded h.1 t.1 = steps_alike env func e o b x h.0 t.0 h.1 t.1 tables w.tables h.2 t.2 like in
         subst (λ p. Maybe AlikeRecorded p (entry_at w.recorded b)) (sym h.3)
-            (subst (λ q. Maybe AlikeRecorded (Some h.1) q) (sym t.3) (just a))
+        (subst (λ q. Maybe AlikeRecorded (Some h.1) q) (sym t.3) (just a))
 
     nothing_there : (b : ℕ) → entry_at entries b ≡ None
         → Maybe AlikeRecorded (entry_at recorded b) (entry_at w.recorded b)
     nothing_there b is =
         subst (λ p. Maybe AlikeRecorded p (entry_at w.recorded b))
-            (sym (others b is ∙ none_of (length func.body.blocks) b))
+        (sym (others b is ∙ none_of (length func.body.blocks) b))
         (subst (λ q. Maybe AlikeRecorded None q) (sym (there_others b is ∙ none_of (length func.body.blocks) b))
-            nothing)
+        nothing)
 
     each_alike : (b : ℕ) → Maybe AlikeRecorded (entry_at recorded b) (entry_at w.recorded b)
     each_alike b = ⊎_elim (λ x. block_alike b x.0 x.1) (λ none. nothing_there b none)
@@ -213,9 +213,9 @@ module _ (env : Environment) (func : HirFunction) (e : Bool)
       (replicate (length func.body.blocks) None)) → OrFull EndsSo (function_solved c abroad func e)
   finished (accepted w is like) =
       done (checked_end c abroad func e entries w)
-          (before env func e entered tables entries recorded s o id summary
-          ∙ ap (λ r. faulted id abroad func.body.blocks r >>= (λ w. Ok (checked_end c abroad func e entries w))) is)
-          (ends_so w is like)
+      (before env func e entered tables entries recorded s o id summary
+      ∙ ap (λ r. faulted id abroad func.body.blocks r >>= (λ w. Ok (checked_end c abroad func e entries w))) is)
+      (ends_so w is like)
   finished (full b i is) = full_check (before env func e entered tables entries recorded s o id summary
       ∙ ap (λ r. faulted id abroad func.body.blocks r >>= (λ w. Ok (checked_end c abroad func e entries w))) is)
 

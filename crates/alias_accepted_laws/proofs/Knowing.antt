@@ -1,6 +1,6 @@
 -- Over other spans of identifiers the same is known of a function, and instructions have the same signatures.
-use Rattle.std.specs.Prelude.{◌≡◌, ℕ, ◌&&◌, ◌||◌, not, Bool, true, false, if◌then◌else◌, fold, length, List, [], ◌∷◌,
-    ◌++◌, map, option_map, option_and_then, Option, Some, None, slice_get, refl}
+use Rattle.std.specs.Prelude.{◌≡◌, ℕ, ◌&&◌, ◌||◌, not, Bool, true, false, if◌then◌else◌, fold, length, List, [], ◌∷◌}
+use Rattle.std.specs.Prelude.{◌++◌, map, option_map, option_and_then, Option, Some, None, slice_get, refl}
 use Rattle.std.proofs.Common.{ap, sym}
 use Rattle.std.specs.List.{flat_map}
 use Rattle.std.specs.Option.{option_map_or, is_some}
@@ -8,12 +8,12 @@ use Rattle.alias_base.specs.declared.ids.DeclarationId.{DeclarationId}
 use Rattle.alias_base.specs.declared.ids.IdentifierId.{IdentifierId}
 use Rattle.alias_hir.specs.Parts.{tag_places}
 use Rattle.alias_hir.specs.Terminals.{terminal_places}
-use Rattle.alias_hir.specs.Types.{type_at, type_of, is_primitive_type, is_untyped, is_ref_or_ref_value,
-    is_builtin_collection_type, returns_jsx, is_primitive_at, is_untyped_at, is_ref_at, is_builtin_collection_at,
-    returns_jsx_at}
+use Rattle.alias_hir.specs.Types.{type_at, type_of, is_primitive_type, is_untyped, is_ref_or_ref_value}
+use Rattle.alias_hir.specs.Types.{is_builtin_collection_type, returns_jsx, is_primitive_at, is_untyped_at, is_ref_at}
+use Rattle.alias_hir.specs.Types.{is_builtin_collection_at, returns_jsx_at}
 use Rattle.alias_hir.specs.Tables.{function_signature, hook_kind}
-use Rattle.alias_hir.specs.declared.effect.AliasingEffect.TheVariants.{Apply, CreateFrom, Assign, Alias, Capture,
-    MutateTransitiveConditionally, Render}
+use Rattle.alias_hir.specs.declared.effect.AliasingEffect.TheVariants.{Apply, CreateFrom, Assign, Alias, Capture}
+use Rattle.alias_hir.specs.declared.effect.AliasingEffect.TheVariants.{MutateTransitiveConditionally, Render}
 use Rattle.alias_hir.specs.declared.effect.MutationReason.TheVariants.{AssignCurrentProperty}
 use Rattle.alias_hir.specs.declared.effect.ValueKind.TheVariants.{Primitive, Mutable}
 use Rattle.alias_hir.specs.declared.env.Environment.{Environment}
@@ -238,16 +238,16 @@ module _ (env : Environment) (ids : List Identifier) (spans : Paired Respanned e
       (if is_current property && untyped_same object.identifier i then Some AssignCurrentProperty else None)
   signature_same facts d l span (value.GetIterator collection) =
       λ i. created l Mutable ∷ (if collection_same collection.identifier i then Capture collection l ∷ []
-          else Alias collection l ∷ MutateTransitiveConditionally collection ∷ [])
+      else Alias collection l ∷ MutateTransitiveConditionally collection ∷ [])
   signature_same facts d l span (value.JsxExpression tag props children) =
       λ i. jsx_effects l (operands_of env (value.JsxExpression tag props children))
-          ++ (map Render (tag_places tag) ++ map Render children ++ flat_map (λ a. attribute_same a i) props)
+      ++ (map Render (tag_places tag) ++ map Render children ++ flat_map (λ a. attribute_same a i) props)
   signature_same facts d l span (value.Destructure variables v) = λ i. pattern_same facts.spreads v variables.pattern i
       ++ Assign v l ∷ []
   signature_same facts d l span (value.DeclareContext variable) =
       λ i. binding_effect (not (is_hoisting variable.kind) && hoisted_same facts.hoisted variable.place.identifier i)
-          variable.place ∷ created l Primitive ∷ []
+      variable.place ∷ created l Primitive ∷ []
   signature_same facts d l span (value.StoreContext variable v) =
       λ i. binding_effect (is_reassigning variable.kind || hoisted_same facts.hoisted variable.place.identifier i)
-          variable.place ∷ Capture v variable.place ∷ Assign v l ∷ []
+      variable.place ∷ Capture v variable.place ∷ Assign v l ∷ []
   signature_same facts d l span v = refl

@@ -1,7 +1,7 @@
 -- What the check of a function notes of context places is of functions that an instruction creates that carries an
 -- effect afterwards.
-use Rattle.std.specs.Prelude.{◌≡◌, ℕ, ◌+◌, ◌<◌, cond, Bool, true, false, if◌then◌else◌, ◌&&◌, ◌==◌, List, [], ◌∷◌, ◌++◌,
-    length, Option, Some, None, Result, Ok, Err, slice_get, refl}
+use Rattle.std.specs.Prelude.{◌≡◌, ℕ, ◌+◌, ◌<◌, cond, Bool, true, false, if◌then◌else◌, ◌&&◌, ◌==◌, List, [], ◌∷◌, ◌++◌}
+use Rattle.std.specs.Prelude.{length, Option, Some, None, Result, Ok, Err, slice_get, refl}
 use Rattle.std.proofs.Common.{ap, sym, ◌∙◌, subst}
 use Rattle.std.specs.List.{AllByRecursion}
 use Rattle.std.specs.Option.{option_map_or}
@@ -39,8 +39,8 @@ use Rattle.alias_effects.specs.PassLaws.{outcome_is}
 use Rattle.alias_certificate.specs.declared.certificate.CertTemporary.{CertTemporary}
 use Rattle.alias_certificate.specs.declared.fault.CheckFault.{CheckFault}
 use Rattle.alias_certificate.specs.declared.fault.CheckFault.TheVariants as fault
-use Rattle.alias_cert.specs.function.Temporaries.{is_key_there, next_number, given, temporary_stated,
-    temporaries_stated}
+use Rattle.alias_cert.specs.function.Temporaries.{is_key_there, next_number, given, temporary_stated}
+use Rattle.alias_cert.specs.function.Temporaries.{temporaries_stated}
 use Rattle.alias_effects_laws.specs.entries.Named.{KeyNamed, AreNumbered}
 use Rattle.alias_effects_laws.proofs.entries.Blocks.{OptionNamed, AreNamed, PhisNamed, ReturnNamed, block_named}
 use Rattle.alias_effects_laws.proofs.entries.Counting.{Counted}
@@ -71,8 +71,8 @@ module _ (function : Option FunctionId) (env : Environment) where
   temporary_fresh None key t u p f h =
       let q : Place = new_place (length env.identifiers) (length t.temporaries) None in
       made_fresh (has_room (length env.identifiers) (length env.types) (length t.temporaries))
-          (record t { temporaries = t.temporaries ++ temporary_of key q ∷ [] }) t u p q (refused.TooMany Identifiers)
-          (record { first = f.first; reads = f.reads }) h
+      (record t { temporaries = t.temporaries ++ temporary_of key q ∷ [] }) t u p q (refused.TooMany Identifiers)
+      (record { first = f.first; reads = f.reads }) h
 
   given_fresh : (n : ℕ) (t u : TableLists) (r : Result (Place × TableLists) Refusal)
       → ((p : Place) (v : TableLists) → r ≡ Ok (p, v) → IsFresh v) → given function env n r ≡ Ok u → IsFresh u
@@ -98,8 +98,8 @@ module _ (function : Option FunctionId) (env : Environment) where
   stated_fresh (c ∷ cs) t u f h =
       let p = went (temporary_stated function env c t) (temporaries_stated function env cs) u h in
       stated_fresh cs p.0 u (one_fresh c t p.0
-          (is_key_there (next_number function env t) (length env.functions) c.key
-          && (c.identifier.0 == next_number function env t)) f p.1) p.2
+      (is_key_there (next_number function env t) (length env.functions) c.key
+      && (c.identifier.0 == next_number function env t)) f p.1) p.2
 
 -- ---- temporaries that are alike are counted on from the identifiers too
 
@@ -108,8 +108,8 @@ none_alike : (key : TempKey) (xs ys : List Temporary) → AlikeTemporaries xs ys
 none_alike key xs ys none h = refl
 none_alike key xs ys (more {xs = us} {ys = vs} (of_key k p q) rest) h =
     elim (same_temp k key) as (λ b. cond b (Some (record { key = k; place = p })) (temp_like key us) ≡ None
-        → cond b (Some (record { key = k; place = moved p q })) (temp_like key vs) ≡ None)
-        [ true ↦ λ g. cc | false ↦ λ g. none_alike key us vs rest g ] h
+    → cond b (Some (record { key = k; place = moved p q })) (temp_like key vs) ≡ None)
+    [ true ↦ λ g. cc | false ↦ λ g. none_alike key us vs rest g ] h
 
 module _ (env other : Environment) (identifiers : length env.identifiers ≡ length other.identifiers)
     (types : length env.types ≡ length other.types) (functions : length env.functions ≡ length other.functions) where
@@ -124,7 +124,7 @@ module _ (env other : Environment) (identifiers : length env.identifiers ≡ len
   numbered_too done others xs ys d (more {xs = us} {ys = vs} (of_key k p q) rest) h =
       let long : length done ≡ length others = same_length done others d in
       let next : length env.identifiers + length done ≡ length other.identifiers + length others =
-          ap (λ n. n + length done) identifiers ∙ ap (λ n. length other.identifiers + n) long in (
+      ap (λ n. n + length done) identifiers ∙ ap (λ n. length other.identifiers + n) long in (
         (
           h.0.0 ∙ next,
           none_alike k done others d h.0.1,
@@ -193,10 +193,10 @@ AnyNumber n = Unit {0}
 module _ (env : Environment) (func : HirFunction) (b : Bool) (F : FunctionId → Type 0)
     (functions : (f : FunctionId) → F f → IsThere env f)
     (named : (n : ℕ) (block : BlockId × BasicBlock) → IsReached (numbered (context_of env func b)).flow n
-        → slice_get func.body.blocks n ≡ Some block → AreNamed env F func block.1.instructions)
+    → slice_get func.body.blocks n ≡ Some block → AreNamed env F func block.1.instructions)
     (bindings : (d : BlockId) (p : Place) → binding_at (context_of env func b).facts.handlers d ≡ Some p
-        → InTable env p) (returns : (n : ℕ) (block : BlockId × BasicBlock) → slice_get func.body.blocks n ≡ Some block
-        → ReturnNamed env block.1.terminal) where
+    → InTable env p) (returns : (n : ℕ) (block : BlockId × BasicBlock) → slice_get func.body.blocks n ≡ Some block
+    → ReturnNamed env block.1.terminal) where
   names : Naming env (λ t. AnyNumber) F
   names = record { identifiers = λ t n h. tt; later = λ t u x n h. tt; functions = functions }
 
@@ -211,7 +211,7 @@ module _ (env : Environment) (func : HirFunction) (b : Bool) (F : FunctionId →
   step_counts n None t x y u k at reached s c e = let same : t ≡ u = cc in subst (Counted env F) same c
   step_counts n (Some block) t x y u k at reached s c e =
       (block_named (context_of env func b) (λ t. AnyNumber) F names bindings block.0 block.1 x t u y k
-          (any_phis block.1.phis) (named n block reached at) (returns n block at) c s
+      (any_phis block.1.phis) (named n block reached at) (returns n block at) c s
       (outcome_is (infer_block (context_of env func b) block.0 block.1 x t) y u k e)).0
 
   -- a step of a reached block, from a state whose function sites have F

@@ -1,7 +1,7 @@
 -- The check of a function follows its effects pass: it accepts what is said of it, and ends with what is alike.
 use Rattle.std.specs.Prelude.{replicate, Result, map, slice_get}
-use Rattle.std.proofs.Common.{◌≡◌, ℕ, ◌+◌, ◌<◌, Bool, true, List, [], ◌∷◌, ◌++◌, length, Option, Some, None, Ok, refl,
-    ap, sym, ◌∙◌, subst}
+use Rattle.std.proofs.Common.{◌≡◌, ℕ, ◌+◌, ◌<◌, Bool, true, List, [], ◌∷◌, ◌++◌, length, Option, Some, None, Ok, refl}
+use Rattle.std.proofs.Common.{ap, sym, ◌∙◌, subst}
 use Rattle.std.specs.List.{AllByRecursion}
 use Rattle.std.specs.Option.{is_some}
 use Rattle.alias_base.specs.Find.{value_at}
@@ -47,15 +47,15 @@ use Rattle.alias_certificate_laws.specs.accepting.Saying.{NamesThere, AreCounted
 use Rattle.alias_certificate_laws.proofs.accepting.Calling.{same_length}
 use Rattle.alias_certificate_laws.proofs.accepting.Elsewhere.{context_at_elsewhere}
 use Rattle.alias_certified_laws.specs.Names.{NamesAreThere}
-use Rattle.alias_accepted_laws.specs.Following.{SeenAlike, OrFull, done, full, ReadsAreSetIn, EndsAlike,
-    PassesAreFollowed}
+use Rattle.alias_accepted_laws.specs.Following.{SeenAlike, OrFull, done, full, ReadsAreSetIn, EndsAlike}
+use Rattle.alias_accepted_laws.specs.Following.{PassesAreFollowed}
 use Rattle.alias_range_alike_laws.specs.Ranging.{CarriesAlike}
 use Rattle.alias_accepted_laws.specs.Spans.{with_ids, SpansAreNotRead}
 use Rattle.alias_accepted_laws.proofs.Carrying.{instructions_alike, terminals_alike, recorded_carry}
 use Rattle.alias_accepted_laws.proofs.Certifying.{EndsSo, certifies}
 use Rattle.alias_accepted_laws.proofs.Checking.{check_keeps_tables}
-use Rattle.alias_accepted_laws.proofs.Noting.{IsFresh, stated_fresh, numbered_too, in_table_too, return_too, named_too,
-    there_too, AnyNumber, any_stating, flow_counts}
+use Rattle.alias_accepted_laws.proofs.Noting.{IsFresh, stated_fresh, numbered_too, in_table_too, return_too, named_too}
+use Rattle.alias_accepted_laws.proofs.Noting.{there_too, AnyNumber, any_stating, flow_counts}
 use Rattle.alias_accepted_laws.proofs.Reading.{CreatedThere, reached_create, Own, all_set}
 use Rattle.alias_accepted_laws.proofs.Solved.{IsSolved, is_solved, solution, others}
 
@@ -91,7 +91,7 @@ module _ (env : Environment) (ids : List Identifier) (long : length env.identifi
 module _ (names : NamesAreThere) (spans : SpansAreNotRead) (env other : Environment) (func : HirFunction) (b : Bool)
     (w : SolverState (VisitLog State) TableLists BlockEffects) (fits : function_fits func env ≡ true)
     (ends : visits_end (context_of env func b) ≡ Solved w) (seen : SeenAlike env other) (id : Option FunctionId)
-        (summary : List (List ℕ)) where
+    (summary : List (List ℕ)) where
   abbrev here : Environment
   here = with_ids env other.identifiers
 
@@ -109,8 +109,11 @@ module _ (names : NamesAreThere) (spans : SpansAreNotRead) (env other : Environm
   away = record { functions = other.functions; interned = other.interned; alike = seen.functions }
 
   it : elsewhere here away ≡ other
-  it = ap (λ (z : Environment). record z { identifiers = other.identifiers; functions = other.functions;
-      interned = other.interned }) (sym seen.rest)
+  it = ap (λ (z : Environment). record z {
+    identifiers = other.identifiers;
+    functions = other.functions;
+    interned = other.interned;
+  }) (sym seen.rest)
 
   abbrev said : CertFunction
   said = said_function id func w.progress.joined_input w.recorded w.tables.temporaries summary
@@ -123,11 +126,11 @@ module _ (names : NamesAreThere) (spans : SpansAreNotRead) (env other : Environm
       (with_effects_of o.solved func)
   carries o p =
       subst (λ (z : PassEnd). CarriesAlike (with_effects_of (end_of func w).solved func)
-          (with_effects_of z.solved func)) p.is
+      (with_effects_of z.solved func)) p.is
       (recorded_carry func (end_of func w).solved
-          (checked_end said (elsewhere here away) func b w.progress.joined_input p.left).solved
-          (instructions_alike w.recorded p.left.recorded p.records)
-          (terminals_alike w.recorded p.left.recorded p.records))
+      (checked_end said (elsewhere here away) func b w.progress.joined_input p.left).solved
+      (instructions_alike w.recorded p.left.recorded p.records)
+      (terminals_alike w.recorded p.left.recorded p.records))
 
   -- ---- what the check notes of context places
 
@@ -176,9 +179,9 @@ module _ (names : NamesAreThere) (spans : SpansAreNotRead) (env other : Environm
       → AreNamed abroad (Own env func b w fits ends) func block.1.instructions
   named_there n block reached at =
       named_too env abroad ids_long refl functions_long (Own env func b w fits ends) (context_at_elsewhere here away)
-          func block.1.instructions
+      func block.1.instructions
       (instructions_named func env b fits (CreatedThere env func b) (reached_create env func b) n block
-          (reached_back n reached) at)
+      (reached_back n reached) at)
 
   state_has : (o : Option State) (x : State) → o ≡ Some x
       → HoldsOf (λ s. StateWithin env s × Stating (λ n. n < length env.identifiers + length w.tables.temporaries)
@@ -195,21 +198,21 @@ module _ (names : NamesAreThere) (spans : SpansAreNotRead) (env other : Environm
   noted : (o : PassEnd) (p : SaidSo o) → ReadsHave (Own env func b w fits ends) p.left.tables.reads
   noted o p =
       let fresh : IsFresh p.begun_tables = stated_fresh id abroad (map said_temporary w.tables.temporaries)
-          (tables_of abroad) p.begun_tables (record { first = refl; reads = refl }) p.stated in
+      (tables_of abroad) p.begun_tables (record { first = refl; reads = refl }) p.stated in
       let counted : Counted abroad (Own env func b w fits ends) p.begun_tables = record {
         first = subst (AllByRecursion (EffectNamed abroad (Own env func b w fits ends) p.begun_tables))
             (sym fresh.first) tt;
         temporaries =
             numbered_too env abroad ids_long refl functions_long [] [] w.tables.temporaries p.begun_tables.temporaries
-                none p.likes
+            none p.likes
             named.1.temporaries;
         reads = subst (ReadsHave (Own env func b w fits ends)) (sym fresh.reads) tt;
       } in
       (check_keeps_tables state_join state_below (numbered (context_of abroad func b)) p.claims w.progress.joined_input
-          (Counted abroad (Own env func b w fits ends))
+      (Counted abroad (Own env func b w fits ends))
       (λ t n x y u k is c step.
       flow_counts abroad func b (Own env func b w fits ends) functions_there named_there bindings_there return_there n t
-          x y u k (reached_on n (solved.solves.only_reached n x is)) (states_there n x is) c step)
+      x y u k (reached_on n (solved.solves.only_reached n x is)) (states_there n x is) c step)
       p.begun_tables (replicate (length func.body.blocks) None) p.left counted p.ended).reads
 
   ends_alike : (o : PassEnd) → function_solved said (elsewhere here away) func b ≡ Ok o → SaidSo o
@@ -227,8 +230,8 @@ module _ (names : NamesAreThere) (spans : SpansAreNotRead) (env other : Environm
       subst (λ (z : Environment). OrFull (EndsAlike func (end_of func w)) (function_solved said z func b)) it
       (or_full_map (EndsAlike func (end_of func w)) (function_solved said (elsewhere here away) func b)
       (certifies here func b entered w.tables w.progress.joined_input w.recorded
-          (solution here func b entered w ends_here names_here) (others here func b entered w ends_here) away id
-          summary) ends_alike)
+      (solution here func b entered w ends_here names_here) (others here func b entered w ends_here) away id
+      summary) ends_alike)
 
 -- by the names that are there, and that no span is read
 pub passes_followed : NamesAreThere → SpansAreNotRead → PassesAreFollowed

@@ -7,8 +7,8 @@ use Rattle.alias_hir.specs.declared.hir.HirFunction.{HirFunction}
 use Rattle.alias_range_pass.specs.Passes.{Ranged, range_pass, records}
 use Rattle.alias_certificate_laws.specs.accepting.Alike.{Paired, none, more, AlikeFunction, seen}
 use Rattle.alias_accepted_laws.specs.Following.{but_seen, SeenAlike, SeenNearly, RangeFollowed, RangesAreFollowed}
-use Rattle.alias_range_alike_laws.specs.Ranging.{CarriesAlike, NearlyAlike, near, Nearby, nearby, SameContextAt,
-    RangesNearby, RangePassIsNearlyAlike}
+use Rattle.alias_range_alike_laws.specs.Ranging.{CarriesAlike, NearlyAlike, near, Nearby, nearby, SameContextAt}
+use Rattle.alias_range_alike_laws.specs.Ranging.{RangesNearby, RangePassIsNearlyAlike}
 use Rattle.alias_range_alike_laws.specs.Spans.{Respanned, RangesReadNoSpan}
 use Rattle.alias_accepted_laws.specs.Spans.{with_ids}
 
@@ -20,7 +20,7 @@ all_alike fs gs (more {xs = xs} {ys = ys} (near f g context kept a) rest) same =
     let first : Some context ≡ Some f.context = same zero in
     let own : context ≡ f.context = cc in
     more (subst (λ c. AlikeFunction f (record g { params = f.params; context = c; returns = f.returns })) (sym own)
-        (seen f g a)) (all_alike xs ys rest (λ k. same (suc k)))
+    (seen f g a)) (all_alike xs ys rest (λ k. same (suc k)))
 
 records_none : (b : Bool) (env : Environment) → b ≡ true → records b env ≡ false
 records_none true env e = refl
@@ -35,7 +35,7 @@ module _ (nearly : RangePassIsNearlyAlike) (spans : RangesReadNoSpan) (env other
   respans :
       (js : List Identifier) × Paired Respanned r.after.1.identifiers js
       × (range_pass b f (record env { identifiers = other.identifiers })
-          ≡ Ok (record r { after = (r.after.0, record r.after.1 { identifiers = js }) }))
+      ≡ Ok (record r { after = (r.after.0, record r.after.1 { identifiers = js }) }))
   respans = spans env other.identifiers f b r s.identifiers ran
 
   abbrev over : Ranged
@@ -46,8 +46,11 @@ module _ (nearly : RangePassIsNearlyAlike) (spans : RangesReadNoSpan) (env other
 
   -- the environment of the check
   it : nearby here away ≡ other
-  it = ap (λ (z : Environment). record z { identifiers = other.identifiers; functions = other.functions;
-      interned = other.interned }) (sym s.rest)
+  it = ap (λ (z : Environment). record z {
+    identifiers = other.identifiers;
+    functions = other.functions;
+    interned = other.interned;
+  }) (sym s.rest)
 
   near_by : RangesNearby here away f g b over
   near_by = nearly here away f g b over carries respans.2

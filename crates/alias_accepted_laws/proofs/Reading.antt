@@ -1,7 +1,7 @@
 -- What an effects pass notes of context places is of functions that an instruction creates that carries an effect
 -- afterwards.
-use Rattle.std.specs.Prelude.{◌≡◌, ℕ, Bool, true, List, [], ◌∷◌, length, replicate, Option, Some, None, Ok, slice_get,
-    slice_index_or, is_some, refl}
+use Rattle.std.specs.Prelude.{◌≡◌, ℕ, Bool, true, List, [], ◌∷◌, length, replicate, Option, Some, None, Ok, slice_get}
+use Rattle.std.specs.Prelude.{slice_index_or, is_some, refl}
 use Rattle.std.proofs.Common.{zero, suc, inl, inr, ap, sym, ◌∙◌, subst}
 use Rattle.std.specs.List.{flat_map, AllByRecursion}
 use Rattle.alias_base.specs.declared.ids.BlockId.{BlockId}
@@ -59,8 +59,17 @@ module _ (env : Environment) (func : HirFunction) (b : Bool) where
         → slice_get func.instructions id.0 ≡ Some i → (o : Option FunctionId) → created i.value ≡ o → CreatesHas F o
     has_created id i listed at None e = tt
     has_created id i listed at (Some f) e =
-        record { slot = slot; reached = reached; block = block; block_there = there; id = id; listed = listed;
-        instruction = i; there = at; creates = e }
+        record {
+          slot = slot;
+          reached = reached;
+          block = block;
+          block_there = there;
+          id = id;
+          listed = listed;
+          instruction = i;
+          there = at;
+          creates = e;
+        }
 
     created_at : (id : InstructionId) → IsOneOf id block.1.instructions → (o : Option Instruction)
         → slice_get func.instructions id.0 ≡ o → CreatesAt F o
@@ -70,8 +79,10 @@ module _ (env : Environment) (func : HirFunction) (b : Bool) where
     all_created : (ids : List InstructionId) → ((id : InstructionId) → IsOneOf id ids → IsOneOf id block.1.instructions)
         → AllByRecursion (λ (i : InstructionId). CreatesAt F (slice_get func.instructions i.0)) ids
     all_created [] within = tt
-    all_created (id ∷ ids) within = (created_at id (within id (inl refl)) (slice_get func.instructions id.0) refl,
-        all_created ids (λ j i. within j (inr i)))
+    all_created (id ∷ ids) within = (
+      created_at id (within id (inl refl)) (slice_get func.instructions id.0) refl,
+      all_created ids (λ j i. within j (inr i)),
+    )
 
   pub reached_create : (slot : ℕ) (block : BlockId × BasicBlock)
       → IsReached (numbered (context_of env func b)).flow slot → slice_get func.body.blocks slot ≡ Some block
@@ -82,7 +93,7 @@ module _ (env : Environment) (func : HirFunction) (b : Bool) where
       (reached_has : (n : ℕ) → IsReached (numbered (context_of env func b)).flow n → (s : State)
       × (entry_at entries n ≡ Some s))
       (keeps : RecordsSteps (numbered (context_of env func b)).flow tables (entry_at entries) recorded)
-          (others : KeepsOthers (entry_at entries) (replicate (length func.body.blocks) None) recorded) where
+      (others : KeepsOthers (entry_at entries) (replicate (length func.body.blocks) None) recorded) where
     step_is : (n : ℕ) (block : BlockId × BasicBlock) (s y : State) (k : BlockEffects) → slice_get func.body.blocks n
         ≡ Some block → (numbered (context_of env func b)).flow.step tables n s ≡ Stepped y tables k
         → infer_block (context_of env func b) block.0 block.1 s tables ≡ Ok ((y, k), tables)
@@ -94,7 +105,7 @@ module _ (env : Environment) (func : HirFunction) (b : Bool) where
         ≡ Stepped y tables k → AllFilled k.instructions
     filled_at n None s y k there step =
         let here : Stepped s tables (record { instructions = []; terminal = [] }) ≡ Stepped y tables k =
-            sym (ap (λ z. step_at (context_of env func b) z tables s) there) ∙ step in
+        sym (ap (λ z. step_at (context_of env func b) z tables s) there) ∙ step in
         let nothing : record { instructions = []; terminal = [] } ≡ k = cc in
         subst (λ (z : BlockEffects). AllFilled z.instructions) nothing tt
     filled_at n (Some block) s y k there step =
@@ -114,7 +125,7 @@ module _ (env : Environment) (func : HirFunction) (b : Bool) where
         let same : Some r.1 ≡ Some k = sym r.3 ∙ e in
         let one : r.1 ≡ k = cc in
         subst (λ (z : BlockEffects). AllFilled z.instructions) one
-            (filled_at n (slice_get func.body.blocks n) s r.0 r.1 refl r.2)
+        (filled_at n (slice_get func.body.blocks n) s r.0 r.1 refl r.2)
 
     all_are_filled : AllFilled (flat_map instructions_recorded recorded)
     all_are_filled = recorded_filled recorded (λ n k e. filled_by n (entry_at entries n) k refl e)
@@ -127,11 +138,11 @@ module _ (env : Environment) (func : HirFunction) (b : Bool) where
         let r = keeps c.slot x.0 x.1 in
         let entry : HasEntry r.1.instructions c.id
         = block_enters (context_of env func b) c.id c.instruction f c.there c.creates c.block.0 c.block.1 x.0 c.listed
-            tables tables (r.0, r.1) (step_is c.slot c.block x.0 r.0 r.1 c.block_there r.2) in
+        tables tables (r.0, r.1) (step_is c.slot c.block x.0 r.0 r.1 c.block_there r.2) in
         sets_context func (solved_of func w) (subst (λ rs. AllFilled (flat_map instructions_recorded rs)) (sym same)
-            all_are_filled) f.0 c.slot c.block c.block_there c.id c.listed c.instruction c.there c.creates
+        all_are_filled) f.0 c.slot c.block c.block_there c.id c.listed c.instruction c.there c.creates
         (subst (λ rs. HasEntry (flat_map instructions_recorded rs) c.id) (sym same)
-            (recorded_enters recorded c.slot r.1 c.id r.3 entry))
+        (recorded_enters recorded c.slot r.1 c.id r.3 entry))
 
 -- ---- an effects pass
 
@@ -153,8 +164,8 @@ module _ (env : Environment) (func : HirFunction) (b : Bool) (w : SolverState (V
   read_set : (f : FunctionId) → Own f → SetsContext (with_effects_of (solved_of func w) func) f.0
   read_set f h =
       created_set env func b w.progress.joined_input w.tables w.recorded
-          (λ n r. some_state (entry_at w.progress.joined_input n) (solved.solves.reached n r)) solved.records
-          solved.others w refl f h.0
+      (λ n r. some_state (entry_at w.progress.joined_input n) (solved.solves.reached n r)) solved.records
+      solved.others w refl f h.0
 
   pub all_set : (rs : List ContextRead) → ReadsHave Own rs → ReadsAreSetIn (with_effects_of (solved_of func w) func) rs
   all_set [] h = tt

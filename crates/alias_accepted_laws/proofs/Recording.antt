@@ -1,6 +1,6 @@
 -- The step of a block records something of each instruction that creates a function.
-use Rattle.std.specs.Prelude.{◌≡◌, ◌⊎◌, Bool, true, false, if◌then◌else◌, List, [], ◌∷◌, ◌++◌, Option, Some, None,
-    Result, Ok, Err, slice_get, refl}
+use Rattle.std.specs.Prelude.{◌≡◌, ◌⊎◌, Bool, true, false, if◌then◌else◌, List, [], ◌∷◌, ◌++◌, Option, Some, None}
+use Rattle.std.specs.Prelude.{Result, Ok, Err, slice_get, refl}
 use Rattle.std.proofs.Common.{inl, inr, ⊎_elim, ap, sym, ◌∙◌, subst}
 use Rattle.std.specs.List.{AllByRecursion}
 use Rattle.alias_base.specs.declared.ids.BlockId.{BlockId}
@@ -29,17 +29,18 @@ use Rattle.alias_tables.specs.Tables.{TableLists, Step, noted}
 use Rattle.alias_apply.specs.freezing.Contexts.{context_of}
 use Rattle.alias_signature.specs.Known.{Known, known}
 use Rattle.alias_signature.specs.Signatures.{signature_of_value}
-use Rattle.alias_apply.specs.Apply.{apply_simple, intern_and_apply_simple, is_read_capture, note_read_capture,
-    apply_create_function, apply_plain, intern_and_apply_plain}
+use Rattle.alias_apply.specs.Apply.{apply_simple, intern_and_apply_simple, is_read_capture, note_read_capture}
+use Rattle.alias_apply.specs.Apply.{apply_create_function, apply_plain, intern_and_apply_plain}
 use Rattle.alias_apply.specs.Contexts.{StepContext}
 use Rattle.alias_apply.specs.Progress.{record_of, made}
 use Rattle.alias_apply.specs.declared.progress.StepProgress.{StepProgress}
 use Rattle.alias_step.specs.Calls.{apply_effect, apply_effects}
-use Rattle.alias_step.specs.Instructions.{begun, check_created, with_result, apply_instruction, context_with,
-    apply_signature_with, apply_signature}
+use Rattle.alias_step.specs.Instructions.{begun, check_created, with_result, apply_instruction, context_with}
+use Rattle.alias_step.specs.Instructions.{apply_signature_with, apply_signature}
 use Rattle.alias_step_laws.specs.steps.KeepingLaws as keeping
-use Rattle.alias_step.specs.block.Blocks.{step_start, after_instruction, infer_instruction_at, apply_signatures,
-    after_terminal, apply_terminal, block_start, finished_at, finished, infer_phis, infer_block}
+use Rattle.alias_step.specs.block.Blocks.{step_start, after_instruction, infer_instruction_at, apply_signatures}
+use Rattle.alias_step.specs.block.Blocks.{after_terminal, apply_terminal, block_start, finished_at, finished}
+use Rattle.alias_step.specs.block.Blocks.{infer_phis, infer_block}
 use Rattle.alias_step.specs.block.Actions.{terminal_action}
 use Rattle.alias_step.specs.block.Contexts.{BlockContext}
 use Rattle.alias_step.specs.block.Faults.{in_block}
@@ -146,8 +147,8 @@ module _ (c : StepContext) where
   captures_same p x s t =
       let i = interned (effect.Capture p x) t in
       ap (λ r. and_then r (λ f. apply_simple c f s)) i.is
-          ∙ ap (λ (g : Step StepProgress). g i.tables) (captured_same p x i.effect s i.alike)
-          ∙ sym (ap (λ r. and_then r (λ f. apply_plain c f s)) i.is)
+      ∙ ap (λ (g : Step StepProgress). g i.tables) (captured_same p x i.effect s i.alike)
+      ∙ sym (ap (λ r. and_then r (λ f. apply_plain c f s)) i.is)
 
   capture_has : (x p : Place) (s : StepProgress) → Has s → Gives Has (intern_and_apply_simple c (effect.Capture p x) s)
   capture_has x p s h t u y e = keeping.keeps_intern_and_apply_plain Filled filled_more c (effect.Capture p x) s h t u y
@@ -162,11 +163,11 @@ module _ (c : StepContext) where
   function_has x f ps s =
       gives_then (Anything {A = StepProgress}) Has (made x.identifier s) _ (anything (made x.identifier s)) (λ u none.
       gives_then Has Has (each (note_read_capture f) (context_of c.env f) (record_of (effect.CreateFunction x f ps) u))
-          _
+      _
       (gives_each Has (note_read_capture f) (note_has f) (context_of c.env f)
-          (record_of (effect.CreateFunction x f ps) u) (filled_last u.recorded (effect.CreateFunction x f ps)))
+      (record_of (effect.CreateFunction x f ps) u) (filled_last u.recorded (effect.CreateFunction x f ps)))
       (λ v h. gives_each Has (λ p. intern_and_apply_simple c (effect.Capture p x)) (λ p w g. capture_has x p w g) ps _
-          h))
+      h))
 
   plain_has : (x : Place) (f : FunctionId) (ps : List Place) (e : AliasingEffect) (s : StepProgress)
       → Alike (effect.CreateFunction x f ps) e → Gives Has (apply_plain c e s)
@@ -186,10 +187,10 @@ module _ (c : StepContext) where
       (s : StepProgress) → Gives Has (apply_instruction c o (effect.CreateFunction x f ps ∷ []) id s)
   instruction_has o x f ps id s =
       gives_then (Anything {A = StepProgress}) Has (check_created c o (begun s)) _
-          (anything (check_created c o (begun s))) (λ t none.
+      (anything (check_created c o (begun s))) (λ t none.
       gives_then Has Has (apply_effects c (effect.CreateFunction x f ps ∷ []) t) _
       (gives_then Has Has (apply_effect c (effect.CreateFunction x f ps) t) (each (apply_effect c) [])
-          (effect_has x f ps t) (λ u h. gives_gives Has u h))
+      (effect_has x f ps t) (λ u h. gives_gives Has u h))
       (λ u h. gives_gives Has _ (result_has _ id u h)))
 
 -- an instruction that creates a function has this one effect
@@ -211,8 +212,8 @@ signature_has env facts i f s e =
     (λ error none.
     let n = new_function (known env facts error) i.lvalue i.span i.value f e in
     subst (λ es. Gives Has (apply_instruction (context_with env facts) (created i.value) es i.lvalue.identifier s))
-        (sym n.is) (instruction_has (context_with env facts) (created i.value) i.lvalue n.func n.captures
-        i.lvalue.identifier s))
+    (sym n.is) (instruction_has (context_with env facts) (created i.value) i.lvalue n.func n.captures
+    i.lvalue.identifier s))
 
 -- ---- blocks
 
@@ -228,16 +229,18 @@ module _ (c : BlockContext) where
 
   after_keeps : (i : InstructionId) (s : BlockProgress) (u : StepProgress) → AllFilled s.effects.instructions
       → Keeps s.effects.instructions (after_instruction i s.effects u)
-  after_keeps i s u h = (all_filled s.effects.instructions (recorded_as i u.recorded) h (recorded_filled i u.recorded),
-      λ id g. has_front s.effects.instructions (recorded_as i u.recorded) id g)
+  after_keeps i s u h = (
+    all_filled s.effects.instructions (recorded_as i u.recorded) h (recorded_filled i u.recorded),
+    λ id g. has_front s.effects.instructions (recorded_as i u.recorded) id g,
+  )
 
   instruction_keeps : (i : InstructionId) (o : Option Instruction) (s : BlockProgress)
       → AllFilled s.effects.instructions → Gives (Keeps s.effects.instructions) (infer_instruction_at c i o s)
   instruction_keeps i None s h = gives_gives (Keeps s.effects.instructions) s (h, λ id g. g)
   instruction_keeps i (Some x) s h =
       gives_then (Anything {A = StepProgress}) (Keeps s.effects.instructions)
-          (in_block i (apply_signature c.env c.facts x (step_start s))) (λ u. gives (after_instruction i s.effects u))
-          (anything _)
+      (in_block i (apply_signature c.env c.facts x (step_start s))) (λ u. gives (after_instruction i s.effects u))
+      (anything _)
       (λ u none. gives_gives (Keeps s.effects.instructions) (after_instruction i s.effects u) (after_keeps i s u h))
 
   signatures_keep : (is : List InstructionId) (s : BlockProgress) → AllFilled s.effects.instructions
@@ -245,8 +248,8 @@ module _ (c : BlockContext) where
   signatures_keep [] s h = gives_gives (Keeps s.effects.instructions) s (h, λ id g. g)
   signatures_keep (i ∷ is) s h =
       gives_then (Keeps s.effects.instructions) (Keeps s.effects.instructions)
-          (infer_instruction_at c i (slice_get c.func.instructions i.0) s) (apply_signatures c is)
-          (instruction_keeps i (slice_get c.func.instructions i.0) s h)
+      (infer_instruction_at c i (slice_get c.func.instructions i.0) s) (apply_signatures c is)
+      (instruction_keeps i (slice_get c.func.instructions i.0) s h)
       (λ w k t u y e. let r = signatures_keep is w k.0 t u y e in (r.0, λ id g. r.1 id (k.1 id g)))
 
   -- the instruction is given an entry
@@ -254,11 +257,11 @@ module _ (c : BlockContext) where
       ≡ Some f → Gives (λ (z : BlockProgress). HasEntry z.effects.instructions i) (infer_instruction_at c i (Some x) s)
   instruction_enters i x f s e =
       gives_then Has (λ (z : BlockProgress). HasEntry z.effects.instructions i)
-          (in_block i (apply_signature c.env c.facts x (step_start s))) (λ u. gives (after_instruction i s.effects u))
+      (in_block i (apply_signature c.env c.facts x (step_start s))) (λ u. gives (after_instruction i s.effects u))
       (step_in_block Has i (apply_signature c.env c.facts x (step_start s))
-          (signature_has c.env c.facts x f (step_start s) e))
+      (signature_has c.env c.facts x f (step_start s) e))
       (λ u h. gives_gives (λ (z : BlockProgress). HasEntry z.effects.instructions i) (after_instruction i s.effects u)
-          (has_rest s.effects.instructions (recorded_as i u.recorded) i (recorded_has i u.recorded h)))
+      (has_rest s.effects.instructions (recorded_as i u.recorded) i (recorded_has i u.recorded h)))
 
   module _ (id : InstructionId) (x : Instruction) (f : FunctionId) (at : slice_get c.func.instructions id.0 ≡ Some x)
       (e : created x.value ≡ Some f) where
@@ -269,7 +272,7 @@ module _ (c : BlockContext) where
         → Gives Entered (infer_instruction_at c i (slice_get c.func.instructions i.0) s)
     one_enters i s same =
         subst (λ (j : InstructionId). Gives Entered (infer_instruction_at c j (slice_get c.func.instructions j.0) s))
-            same
+        same
         (subst (λ o. Gives Entered (infer_instruction_at c id o s)) (sym at) (instruction_enters id x f s e))
 
     signatures_enter : (is : List InstructionId) (s : BlockProgress) → AllFilled s.effects.instructions → IsOneOf id is
@@ -279,14 +282,14 @@ module _ (c : BlockContext) where
         ⊎_elim
         (λ (here : id ≡ j) t u y g.
         let p = split (apply_signatures c is) (infer_instruction_at c j (slice_get c.func.instructions j.0) s t) y u
-            g in
+        g in
         let first : Entered p.0 = one_enters j s here t p.1 p.0 p.2 in
         (signatures_keep is p.0 (instruction_keeps j (slice_get c.func.instructions j.0) s h t p.1 p.0 p.2).0 p.1 u y
-            p.3).1 id first)
+        p.3).1 id first)
         (λ there.
         gives_then (Keeps s.effects.instructions) Entered
-            (infer_instruction_at c j (slice_get c.func.instructions j.0) s) (apply_signatures c is)
-            (instruction_keeps j (slice_get c.func.instructions j.0) s h) (λ w k. signatures_enter is w k.0 there))
+        (infer_instruction_at c j (slice_get c.func.instructions j.0) s) (apply_signatures c is)
+        (instruction_keeps j (slice_get c.func.instructions j.0) s h) (λ w k. signatures_enter is w k.0 there))
         i
 
   -- ---- the whole step
@@ -305,11 +308,11 @@ module _ (c : BlockContext) where
       → Gives (Out P) (infer_block c b block x)
   block_out P b block x h =
       gives_then (λ (z : BlockProgress). P z.effects.instructions) (Out P)
-          (apply_signatures c block.instructions (block_start (infer_phis block.phis x))) _ h (λ s p.
+      (apply_signatures c block.instructions (block_start (infer_phis block.phis x))) _ h (λ s p.
       gives_then (λ (z : BlockProgress). P z.effects.instructions) (Out P) (apply_terminal c b block s) finished
       (gives_then (Anything {A = StepProgress}) (λ (z : BlockProgress). P z.effects.instructions)
-          (terminal_action c block.instructions block.terminal (step_start s))
-          (λ u. gives (after_terminal b s.effects u)) (anything _)
+      (terminal_action c block.instructions block.terminal (step_start s))
+      (λ u. gives (after_terminal b s.effects u)) (anything _)
       (λ u none. gives_gives (λ (z : BlockProgress). P z.effects.instructions) (after_terminal b s.effects u) p))
       (λ w q. ended_out P w.missing w q))
 

@@ -1,6 +1,6 @@
 -- Over other spans of identifiers each step but that of a block is the same.
-use Rattle.std.specs.Prelude.{◌≡◌, ℕ, ◌&&◌, ◌||◌, ◌==◌, not, nat_lt, ◌+◌, false, if◌then◌else◌, length, codes, List, [],
-    ◌∷◌, ◌++◌, Option, Some, None, Ok, Err, slice_get, refl}
+use Rattle.std.specs.Prelude.{◌≡◌, ℕ, ◌&&◌, ◌||◌, ◌==◌, not, nat_lt, ◌+◌, false, if◌then◌else◌, length, codes, List, []}
+use Rattle.std.specs.Prelude.{◌∷◌, ◌++◌, Option, Some, None, Ok, Err, slice_get, refl}
 use Rattle.std.proofs.Common.{ap, ◌∙◌}
 use Rattle.std.specs.List.{list_any}
 use Rattle.std.specs.Option.{is_some}
@@ -10,8 +10,8 @@ use Rattle.alias_base.specs.declared.ids.TypeId.{TypeId}
 use Rattle.alias_hir.specs.declared.effect.AliasingEffect.{AliasingEffect}
 use Rattle.alias_hir.specs.declared.effect.AliasingEffect.TheVariants as effect
 use Rattle.alias_hir.specs.declared.effect.ValueKind.{ValueKind}
-use Rattle.alias_hir.specs.declared.effect.ValueKind.TheVariants.{Primitive, Global, Frozen, Mutable, Context,
-    MaybeFrozen}
+use Rattle.alias_hir.specs.declared.effect.ValueKind.TheVariants.{Primitive, Global, Frozen, Mutable, Context}
+use Rattle.alias_hir.specs.declared.effect.ValueKind.TheVariants.{MaybeFrozen}
 use Rattle.alias_hir.specs.declared.effect.ValueReason.{ValueReason}
 use Rattle.alias_hir.specs.declared.effect.ValueReason.TheVariants.{Other}
 use Rattle.alias_hir.specs.declared.env.Environment.{Environment}
@@ -36,42 +36,46 @@ use Rattle.alias_lattice.specs.declared.site.Site.TheVariants.{Function}
 use Rattle.alias_lattice.specs.declared.value.AbstractValue.{AbstractValue}
 use Rattle.alias_facts.specs.Hoisted.{Accesses}
 use Rattle.alias_apply.specs.freezing.Sites.{sites_at}
-use Rattle.alias_apply.specs.Apply.{is_mutable_capture, has_error, function_value, note_read_capture,
-    is_mutable_function, apply_simple, intern_and_apply_simple, capture_each, apply_create_function, apply_plain,
-    intern_and_apply_plain, intern_and_apply_all_plain}
+use Rattle.alias_apply.specs.Apply.{is_mutable_capture, has_error, function_value, note_read_capture}
+use Rattle.alias_apply.specs.Apply.{is_mutable_function, apply_simple, intern_and_apply_simple, capture_each}
+use Rattle.alias_apply.specs.Apply.{apply_create_function, apply_plain, intern_and_apply_plain}
+use Rattle.alias_apply.specs.Apply.{intern_and_apply_all_plain}
 use Rattle.alias_apply.specs.Contexts.{StepContext, access_to, hoisted_access, summary_of}
 use Rattle.alias_apply.specs.Kinds.{is_frozen, is_writable}
-use Rattle.alias_apply.specs.Mutation.{intern_and_apply_mutate_frozen, intern_and_apply_mutate_global, report_write,
-    report_hoisted_write, record_mutation, apply_mutate, apply_mutate_conditionally}
+use Rattle.alias_apply.specs.Mutation.{intern_and_apply_mutate_frozen, intern_and_apply_mutate_global, report_write}
+use Rattle.alias_apply.specs.Mutation.{report_hoisted_write, record_mutation, apply_mutate, apply_mutate_conditionally}
 use Rattle.alias_apply.specs.Progress.{record_of, with_state, looked_up_with_span, kind_at, made, first_missing}
-use Rattle.alias_apply.specs.Reports.{labels_at, write_reason, write_report, access_labels, access_span,
-    hoisting_report}
+use Rattle.alias_apply.specs.Reports.{labels_at, write_reason, write_report, access_labels, access_span}
+use Rattle.alias_apply.specs.Reports.{hoisting_report}
 use Rattle.alias_apply.specs.declared.progress.StepProgress.{StepProgress}
 use Rattle.alias_calls.specs.Arguments.{is_bad_spread_of, first_bad, has_further}
 use Rattle.alias_calls.specs.Configs.{substituted, with_config_effect, with_temporary, config_call, config_expansion}
 use Rattle.alias_calls.specs.Copies.{Collected, with_freezes_unless, with_freezes}
-use Rattle.alias_calls.specs.Immutable.{is_still, writes_param, is_writing_site, verdict, checked, answered_by,
-    signature_at, verdict_of_place, verdict_by, verdict_of, unless_answered, immutables}
-use Rattle.alias_calls.specs.Legacy.{legacy, ended, return_reason, with_impure, with_receiver, visits_of, asked,
-    with_still, visited, legacy_after, legacy_expansion}
-use Rattle.alias_calls.specs.Summaries.{last_spread, rest_or_temporary, names_with, summary_names, substituted_for,
-    copied, with_copied, needs_rest, names_expansion, summary_call, summary_expansion}
+use Rattle.alias_calls.specs.Immutable.{is_still, writes_param, is_writing_site, verdict, checked, answered_by}
+use Rattle.alias_calls.specs.Immutable.{signature_at, verdict_of_place, verdict_by, verdict_of, unless_answered}
+use Rattle.alias_calls.specs.Immutable.{immutables}
+use Rattle.alias_calls.specs.Legacy.{legacy, ended, return_reason, with_impure, with_receiver, visits_of, asked}
+use Rattle.alias_calls.specs.Legacy.{with_still, visited, legacy_after, legacy_expansion}
+use Rattle.alias_calls.specs.Summaries.{last_spread, rest_or_temporary, names_with, summary_names, substituted_for}
+use Rattle.alias_calls.specs.Summaries.{copied, with_copied, needs_rest, names_expansion, summary_call}
+use Rattle.alias_calls.specs.Summaries.{summary_expansion}
 use Rattle.alias_calls.specs.Calls.{ConfigCall, SummaryCall}
-use Rattle.alias_calls.specs.Visits.{iterated, visit, spread_effect, is_refused, or_effect, rest_use, with_refused,
-    visit_argument, visit_arguments}
+use Rattle.alias_calls.specs.Visits.{iterated, visit, spread_effect, is_refused, or_effect, rest_use, with_refused}
+use Rattle.alias_calls.specs.Visits.{visit_argument, visit_arguments}
 use Rattle.alias_calls.specs.declared.call.CallSite.{CallSite}
 use Rattle.alias_calls.specs.declared.immutable.Checked.{Checked}
 use Rattle.alias_calls.specs.declared.summaries.SummaryEffect.{SummaryEffect}
 use Rattle.alias_calls.specs.declared.summaries.SummaryEffect.TheVariants.{OfPair, OfPlace, OfFreeze, Passed, GivenUp}
 use Rattle.alias_calls.specs.declared.visits.Visits.{Visits}
-use Rattle.alias_step.specs.Calls.{call_of, with_missing, apply_by_summary, apply_inner_call_by, apply_inner_call,
-    apply_inner_effect, apply_inner_effects, apply_by_legacy, apply_by_config, incompatible, apply_compatible,
-    apply_by_signature, apply_call_by, apply_call, apply_effect, apply_effects}
+use Rattle.alias_step.specs.Calls.{call_of, with_missing, apply_by_summary, apply_inner_call_by, apply_inner_call}
+use Rattle.alias_step.specs.Calls.{apply_inner_effect, apply_inner_effects, apply_by_legacy, apply_by_config}
+use Rattle.alias_step.specs.Calls.{incompatible, apply_compatible, apply_by_signature, apply_call_by, apply_call}
+use Rattle.alias_step.specs.Calls.{apply_effect, apply_effects}
 use Rattle.alias_step.specs.Defaults.{mutate_operand, iterate_operand, capture_operand, apply_operand, apply_by_default}
-use Rattle.alias_step.specs.Instructions.{written_by, is_frozen_context, record_mutate_frozen, check_write,
-    check_summary, check_created, begun, with_result, apply_instruction}
-use Rattle.alias_step.specs.Expansions.{called_function, expansion_of_summary, expansion_of_function,
-    expansion_of_called, signature_of_type, expansion_of_config}
+use Rattle.alias_step.specs.Instructions.{written_by, is_frozen_context, record_mutate_frozen, check_write}
+use Rattle.alias_step.specs.Instructions.{check_summary, check_created, begun, with_result, apply_instruction}
+use Rattle.alias_step.specs.Expansions.{called_function, expansion_of_summary, expansion_of_function}
+use Rattle.alias_step.specs.Expansions.{expansion_of_called, signature_of_type, expansion_of_config}
 use Rattle.alias_step.specs.Operands.{Call, same_place, operands}
 use Rattle.alias_step.specs.declared.call.Operand.{Operand}
 use Rattle.alias_apply.specs.freezing.Contexts.{context_of}
@@ -85,8 +89,8 @@ use Rattle.alias_tables.specs.declared.temporaries.Temporary.{Temporary}
 use Rattle.alias_certificate_laws.specs.accepting.Alike.{Paired}
 use Rattle.alias_range_alike_laws.specs.Spans.{Respanned}
 use Rattle.alias_accepted_laws.specs.Spans.{with_ids}
-use Rattle.alias_accepted_laws.proofs.Knowing.{long_same, name_same, declaration_same, param_same, ref_same,
-    collection_same, signature_at_same}
+use Rattle.alias_accepted_laws.proofs.Knowing.{long_same, name_same, declaration_same, param_same, ref_same}
+use Rattle.alias_accepted_laws.proofs.Knowing.{collection_same, signature_at_same}
 
 module _ (env : Environment) (ids : List Identifier) (spans : Paired Respanned env.identifiers ids) where
   abbrev there : Environment
@@ -113,8 +117,8 @@ module _ (env : Environment) (ids : List Identifier) (spans : Paired Respanned e
         " is accessed before it is declared, which prevents the earlier access from updating when this value changes over time");
     labels =
         access_labels (access_span access) span
-            (name_same env ids spans id (codes "variable") i ++ codes " accessed before it is declared")
-            ++ labels_at span (Some (name_same env ids spans id (codes "variable") i ++ codes " is declared here"));
+        (name_same env ids spans id (codes "variable") i ++ codes " accessed before it is declared")
+        ++ labels_at span (Some (name_same env ids spans id (codes "variable") i ++ codes " is declared here"));
   }
 
   -- ---- lists of calls
@@ -125,7 +129,7 @@ module _ (env : Environment) (ids : List Identifier) (spans : Paired Respanned e
   temporary_at_same None key span t =
       λ i. if has_room (long_same env ids spans i) (length env.types) (length t.temporaries)
       then (let p = new_place (long_same env ids spans i) (length t.temporaries) span in
-          Ok (p, record t { temporaries = t.temporaries ++ temporary_of key p ∷ [] }))
+      Ok (p, record t { temporaries = t.temporaries ++ temporary_of key p ∷ [] }))
       else Err (TooMany Identifiers)
 
   temporary_same : (key : TempKey) (span : Option Span) → temporary there key span ≡ temporary env key span
@@ -157,7 +161,7 @@ module _ (env : Environment) (ids : List Identifier) (spans : Paired Respanned e
   names_list_same k es =
       λ i. if nat_lt (length k.args) (length k.names.params) then gives None
       else (if needs_rest k.names.params k.args && not (is_some k.names.rest) then gives None
-          else collect (λ e out. copied_same k (copied e) out i) es [])
+      else collect (λ e out. copied_same k (copied e) out i) es [])
 
   rest_same : (o : Option IdentifierId) (f : FunctionId) (function : HirFunction) → rest_or_temporary o there f function
       ≡ rest_or_temporary o env f function
@@ -199,8 +203,8 @@ module _ (env : Environment) (ids : List Identifier) (spans : Paired Respanned e
   config_list_same part site args =
       λ i. if has_further part.params args 0 && not (is_some part.rest) then gives None
       else (each (λ name ps. with_temporary_same site name ps i) part.temporaries []
-          >>= (λ temporaries. collect (λ e out. config_effect_same (config_call part site args temporaries) e out i)
-          part.effects []))
+      >>= (λ temporaries. collect (λ e out. config_effect_same (config_call part site args temporaries) e out i)
+      part.effects []))
 
   -- ---- signatures without an aliasing part
 
@@ -216,8 +220,8 @@ module _ (env : Environment) (ids : List Identifier) (spans : Paired Respanned e
       ≡ verdict_of_place env u p m
   place_verdict_same u p m =
       λ i. verdict (answered_by (is_still (lookup u p.identifier).kind
-          && not (list_any (λ k. site_same k i) (sites_at u p.identifier))))
-          (first_missing m (missing_lookup u p.identifier None))
+      && not (list_any (λ k. site_same k i) (sites_at u p.identifier))))
+      (first_missing m (missing_lookup u p.identifier None))
 
   verdict_by_same : (o : Option FunctionSignature) (u : State) (p : Place) (m : Option MissingLookup)
       → verdict_by o there u p m ≡ verdict_by o env u p m
@@ -286,7 +290,7 @@ module _ (env : Environment) (ids : List Identifier) (spans : Paired Respanned e
       → legacy_expansion there s site args u ≡ legacy_expansion env s site args u
   legacy_same s site args u =
       λ i. with_impure env s site (effect.Create site.into s.return_value_kind (return_reason s) ∷ [])
-          >>= (λ out. after_same s site args (asked_same s args u i) out i)
+      >>= (λ out. after_same s site args (asked_same s args u i) out i)
 
   -- ---- which list a call stands for
 
@@ -381,9 +385,9 @@ module _ (env : Environment) (ids : List Identifier) (spans : Paired Respanned e
         → apply_create_function d x f ps s ≡ apply_create_function c x f ps s
     create_function_same x f ps s =
         λ i. made x.identifier s >>= (λ u. each (note_read_capture f) (context_of env f)
-            (record_of (effect.CreateFunction x f ps) u)
+        (record_of (effect.CreateFunction x f ps) u)
         >>= (λ v. captures_same x ps (with_state
-            (given x.identifier (Function f) (function_value (function_same f ps v.state i)) v.state) v) i))
+        (given x.identifier (Function f) (function_value (function_same f ps v.state i)) v.state) v) i))
 
     plain_same : (e : AliasingEffect) (s : StepProgress) → apply_plain d e s ≡ apply_plain c e s
     plain_same (effect.CreateFunction x f ps) s = create_function_same x f ps s
@@ -417,8 +421,8 @@ module _ (env : Environment) (ids : List Identifier) (spans : Paired Respanned e
         ≡ apply_operand c call all o s
     operand_same call all o s =
         λ i. mutate_operand_same call o s i >>= (λ t. iterate_operand_same o t i
-            >>= (λ u. raised_simple (effect.MaybeAlias o.place call.site.into) u i
-            >>= (λ v. each (λ x w. capture_operand_same o x w i) all v)))
+        >>= (λ u. raised_simple (effect.MaybeAlias o.place call.site.into) u i
+        >>= (λ v. each (λ x w. capture_operand_same o x w i) all v)))
 
     default_same : (call : Call) (s : StepProgress) → apply_by_default d call s ≡ apply_by_default c call s
     default_same call s = λ i. raised_simple (effect.Create call.site.into Mutable Other) s i

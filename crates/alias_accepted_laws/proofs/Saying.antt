@@ -1,7 +1,7 @@
 -- The certificate of an inference says of each function, in the order in which they were analysed, what its passes
 -- ended with.
-use Rattle.std.specs.Prelude.{◌≡◌, ℕ, nat_eq, Bool, true, false, cond, List, [], ◌∷◌, ◌++◌, length, map, ◌&&◌, Option,
-    Some, None, Result, Ok, slice_get, refl}
+use Rattle.std.specs.Prelude.{◌≡◌, ℕ, nat_eq, Bool, true, false, cond, List, [], ◌∷◌, ◌++◌, length, map, ◌&&◌, Option}
+use Rattle.std.specs.Prelude.{Some, None, Result, Ok, slice_get, refl}
 use Rattle.std.proofs.Common.{inl, inr, ⊎_elim, ap, sym, ◌∙◌, subst, arith, ◌+◌, ◌≤◌}
 use Rattle.std.proofs.lemmas.Bool.{eqb-true}
 use Rattle.std.specs.List.{list_all}
@@ -16,8 +16,8 @@ use Rattle.alias_hir.specs.declared.hir.HirFunction.{HirFunction}
 use Rattle.alias_lattice.specs.States.{State}
 use Rattle.alias_flow.specs.Machine.{SolverState, VisitLog, End, Solved}
 use Rattle.alias_flow.specs.Machine as end
-use Rattle.alias_rules.specs.function_rules.Rules.{instruction_is_uninferred, terminal_is_uninferred, phi_is_uninferred,
-    block_is_uninferred, function_is_uninferred}
+use Rattle.alias_rules.specs.function_rules.Rules.{instruction_is_uninferred, terminal_is_uninferred, phi_is_uninferred}
+use Rattle.alias_rules.specs.function_rules.Rules.{block_is_uninferred, function_is_uninferred}
 use Rattle.alias_rules.specs.Fitting.{function_fits}
 use Rattle.alias_rules.specs.Functions.{rules_hold}
 use Rattle.alias_rules.specs.Nesting.{times}
@@ -54,12 +54,12 @@ use Rattle.alias_certificate_laws.specs.text.Certifying.{cert_blocks, cert_funct
 use Rattle.alias_certificate_laws.specs.accepting.Saying.{said_temporary, said_function}
 use Rattle.alias_inferred_laws.specs.inferred.Solutions.{but_ranged}
 use Rattle.alias_inferred_laws.proofs.inferred.Explaining.{RootRanged}
-use Rattle.alias_inferred_laws.proofs.inferred.Lasting.{is_numbered, later, own, number_itself, some_number, last_of,
-    Entered, SlotHolds, slot_holds, analysed_holds, none_hold}
+use Rattle.alias_inferred_laws.proofs.inferred.Lasting.{is_numbered, later, own, number_itself, some_number, last_of}
+use Rattle.alias_inferred_laws.proofs.inferred.Lasting.{Entered, SlotHolds, slot_holds, analysed_holds, none_hold}
 use Rattle.alias_inferred_laws.proofs.inferred.Listing.{Passed, function_passed, without_summary}
 use Rattle.alias_inferred_laws.proofs.inferred.Ranging.{PassLeaves, pass_leaves}
-use Rattle.alias_inferred_laws.proofs.inferred.Rooting.{RootBegun, root_entry, root_begun, root_validated, RootEnded,
-    root_ended}
+use Rattle.alias_inferred_laws.proofs.inferred.Rooting.{RootBegun, root_entry, root_begun, root_validated, RootEnded}
+use Rattle.alias_inferred_laws.proofs.inferred.Rooting.{root_ended}
 use Rattle.alias_inferred_laws.specs.handed.Handed.{names_of, IsNamed}
 use Rattle.alias_cause_laws.proofs.causes.Chain.{Around, around, link_uninferred}
 use Rattle.alias_cause_laws.proofs.causes.Walking.{Stored, stored_still, Walked, analysed_walked}
@@ -93,10 +93,10 @@ ends_uninferred : (bs : List (BlockId × BasicBlock))
 ends_uninferred [] h = refl
 ends_uninferred (b ∷ bs) h =
     let p = both_true (block_is_uninferred b.1) (list_all (λ (e : BlockId × BasicBlock). block_is_uninferred e.1) bs)
-        h in
+    h in
     let t = both_true (list_all phi_is_uninferred b.1.phis) (terminal_is_uninferred b.1.terminal) p.0 in
     together (terminal_is_uninferred b.1.terminal)
-        (list_all (λ (b : BlockId × BasicBlock). terminal_is_uninferred b.1.terminal) bs) t.1 (ends_uninferred bs p.1)
+    (list_all (λ (b : BlockId × BasicBlock). terminal_is_uninferred b.1.terminal) bs) t.1 (ends_uninferred bs p.1)
   where
     together : (a b : Bool) → a ≡ true → b ≡ true → (a && b) ≡ true
     together true b p q = q
@@ -130,19 +130,27 @@ module _ (prints : PrintsWhatIsSaid) (u : HirUnit) (env : Environment) (f : HirF
       → range_pass true (with_effects_of (solved_of f w) f) (env_after env (end_of f w)) ≡ Ok r
       → slice_get u.env.functions id.0 ≡ Some h
       → h.aliasing_effects ≡ Some r.summary → (summary : List AliasingEffect)
-          → IsSaidOf (record { env = env; func = f; is_function_expression = true;
-          solved = numbered id (solved_of f w) }) (cert_function u summary (numbered id (solved_of f w)))
+      → IsSaidOf (record {
+        env = env;
+        func = f;
+        is_function_expression = true;
+        solved = numbered id (solved_of f w);
+      }) (cert_function u summary (numbered id (solved_of f w)))
   nested_said id ends r ran slot stores summary =
       let blocks : cert_blocks (slice_get u.env.functions id.0) (solved_of f w).entries
-          ≡ (said_function (Some id) f w.progress.joined_input w.recorded w.tables.temporaries []).blocks
+      ≡ (said_function (Some id) f w.progress.joined_input w.recorded w.tables.temporaries []).blocks
       = ap (λ o. cert_blocks o (solved_of f w).entries) slot
-          ∙ blocks_alike h (with_effects_of (solved_of f w) f) alike (solved_of f w).entries
-          ∙ prints env f true w fits plain.instructions plain.terminals ends in
+      ∙ blocks_alike h (with_effects_of (solved_of f w) f) alike (solved_of f w).entries
+      ∙ prints env f true w fits plain.instructions plain.terminals ends in
       let texts : map effect_text (recorded_summary (slice_get u.env.functions id.0)) ≡ map effect_text r.summary
       = ap (λ o. map effect_text (recorded_summary o)) slot ∙ ap (λ o. map effect_text (recorded o)) stores in
       let line : List CertBlock → List (List ℕ) → CertFunction =
-          λ bs ts. record { function = Some id; blocks = bs; temporaries = map said_temporary w.tables.temporaries;
-          summary = ts } in
+      λ bs ts. record {
+        function = Some id;
+        blocks = bs;
+        temporaries = map said_temporary w.tables.temporaries;
+        summary = ts;
+      } in
       record {
         fits = fits;
         left = w;
@@ -158,16 +166,20 @@ module _ (prints : PrintsWhatIsSaid) (u : HirUnit) (env : Environment) (f : HirF
       → range_pass false (with_effects_of (solved_of f w) f) (env_after env (end_of f w)) ≡ Ok r → u.function ≡ h
       → (summary : List AliasingEffect) → summary ≡ r.summary
       → IsSaidOf (record { env = env; func = f; is_function_expression = false; solved = solved_of f w })
-          (cert_function u summary (solved_of f w))
+      (cert_function u summary (solved_of f w))
   root_said ends r ran root summary handed =
       let blocks : cert_blocks (Some u.function) (solved_of f w).entries
-          ≡ (said_function None f w.progress.joined_input w.recorded w.tables.temporaries []).blocks
+      ≡ (said_function None f w.progress.joined_input w.recorded w.tables.temporaries []).blocks
       = ap (λ o. cert_blocks (Some o) (solved_of f w).entries) root
-          ∙ blocks_alike h (with_effects_of (solved_of f w) f) alike (solved_of f w).entries
-          ∙ prints env f false w fits plain.instructions plain.terminals ends in
+      ∙ blocks_alike h (with_effects_of (solved_of f w) f) alike (solved_of f w).entries
+      ∙ prints env f false w fits plain.instructions plain.terminals ends in
       let line : List CertBlock → List (List ℕ) → CertFunction =
-          λ bs ts. record { function = None; blocks = bs; temporaries = map said_temporary w.tables.temporaries;
-          summary = ts } in
+      λ bs ts. record {
+        function = None;
+        blocks = bs;
+        temporaries = map said_temporary w.tables.temporaries;
+        summary = ts;
+      } in
       record {
         fits = fits;
         left = w;
@@ -190,19 +202,35 @@ record Kept (x : Analysed) (h : HirFunction) : Type 0 where
   stores : h.aliasing_effects ≡ Some ranged.summary
 
 kept_still : (x : Analysed) (f g : HirFunction) → but_context g ≡ but_context f → Kept x f → Kept x g
-kept_still x f g e k = record { expression = k.expression; end = k.end; ended = k.ended; ranged = k.ranged; ran = k.ran;
-    stores = ap (λ (z : HirFunction). z.aliasing_effects) e ∙ k.stores }
+kept_still x f g e k = record {
+  expression = k.expression;
+  end = k.end;
+  ended = k.ended;
+  ranged = k.ranged;
+  ran = k.ran;
+  stores = ap (λ (z : HirFunction). z.aliasing_effects) e ∙ k.stores;
+}
 
 function_kept : (id : FunctionId) (f : HirFunction) (a : Analysis) (s : HirFunction × Analysis)
     → function_analysed id f a ≡ Ok s → (x : Analysed) × Entered id a s x × Kept x s.0
 function_kept id f a s h =
     let p : Passed id f a s = function_passed id f a s h in
-    let x : Analysed = record { env = a.env; func = f; is_function_expression = true;
-        solved = numbered id p.end.solved } in (
+    let x : Analysed = record {
+      env = a.env;
+      func = f;
+      is_function_expression = true;
+      solved = numbered id p.end.solved;
+    } in (
       x,
       record { functions = ap (λ (q : HirFunction × Analysis). q.1.functions) (sym p.is); number = refl },
-      record { expression = refl; end = p.end; ended = p.ended; ranged = p.ranged; ran = p.ran;
-          stores = ap (λ (q : HirFunction × Analysis). q.0.aliasing_effects) (sym p.is) },
+      record {
+        expression = refl;
+        end = p.end;
+        ended = p.ended;
+        ranged = p.ranged;
+        ran = p.ran;
+        stores = ap (λ (q : HirFunction × Analysis). q.0.aliasing_effects) (sym p.is);
+      },
     )
 
 -- ---- each number once
@@ -222,7 +250,7 @@ none_last id (x ∷ xs) (k ∷ ks) e t =
     let first : x.solved.function ≡ Some k = cc in
     let rest : names_of xs ≡ map Some ks = cc in
     let c : times (k.0 ∷ numbers ks) id.0 ≡ cond (nat_eq k.0 id.0) 1 0 + times (numbers ks) id.0 =
-        times_cons k.0 (numbers ks) id.0 in
+    times_cons k.0 (numbers ks) id.0 in
     elim (nat_eq id.0 k.0) as (λ b. nat_eq id.0 k.0 ≡ b → last_of id (x ∷ xs) ≡ None) [
       | true ↦ λ n. let f : times (k.0 ∷ numbers ks) id.0 ≡ 1 + times (numbers ks) id.0 =
           first_counted k.0 (numbers ks) id.0 (sym (eqb-true id.0 k.0 n)) in absurd (omega arith)
@@ -236,15 +264,15 @@ last_is id (y ∷ ys) [] x e t i n = cc
 last_is id (y ∷ ys) (k ∷ ks) x e t i n =
     let rest : names_of ys ≡ map Some ks = cc in
     let c : times (k.0 ∷ numbers ks) id.0 ≡ cond (nat_eq k.0 id.0) 1 0 + times (numbers ks) id.0 =
-        times_cons k.0 (numbers ks) id.0 in
+    times_cons k.0 (numbers ks) id.0 in
     ⊎_elim
     (λ (same : x ≡ y).
     let mine : y.solved.function ≡ Some id = ap (λ (z : Analysed). z.solved.function) (sym same) ∙ n in
     let is : k ≡ id = cc in
     let f : times (k.0 ∷ numbers ks) id.0 ≡ 1 + times (numbers ks) id.0 =
-        first_counted k.0 (numbers ks) id.0 (ap (λ (z : FunctionId). z.0) is) in
+    first_counted k.0 (numbers ks) id.0 (ap (λ (z : FunctionId). z.0) is) in
     ap (λ o. later o (own id y)) (none_last id ys ks rest (omega arith))
-        ∙ ap (λ b. cond b (Some y) None) (some_number id y.solved.function (sym mine)) ∙ ap Some (sym same))
+    ∙ ap (λ b. cond b (Some y) None) (some_number id y.solved.function (sym mine)) ∙ ap Some (sym same))
     (λ there. ap (λ o. later o (own id y)) (last_is id ys ks x rest (omega arith) there n))
     i
 
@@ -271,7 +299,7 @@ named_counts id (z ∷ zs) [] e i =
     let nameless : z.solved.function ≡ None = cc in
     let rest : names_of zs ≡ [] = cc in
     absurd (⊎_elim (λ (here : Some id ≡ z.solved.function). let no : Some id ≡ None = here ∙ nameless in none_is id no)
-        (λ there. none_named id zs rest there) i)
+    (λ there. none_named id zs rest there) i)
   where
     none_is : (id : FunctionId) → Some id ≡ None → ⊥
     none_is id e = cc
@@ -279,10 +307,10 @@ named_counts id (z ∷ zs) (k ∷ ks) e i =
     let first : z.solved.function ≡ Some k = cc in
     let rest : Ordered ks zs = cc in
     let c : times (numbers (k ∷ ks)) id.0 ≡ cond (nat_eq k.0 id.0) 1 0 + times (numbers ks) id.0 =
-        times_cons k.0 (numbers ks) id.0 in
+    times_cons k.0 (numbers ks) id.0 in
     ⊎_elim
     (λ (here : Some id ≡ z.solved.function). let is : id ≡ k = cc in let f : times (numbers (k ∷ ks)) id.0 ≡ 1
-        + times (numbers ks) id.0 = first_counts id k ks is in omega arith)
+    + times (numbers ks) id.0 = first_counts id k ks is in omega arith)
     (λ there. let more : 1 ≤ times (numbers ks) id.0 = named_counts id zs ks rest there in omega arith)
     i
 
@@ -295,7 +323,7 @@ named_twice id (x ∷ xs) zs (k ∷ ks) e i j =
     let first : x.solved.function ≡ Some k = cc in
     let rest : Ordered ks (xs ++ zs) = cc in
     let c : times (numbers (k ∷ ks)) id.0 ≡ cond (nat_eq k.0 id.0) 1 0 + times (numbers ks) id.0 =
-        times_cons k.0 (numbers ks) id.0 in
+    times_cons k.0 (numbers ks) id.0 in
     ⊎_elim
     (λ (here : Some id ≡ x.solved.function).
     let is : id ≡ k = cc in
@@ -346,7 +374,7 @@ known u a h =
     let b : RootBegun u a = root_begun u a h in
     let fs : List Analysed = b.nested.functions ++ root_entry u b.nested b.end ∷ [] in
     let e : RootEnded (with_effects_of b.end.solved u.function) (env_after b.nested.env b.end) fs b.root =
-        root_ended (with_effects_of b.end.solved u.function) (env_after b.nested.env b.end) fs b.root b.finishes in
+    root_ended (with_effects_of b.end.solved u.function) (env_after b.nested.env b.end) fs b.root b.finishes in
     let whole : handed_out (root_validated e.ranged e.reassigned fs) ≡ a = ap handed_out e.is ∙ b.out in
     record {
       root = record {
@@ -407,7 +435,7 @@ module _ (prints : PrintsWhatIsSaid) (u : HirUnit) (a : UnitAnalysis) (rules : r
       ≡ Some id → IsNamed id xs → ⊥
   once xs ys x id split number before =
       let two : 2 ≤ times (numbers order) id.0 =
-          named_twice id xs (x ∷ ys) order (ap names_of (sym split) ∙ names) before (inl (sym number)) in
+      named_twice id xs (x ∷ ys) order (ap names_of (sym split) ∙ names) before (inl (sym number)) in
       let one = (root_apart u rules).once id.0 in
       absurd (omega arith)
 
@@ -434,9 +462,9 @@ module _ (prints : PrintsWhatIsSaid) (u : HirUnit) (a : UnitAnalysis) (rules : r
         (slice_get a.inferred.unit.env.functions id.0)
     slot_kept =
         slot_holds Kept kept_still function_kept (last_of id nested.functions) (slice_get nested.env.functions id.0)
-            (slice_get a.inferred.unit.env.functions id.0) (slots_stay nested.env a.inferred.unit.env contexts id.0)
+        (slice_get a.inferred.unit.env.functions id.0) (slots_stay nested.env a.inferred.unit.env contexts id.0)
         (analysed_holds Kept kept_still function_kept most_levels u.function [] (analysis u.env []) nested
-            (none_hold Kept kept_still function_kept u.env) k.root.analyses id refl)
+        (none_hold Kept kept_still function_kept u.env) k.root.analyses id refl)
 
     nested_names : names_of nested.functions ≡ map Some order
     nested_names = (goes_over u.env.functions most_levels u.function [] (analysis u.env []) nested
@@ -457,7 +485,7 @@ module _ (prints : PrintsWhatIsSaid) (u : HirUnit) (a : UnitAnalysis) (rules : r
     solution : numbered id (solved_of x.func pass.left) ≡ x.solved
     solution =
         let same : kept.end ≡ place.link.ran.end =
-            ok_same kept.end place.link.ran.end (sym kept.ended ∙ place.link.ran.ended) in
+        ok_same kept.end place.link.ran.end (sym kept.ended ∙ place.link.ran.ended) in
         ap (λ (z : PassEnd). numbered id z.solved) (pass.is ∙ same) ∙ sym place.link.solved
 
     plain : Plain x.func
@@ -465,13 +493,21 @@ module _ (prints : PrintsWhatIsSaid) (u : HirUnit) (a : UnitAnalysis) (rules : r
         (plain_of place.link.func (link_uninferred u.env parts.environment place.id x place.left place.link))
 
     -- the function as it is reported
-    itself : ◌≡◌ {A = Analysed} (record { env = x.env; func = x.func; is_function_expression = true;
-        solved = numbered id (solved_of x.func pass.left) }) x
+    itself : ◌≡◌ {A = Analysed} (record {
+      env = x.env;
+      func = x.func;
+      is_function_expression = true;
+      solved = numbered id (solved_of x.func pass.left);
+    }) x
     itself =
         ap (λ s. let z : Analysed = record { env = x.env; func = x.func; is_function_expression = true; solved = s } in
-            z) solution
-        ∙ ap (λ b. let z : Analysed = record { env = x.env; func = x.func; is_function_expression = b;
-            solved = x.solved } in z) (sym kept.expression)
+        z) solution
+        ∙ ap (λ b. let z : Analysed = record {
+          env = x.env;
+          func = x.func;
+          is_function_expression = b;
+          solved = x.solved;
+        } in z) (sym kept.expression)
 
     pub nested_is_said : IsSaidOf x (cert_function a.inferred.unit a.inferred.summary x.solved)
     nested_is_said =
@@ -479,8 +515,8 @@ module _ (prints : PrintsWhatIsSaid) (u : HirUnit) (a : UnitAnalysis) (rules : r
         (nested_said prints a.inferred.unit x.env x.func pass.left place.link.ran.fits plain stored.func
         (subst (λ s. but_ranged stored.func ≡ but_ranged (with_effects_of s x.func)) (sym solution) stored.alike)
         id pass.ends kept.ranged (subst (λ (e : PassEnd).
-            range_pass true (with_effects_of e.solved x.func) (env_after x.env e) ≡ Ok kept.ranged) (sym pass.is)
-            kept.ran) stored.in_slot kept.stores a.inferred.summary)
+        range_pass true (with_effects_of e.solved x.func) (env_after x.env e) ≡ Ok kept.ranged) (sym pass.is)
+        kept.ran) stored.in_slot kept.stores a.inferred.summary)
 
   -- ---- the root
 
@@ -490,17 +526,17 @@ module _ (prints : PrintsWhatIsSaid) (u : HirUnit) (a : UnitAnalysis) (rules : r
   root_is_said : IsSaidOf last (cert_function a.inferred.unit a.inferred.summary last.solved)
   root_is_said =
       let alike : but_ranged k.root.ranged.after.0
-          ≡ but_ranged (with_effects_of (solved_of u.function root_pass.left) u.function)
+      ≡ but_ranged (with_effects_of (solved_of u.function root_pass.left) u.function)
       = ap without_summary leaves.still ∙ ap (λ (e : PassEnd). but_ranged (with_effects_of e.solved u.function))
-          (sym root_pass.is) in
+      (sym root_pass.is) in
       subst (λ (e : PassEnd). IsSaidOf (root_entry u nested e)
-          (cert_function a.inferred.unit a.inferred.summary e.solved)) root_pass.is
+      (cert_function a.inferred.unit a.inferred.summary e.solved)) root_pass.is
       (root_said prints a.inferred.unit nested.env u.function root_pass.left
-          (pruned_fits u.env nested.env walked.pruned u.function unit_fits) (plain_of u.function parts.function)
-          k.root.ranged.after.0 alike
+      (pruned_fits u.env nested.env walked.pruned u.function unit_fits) (plain_of u.function parts.function)
+      k.root.ranged.after.0 alike
       root_pass.ends k.root.ranged (subst (λ (e : PassEnd).
-          range_pass false (with_effects_of e.solved u.function) (env_after nested.env e) ≡ Ok k.root.ranged)
-          (sym root_pass.is) k.root.ran) k.root.root a.inferred.summary k.summary)
+      range_pass false (with_effects_of e.solved u.function) (env_after nested.env e) ≡ Ok k.root.ranged)
+      (sym root_pass.is) k.root.ran) k.root.root a.inferred.summary k.summary)
 
   -- ---- each
 
@@ -509,7 +545,7 @@ module _ (prints : PrintsWhatIsSaid) (u : HirUnit) (a : UnitAnalysis) (rules : r
   is_said x i =
       ⊎_elim (λ there. nested_is_said x there)
       (λ (same : x ≡ last). subst (λ (z : Analysed).
-          IsSaidOf z (cert_function a.inferred.unit a.inferred.summary z.solved)) (sym same) root_is_said)
+      IsSaidOf z (cert_function a.inferred.unit a.inferred.summary z.solved)) (sym same) root_is_said)
       (in_longer nested.functions last x (subst (IsOneOf x) k.root.all i))
 
   -- the certificate says it of each at its position
@@ -519,7 +555,7 @@ module _ (prints : PrintsWhatIsSaid) (u : HirUnit) (a : UnitAnalysis) (rules : r
     said = cert_function a.inferred.unit a.inferred.summary x.solved;
     there =
         ap (λ ss. slice_get (map (cert_function a.inferred.unit a.inferred.summary) ss) (length xs))
-            (k.solutions ∙ ap (map (λ (x : Analysed). x.solved)) split)
+        (k.solutions ∙ ap (map (λ (x : Analysed). x.solved)) split)
         ∙ said_at (cert_function a.inferred.unit a.inferred.summary) (λ (x : Analysed). x.solved) xs ys x;
     tells = is_said x (subst (IsOneOf x) (sym split) (split_there xs ys x));
   }

@@ -1,7 +1,7 @@
 -- A function that carries what was recorded sets the context places of each function that an instruction with an entry
 -- creates.
-use Rattle.std.specs.Prelude.{◌≡◌, ℕ, nat_eq, true, false, List, [], ◌∷◌, Option, Some, None, position, slice_get,
-    slice_set, slice_index_or, refl}
+use Rattle.std.specs.Prelude.{◌≡◌, ℕ, nat_eq, true, false, List, [], ◌∷◌, Option, Some, None, position, slice_get}
+use Rattle.std.specs.Prelude.{slice_set, slice_index_or, refl}
 use Rattle.std.proofs.Common.{zero, suc, ⊎_elim, ap, sym, ◌∙◌, subst}
 use Rattle.std.proofs.lemmas.Bool.{eqb-true}
 use Rattle.std.specs.List.{flat_map}
@@ -22,8 +22,8 @@ use Rattle.alias_step.specs.declared.block.recorded.BlockEffects.{BlockEffects}
 use Rattle.alias_step.specs.declared.block.recorded.InstructionEffects.{InstructionEffects}
 use Rattle.alias_step.specs.declared.block.recorded.TerminalEffects.{TerminalEffects}
 use Rattle.alias_effects.specs.Inference.{instructions_recorded}
-use Rattle.alias_effects.specs.Recording.{with_recorded, recorded_instructions, block_with, with_terminal_at,
-    recorded_terminals, with_effects_of}
+use Rattle.alias_effects.specs.Recording.{with_recorded, recorded_instructions, block_with, with_terminal_at}
+use Rattle.alias_effects.specs.Recording.{recorded_terminals, with_effects_of}
 use Rattle.alias_effects.specs.declared.solved.Solved.{Solved}
 use Rattle.alias_answer_laws.proofs.order.Ordering.{differs}
 use Rattle.alias_graph.specs.Walks.{IsOneOf}
@@ -54,9 +54,9 @@ module _ (e : InstructionEffects) (xs : List Instruction) where
       ≡ Some (record z { effects = Some e.effects })
   put_own n z same at =
       subst (λ k. slice_get (option_map_or (λ (x : Instruction). slice_set xs k (record x { effects = Some e.effects }))
-          (slice_get xs k) xs) n ≡ Some (record z { effects = Some e.effects })) (sym same)
+      (slice_get xs k) xs) n ≡ Some (record z { effects = Some e.effects })) (sym same)
       (ap (λ o. slice_get (option_map_or (λ (x : Instruction). slice_set xs n (record x { effects = Some e.effects })) o
-          xs) n) at ∙ set_there xs n (record z { effects = Some e.effects }) z at)
+      xs) n) at ∙ set_there xs n (record z { effects = Some e.effects }) z at)
 
   put_other : (n : ℕ) (z : Instruction) (o : Option Instruction) → (n ≡ e.instruction.0 → ⊥) → slice_get xs n ≡ Some z
       → slice_get (option_map_or (λ (x : Instruction).
@@ -69,11 +69,19 @@ module _ (e : InstructionEffects) (xs : List Instruction) where
       × (slice_get (with_recorded e xs) n ≡ Some y) × (y.value ≡ z.value) × (Full z → Full y)
   put_stands n z f at =
       elim (nat_eq n e.instruction.0) as (λ b. nat_eq n e.instruction.0 ≡ b → (y : Instruction)
-          × (slice_get (with_recorded e xs) n ≡ Some y) × (y.value ≡ z.value) × (Full z → Full y)) [
-        | true ↦ λ g. (record z { effects = Some e.effects }, put_own n z (sym (eqb-true n e.instruction.0 g)) at, refl,
-            λ full. filled_full e z f)
-        | false ↦ λ g. (z, put_other n z (slice_get xs e.instruction.0) (differs n e.instruction.0 g) at, refl,
-            λ full. full)
+      × (slice_get (with_recorded e xs) n ≡ Some y) × (y.value ≡ z.value) × (Full z → Full y)) [
+        | true ↦ λ g. (
+          record z { effects = Some e.effects },
+          put_own n z (sym (eqb-true n e.instruction.0 g)) at,
+          refl,
+          λ full. filled_full e z f,
+        )
+        | false ↦ λ g. (
+          z,
+          put_other n z (slice_get xs e.instruction.0) (differs n e.instruction.0 g) at,
+          refl,
+          λ full. full,
+        )
       ] refl
 
 stands_all : (es : List InstructionEffects) → AllFilled es → (xs : List Instruction) (n : ℕ) (x : Instruction)
@@ -92,10 +100,12 @@ entered [] f xs id x at h = absurd h
 entered (e ∷ es) f xs id x at h =
     ⊎_elim
     (λ (same : e.instruction ≡ id).
-    let s : Stands (recorded_instructions es xs) id.0 x.value = stands_all es f.1 xs id.0 x at in
-    (record s.one { effects = Some e.effects },
-        put_own e (recorded_instructions es xs) id.0 s.one (ap (λ (z : InstructionId). z.0) same) s.there, s.value,
-        filled_full e s.one f.0))
+    let s : Stands (recorded_instructions es xs) id.0 x.value = stands_all es f.1 xs id.0 x at in (
+      record s.one { effects = Some e.effects },
+      put_own e (recorded_instructions es xs) id.0 s.one (ap (λ (z : InstructionId). z.0) same) s.there,
+      s.value,
+      filled_full e s.one f.0,
+    ))
     (λ later.
     let r = entered es f.1 xs id x at later in
     let p = put_stands e (recorded_instructions es xs) id.0 r.0 f.0 r.1 in
@@ -109,8 +119,11 @@ value_set : (bs : List (BlockId × BasicBlock)) (i : ℕ) (v : BasicBlock) (n : 
     ≡ c.1.instructions)
     → (d : BlockId × BasicBlock) × (slice_get (set_value_at bs i v) n ≡ Some d) × (d.1.instructions ≡ b.1.instructions)
 value_set [] i v n b at h = cc
-value_set (x ∷ xs) zero v zero b at h = ((x.0, v), refl,
-    h x refl ∙ ap (λ (z : BlockId × BasicBlock). z.1.instructions) (some_same x b at))
+value_set (x ∷ xs) zero v zero b at h = (
+  (x.0, v),
+  refl,
+  h x refl ∙ ap (λ (z : BlockId × BasicBlock). z.1.instructions) (some_same x b at),
+)
 value_set (x ∷ xs) zero v (suc n) b at h = (b, at, refl)
 value_set (x ∷ xs) (suc i) v zero b at h = (b, at, refl)
 value_set (x ∷ xs) (suc i) v (suc n) b at h = value_set xs i v n b at h
@@ -118,8 +131,8 @@ value_set (x ∷ xs) (suc i) v (suc n) b at h = value_set xs i v n b at h
 terminal_set : (es : List AliasingEffect) (bs : List (BlockId × BasicBlock)) (i : ℕ) (n : ℕ) (b : BlockId × BasicBlock)
     (o : Option (BlockId × BasicBlock)) → slice_get bs i ≡ o → slice_get bs n ≡ Some b
     → (d : BlockId × BasicBlock) × (slice_get
-        (option_map_or (λ (x : BlockId × BasicBlock). set_value_at bs i (block_with x.1 es)) o bs) n ≡ Some d)
-        × (d.1.instructions ≡ b.1.instructions)
+    (option_map_or (λ (x : BlockId × BasicBlock). set_value_at bs i (block_with x.1 es)) o bs) n ≡ Some d)
+    × (d.1.instructions ≡ b.1.instructions)
 terminal_set es bs i n b None is at = (b, at, refl)
 terminal_set es bs i n b (Some x) is at =
     value_set bs i (block_with x.1 es) n b at
@@ -128,19 +141,19 @@ terminal_set es bs i n b (Some x) is at =
 terminal_put : (es : List AliasingEffect) (bs : List (BlockId × BasicBlock)) (n : ℕ) (b : BlockId × BasicBlock)
     (o : Option ℕ) → slice_get bs n ≡ Some b
     → (d : BlockId × BasicBlock) × (slice_get (option_map_or (with_terminal_at es bs) o bs) n ≡ Some d)
-        × (d.1.instructions ≡ b.1.instructions)
+    × (d.1.instructions ≡ b.1.instructions)
 terminal_put es bs n b None at = (b, at, refl)
 terminal_put es bs n b (Some i) at = terminal_set es bs i n b (slice_get bs i) refl at
 
 block_stays : (ts : List TerminalEffects) (bs : List (BlockId × BasicBlock)) (n : ℕ) (b : BlockId × BasicBlock)
     → slice_get bs n ≡ Some b
     → (d : BlockId × BasicBlock) × (slice_get (recorded_terminals ts bs) n ≡ Some d)
-        × (d.1.instructions ≡ b.1.instructions)
+    × (d.1.instructions ≡ b.1.instructions)
 block_stays [] bs n b at = (b, at, refl)
 block_stays (t ∷ ts) bs n b at =
     let r = block_stays ts bs n b at in
     let p = terminal_put t.effects (recorded_terminals ts bs) n r.0
-        (position (same_block t.block) (keys_of (recorded_terminals ts bs))) r.1 in
+    (position (same_block t.block) (keys_of (recorded_terminals ts bs))) r.1 in
     (p.0, p.1, p.2 ∙ r.2)
 
 -- ---- the function
@@ -148,7 +161,7 @@ block_stays (t ∷ ts) bs n b at =
 pub sets_context : (f : HirFunction) (s : Solved) → AllFilled s.effects → (k slot : ℕ) (block : BlockId × BasicBlock)
     → slice_get f.body.blocks slot ≡ Some block → (id : InstructionId) → IsOneOf id block.1.instructions
     → (i : Instruction) → slice_get f.instructions id.0 ≡ Some i → created i.value ≡ Some (record { 0 = k })
-        → HasEntry s.effects id → SetsContext (with_effects_of s f) k
+    → HasEntry s.effects id → SetsContext (with_effects_of s f) k
 sets_context f s filled k slot block there id listed i at creates h =
     let b = block_stays s.terminal_effects f.body.blocks slot block there in
     let y = entered s.effects filled f.instructions id i at h in
@@ -158,8 +171,14 @@ sets_context f s filled k slot block there id listed i at creates h =
       block_there = b.1;
       id = id;
       listed = subst (IsOneOf id) (sym b.2) listed;
-      sets = record { instruction = y.0; there = y.1; creates = ap created y.2 ∙ creates; first = y.3.0; others = y.3.1;
-          carries = y.3.2 };
+      sets = record {
+        instruction = y.0;
+        there = y.1;
+        creates = ap created y.2 ∙ creates;
+        first = y.3.0;
+        others = y.3.1;
+        carries = y.3.2;
+      };
     }
 
 -- ---- what all blocks recorded
@@ -177,6 +196,6 @@ pub recorded_enters : (rs : List (Option BlockEffects)) (b : ℕ) (k : BlockEffe
 recorded_enters [] b k id e h = cc
 recorded_enters (r ∷ rs) zero k id e h =
     has_front (instructions_recorded r) (flat_map instructions_recorded rs) id
-        (subst (λ o. HasEntry (instructions_recorded o) id) (sym e) h)
+    (subst (λ o. HasEntry (instructions_recorded o) id) (sym e) h)
 recorded_enters (r ∷ rs) (suc b) k id e h =
     has_rest (instructions_recorded r) (flat_map instructions_recorded rs) id (recorded_enters rs b k id e h)

@@ -30,8 +30,12 @@ module _ (env : Environment) (func : HirFunction) (e : Bool)
     (ends : visits_end (context_of env func e) ≡ Solved w) where
   pub solution : NamesItsOwn env func e w.tables w.progress.joined_input
       → IsSolution env func e w.tables w.progress.joined_input w.recorded
-  solution names = record { solved = pass_solves env func e entered w ends;
-      records = (solves env func e entered w ends).keeps; count = (kept env func e entered w ends).2; names = names }
+  solution names = record {
+    solved = pass_solves env func e entered w ends;
+    records = (solves env func e entered w ends).keeps;
+    count = (kept env func e entered w ends).2;
+    names = names;
+  }
 
   pub others : KeepsOthers (entry_at w.progress.joined_input) (replicate (length func.body.blocks) None) w.recorded
   others = (solves env func e entered w ends).others

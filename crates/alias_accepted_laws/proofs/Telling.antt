@@ -1,6 +1,6 @@
 -- What a certificate says of functions that were analysed, and parts of checks that find no fault.
-use Rattle.std.specs.Prelude.{◌≡◌, ℕ, true, if◌then◌else◌, List, [], map, Option, Some, None, Result, Ok, Err,
-    slice_get, refl}
+use Rattle.std.specs.Prelude.{◌≡◌, ℕ, true, if◌then◌else◌, List, [], map, Option, Some, None, Result, Ok, Err}
+use Rattle.std.specs.Prelude.{slice_get, refl}
 use Rattle.std.proofs.Common.{ap, sym, ◌∙◌, subst, eq-eqb}
 use Rattle.alias_base.specs.Answer.{◌>>=◌}
 use Rattle.alias_base.specs.declared.ids.FunctionId.{FunctionId}
@@ -68,7 +68,7 @@ pub said_there : (functions : List CertFunction) (n : ℕ) (id : Option Function
     → slice_get functions n ≡ Some c → c.function ≡ id → said functions n id ≡ Ok c
 said_there functions n id c at named =
     ap (said_as n id) at ∙ ap (λ b. let r : Result CertFunction CheckFault = if b then Ok c
-        else Err (fault.Functions n) in r) (ap (λ f. same_name f id) named ∙ same_itself id)
+    else Err (fault.Functions n) in r) (ap (λ f. same_name f id) named ∙ same_itself id)
 
 -- ---- summaries
 

@@ -19,10 +19,11 @@ use Rattle.alias_tables.specs.Steps.{◌>>=◌, gives, each}
 use Rattle.alias_tables.specs.Tables.{TableLists}
 use Rattle.alias_apply.specs.declared.progress.StepProgress.{StepProgress}
 use Rattle.alias_signature.specs.Globals.{instruction_report}
-use Rattle.alias_step.specs.Instructions.{apply_instruction, intern_reported, context_with, apply_signature_with,
-    apply_signature}
-use Rattle.alias_step.specs.block.Blocks.{infer_phis, step_start, after_instruction, infer_instruction,
-    infer_instruction_at, apply_signatures, apply_terminal, block_start, finished, infer_block}
+use Rattle.alias_step.specs.Instructions.{apply_instruction, intern_reported, context_with, apply_signature_with}
+use Rattle.alias_step.specs.Instructions.{apply_signature}
+use Rattle.alias_step.specs.block.Blocks.{infer_phis, step_start, after_instruction, infer_instruction}
+use Rattle.alias_step.specs.block.Blocks.{infer_instruction_at, apply_signatures, apply_terminal, block_start, finished}
+use Rattle.alias_step.specs.block.Blocks.{infer_block}
 use Rattle.alias_step.specs.block.Contexts.{BlockContext, context_of}
 use Rattle.alias_step.specs.block.Faults.{in_block}
 use Rattle.alias_step.specs.block.Initial.{initial_state}
@@ -44,7 +45,7 @@ module _ (env : Environment) (ids : List Identifier) (spans : Paired Respanned e
       → apply_signature_with there facts x e s ≡ apply_signature_with env facts x e s
   signature_with_same facts x e s =
       ap (λ es. apply_instruction (context_with there facts) (created x.value) es x.lvalue.identifier s)
-          (signature_same env ids spans facts e x.lvalue x.span x.value)
+      (signature_same env ids spans facts e x.lvalue x.span x.value)
       ∙ instruction_same env ids spans facts.hoisted (created x.value) _ x.lvalue.identifier s
 
   applied_same : (facts : FunctionFacts) (x : Instruction) (s : StepProgress) → apply_signature there facts x s
@@ -98,10 +99,10 @@ module _ (env : Environment) (ids : List Identifier) (spans : Paired Respanned e
     visits_same : visits_end (context_of there func b) ≡ visits_end here
     visits_same =
         ap (λ k. visits_end (let c : BlockContext =
-            record { env = there; func = func; facts = k; is_function_expression = b } in c))
-            (facts_same env ids spans func)
+        record { env = there; func = func; facts = k; is_function_expression = b } in c))
+        (facts_same env ids spans func)
         ∙ ap (λ r. solution state_join state_below r (tables_of env) (replicate (length func.body.blocks) None))
-            flow_same
+        flow_same
 
 pub spans_not_read : SpansAreNotRead
 spans_not_read env ids func b spans = visits_same env ids spans func b

@@ -1,6 +1,6 @@
 -- The check goes over the functions below a function as their analysis did, one after the other.
-use Rattle.std.specs.Prelude.{◌≡◌, ℕ, nat_eq, true, false, List, [], ◌∷◌, ◌++◌, length, option_map, Option, Some, None,
-    Result, Ok, slice_get, slice_set, refl}
+use Rattle.std.specs.Prelude.{◌≡◌, ℕ, nat_eq, true, false, List, [], ◌∷◌, ◌++◌, length, option_map, Option, Some, None}
+use Rattle.std.specs.Prelude.{Result, Ok, slice_get, slice_set, refl}
 use Rattle.std.proofs.Common.{zero, suc, inl, inr, ap, sym, ◌∙◌, subst}
 use Rattle.std.proofs.lemmas.Bool.{eqb-true}
 use Rattle.std.proofs.lemmas.List.{append-nil, append_assoc}
@@ -10,22 +10,22 @@ use Rattle.alias_hir.specs.declared.hir.HirFunction.{HirFunction}
 use Rattle.alias_nesting_laws.specs.SlotLaws.{set_other, set_there}
 use Rattle.alias_nesting_laws.specs.Slots.{with_function}
 use Rattle.alias_range_pass.specs.places.Keeping.{but_context}
-use Rattle.alias_nested.specs.Analysis.{Analysed, Analysis, each as each_analysed, function_analysed, taken_analysed,
-    put_back, found_analysed, slot_analysed, analysed}
+use Rattle.alias_nested.specs.Analysis.{Analysed, Analysis, each as each_analysed, function_analysed, taken_analysed}
+use Rattle.alias_nested.specs.Analysis.{put_back, found_analysed, slot_analysed, analysed}
 use Rattle.alias_nested.specs.Created.{created_functions}
 use Rattle.alias_nested.specs.Slots.{emptied}
 use Rattle.alias_answer_laws.proofs.order.Ordering.{went, differs}
 use Rattle.alias_inferred_laws.proofs.inferred.Listing.{Passed, function_passed}
 use Rattle.alias_certificate.specs.declared.certificate.CertFunction.{CertFunction}
 use Rattle.alias_cert.specs.Functions.{Checking, nested_checked}
-use Rattle.alias_cert.specs.Units.{each as each_checked, put_back as put_back_checked, taken_checked, found_checked,
-    slot_checked, below_checked}
+use Rattle.alias_cert.specs.Units.{each as each_checked, put_back as put_back_checked, taken_checked, found_checked}
+use Rattle.alias_cert.specs.Units.{slot_checked, below_checked}
 use Rattle.alias_certificate_laws.specs.accepting.Alike.{Maybe, nothing, just, AlikeFunction, seen}
 use Rattle.alias_certificate_laws.proofs.accepting.Likeness.{paired_get}
 use Rattle.alias_inferred_laws.specs.handed.Handed.{IsNamed}
 use Rattle.alias_inferred_laws.proofs.handed.Preceding.{named_more}
-use Rattle.alias_accepted_laws.specs.Following.{OrFull, done, PassesAreFollowed, ReadsAreSet, RangesAreFollowed,
-    Follows}
+use Rattle.alias_accepted_laws.specs.Following.{OrFull, done, PassesAreFollowed, ReadsAreSet, RangesAreFollowed}
+use Rattle.alias_accepted_laws.specs.Following.{Follows}
 use Rattle.alias_accepted_laws.proofs.One.{Joined, own, nested_follows}
 use Rattle.alias_accepted_laws.proofs.Seen.{function_self, seen_with}
 use Rattle.alias_accepted_laws.proofs.Telling.{IsSaidAt, or_full_then}
@@ -46,8 +46,10 @@ grown_self : (a b : Analysis) → a ≡ b → Grown a b
 grown_self a b is = record { more = []; is = append-nil a.functions ∙ ap (λ (z : Analysis). z.functions) is }
 
 grown_through : (a b c : Analysis) → Grown a b → Grown b c → Grown a c
-grown_through a b c p q = record { more = p.more ++ q.more;
-    is = sym (append_assoc a.functions p.more q.more) ∙ ap (λ zs. zs ++ q.more) p.is ∙ q.is }
+grown_through a b c p q = record {
+  more = p.more ++ q.more;
+  is = sym (append_assoc a.functions p.more q.more) ∙ ap (λ zs. zs ++ q.more) p.is ∙ q.is;
+}
 
 function_grows : (id : FunctionId) (f : HirFunction) (a : Analysis) (s : Taken) → function_analysed id f a ≡ Ok s
     → Grown a s.1
@@ -121,14 +123,14 @@ set_same : (xs ys : List HirFunction) (n k : ℕ) (f g : HirFunction) → slice_
     → option_map but_context (slice_get (slice_set ys n g) k) ≡ option_map but_context (slice_get (slice_set xs n g) k)
 set_same xs ys n k f g at there same =
     elim (nat_eq k n) as (λ b. nat_eq k n ≡ b → option_map but_context (slice_get (slice_set ys n g) k)
-        ≡ option_map but_context (slice_get (slice_set xs n g) k)) [
+    ≡ option_map but_context (slice_get (slice_set xs n g) k)) [
       | true ↦ λ e.
           subst (λ z. option_map but_context (slice_get (slice_set ys n g) z)
-              ≡ option_map but_context (slice_get (slice_set xs n g) z)) (sym (eqb-true k n e))
+          ≡ option_map but_context (slice_get (slice_set xs n g) z)) (sym (eqb-true k n e))
           (ap (option_map but_context) (set_there ys n g f there ∙ sym (set_there xs n g f at)))
       | false ↦ λ e.
           ap (option_map but_context) (set_other ys n k g (differs k n e)) ∙ same
-              ∙ sym (ap (option_map but_context) (set_other xs n k g (differs k n e)))
+          ∙ sym (ap (option_map but_context) (set_other xs n k g (differs k n e)))
     ] refl
 
 named_last : (id : FunctionId) (xs : List Analysed) (y : Analysed) → y.solved.function ≡ Some id
@@ -142,15 +144,17 @@ module _ (passes : PassesAreFollowed) (reads : ReadsAreSet) (ranges : RangesAreF
     (all : List Analysed)
     (says : (xs ys : List Analysed) (x : Analysed) → all ≡ xs ++ x ∷ ys → IsSaidAt functions (length xs) x)
     (once : (xs ys : List Analysed) (x : Analysed) (id : FunctionId) → all ≡ xs ++ x ∷ ys → x.solved.function ≡ Some id
-        → IsNamed id xs → ⊥) where
+    → IsNamed id xs → ⊥) where
   -- these were analysed first
   pub record IsFront (xs : List Analysed) : Type 0 where
     pub rest : List Analysed
     pub is : all ≡ xs ++ rest
 
   front_before : (a b : Analysis) → Grown a b → IsFront b.functions → IsFront a.functions
-  front_before a b g p = record { rest = g.more ++ p.rest;
-      is = p.is ∙ ap (λ zs. zs ++ p.rest) (sym g.is) ∙ append_assoc a.functions g.more p.rest }
+  front_before a b g p = record {
+    rest = g.more ++ p.rest;
+    is = p.is ∙ ap (λ zs. zs ++ p.rest) (sym g.is) ∙ append_assoc a.functions g.more p.rest;
+  }
 
   abbrev Walks : ℕ → Type 0
   Walks n = (f : HirFunction) (a b : Analysis) (c : Checking) → analysed n f a ≡ Ok b → IsFront b.functions
@@ -188,12 +192,12 @@ module _ (passes : PassesAreFollowed) (reads : ReadsAreSet) (ranges : RangesAreF
         count = j.count;
         slots = λ k none.
             let other : k.0 ≡ id.0 → ⊥ = λ e. none
-                (subst (λ z. IsNamed z s.1.functions) (same_number id k (sym e))
-                (subst (IsNamed id) more (named_last id a.functions (own id f a p.end) refl))) in
+            (subst (λ z. IsNamed z s.1.functions) (same_number id k (sym e))
+            (subst (IsNamed id) more (named_last id a.functions (own id f a p.end) refl))) in
             let before : IsNamed k a.functions → ⊥ =
-                λ named. none (subst (IsNamed k) more (named_more k a.functions (own id f a p.end ∷ []) named)) in
+            λ named. none (subst (IsNamed k) more (named_more k a.functions (own id f a p.end ∷ []) named)) in
             ap (option_map but_context) (set_other t.1.env.functions id.0 k.0 t.0 other) ∙ j.slots k before
-                ∙ sym (ap (option_map but_context) (set_other s.1.env.functions id.0 k.0 s.0 other));
+            ∙ sym (ap (option_map but_context) (set_other s.1.env.functions id.0 k.0 s.0 other));
       }
     where
       same_number : (id k : FunctionId) → id.0 ≡ k.0 → id ≡ k
@@ -209,29 +213,29 @@ module _ (passes : PassesAreFollowed) (reads : ReadsAreSet) (ranges : RangesAreF
         let x : Analysed = own id f t.mid p.end in
         let more : t.mid.functions ++ x ∷ [] ≡ s.1.functions = ap (λ (q : Taken). q.1.functions) p.is in
         let whole : IsFront s.1.functions = record
-            { rest = front.rest; is = front.is ∙ ap (λ (z : Analysis). z.functions ++ front.rest) (sym t.back) } in
+        { rest = front.rest; is = front.is ∙ ap (λ (z : Analysis). z.functions ++ front.rest) (sym t.back) } in
         let split : all ≡ t.mid.functions ++ x ∷ front.rest = whole.is ∙ ap (λ zs. zs ++ front.rest) (sym more)
-            ∙ append_assoc t.mid.functions (x ∷ []) front.rest in
+        ∙ append_assoc t.mid.functions (x ∷ []) front.rest in
         let mid_free : IsNamed id t.mid.functions → ⊥ = once t.mid.functions front.rest x id split refl in
         let grown : Grown a t.mid = below_grown t in
         let free : IsNamed id a.functions → ⊥ =
-            λ named. mid_free (subst (IsNamed id) grown.is (named_more id a.functions grown.more named)) in
+        λ named. mid_free (subst (IsNamed id) grown.is (named_more id a.functions grown.more named)) in
         let said : IsSaidAt functions (length t.mid.functions) x = says t.mid.functions front.rest x split in
         let steps : OrFull (Follows b) (found_checked functions (below_checked functions n) id c (Some f))
         = or_full_then (Follows b) (taken_checked functions (below_checked functions n) id f
-            (out_checked id f a c follows at free)) (λ (q : HirFunction × Checking). Ok (put_back_checked id q))
+        (out_checked id f a c follows at free)) (λ (q : HirFunction × Checking). Ok (put_back_checked id q))
         (or_full_then (Joined t.mid s) (below_checked functions n f (out_checked id f a c follows at free))
-            (nested_checked functions id f)
+        (nested_checked functions id f)
         (walks f (out id f a c follows at free) t.mid (out_checked id f a c follows at free) t.went_below
-            (front_before t.mid s.1 (function_grows id f t.mid s t.went_own) whole)
-            (follows_out id f a c follows at free))
+        (front_before t.mid s.1 (function_grows id f t.mid s t.went_own) whole)
+        (follows_out id f a c follows at free))
         (λ d fol. nested_follows passes reads ranges id f t.mid d fol functions s said.said t.went_own said.there
-            said.tells))
+        said.tells))
         (λ q j. done (put_back_checked id q) refl
-            (subst (λ (z : Analysis). Follows z (put_back_checked id q)) t.back
-            (put_back_follows id f t.mid s q t.went_own j))) in
+        (subst (λ (z : Analysis). Follows z (put_back_checked id q)) t.back
+        (put_back_follows id f t.mid s q t.went_own j))) in
         subst (λ o. OrFull (Follows b) (found_checked functions (below_checked functions n) id c o))
-            (sym (there id f a c follows at free)) steps
+        (sym (there id f a c follows at free)) steps
       where
         below_grown : {id : FunctionId} {f : HirFunction} {a b : Analysis} (t : Taking (analysed n) id f a b)
             → Grown a t.mid
@@ -246,10 +250,10 @@ module _ (passes : PassesAreFollowed) (reads : ReadsAreSet) (ranges : RangesAreF
         → OrFull (Follows b) (slot_checked functions (below_checked functions n) id c)
     found_walks id a b c None at h front follows =
         let none : slice_get c.env.functions id.0 ≡ None =
-            none_too (slice_get a.env.functions id.0) (slice_get c.env.functions id.0)
-            (paired_get id.0 a.env.functions c.env.functions follows.alike.functions) at in
+        none_too (slice_get a.env.functions id.0) (slice_get c.env.functions id.0)
+        (paired_get id.0 a.env.functions c.env.functions follows.alike.functions) at in
         subst (λ o. OrFull (Follows b) (found_checked functions (below_checked functions n) id c o)) (sym none)
-            (done c refl (subst (λ (z : Analysis). Follows z c) (ok_same a b h) follows))
+        (done c refl (subst (λ (z : Analysis). Follows z c) (ok_same a b h) follows))
     found_walks id a b c (Some f) at h front follows =
         taken_walks id f a b c at (taking (analysed n) id f a b h) front follows
 
@@ -261,7 +265,7 @@ module _ (passes : PassesAreFollowed) (reads : ReadsAreSet) (ranges : RangesAreF
         let w = went (slot_analysed (analysed n) id a) (each_analysed (slot_analysed (analysed n)) ids) b h in
         let rest : Grown w.0 b = each_grows (analysed n) (analysed_grows n) ids w.0 b w.2 in
         or_full_then (Follows b) (slot_checked functions (below_checked functions n) id c)
-            (each_checked (slot_checked functions (below_checked functions n)) ids)
+        (each_checked (slot_checked functions (below_checked functions n)) ids)
         (found_walks id a w.0 c (slice_get a.env.functions id.0) refl w.1 (front_before w.0 b rest front) follows)
         (λ d fol. each_walks ids w.0 b d w.2 front fol)
 

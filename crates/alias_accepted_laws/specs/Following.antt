@@ -74,17 +74,17 @@ pub record EndsAlike (func : HirFunction) (e o : PassEnd) : Type 0 where
 abbrev pub PassesAreFollowed : Type 0
 PassesAreFollowed =
     (env other : Environment) (func : HirFunction) (b : Bool) (w : SolverState (VisitLog State) TableLists BlockEffects)
-        → function_fits func env ≡ true → visits_end (context_of env func b) ≡ Solved w → SeenAlike env other
+    → function_fits func env ≡ true → visits_end (context_of env func b) ≡ Solved w → SeenAlike env other
     → (id : Option FunctionId) (summary : List (List ℕ))
-        → OrFull (EndsAlike func (end_of func w))
-        (function_solved (said_function id func w.progress.joined_input w.recorded w.tables.temporaries summary) other
-        func b)
+    → OrFull (EndsAlike func (end_of func w))
+    (function_solved (said_function id func w.progress.joined_input w.recorded w.tables.temporaries summary) other
+    func b)
 
 -- what an effects pass notes of context places is set anew
 abbrev pub ReadsAreSet : Type 0
 ReadsAreSet =
     (env : Environment) (func : HirFunction) (b : Bool) (w : SolverState (VisitLog State) TableLists BlockEffects)
-        → function_fits func env ≡ true → visits_end (context_of env func b) ≡ Solved w
+    → function_fits func env ≡ true → visits_end (context_of env func b) ≡ Solved w
     → ReadsAreSetIn (with_effects_of (end_of func w).solved func) (end_of func w).reads
 
 -- what the range pass gives in the check
@@ -99,7 +99,7 @@ pub record RangeFollowed (other : Environment) (g : HirFunction) (b : Bool) (r :
 abbrev pub RangesAreFollowed : Type 0
 RangesAreFollowed =
     (env other : Environment) (f g : HirFunction) (b : Bool) (r : Ranged) → SeenNearly f env other → CarriesAlike f g
-        → range_pass b f env ≡ Ok r → RangeFollowed other g b r
+    → range_pass b f env ≡ Ok r → RangeFollowed other g b r
 
 -- ---- the walk over the functions of a unit
 

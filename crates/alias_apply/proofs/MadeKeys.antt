@@ -1,6 +1,6 @@
 -- A key that is put into a set of what was made goes last, where it wasn't made, and else the set stays.
-use Rattle.std.proofs.Common.{◌≡◌, Bool, true, false, ◌==◌, ◌||◌, List, [], ◌∷◌, ◌++◌, refl, ap, sym, ◌∙◌,
-    if◌then◌else◌}
+use Rattle.std.proofs.Common.{◌≡◌, Bool, true, false, ◌==◌, ◌||◌, List, [], ◌∷◌, ◌++◌, refl, ap, sym, ◌∙◌}
+use Rattle.std.proofs.Common.{if◌then◌else◌}
 use Rattle.std.specs.List.{list_any}
 use Rattle.std.proofs.lemmas.Bool.{eq-eqb, eqb-true}
 use Rattle.alias_base.specs.declared.ids.IdentifierId.{IdentifierId}
@@ -15,8 +15,8 @@ either_way : (k : IdentifierId) (ks : List IdentifierId) → list_any (λ (y : I
 either_way k [] = refl
 either_way k (y ∷ ys) =
     ap (λ t. t || list_any (λ (y : IdentifierId). k.0 == y.0) ys)
-        (by_tests (k.0 == y.0) (y.0 == k.0) (λ h. eq-eqb _ _ (sym (eqb-true _ _ h)))
-        (λ h. eq-eqb _ _ (sym (eqb-true _ _ h))))
+    (by_tests (k.0 == y.0) (y.0 == k.0) (λ h. eq-eqb _ _ (sym (eqb-true _ _ h)))
+    (λ h. eq-eqb _ _ (sym (eqb-true _ _ h))))
     ∙ ap (λ t. (y.0 == k.0) || t) (either_way k ys)
 
 pub goes_last : (k : IdentifierId) (old new : List IdentifierId) → new

@@ -78,7 +78,7 @@ module _ (c : StepContext) where
   abbrev pub is_mutable_function : FunctionId → List Place → State → Bool
   is_mutable_function f captures u =
       list_any (is_mutable_capture u) captures || has_error (summary_of c.env f)
-          || list_any (λ (p : Place). is_ref_at c.env p.identifier) (context_of c.env f)
+      || list_any (λ (p : Place). is_ref_at c.env p.identifier) (context_of c.env f)
 
   -- each of the places is captured
   abbrev pub capture_each : Place → List Place → StepProgress → Step StepProgress

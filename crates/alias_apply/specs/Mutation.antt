@@ -3,8 +3,8 @@ use Rattle.std.specs.Prelude.{Bool, ◌||◌, Option, None, Some, if◌then◌el
 use Rattle.alias_hir.specs.declared.effect.AliasingEffect.{AliasingEffect}
 use Rattle.alias_hir.specs.declared.effect.AliasingEffect.TheVariants as effect
 use Rattle.alias_hir.specs.declared.effect.ValueKind.{ValueKind}
-use Rattle.alias_hir.specs.declared.effect.ValueKind.TheVariants.{Primitive, Global, Frozen, Mutable, Context,
-    MaybeFrozen}
+use Rattle.alias_hir.specs.declared.effect.ValueKind.TheVariants.{Primitive, Global, Frozen, Mutable, Context}
+use Rattle.alias_hir.specs.declared.effect.ValueKind.TheVariants.{MaybeFrozen}
 use Rattle.alias_hir.specs.declared.effect.ValueReason.{ValueReason}
 use Rattle.alias_hir.specs.declared.env.Config.{Config}
 use Rattle.alias_hir.specs.declared.place.Place.{Place}
@@ -95,5 +95,5 @@ module _ (c : StepContext) where
   apply_freeze v r s =
       let u = record_of (effect.Freeze v r) (with_state (frozen v.identifier r s.state) s) in
       if does_freeze s.state v.identifier then (if freezes_on c.env.config
-          then with_state (place_frozen_transitively r (context_of c.env) v.identifier u.state) u else u)
+      then with_state (place_frozen_transitively r (context_of c.env) v.identifier u.state) u else u)
       else with_state (frozen v.identifier r s.state) s

@@ -43,32 +43,32 @@ labels_at (Some s) text = label s text ∷ []
 abbrev pub late_write_reason : ℕ → List ℕ
 late_write_reason reasons =
     if has_reason reasons reason.State then codes
-        "Modifying a value returned from 'useState()', which should not be modified directly. Use the setter function to update instead"
+    "Modifying a value returned from 'useState()', which should not be modified directly. Use the setter function to update instead"
     else (if has_reason reasons reason.ReducerState
-        then codes
-        "Modifying a value returned from 'useReducer()', which should not be modified directly. Use the dispatch function to update instead"
+    then codes
+    "Modifying a value returned from 'useReducer()', which should not be modified directly. Use the dispatch function to update instead"
     else (if has_reason reasons reason.Effect
-        then codes
-        "Modifying a value used previously in an effect function or as an effect dependency is not allowed. Consider moving the modification before calling useEffect()"
+    then codes
+    "Modifying a value used previously in an effect function or as an effect dependency is not allowed. Consider moving the modification before calling useEffect()"
     else (if has_reason reasons reason.HookCaptured
-        then codes
-        "Modifying a value previously passed as an argument to a hook is not allowed. Consider moving the modification before calling the hook"
+    then codes
+    "Modifying a value previously passed as an argument to a hook is not allowed. Consider moving the modification before calling the hook"
     else (if has_reason reasons reason.HookReturn then codes "Modifying a value returned from a hook is not allowed. Consider moving the modification into the hook where the value is constructed"
     else codes "This modifies a variable that React considers immutable"))))
 
 abbrev pub write_reason : ℕ → List ℕ
 write_reason reasons =
     if has_reason reasons reason.Global then codes
-        "Modifying a variable defined outside a component or hook is not allowed. Consider using an effect"
+    "Modifying a variable defined outside a component or hook is not allowed. Consider using an effect"
     else (if has_reason reasons reason.JsxCaptured
-        then codes
-        "Modifying a value used previously in JSX is not allowed. Consider moving the modification before the JSX"
+    then codes
+    "Modifying a value used previously in JSX is not allowed. Consider moving the modification before the JSX"
     else (if has_reason reasons reason.Context
-        then codes "Modifying a value returned from 'useContext()' is not allowed."
+    then codes "Modifying a value returned from 'useContext()' is not allowed."
     else (if has_reason reasons reason.KnownReturnSignature
-        then codes "Modifying a value returned from a function whose return value should not be mutated"
+    then codes "Modifying a value returned from a function whose return value should not be mutated"
     else (if has_reason reasons reason.ReactiveFunctionArgument
-        then codes "Modifying component props or hook arguments is not allowed. Consider using a local variable instead"
+    then codes "Modifying component props or hook arguments is not allowed. Consider using a local variable instead"
     else late_write_reason reasons))))
 
 -- what is reported of a write of a value that isn't to be written
@@ -93,7 +93,7 @@ access_span (Some p) = p.span
 abbrev pub hoisting_labels : Environment → IdentifierId → Option Span → Option Place → List Label
 hoisting_labels env id span access =
     access_labels (access_span access) span (named env id (codes "variable") ++ codes " accessed before it is declared")
-        ++ labels_at span (Some (named env id (codes "variable") ++ codes " is declared here"))
+    ++ labels_at span (Some (named env id (codes "variable") ++ codes " is declared here"))
 
 -- what is reported of a write of a variable that is read before it is declared
 abbrev pub hoisting_report : Environment → IdentifierId → Option Span → Option Place → Report
@@ -140,5 +140,9 @@ incompatible_report span text = record {
 
 -- what is reported of a spread argument that would be frozen
 abbrev pub spread_report : Option Span → Report
-spread_report span = record { category = Todo; message = codes "Support spread syntax for hook arguments"; help = None;
-    labels = labels_at span None }
+spread_report span = record {
+  category = Todo;
+  message = codes "Support spread syntax for hook arguments";
+  help = None;
+  labels = labels_at span None;
+}

@@ -3,8 +3,8 @@ use Rattle.std.specs.Prelude.{if◌then◌else◌}
 use Rattle.alias_hir.specs.declared.effect.AliasingEffect.{AliasingEffect}
 use Rattle.alias_hir.specs.declared.effect.AliasingEffect.TheVariants as effect
 use Rattle.alias_hir.specs.declared.effect.ValueKind.{ValueKind}
-use Rattle.alias_hir.specs.declared.effect.ValueKind.TheVariants.{Primitive, Global, Frozen, Mutable, Context,
-    MaybeFrozen}
+use Rattle.alias_hir.specs.declared.effect.ValueKind.TheVariants.{Primitive, Global, Frozen, Mutable, Context}
+use Rattle.alias_hir.specs.declared.effect.ValueKind.TheVariants.{MaybeFrozen}
 use Rattle.alias_hir.specs.declared.effect.ValueReason.{ValueReason}
 use Rattle.alias_hir.specs.declared.place.Place.{Place}
 use Rattle.alias_lattice.specs.declared.site.Site.TheVariants.{Created, CreatedFrom, AssignFrozen, AssignCopy}
@@ -53,7 +53,7 @@ assign_value v a x s =
       u ← intern_and_apply_leaf (effect.ImmutableCapture a x) s
       gives (with_state (given x.identifier (AssignFrozen a.identifier x.identifier) v u.state) u))
     else (if is_constant v.kind then gives
-        (with_state (given x.identifier (AssignCopy a.identifier x.identifier) v s.state) s)
+    (with_state (given x.identifier (AssignCopy a.identifier x.identifier) v s.state) s)
     else gives (record_of (effect.Assign a x) (with_state (assigned x.identifier a.identifier s.state) s)))
 
 abbrev pub apply_assign : Place → Place → StepProgress → Step StepProgress

@@ -76,7 +76,7 @@ module _ {K V : Type 0} (eq : K → K → Bool) (key_of : V → Option K) where
   first_at k [] = refl
   first_at k (e ∷ es) =
       elim (has_key k e) as (λ b. cond b (Some e) (first_of k es)
-          ≡ at_slot (cond b (Some 0) (option_map (λ n. suc n) (slot_of k es))) (e ∷ es)) [
+      ≡ at_slot (cond b (Some 0) (option_map (λ n. suc n) (slot_of k es))) (e ∷ es)) [
         | true ↦ refl
         | false ↦ first_at k es ∙ sym (later (slot_of k es) e es)
       ]
@@ -91,7 +91,7 @@ module _ {K V : Type 0} (eq : K → K → Bool) (key_of : V → Option K) where
   slot_more q [] e = refl
   slot_more q (x ∷ es) e =
       elim (has_key q x) as (λ b. cond b (Some 0) (option_map (λ n. suc n) (slot_of q (es ++ e ∷ [])))
-          ≡ or_last (cond b (Some 0) (option_map (λ n. suc n) (slot_of q es))) (has_key q e) (length (x ∷ es))) [
+      ≡ or_last (cond b (Some 0) (option_map (λ n. suc n) (slot_of q es))) (has_key q e) (length (x ∷ es))) [
         | true ↦ refl
         | false ↦ ap (option_map (λ n. suc n)) (slot_more q es e) ∙ last_later (slot_of q es) (has_key q e) (length es)
       ]

@@ -12,8 +12,8 @@ use Rattle.alias_calls.specs.Copies.{Collected}
 use Rattle.alias_call_effects.specs.declared.error.SignatureError.{SignatureError}
 use Rattle.alias_call_effects.specs.declared.named.NamedPlaces.{NamedPlaces}
 use Rattle.alias_call_effects.specs.Answers.{Answers}
-use Rattle.alias_call_effects.specs.Configs.{with_temporary, effects_called, beside, list_called, lacks_rest,
-    config_called}
+use Rattle.alias_call_effects.specs.Configs.{with_temporary, effects_called, beside, list_called, lacks_rest}
+use Rattle.alias_call_effects.specs.Configs.{config_called}
 use Rattle.alias_call_effects.specs.Kept.{Kept, kept, HostStep}
 use Rattle.alias_call_effects.specs.Parts.{nothing_named, both_named, contexts_named, part_call}
 
@@ -39,9 +39,9 @@ module _ (config : AliasingSignatureConfig) (site : CallSite) (args : List Place
       → (k l : Kept) (ns : NamedPlaces) (r : Result Collected SignatureError) (env : Environment)
       → each (with_temporary site) config.temporaries nothing_named k ≡ Ok (ns, l)
       → Answers (effects_called (part_call config site args (both_named ns (contexts_named l.env context))) l.env) r env
-          → Answers (config_called config site args context k) r (kept env l.temporaries)
+      → Answers (config_called config site args context k) r (kept env l.temporaries)
   config_answers has k l ns r env is h =
       subst (λ (s : Result (Collected × Kept) SignatureError). Answers s r (kept env l.temporaries))
-          (sym (called_is has k l ns is))
+      (sym (called_is has k l ns is))
       (beside_answers (effects_called (part_call config site args (both_named ns (contexts_named l.env context))) l.env)
-          r env l.temporaries h)
+      r env l.temporaries h)

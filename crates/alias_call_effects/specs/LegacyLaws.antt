@@ -1,6 +1,6 @@
 -- The list of a call is the same whatever is interned, but for the numbers of its report.
-use Rattle.std.specs.Prelude.{◌≡◌, ℕ, ◌+◌, ◌<◌, Bool, true, false, ◌&&◌, nat_lt, List, [], ◌∷◌, ◌++◌, length, slice_get,
-    slice_set, Option, Some, None, Result, Ok, Err, refl, if◌then◌else◌}
+use Rattle.std.specs.Prelude.{◌≡◌, ℕ, ◌+◌, ◌<◌, Bool, true, false, ◌&&◌, nat_lt, List, [], ◌∷◌, ◌++◌, length, slice_get}
+use Rattle.std.specs.Prelude.{slice_set, Option, Some, None, Result, Ok, Err, refl, if◌then◌else◌}
 use Rattle.std.proofs.Common.{ap, sym, ◌∙◌, subst, append_assoc, append-nil, arith}
 use Rattle.alias_base.specs.declared.ids.IdentifierId.{IdentifierId}
 use Rattle.alias_hir.specs.declared.effect.AliasingEffect.{AliasingEffect}
@@ -32,14 +32,14 @@ use Rattle.alias_calls.specs.declared.call.CallSite.{CallSite}
 use Rattle.alias_calls.specs.declared.immutable.Checked.{Checked}
 use Rattle.alias_calls.specs.declared.legacy.Legacy.{Legacy}
 use Rattle.alias_calls.specs.declared.visits.Visits.{Visits}
-use Rattle.alias_calls.specs.Legacy.{legacy, is_capture, with_receiver, visits_of, return_reason, all_links,
-    still_captures, with_still, ended, asked, visited, legacy_after, legacy_expansion}
-use Rattle.alias_calls.specs.Visits.{iterated, visit, rest_use, or_effect, spread_effect, is_refused, with_refused,
-    visit_argument, visit_arguments}
+use Rattle.alias_calls.specs.Legacy.{legacy, is_capture, with_receiver, visits_of, return_reason, all_links}
+use Rattle.alias_calls.specs.Legacy.{still_captures, with_still, ended, asked, visited, legacy_after, legacy_expansion}
+use Rattle.alias_calls.specs.Visits.{iterated, visit, rest_use, or_effect, spread_effect, is_refused, with_refused}
+use Rattle.alias_calls.specs.Visits.{visit_argument, visit_arguments}
 use Rattle.alias_call_effects.specs.declared.error.SignatureError.{SignatureError}
 use Rattle.alias_call_effects.specs.declared.error.SignatureError.TheVariants.{TooMany}
-use Rattle.alias_call_effects.specs.Answers.{is_memory, signature_error, fault_error, given_alone, has_numbers,
-    tables_with, with_reports}
+use Rattle.alias_call_effects.specs.Answers.{is_memory, signature_error, fault_error, given_alone, has_numbers}
+use Rattle.alias_call_effects.specs.Answers.{tables_with, with_reports}
 use Rattle.alias_call_effects.specs.Legacy.{is_reported, legacy_called, list_without_reports}
 
 -- ---- effects ahead of those that come
@@ -59,9 +59,9 @@ visit_ahead env into r p use_of.Capture out v = refl
 visit_ahead env into r p use_of.ConditionallyMutate out v = more_ahead out v (effect.MutateTransitiveConditionally p)
 visit_ahead env into r p use_of.ConditionallyMutateIterator out v =
     ap (λ (es : List AliasingEffect). record v { out = es ++ effect.Capture p into ∷ [] })
-        (append_assoc out v.out (iterated env p))
+    (append_assoc out v.out (iterated env p))
     ∙ ap (λ (es : List AliasingEffect). record v { out = es })
-        (append_assoc out (v.out ++ iterated env p) (effect.Capture p into ∷ []))
+    (append_assoc out (v.out ++ iterated env p) (effect.Capture p into ∷ []))
 visit_ahead env into r p use_of.Freeze out v = more_ahead out v (effect.Freeze p r)
 visit_ahead env into r p use_of.Mutate out v = more_ahead out v (effect.MutateTransitive p)
 visit_ahead env into r p use_of.Read out v = more_ahead out v (effect.ImmutableCapture p into)
@@ -137,17 +137,17 @@ module _ (env : Environment) (s : FunctionSignature) (site : CallSite) (args : L
   visited_ahead : (out : List AliasingEffect) → visited env s site args out ≡ ahead out (visited env s site args [])
   visited_ahead out =
       ap (λ (v : Visits). visit_arguments env s site.into (return_reason s) 0 args
-          (visit env site.into (return_reason s) site.receiver s.callee_effect v))
-          (receiver_ahead (is_capture s.callee_effect) out (effect.Alias site.receiver site.into))
+      (visit env site.into (return_reason s) site.receiver s.callee_effect v))
+      (receiver_ahead (is_capture s.callee_effect) out (effect.Alias site.receiver site.into))
       ∙ ap (visit_arguments env s site.into (return_reason s) 0 args)
-          (visit_ahead env site.into (return_reason s) site.receiver s.callee_effect out _)
+      (visit_ahead env site.into (return_reason s) site.receiver s.callee_effect out _)
       ∙ arguments_ahead env s site.into (return_reason s) 0 args out _
 
   after_behind : (b : Bool) (m : Option MissingLookup) (out : List AliasingEffect) → after_as b m out
       ≡ behind out (after_as b m [])
   after_behind true m out =
       ap (λ (es : List AliasingEffect). Ok (legacy es m))
-          (append_assoc out (effect.Alias site.receiver site.into ∷ []) (still_captures site.into args))
+      (append_assoc out (effect.Alias site.receiver site.into ∷ []) (still_captures site.into args))
   after_behind false m out =
       ap (λ (v : Visits). ended_with v m) (visited_ahead out)
       ∙ ended_behind (visited env s site args []).refused site.into out (visited env s site args []) m
@@ -216,8 +216,10 @@ module _ (env : Environment) (s : FunctionSignature) (site : CallSite) (args : L
     renumbered : (o : Result Legacy Refusal) (l : Legacy) (d : ReportId) (es : List Interned)
         → given_alone (leaving first_table (behind (with_error first_id) o)) ≡ Ok l
         → with_reports env (leaving (tables_with es) (behind (with_error d) o))
-            ≡ Ok (legacy (slice_set l.effects 1 (effect.Impure site.receiver d)) l.missing,
-            record env { interned = es })
+        ≡ Ok (
+          legacy (slice_set l.effects 1 (effect.Impure site.receiver d)) l.missing,
+          record env { interned = es },
+        )
     renumbered (Ok x) l d es h = ap (λ (y : Legacy).
         Ok (legacy (slice_set y.effects 1 (effect.Impure site.receiver d)) y.missing, record env { interned = es }))
         (given_is _ l h)
@@ -238,7 +240,7 @@ module _ (env : Environment) (s : FunctionSignature) (site : CallSite) (args : L
     pub reported_ok : is_reported env s ≡ true → (l : Legacy) → list_without_reports env s site args u ≡ Ok l
         → (d : ReportId) (es : List Interned) → report_step (tables_with env.interned) ≡ Ok (d, tables_with es)
         → legacy_called s site args u env ≡ Ok
-            (legacy (slice_set l.effects 1 (effect.Impure site.receiver d)) l.missing, record env { interned = es })
+        (legacy (slice_set l.effects 1 (effect.Impure site.receiver d)) l.missing, record env { interned = es })
     reported_ok tells l h d es is = ap (with_reports env)
         (reported tells (tables_with env.interned) (tables_with es) d is)
         ∙ renumbered others l d es (sym (first_reported tells) ∙ h)

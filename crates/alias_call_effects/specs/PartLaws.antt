@@ -24,14 +24,14 @@ contexts_last env (x ∷ ps) p = ap (λ l. both_named l (context_named env x)) (
 pub contexts_step : (env : Environment) (ps : List Place) (left : ℕ) (d : Place) (ns more all : NamedPlaces) → 0 < left
     → left ≤ length ps → both_named ns (contexts_named env (take left ps)) ≡ all
     → more ≡ both_named ns (context_named env (get_or ps (left - 1) d))
-        → both_named more (contexts_named env (take (left - 1) ps)) ≡ all
+    → both_named more (contexts_named env (take (left - 1) ps)) ≡ all
 contexts_step env ps left d ns more all some within is next =
     let i = left - 1 in
     let e : left ≡ i + 1 = omega arith in
     let front : contexts_named env (take left ps)
-        ≡ both_named (context_named env (get_or ps i d)) (contexts_named env (take i ps)) =
+    ≡ both_named (context_named env (get_or ps i d)) (contexts_named env (take i ps)) =
     ap (λ n. contexts_named env (take n ps)) e ∙ ap (contexts_named env) (take_more ps i d (omega arith))
-        ∙ contexts_last env (take i ps) (get_or ps i d) in
+    ∙ contexts_last env (take i ps) (get_or ps i d) in
     ap (λ l. both_named l (contexts_named env (take i ps))) next
     ∙ named_assoc ns (context_named env (get_or ps i d)) (contexts_named env (take i ps))
     ∙ ap (both_named ns) (sym front)

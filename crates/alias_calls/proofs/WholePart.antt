@@ -21,23 +21,23 @@ then_answers step f t x more answer left e h = subst (λ r. Leaves (and_then r f
 
 pub whole_part :
     (env : Environment) (config : AliasingSignatureConfig) (site : CallSite) (args : List PlaceOrSpreadOrHole)
-        (names : List (List ℕ)) (places : List Place) (t more : TableLists) (answer : Result Collected EffectFault)
-        (left : TableLists)
+    (names : List (List ℕ)) (places : List Place) (t more : TableLists) (answer : Result Collected EffectFault)
+    (left : TableLists)
     → (has_further config.params args 0 && not (is_some config.rest)) ≡ false
     → names ≡ config.temporaries
     → each (with_temporary env site) names [] t ≡ Ok (places, more)
     → Leaves (with_config_effects env (config_call (record config { temporaries = names }) site args places)
-        config.effects [] more) answer left
+    config.effects [] more) answer left
     → Leaves (config_expansion env config site args t) answer left
 whole_part env config site args names places t more answer left further named made h =
     let rest : List Place → Step Collected =
-        λ ps. with_config_effects env (config_call config site args ps) config.effects [] in
+    λ ps. with_config_effects env (config_call config site args ps) config.effects [] in
     let part : (record config { temporaries = names }) ≡ config = ap (λ z. record config { temporaries = z }) named in
     let expanded : Leaves (rest places more) answer left =
-        subst (λ p. Leaves (with_config_effects env (config_call p site args places) config.effects [] more) answer
-        left) part h in
+    subst (λ p. Leaves (with_config_effects env (config_call p site args places) config.effects [] more) answer
+    left) part h in
     let found : each (with_temporary env site) config.temporaries [] t ≡ Ok (places, more) =
-        subst (λ z. each (with_temporary env site) z [] t ≡ Ok (places, more)) named made in
+    subst (λ z. each (with_temporary env site) z [] t ≡ Ok (places, more)) named made in
     subst (λ b. Leaves ((if b then gives None else (each (with_temporary env site) config.temporaries [] >>= rest)) t)
-        answer left) (sym further)
+    answer left) (sym further)
     (then_answers (each (with_temporary env site) config.temporaries []) rest t places more answer left found expanded)

@@ -13,4 +13,4 @@ pub first_bad_more : (env : Environment) (args : List PlaceOrSpreadOrHole) (plac
     → first_bad env args (drop (i + 1) places) ≡ first_bad env args (drop i places)
 first_bad_more env args places i d h e =
     sym (at_drop_more (first_bad env args) places i d h
-        ∙ ap (λ b. if b then Some (get_or places i d) else first_bad env args (drop (i + 1) places)) e)
+    ∙ ap (λ b. if b then Some (get_or places i d) else first_bad env args (drop (i + 1) places)) e)

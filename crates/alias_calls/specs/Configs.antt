@@ -1,6 +1,6 @@
 -- The effects of a call by the aliasing part of its signature.
-use Rattle.std.specs.Prelude.{ℕ, ◌+◌, Bool, cond, ◌&&◌, not, List, [], ◌∷◌, ◌++◌, Option, Some, None, slice_get,
-    if◌then◌else◌}
+use Rattle.std.specs.Prelude.{ℕ, ◌+◌, Bool, cond, ◌&&◌, not, List, [], ◌∷◌, ◌++◌, Option, Some, None, slice_get}
+use Rattle.std.specs.Prelude.{if◌then◌else◌}
 use Rattle.std.specs.Option.{is_some}
 use Rattle.alias_hir.specs.ReportNumbers.{same_text}
 use Rattle.alias_hir.specs.declared.effect.AliasingEffect.{AliasingEffect}

@@ -1,6 +1,6 @@
 -- Whether the arguments of a call are immutable.
-use Rattle.std.specs.Prelude.{◌+◌, Bool, true, false, ◌&&◌, ◌||◌, not, nat_lt, List, [], ◌∷◌, Option, Some, None,
-    option_and_then, slice_get, if◌then◌else◌}
+use Rattle.std.specs.Prelude.{◌+◌, Bool, true, false, ◌&&◌, ◌||◌, not, nat_lt, List, [], ◌∷◌, Option, Some, None}
+use Rattle.std.specs.Prelude.{option_and_then, slice_get, if◌then◌else◌}
 use Rattle.std.specs.List.{list_any}
 use Rattle.std.specs.Option.{option_map_or}
 use Rattle.alias_base.specs.declared.ids.IdentifierId.{IdentifierId}
@@ -82,7 +82,7 @@ answered_by b = if b then None else Some false
 abbrev pub verdict_of_place : Environment → State → Place → Option MissingLookup → Verdict
 verdict_of_place env s p m =
     verdict (answered_by (is_still (lookup s p.identifier).kind
-        && not (has_writing_site env (sites_at s p.identifier)))) (first_missing m (missing_lookup s p.identifier None))
+    && not (has_writing_site env (sites_at s p.identifier)))) (first_missing m (missing_lookup s p.identifier None))
 
 -- a function with a signature answers at once
 abbrev pub verdict_by : Option FunctionSignature → Environment → State → Place → Option MissingLookup → Verdict

@@ -1,6 +1,6 @@
 -- The effects of a call by the summary of a function.
-use Rattle.std.specs.Prelude.{Bool, true, false, ◌&&◌, ◌||◌, not, nat_lt, List, [], ◌∷◌, length, Option, Some, None,
-    if◌then◌else◌}
+use Rattle.std.specs.Prelude.{Bool, true, false, ◌&&◌, ◌||◌, not, nat_lt, List, [], ◌∷◌, length, Option, Some, None}
+use Rattle.std.specs.Prelude.{if◌then◌else◌}
 use Rattle.std.specs.List.{list_any}
 use Rattle.std.specs.Option.{is_some}
 use Rattle.alias_base.specs.declared.ids.FunctionId.{FunctionId}
@@ -52,8 +52,11 @@ rest_or_temporary None env f function = do
   gives p.identifier
 
 abbrev pub names_with : HirFunction → IdentifierId → SummaryNames
-names_with function rest = record { params = plain_params function.params; rest = Some rest;
-    returns = function.returns.identifier }
+names_with function rest = record {
+  params = plain_params function.params;
+  rest = Some rest;
+  returns = function.returns.identifier;
+}
 
 -- the names of the function's summary
 abbrev pub summary_names : Environment → FunctionId → HirFunction → Step SummaryNames

@@ -1,8 +1,8 @@
 -- What the calls of a check come to.
 use Rattle.std.specs.Prelude.{⊤}
 use Rattle.std.specs.List.{AllByRecursion}
-use Rattle.std.proofs.Common.{◌≡◌, Bool, true, false, List, [], ◌∷◌, ◌++◌, length, Option, Some, None, Result, Ok, Err,
-    refl, ap, sym, subst, ◌∙◌}
+use Rattle.std.proofs.Common.{◌≡◌, Bool, true, false, List, [], ◌∷◌, ◌++◌, length, Option, Some, None, Result, Ok, Err}
+use Rattle.std.proofs.Common.{refl, ap, sym, subst, ◌∙◌}
 use Rattle.std.proofs.lemmas.List.{length-map, map-append}
 use Rattle.alias_base.specs.Answer.{◌>>=◌, Gives}
 use Rattle.alias_base.specs.declared.ids.FunctionId.{FunctionId}
@@ -23,9 +23,10 @@ use Rattle.alias_certificate.specs.declared.certificate.CertFunction.{CertFuncti
 use Rattle.alias_certificate.specs.declared.fault.CheckFault.{CheckFault}
 use Rattle.alias_cert.specs.function.Faults.{is_memory}
 use Rattle.alias_cert.specs.function.Functions.{function_solved}
-use Rattle.alias_cert.specs.Functions.{CheckedFunction, Checking, checking, said, checked_function, effects_checked,
-    range_fault, ranging, summary_checked, stored_summary, summed, nested_finished, nested_as_said, nested_checked,
-    root_finished, root_as_said, root_checked, SolvesItsFlow, Accounts, Comes, ComesWith}
+use Rattle.alias_cert.specs.Functions.{CheckedFunction, Checking, checking, said, checked_function, effects_checked}
+use Rattle.alias_cert.specs.Functions.{range_fault, ranging, summary_checked, stored_summary, summed, nested_finished}
+use Rattle.alias_cert.specs.Functions.{nested_as_said, nested_checked, root_finished, root_as_said, root_checked}
+use Rattle.alias_cert.specs.Functions.{SolvesItsFlow, Accounts, Comes, ComesWith}
 use Rattle.alias_cert.proofs.Naming.{solves_as}
 
 -- ---- answers
@@ -68,8 +69,10 @@ accounts_more fs before after x a more h = record {
 
 module _ (id : Option FunctionId) (b : Bool) (f : HirFunction) (env : Environment) (c : CertFunction) where
   abbrev effects_left : List CheckedFunction → PassEnd → Result (HirFunction × Checking) CheckFault
-  effects_left fs e = Ok (with_effects_of e.solved f,
-      checking (env_after env e) (fs ++ checked_function id b f env c e ∷ []))
+  effects_left fs e = Ok (
+    with_effects_of e.solved f,
+    checking (env_after env e) (fs ++ checked_function id b f env c e ∷ []),
+  )
 
   pub effects_come : (fs : List CheckedFunction) (e : PassEnd) (g : HirFunction) (after : Environment)
       → function_solved c env f b ≡ Ok e → g ≡ with_effects_of e.solved f → after ≡ env_after env e
@@ -149,8 +152,8 @@ module _ (functions : List CertFunction) (id : FunctionId) (f : HirFunction) (en
           → ComesWith (nested_checked functions id f (checking env fs)) r h last solved
       nested_comes h last solved r done a gives =
           comes_as (nested_checked functions id f (checking env fs)) (summed c (stored_summary h) h (checking last gs))
-              r h last solved (nested_so_far ∙ ap (λ z. ranging (Some id) z >>= nested_left) done)
-              (sums_up c (stored_summary h) h last gs solved r a gives)
+          r h last solved (nested_so_far ∙ ap (λ z. ranging (Some id) z >>= nested_left) done)
+          (sums_up c (stored_summary h) h last gs solved r a gives)
 
 module _ (functions : List CertFunction) (f : HirFunction) (env : Environment) (fs : List CheckedFunction) where
   pub root_unsaid : (e : CheckFault) → said functions (length fs) None ≡ Err e
@@ -178,7 +181,7 @@ module _ (functions : List CertFunction) (f : HirFunction) (env : Environment) (
           (r : Result ⊤ CheckFault) → range_pass false g after ≡ Ok (record { summary = summary; after = (h, last) })
           → Accounts gs solved
           → Gives is_memory (summary_checked c summary) r
-              → ComesWith (root_checked functions f (checking env fs)) r h last solved
+          → ComesWith (root_checked functions f (checking env fs)) r h last solved
       root_comes summary h last solved r done a gives =
           comes_as (root_checked functions f (checking env fs)) (summed c summary h (checking last gs)) r h last solved
-              (root_so_far ∙ ap (λ z. ranging None z >>= root_left) done) (sums_up c summary h last gs solved r a gives)
+          (root_so_far ∙ ap (λ z. ranging None z >>= root_left) done) (sums_up c summary h last gs solved r a gives)

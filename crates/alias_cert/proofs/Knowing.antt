@@ -1,6 +1,6 @@
 -- Entry states that are handed out are proper, one after the other.
-use Rattle.std.proofs.Common.{◌≡◌, ℕ, zero, suc, ◌<◌, ◌≤◌, ◌+◌, ⊎_elim, arith, List, [], ◌∷◌, Some, length, get_or,
-    subst, sym, ap, ◌∙◌}
+use Rattle.std.proofs.Common.{◌≡◌, ℕ, zero, suc, ◌<◌, ◌≤◌, ◌+◌, ⊎_elim, arith, List, [], ◌∷◌, Some, length, get_or}
+use Rattle.std.proofs.Common.{subst, sym, ap, ◌∙◌}
 use Rattle.std.specs.Prelude.{slice_get}
 use Rattle.alias_rules.specs.RuleLaws.{lt_or_le}
 use Rattle.alias_lattice.specs.ProperStates.{StateProper}

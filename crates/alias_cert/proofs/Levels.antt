@@ -42,12 +42,17 @@ module _ (step : FunctionId → Checking → Result Checking CheckFault) where
   pub continues_on : (all : List FunctionId) (k : ℕ) (id : FunctionId) (a : Checking) (env after : Environment)
       (solved more : List Solved) → slice_get all k ≡ Some id
       → Continues step all (drop k all) a env solved
-          → ((fs : List CheckedFunction) → Accounts fs solved → Comes (step id (checking env fs)) (Ok tt) after more)
-          → Continues step all (drop (k + 1) all) a after more
+      → ((fs : List CheckedFunction) → Accounts fs solved → Comes (step id (checking env fs)) (Ok tt) after more)
+      → Continues step all (drop (k + 1) all) a after more
   continues_on all k id a env after solved more at c h =
-      let l = h c.0 c.1.accounts in
-      (l.0, record { accounts = l.2; rest = c.1.rest ∙ each_here all k id (checking env c.0) at
-          ∙ ap (λ r. r >>= each step (drop (k + 1) all)) l.1 })
+      let l = h c.0 c.1.accounts in (
+        l.0,
+        record {
+          accounts = l.2;
+          rest = c.1.rest ∙ each_here all k id (checking env c.0) at
+              ∙ ap (λ r. r >>= each step (drop (k + 1) all)) l.1;
+        },
+      )
 
   -- a fault of this step is one of all
   pub stops_here : (all : List FunctionId) (k : ℕ) (id : FunctionId) (a : Checking) (env : Environment)
@@ -110,8 +115,10 @@ module _ (functions : List CertFunction) where
           → back ≡ with_function id g after → ComesWith (taken_checked functions below id f (checking out fs)) r g after
           solved
           → Comes (slot_checked functions below id (checking env fs)) r back solved
-      slot_comes g after back solved (Ok u) put l =
-          (l.0, taken_there ∙ ap (λ r. r >>= (λ s. Ok (put_back id s))) l.1 ∙ ap (λ e. Ok (checking e l.0)) (sym put),
-          l.2)
+      slot_comes g after back solved (Ok u) put l = (
+        l.0,
+        taken_there ∙ ap (λ r. r >>= (λ s. Ok (put_back id s))) l.1 ∙ ap (λ e. Ok (checking e l.0)) (sym put),
+        l.2,
+      )
       slot_comes g after back solved (Err e) put l = λ free. taken_there
           ∙ ap (λ r. r >>= (λ s. Ok (put_back id s))) (l free)

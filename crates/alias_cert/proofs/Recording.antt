@@ -1,8 +1,8 @@
 -- The inference takes a checked function again, with what its steps record, in the environment that took over what they
 -- added.
 use Rattle.std.specs.Prelude.{slice_get, replicate}
-use Rattle.std.proofs.Common.{◌≡◌, ℕ, ◌+◌, ◌<◌, zero, suc, Bool, true, false, ◌&&◌, ◌==◌, if◌then◌else◌, List, [], ◌∷◌,
-    ◌++◌, length, Option, Some, None, Result, Ok, Err, refl, sym, subst, arith}
+use Rattle.std.proofs.Common.{◌≡◌, ℕ, ◌+◌, ◌<◌, zero, suc, Bool, true, false, ◌&&◌, ◌==◌, if◌then◌else◌, List, [], ◌∷◌}
+use Rattle.std.proofs.Common.{◌++◌, length, Option, Some, None, Result, Ok, Err, refl, sym, subst, arith}
 use Rattle.alias_base.specs.declared.ids.BlockId.{BlockId}
 use Rattle.alias_base.specs.declared.ids.FunctionId.{FunctionId}
 use Rattle.alias_hir.specs.declared.env.Environment.{Environment}
@@ -44,10 +44,10 @@ use Rattle.alias_certificate.specs.declared.fault.CheckFault.TheVariants as faul
 use Rattle.alias_certificate.specs.states.States.{stated_state}
 use Rattle.alias_cert.specs.function.Claims.{differs}
 use Rattle.alias_cert.specs.function.Entries.{state_or_fault, line_state, entry_stated, entries_stated}
-use Rattle.alias_cert.specs.function.Functions.{marked_positions, flow_rules, marks, numbers, lines_checked,
-    entries_checked, steps_checked, checked_end, function_solved}
-use Rattle.alias_cert.specs.function.Temporaries.{is_key_there, next_number, given, temporary_stated,
-    temporaries_stated}
+use Rattle.alias_cert.specs.function.Functions.{marked_positions, flow_rules, marks, numbers, lines_checked}
+use Rattle.alias_cert.specs.function.Functions.{entries_checked, steps_checked, checked_end, function_solved}
+use Rattle.alias_cert.specs.function.Temporaries.{is_key_there, next_number, given, temporary_stated}
+use Rattle.alias_cert.specs.function.Temporaries.{temporaries_stated}
 use Rattle.alias_cert.proofs.function.Answering.{unfaulted}
 use Rattle.alias_cert.specs.Known.{AreKnown}
 use Rattle.alias_cert.proofs.Running.{after, check_stands}
@@ -72,8 +72,8 @@ module _ (function : Option FunctionId) (env : Environment) where
 
   stated_at : (c : CertTemporary) (t u : TableLists) (b : Bool) → TablesWithin env t
       → ◌≡◌ {A = Result TableLists CheckFault}
-          (if b then given function env c.identifier.0 (temporary env c.key None t)
-          else Err (fault.Temporaries function)) (Ok u) → TablesWithin env u
+      (if b then given function env c.identifier.0 (temporary env c.key None t)
+      else Err (fault.Temporaries function)) (Ok u) → TablesWithin env u
   stated_at c t u true h e = given_within c t u (temporary env c.key None t) refl h e
   stated_at c t u false h e = cc
 
@@ -83,8 +83,8 @@ module _ (function : Option FunctionId) (env : Environment) where
   temporaries_within (c ∷ cs) t u h e =
       let a = after (temporary_stated function env c t) (temporaries_stated function env cs) u e in
       temporaries_within cs a.was u (stated_at c t a.was
-          (is_key_there (next_number function env t) (length env.functions) c.key
-          && c.identifier.0 == next_number function env t) h a.first) a.then_is
+      (is_key_there (next_number function env t) (length env.functions) c.key
+      && c.identifier.0 == next_number function env t) h a.first) a.then_is
 
 -- ---- entry states that are said
 
@@ -113,7 +113,7 @@ module _ (P : State → Type 0) (function : Option FunctionId) (identifiers : �
   entries_hold done [] entries a h = let same : done ≡ entries = cc in subst (AllHold P) same a
   entries_hold done (n ∷ ns) entries a h =
       let e = after (entry_stated function identifiers ids lines n)
-          (λ x. entries_stated function identifiers ids lines (done ++ x ∷ []) ns) entries h in
+      (λ x. entries_stated function identifiers ids lines (done ++ x ∷ []) ns) entries h in
       entries_hold (done ++ e.was ∷ []) ns entries (all_append done e.was a (entry_holds n e.was e.first)) e.then_is
 
 holds_at : {X : Type 0} (P : X → Type 0) (xs : List (Option X)) (n : ℕ) (x : X) → AllHold P xs → entry_at xs n ≡ Some x
@@ -140,21 +140,23 @@ module _ (c : CertFunction) (env : Environment) (f : HirFunction) (b : Bool) (fi
   module _ (entries : List (Option State)) (w : Arriving State TableLists BlockEffects) (e : PassEnd)
       (ended : checked_end c env f b entries w ≡ e) (tables : TableLists)
       (said : entries_checked c env f b ≡ Ok entries)
-          (stated_tables : temporaries_stated c.function env c.temporaries (tables_of env) ≡ Ok tables)
-          (stepped : steps_checked c env f b entries tables ≡ Ok w) (known : AreKnown e.solved.entries) where
+      (stated_tables : temporaries_stated c.function env c.temporaries (tables_of env) ≡ Ok tables)
+      (stepped : steps_checked c env f b entries tables ≡ Ok w) (known : AreKnown e.solved.entries) where
     known_there : AreKnown (entries_of f.body.blocks entries)
     known_there = subst (λ (z : PassEnd). AreKnown z.solved.entries) (sym ended) known
 
     functions_there : AllHold (StateHas (FunctionWithin env)) entries
     functions_there =
         entries_hold (StateHas (FunctionWithin env)) c.function (length env.identifiers + length c.temporaries)
-            (created_functions f) c.blocks
+        (created_functions f) c.blocks
         (stated_has (FunctionWithin env) (length env.identifiers + length c.temporaries) (created_functions f)
-            (created_within f env b fits)) [] (numbers c env f b) entries tt said
+        (created_within f env b fits)) [] (numbers c env f b) entries tt said
 
     entered : (n : ℕ) (s : State) → n < length f.body.blocks → entry_at entries n ≡ Some s → StateWithin env s
-    entered n s lt is = (handed_out f.body.blocks entries known_there n s lt is,
-        holds_at (StateHas (FunctionWithin env)) entries n s functions_there is)
+    entered n s lt is = (
+      handed_out f.body.blocks entries known_there n s lt is,
+      holds_at (StateHas (FunctionWithin env)) entries n s functions_there is,
+    )
 
     begun : TablesWithin env tables
     begun = temporaries_within c.function env c.temporaries (tables_of env) tables (begun_within f env b fits)
@@ -163,15 +165,15 @@ module _ (c : CertFunction) (env : Environment) (f : HirFunction) (b : Bool) (fi
     ran : TablesWithin env w.tables × AllHold (BlockEffectsWithin env w.tables) w.recorded
     ran =
         let r = check_stands state_join state_below (flow_rules c env f b)
-            (differs c.blocks (numbers c env f b) (length c.temporaries)) entries (TablesWithin env) (StateWithin env)
-            (BlockEffectsWithin env) entered
+        (differs c.blocks (numbers c env f b) (length c.temporaries)) entries (TablesWithin env) (StateWithin env)
+        (BlockEffectsWithin env) entered
         (λ t n x y u k i g s. position_within f env b fits n t x y u k i g s) tables
-            (replicate (length f.body.blocks) None) w begun
-            (none_hold (BlockEffectsWithin env tables) (length f.body.blocks))
+        (replicate (length f.body.blocks) None) w begun
+        (none_hold (BlockEffectsWithin env tables) (length f.body.blocks))
         (unfaulted c.function env f.body.blocks
-            (solution_checked state_join state_below (flow_rules c env f b)
-            (differs c.blocks (numbers c env f b) (length c.temporaries)) entries tables
-            (replicate (length f.body.blocks) None)) w stepped) in
+        (solution_checked state_join state_below (flow_rules c env f b)
+        (differs c.blocks (numbers c env f b) (length c.temporaries)) entries tables
+        (replicate (length f.body.blocks) None)) w stepped) in
         (r.tables, r.recorded)
 
     tables_there : TablesWithin env (end_tables e)
@@ -183,9 +185,12 @@ module _ (c : CertFunction) (env : Environment) (f : HirFunction) (b : Bool) (fi
           (passed_contexts env e);
       still = sym (bare_of_effects f (with_effects_of e.solved f) (recorded_differs e.solved f));
       fits = subst (λ (z : PassEnd). function_fits (with_effects_of z.solved f) (env_after env z) ≡ true) ended
-          (recorded_fits f env b fits (record { progress =
-          record { visits = marked_positions 0 (marks c env f b); joined_input = entries; last_input = [] };
-          tables = w.tables; recorded = w.recorded }) ran);
+          (recorded_fits f env b fits (record {
+            progress =
+                record { visits = marked_positions 0 (marks c env f b); joined_input = entries; last_input = [] };
+            tables = w.tables;
+            recorded = w.recorded;
+          }) ran);
     }
 
   -- what is handed out of a function, where its entry states are proper
@@ -205,5 +210,5 @@ module _ (c : CertFunction) (env : Environment) (f : HirFunction) (b : Bool) (fi
       ≡ env_after env e → FunctionKept f env g after
   left_kept e es g after h same known made left =
       subst (λ v. FunctionKept f env g v) (sym left)
-          (subst (λ z. FunctionKept f env z (env_after env e)) (sym made)
-          (checked_keeps e h (subst AreKnown same known)))
+      (subst (λ z. FunctionKept f env z (env_after env e)) (sym made)
+      (checked_keeps e h (subst AreKnown same known)))

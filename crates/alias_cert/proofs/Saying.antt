@@ -2,8 +2,8 @@
 -- says.
 use Rattle.std.specs.Prelude.{◌<◌, nat_lt, slice_get}
 use Rattle.std.specs.List.{AllByRecursion}
-use Rattle.std.proofs.Common.{◌≡◌, ℕ, zero, suc, Bool, true, false, if◌then◌else◌, List, [], ◌∷◌, ◌++◌, length, map,
-    Option, Some, None, Result, Ok, Err, refl, ap, sym, subst, ◌∙◌, arith}
+use Rattle.std.proofs.Common.{◌≡◌, ℕ, zero, suc, Bool, true, false, if◌then◌else◌, List, [], ◌∷◌, ◌++◌, length, map}
+use Rattle.std.proofs.Common.{Option, Some, None, Result, Ok, Err, refl, ap, sym, subst, ◌∙◌, arith}
 use Rattle.std.proofs.lemmas.List.{append-nil}
 use Rattle.std.proofs.lemmas.Bool.{lt-ltb}
 use Rattle.alias_base.specs.Answer.{◌>>=◌}
@@ -25,13 +25,14 @@ use Rattle.alias_range_pass.specs.Passes.{range_pass}
 use Rattle.alias_nested.specs.Finishing.{finished}
 use Rattle.alias_tables.specs.write_back.WriteBack.{tables_of}
 use Rattle.alias_cert.specs.function.Temporaries.{temporaries_stated}
-use Rattle.alias_cert.specs.function.Functions.{lines_checked, entries_checked, steps_checked, checked_end,
-    function_solved}
-use Rattle.alias_cert.specs.Functions.{CheckedFunction, Checking, checking, same_name, said_as, said, checked_function,
-    effects_checked, ranging, stored_summary, summary_checked, summed, nested_finished, nested_as_said, nested_checked,
-    root_finished, root_as_said, root_checked, EntersAsSaid, AreAsSaid}
-use Rattle.alias_cert.specs.Units.{each, put_back, taken_checked, found_checked, slot_checked, below_checked, none_left,
-    unit_checked}
+use Rattle.alias_cert.specs.function.Functions.{lines_checked, entries_checked, steps_checked, checked_end}
+use Rattle.alias_cert.specs.function.Functions.{function_solved}
+use Rattle.alias_cert.specs.Functions.{CheckedFunction, Checking, checking, same_name, said_as, said, checked_function}
+use Rattle.alias_cert.specs.Functions.{effects_checked, ranging, stored_summary, summary_checked, summed}
+use Rattle.alias_cert.specs.Functions.{nested_finished, nested_as_said, nested_checked, root_finished, root_as_said}
+use Rattle.alias_cert.specs.Functions.{root_checked, EntersAsSaid, AreAsSaid}
+use Rattle.alias_cert.specs.Units.{each, put_back, taken_checked, found_checked, slot_checked, below_checked, none_left}
+use Rattle.alias_cert.specs.Units.{unit_checked}
 use Rattle.alias_cert.proofs.Coming.{all_appended}
 
 abbrev saids : List CheckedFunction → List CertFunction
@@ -84,7 +85,7 @@ module _ (id : Option FunctionId) (b : Bool) (f : HirFunction) (env : Environmen
       → said functions (length fs) id ≡ Ok c → SoFar functions (fs ++ checked_function id b f env c e ∷ [])
   noted functions fs s is =
       let there : slice_get functions (length fs) ≡ Some c =
-          said_there (length fs) id (slice_get functions (length fs)) c is in
+      said_there (length fs) id (slice_get functions (length fs)) c is in
       let m = behind fs s.rest c (subst (λ cs. slice_get cs (length fs) ≡ Some c) s.front there) in
       record {
         rest = m.0;
@@ -123,7 +124,7 @@ module _ (functions : List CertFunction) where
       let e = went_on (effects_checked (Some id) true f a c.0) (nested_finished c.0 id) s c.2 in
       let r = went_on (ranging (Some id) (finished e.0.0 e.0.1.env)) _ s e.2 in
       summed_noted c.0 (stored_summary r.0.0) r.0.0 (checking r.0.1 e.0.1.functions) s
-          (effects_noted (Some id) true f a c.0 e.0 so c.1 e.1) r.2
+      (effects_noted (Some id) true f a c.0 e.0 so c.1 e.1) r.2
 
   root_noted : (f : HirFunction) (a : Checking) (s : HirFunction × Checking) → Noted a → root_checked functions f a
       ≡ Ok s → With s
@@ -132,7 +133,7 @@ module _ (functions : List CertFunction) where
       let e = went_on (effects_checked None false f a c.0) (root_finished c.0) s c.2 in
       let r = went_on (ranging None (range_pass false e.0.0 e.0.1.env)) _ s e.2 in
       summed_noted c.0 r.0.summary r.0.after.0 (checking r.0.after.1 e.0.1.functions) s
-          (effects_noted None false f a c.0 e.0 so c.1 e.1) r.2
+      (effects_noted None false f a c.0 e.0 so c.1 e.1) r.2
 
   abbrev Notes : (Checking → Result Checking CheckFault) → Type 0
   Notes run = (a b : Checking) → Noted a → run a ≡ Ok b → Noted b
@@ -159,8 +160,8 @@ module _ (functions : List CertFunction) where
   below_notes zero f a b so h = subst Noted (ok_same a b h) so
   below_notes (suc n) f a b so h =
       each_notes (slot_checked functions (below_checked functions n))
-          (λ id c d. found_notes (below_checked functions n) (below_notes n) id (slice_get c.env.functions id.0) c d)
-          (created_functions f) a b so h
+      (λ id c d. found_notes (below_checked functions n) (below_notes n) id (slice_get c.env.functions id.0) c d)
+      (created_functions f) a b so h
 
   -- ---- a unit
 
@@ -181,18 +182,20 @@ module _ (functions : List CertFunction) where
   unit_as_said u f env fs h =
       let t : HirFunction × Checking = (f, checking env fs) in
       let w = went_on (below_checked functions most_levels u.function (checking u.env [])
-          >>= root_checked functions u.function) (none_left functions) t h in
+      >>= root_checked functions u.function) (none_left functions) t h in
       let v = went_on (below_checked functions most_levels u.function (checking u.env []))
-          (root_checked functions u.function) w.0 w.1 in
+      (root_checked functions u.function) w.0 w.1 in
       let first : Noted v.0 = below_notes most_levels u.function (checking u.env []) v.0
-          (record { rest = functions; front = refl; enter = tt }) v.1 in
+      (record { rest = functions; front = refl; enter = tt }) v.1 in
       let root : With w.0 = root_noted u.function v.0 w.0 first v.2 in
       let l = left_if (nat_lt (length w.0.1.functions) (length functions)) w.0 t w.2 in
       let so : SoFar functions fs = subst With l.1 root in
       let none : nat_lt (length fs) (length functions) ≡ false =
-          subst (λ s. nat_lt (length s.1.functions) (length functions) ≡ false) l.1 l.0 in
+      subst (λ s. nat_lt (length s.1.functions) (length functions) ≡ false) l.1 l.0 in
       let nothing : so.rest ≡ [] = nothing_behind fs so.rest
-          (λ lt. let on : nat_lt (length fs) (length functions) ≡ true =
-          lt-ltb (length fs) (length functions) (subst (λ cs. length fs < length cs) (sym so.front) lt) in cc) in
-      record { same = sym (append-nil (saids fs)) ∙ ap (λ r. saids fs ++ r) (sym nothing) ∙ sym so.front;
-          enter = so.enter }
+      (λ lt. let on : nat_lt (length fs) (length functions) ≡ true =
+      lt-ltb (length fs) (length functions) (subst (λ cs. length fs < length cs) (sym so.front) lt) in cc) in
+      record {
+        same = sym (append-nil (saids fs)) ∙ ap (λ r. saids fs ++ r) (sym nothing) ∙ sym so.front;
+        enter = so.enter;
+      }

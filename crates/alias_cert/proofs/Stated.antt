@@ -5,8 +5,8 @@ use Rattle.std.specs.FinMap.Entries.{find-put}
 use Rattle.std.specs.List.{AllByRecursion, list_all, flat_map}
 use Rattle.std.specs.Option.{is_some}
 use Rattle.std.specs.Ordering.{eq_by_cmp}
-use Rattle.std.proofs.Common.{◌≡◌, ℕ, ◌==◌, ◌&&◌, ◌||◌, suc, Bool, true, false, if◌then◌else◌, List, [], ◌∷◌, Option,
-    Some, None, refl, sym, subst}
+use Rattle.std.proofs.Common.{◌≡◌, ℕ, ◌==◌, ◌&&◌, ◌||◌, suc, Bool, true, false, if◌then◌else◌, List, [], ◌∷◌, Option}
+use Rattle.std.proofs.Common.{Some, None, refl, sym, subst}
 use Rattle.std.proofs.lemmas.Bool.{eqb-true}
 use Rattle.std.proofs.Math.Dec.{T}
 use Rattle.alias_base.specs.AnswerLaws.{both_true}
@@ -35,8 +35,8 @@ use Rattle.alias_nested.proofs.Creating.{created_is_among}
 use Rattle.alias_certificate.specs.declared.certificate.CertBlock.{CertBlock}
 use Rattle.alias_certificate.specs.declared.certificate.CertValue.{CertValue}
 use Rattle.alias_certificate.specs.declared.certificate.CertVariable.{CertVariable}
-use Rattle.alias_certificate.specs.states.States.{is_created, is_site_there, with_values, with_sites, is_full,
-    are_valued, is_variable_there, with_variables, stated_state}
+use Rattle.alias_certificate.specs.states.States.{is_created, is_site_there, with_values, with_sites, is_full}
+use Rattle.alias_certificate.specs.states.States.{are_valued, is_variable_there, with_variables, stated_state}
 
 -- ---- the functions of a state that is said
 
@@ -56,7 +56,7 @@ module _ (F : FunctionId → Type 0) where
       → ValuesHave (initialized v.site v.value s)
   value_given s v h g f i =
       put_at v.site f v.value (value_at s (Function f)) (eq_by_cmp site_cmp (Function f) v.site) refl g (h f)
-          (subst (λ o. IsTrue (is_some o)) (find-put site_cmp sites_total (Function f) v.site v.value s.values) i)
+      (subst (λ o. IsTrue (is_some o)) (find-put site_cmp sites_total (Function f) v.site v.value s.values) i)
 
   values_have : (vs : List CertValue) (s : State) → AllByRecursion (λ (v : CertValue). SiteHas F v.site) vs
       → ValuesHave s → ValuesHave (with_values vs s)
@@ -85,9 +85,9 @@ module _ (F : FunctionId → Type 0) where
   variable_has : (n : ℕ) (x : CertVariable) (xs : List CertVariable) (s u : State) (b : Bool) → is_variable_there n s x
       ≡ b → ValuesHave s → StateHas F s
       → (StateHas F (defined_as x.identifier (with_sites x.sites []) s)
-          → with_variables n xs (defined_as x.identifier (with_sites x.sites []) s) ≡ Some u → StateHas F u)
+      → with_variables n xs (defined_as x.identifier (with_sites x.sites []) s) ≡ Some u → StateHas F u)
       → (if b then with_variables n xs (defined_as x.identifier (with_sites x.sites []) s) else None) ≡ Some u
-          → StateHas F u
+      → StateHas F u
   variable_has n x xs s u true is v h next e =
       let both = both_true _ (is_full x.sites && are_valued s x.sites) is in
       let more = both_true (is_full x.sites) (are_valued s x.sites) both.1 in
@@ -110,7 +110,7 @@ module _ (F : FunctionId → Type 0) where
     sites_there [] e = tt
     sites_there (v ∷ vs) e =
         let both = both_true (is_site_there identifiers ids v.site)
-            (list_all (λ (w : CertValue). is_site_there identifiers ids w.site) vs) e in
+        (list_all (λ (w : CertValue). is_site_there identifiers ids w.site) vs) e in
         (site_has v.site both.0, sites_there vs both.1)
 
     no_value : ValuesHave empty_state
@@ -161,7 +161,7 @@ among_within : (env : Environment) (n : ℕ) (is : List Instruction) → AllByRe
 among_within env n [] a e = cc
 among_within env n (i ∷ is) a e =
     append_cases (number_of (created i.value)) (flat_map (λ (j : Instruction). number_of (created j.value)) is) n
-        (FunctionWithin env (record { 0 = n })) e
+    (FunctionWithin env (record { 0 = n })) e
     (number_within env n (created i.value) a.0.created) (among_within env n is a.1)
 
 -- the functions that a fitting function creates are within the tables
@@ -171,4 +171,4 @@ created_within func env b h f e =
     let r = found (created_functions func) f e in
     let among : is_among (created_in func) r.1.0 ≡ true = created_is_among func env h r.0 r.1 r.2 in
     subst (λ z. FunctionWithin env (record { 0 = z })) r.3
-        (among_within env r.1.0 func.instructions (context_within func env b h).instructions among)
+    (among_within env r.1.0 func.instructions (context_within func env b h).instructions among)

@@ -47,11 +47,11 @@ module _ (functions also : List CertFunction) (listed : functions ≡ also) (u v
       refused_more lt =
           of_unit (Err (fault.Functions (length solved)))
           (whole ∙ ap left_if (lt-ltb (length gs) (length functions)
-              (subst (λ n. n < length functions) (sym (as_many gs solved a)) lt))
-              ∙ ap (λ n. Err (fault.Functions n)) (as_many gs solved a))
+          (subst (λ n. n < length functions) (sym (as_many gs solved a)) lt))
+          ∙ ap (λ n. Err (fault.Functions n)) (as_many gs solved a))
 
       pub accepted : length functions ≤ length solved → unit_checked also v ≡ Ok (f, checking last gs)
       accepted le =
           of_unit (Ok (f, checking last gs)) (whole
-              ∙ ap left_if (le-ltb (length gs) (length functions)
-              (subst (λ n. length functions ≤ n) (sym (as_many gs solved a)) le)))
+          ∙ ap left_if (le-ltb (length gs) (length functions)
+          (subst (λ n. length functions ≤ n) (sym (as_many gs solved a)) le)))

@@ -1,6 +1,6 @@
 -- What a certificate says of the functions of a unit, checked one function after the other.
-use Rattle.std.specs.Prelude.{◌≡◌, ℕ, Bool, true, false, ◌==◌, if◌then◌else◌, List, [], ◌∷◌, ◌++◌, length, map, Option,
-    Some, None, Result, Ok, Err, ⊤, slice_get}
+use Rattle.std.specs.Prelude.{◌≡◌, ℕ, Bool, true, false, ◌==◌, if◌then◌else◌, List, [], ◌∷◌, ◌++◌, length, map, Option}
+use Rattle.std.specs.Prelude.{Some, None, Result, Ok, Err, ⊤, slice_get}
 use Rattle.std.specs.List.{AllByRecursion}
 use Rattle.alias_base.specs.Answer.{◌>>=◌}
 use Rattle.alias_base.specs.declared.ids.FunctionId.{FunctionId}
@@ -79,8 +79,11 @@ abbrev pub effects_checked : Option FunctionId → Bool → HirFunction → Chec
     → Result (HirFunction × Checking) CheckFault
 effects_checked id is_function_expression f a c = do
   e ← function_solved c a.env f is_function_expression
-  Ok (with_effects_of e.solved f, checking (env_after a.env e)
-      (a.functions ++ checked_function id is_function_expression f a.env c e ∷ []))
+  Ok (
+    with_effects_of e.solved f,
+    checking (env_after a.env e)
+        (a.functions ++ checked_function id is_function_expression f a.env c e ∷ []),
+  )
 
 -- ---- summaries
 

@@ -1,6 +1,6 @@
 -- A certificate, checked against a unit: functions innermost first, and then the root.
-use Rattle.std.specs.Prelude.{◌≡◌, ℕ, zero, suc, nat_lt, false, if◌then◌else◌, List, [], ◌∷◌, length, Option, Some,
-    None, Result, Ok, Err, slice_get}
+use Rattle.std.specs.Prelude.{◌≡◌, ℕ, zero, suc, nat_lt, false, if◌then◌else◌, List, [], ◌∷◌, length, Option, Some}
+use Rattle.std.specs.Prelude.{None, Result, Ok, Err, slice_get}
 use Rattle.alias_base.specs.Answer.{◌>>=◌}
 use Rattle.alias_base.specs.declared.ids.FunctionId.{FunctionId}
 use Rattle.alias_hir.specs.declared.env.Unit.{Unit as HirUnit}
@@ -14,8 +14,8 @@ use Rattle.alias_certificate.specs.declared.fault.CheckFault.{CheckFault}
 use Rattle.alias_certificate.specs.declared.fault.CheckFault.TheVariants as fault
 use Rattle.alias_cert.specs.declared.check.Accepted.{Accepted}
 use Rattle.alias_cert.specs.function.Faults.{is_memory}
-use Rattle.alias_cert.specs.Functions.{CheckedFunction, Checking, checking, nested_checked, root_checked, Accounts,
-    AreAsSaid}
+use Rattle.alias_cert.specs.Functions.{CheckedFunction, Checking, checking, nested_checked, root_checked, Accounts}
+use Rattle.alias_cert.specs.Functions.{AreAsSaid}
 
 -- one after the other, up to the first fault
 abbrev pub each : {X : Type 0} → (X → Checking → Result Checking CheckFault) → List X → Checking
@@ -67,5 +67,5 @@ module _ (functions : List CertFunction) where
 abbrev pub Accepts : List CertFunction → HirUnit → Result Accepted CheckFault → Type 0
 Accepts functions u (Ok a) =
     (fs : List CheckedFunction) × (unit_checked functions u ≡ Ok (a.unit.function, checking a.unit.env fs))
-        × Accounts fs a.solved × AreAsSaid functions fs
+    × Accounts fs a.solved × AreAsSaid functions fs
 Accepts functions u (Err e) = is_memory e ≡ false → unit_checked functions u ≡ Err e

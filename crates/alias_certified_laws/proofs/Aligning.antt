@@ -18,8 +18,9 @@ use Rattle.alias_tables.specs.Tables.{TableLists}
 use Rattle.alias_apply.specs.declared.progress.StepProgress.{StepProgress}
 use Rattle.alias_step.specs.Instructions.{apply_signature}
 use Rattle.alias_step.specs.block.Actions.{terminal_action}
-use Rattle.alias_step.specs.block.Blocks.{infer_phis, step_start, after_instruction, infer_instruction_at,
-    apply_signatures, after_terminal, apply_terminal, block_start, finished_at, finished, infer_block}
+use Rattle.alias_step.specs.block.Blocks.{infer_phis, step_start, after_instruction, infer_instruction_at}
+use Rattle.alias_step.specs.block.Blocks.{apply_signatures, after_terminal, apply_terminal, block_start, finished_at}
+use Rattle.alias_step.specs.block.Blocks.{finished, infer_block}
 use Rattle.alias_step.specs.block.Contexts.{BlockContext}
 use Rattle.alias_step.specs.block.Faults.{in_block}
 use Rattle.alias_step.specs.block.Recorded.{recorded_as, terminal_recorded_as}
@@ -80,10 +81,10 @@ module _ (c : BlockContext) where
   adds_more i None is s v t u at e w a =
       let same : s ≡ v = first_is s v t u e in
       subst (λ z. Adds (i ∷ is) z w) (sym same)
-          (record { more = a.more; is_so = a.is_so; aligned = skip i a.aligned; ends = a.ends })
+      (record { more = a.more; is_so = a.is_so; aligned = skip i a.aligned; ends = a.ends })
   adds_more i (Some x) is s v t u at e w a =
       let p = split (λ z. gives (after_instruction i s.effects z))
-          (in_block i (apply_signature c.env c.facts x (step_start s)) t) v u e in
+      (in_block i (apply_signature c.env c.facts x (step_start s)) t) v u e in
       let same : after_instruction i s.effects p.0 ≡ v = first_is (after_instruction i s.effects p.0) v p.1 u p.3 in
       record {
         more = recorded_as i p.0.recorded ++ a.more;
@@ -137,18 +138,21 @@ module _ (c : BlockContext) where
   block_says b block x y k t u e =
       let begun = block_start (infer_phis block.phis x) in
       let p = split (λ s v. and_then (apply_terminal c b block s v) finished)
-          (apply_signatures c block.instructions begun t) (y, k) u e in
+      (apply_signatures c block.instructions begun t) (y, k) u e in
       let q = split finished (apply_terminal c b block p.0 p.1) (y, k) u p.3 in
       let r = split (λ z. gives (after_terminal b p.0.effects z))
-          (terminal_action c block.instructions block.terminal (step_start p.0) p.1) q.0 q.1 q.2 in
+      (terminal_action c block.instructions block.terminal (step_start p.0) p.1) q.0 q.1 q.2 in
       let a = adds_all block.instructions begun p.0 t p.1 p.2 in
       let after : after_terminal b p.0.effects r.0 ≡ q.0 =
-          first_is (after_terminal b p.0.effects r.0) q.0 r.1 q.1 r.3 in
+      first_is (after_terminal b p.0.effects r.0) q.0 r.1 q.1 r.3 in
       let last : q.0.effects ≡ k = ended q.0.missing q.0 y k q.1 u q.3 in
       let says : (after_terminal b p.0.effects r.0).effects ≡ k = ap (λ (z : BlockProgress). z.effects) after ∙ last in
       let listed : a.more ≡ k.instructions = sym a.is_so ∙ ap (λ (z : BlockEffects). z.instructions) says in
       record {
         instructions = subst (Aligned Xs block.instructions) listed a.aligned;
-        end = record { effects = r.0.recorded; is = ap (λ (z : BlockEffects). z.terminal) (sym says);
-            carried = end_carries block.instructions block.terminal (step_start p.0) r.0 p.1 r.1 refl r.2 };
+        end = record {
+          effects = r.0.recorded;
+          is = ap (λ (z : BlockEffects). z.terminal) (sym says);
+          carried = end_carries block.instructions block.terminal (step_start p.0) r.0 p.1 r.1 refl r.2;
+        };
       }

@@ -1,6 +1,6 @@
 -- What the instructions and the terminals of a function carry, where what was recorded is put on it.
-use Rattle.std.specs.Prelude.{◌≡◌, ℕ, Bool, true, false, ◌==◌, if◌then◌else◌, cond, is_none, List, [], ◌∷◌, Option,
-    Some, None, option_map, slice_get, slice_set, position, refl}
+use Rattle.std.specs.Prelude.{◌≡◌, ℕ, Bool, true, false, ◌==◌, if◌then◌else◌, cond, is_none, List, [], ◌∷◌, Option}
+use Rattle.std.specs.Prelude.{Some, None, option_map, slice_get, slice_set, position, refl}
 use Rattle.std.specs.List.{list_all}
 use Rattle.std.specs.Map.{keys_of}
 use Rattle.std.specs.Option.{option_map_or}
@@ -54,7 +54,7 @@ some_same x y e = cc
 put_at : (ys : List Instruction) (j i : ℕ) (es before : List AliasingEffect) (o : Option Instruction) (b : Bool)
     → slice_get ys j ≡ o → (j == i) ≡ b → Carries ys i before
     → Carries (option_map_or (λ (x : Instruction). slice_set ys j (record x { effects = Some es })) o ys) i
-        (if b then es else before)
+    (if b then es else before)
 put_at ys j i es before None true at same h =
     let here : slice_get ys i ≡ None = subst (λ k. slice_get ys k ≡ None) (eqb-true j i same) at in
     let no : None ≡ Some h.0 = sym here ∙ h.1 in
@@ -83,7 +83,7 @@ carried [] xs i x at u = (x, at, none_recorded x.effects (uninferred x u))
 carried (e ∷ es) xs i x at u =
     let ys = recorded_instructions es xs in
     put_at ys e.instruction.0 i e.effects (effects_for i es) (slice_get ys e.instruction.0) (e.instruction.0 == i) refl
-        refl (carried es xs i x at u)
+    refl (carried es xs i x at u)
 
 -- nothing is carried where there is no instruction
 still_none : (xs : List Instruction) (j i : ℕ) (w : Instruction → Instruction) (o : Option Instruction) → slice_get xs j
@@ -92,7 +92,7 @@ still_none : (xs : List Instruction) (j i : ℕ) (w : Instruction → Instructio
 still_none xs j i w None at none = none
 still_none xs j i w (Some x) at none =
     set_other xs j i (w x) (λ same. let here : slice_get xs i ≡ Some x = subst (λ k. slice_get xs k ≡ Some x) same at in
-        let no : None ≡ Some x = sym none ∙ here in none_some x no) ∙ none
+    let no : None ≡ Some x = sym none ∙ here in none_some x no) ∙ none
   where
     none_some : (x : Instruction) → ◌≡◌ {A = Option Instruction} None (Some x) → ⊥
     none_some x e = cc
@@ -103,7 +103,7 @@ not_carried [] xs i h = h
 not_carried (e ∷ es) xs i h =
     let ys = recorded_instructions es xs in
     still_none ys e.instruction.0 i (λ x. record x { effects = Some e.effects }) (slice_get ys e.instruction.0) refl
-        (not_carried es xs i h)
+    (not_carried es xs i h)
 
 -- ---- terminals
 
@@ -158,7 +158,7 @@ end_set : (ys : Blocks) (m n : ℕ) (es : List AliasingEffect) (k : BlockId) (b 
     (o : Option (BlockId × BasicBlock)) (t : Bool) → slice_get ys m ≡ o → (m == n) ≡ t
     → slice_get ys n ≡ Some (k, b)
     → slice_get (option_map_or (λ (x : BlockId × BasicBlock). set_value_at ys m (block_with x.1 es)) o ys) n
-        ≡ Some (k, if t then block_with b es else b)
+    ≡ Some (k, if t then block_with b es else b)
 end_set ys m n es k b None true at same h =
     let here : slice_get ys n ≡ None = subst (λ i. slice_get ys i ≡ None) (eqb-true m n same) at in
     let no : ◌≡◌ {A = Option (BlockId × BasicBlock)} None (Some (k, b)) = sym here ∙ h in
@@ -168,7 +168,7 @@ end_set ys m n es k b (Some x) true at same h =
     let there : slice_get ys n ≡ Some x = subst (λ i. slice_get ys i ≡ Some x) is at in
     let both : x ≡ (k, b) = some_same x (k, b) (sym there ∙ h) in
     subst (λ i. slice_get (set_value_at ys m (block_with x.1 es)) i ≡ Some (x.0, block_with x.1 es)) is
-        (set_value_same ys m x (block_with x.1 es) at)
+    (set_value_same ys m x (block_with x.1 es) at)
     ∙ ap (λ (z : BlockId × BasicBlock). Some (z.0, block_with z.1 es)) both
 end_set ys m n es k b None false at same h = h
 end_set ys m n es k b (Some x) false at same h = set_value_other ys m n (block_with x.1 es) (eqb-false m n same) ∙ h
@@ -176,7 +176,7 @@ end_set ys m n es k b (Some x) false at same h = set_value_other ys m n (block_w
 end_put : (ys : Blocks) (n : ℕ) (es : List AliasingEffect) (k : BlockId) (b : BasicBlock) (o : Option ℕ)
     → slice_get ys n ≡ Some (k, b)
     → slice_get (option_map_or (with_terminal_at es ys) o ys) n
-        ≡ Some (k, if option_map_or (λ m. m == n) o false then block_with b es else b)
+    ≡ Some (k, if option_map_or (λ m. m == n) o false then block_with b es else b)
 end_put ys n es k b None h = h
 end_put ys n es k b (Some m) h = end_set ys m n es k b (slice_get ys m) (m == n) refl refl h
 
@@ -188,8 +188,11 @@ end_carried [] bs n k b h = h
 end_carried (e ∷ es) bs n k b h =
     let ys = recorded_terminals es bs in
     end_put ys n e.effects k (ends_for bs n es b) (position_in ys e.block) (end_carried es bs n k b h)
-    ∙ ap (λ (o : Option ℕ). Some (k, if option_map_or (λ m. m == n) o false
-        then block_with (ends_for bs n es b) e.effects else ends_for bs n es b)) (position_kept es bs e.block)
+    ∙ ap (λ (o : Option ℕ). Some (
+      k,
+      if option_map_or (λ m. m == n) o false
+          then block_with (ends_for bs n es b) e.effects else ends_for bs n es b,
+    )) (position_kept es bs e.block)
 
 -- ---- the value of a name
 
@@ -197,7 +200,7 @@ value_step : (b : BlockId) (e : BlockId × BasicBlock) (es : Blocks) (n : ℕ) (
     (p : Option ℕ) → cond t (Some 0) (option_map suc p) ≡ Some n
     → slice_get (e ∷ es) n ≡ Some x
     → ((m : ℕ) → p ≡ Some m → slice_get es m ≡ Some x → value_at es b ≡ Some x.1) → cond t (Some e.1) (value_at es b)
-        ≡ Some x.1
+    ≡ Some x.1
 value_step b e es n x true p at h f =
     let is : 0 ≡ n = cc in
     let here : slice_get (e ∷ es) 0 ≡ Some x = subst (λ k. slice_get (e ∷ es) k ≡ Some x) (sym is) h in
@@ -213,7 +216,7 @@ value_by_position : (es : Blocks) (b : BlockId) (n : ℕ) (x : BlockId × BasicB
 value_by_position [] b n x at h = cc
 value_by_position (e ∷ es) b n x at h =
     value_step b e es n x (same_block b e.0) (position_in es b)
-        (sym (position_step (same_block b) e.0 (keys_of es)) ∙ at) h (λ m p g. value_by_position es b m x p g)
+    (sym (position_step (same_block b) e.0 (keys_of es)) ∙ at) h (λ m p g. value_by_position es b m x p g)
 
 -- the block of a name whose position it is carries what is recorded of it
 pub named_end : (es : List TerminalEffects) (bs : Blocks) (n : ℕ) (b : BlockId × BasicBlock) → slice_get bs n ≡ Some b

@@ -1,7 +1,7 @@
 -- What the terminal of a block carries: what was recorded of the block at its position, where no entry of another block
 -- is of that position.
-use Rattle.std.specs.Prelude.{◌≡◌, ℕ, Bool, true, false, ◌==◌, is_none, if◌then◌else◌, List, [], ◌∷◌, ◌++◌, map, Option,
-    Some, None, slice_index_or, refl}
+use Rattle.std.specs.Prelude.{◌≡◌, ℕ, Bool, true, false, ◌==◌, is_none, if◌then◌else◌, List, [], ◌∷◌, ◌++◌, map, Option}
+use Rattle.std.specs.Prelude.{Some, None, slice_index_or, refl}
 use Rattle.std.specs.List.{flat_map, AllByRecursion}
 use Rattle.std.specs.Option.{option_map_or}
 use Rattle.std.proofs.Common.{zero, suc, ap, sym, ◌∙◌, ◌⊎◌, inl, inr, append-nil, arith, eq-eqb}
@@ -44,8 +44,11 @@ module _ (bs : Blocks) (n : ℕ) where
   pub none_of_other : (m : ℕ) (k : BlockId) (es : List AliasingEffect) → position_in bs k ≡ Some m → (m ≡ n → ⊥)
       → NoneOf (terminal_recorded_as k es)
   none_of_other m k [] at f = tt
-  none_of_other m k (e ∷ es) at f = (ap (λ (o : Option ℕ). option_map_or (λ i. i == n) o false) at
-      ∙ unlike m n (m == n) refl f, tt)
+  none_of_other m k (e ∷ es) at f = (
+    ap (λ (o : Option ℕ). option_map_or (λ i. i == n) o false) at
+        ∙ unlike m n (m == n) refl f,
+    tt,
+  )
 
   ends_append : (es fs : List TerminalEffects) (b : BasicBlock) → ends_for bs n (es ++ fs) b
       ≡ ends_for bs n es (ends_for bs n fs b)
@@ -97,7 +100,7 @@ module _ (bs : Blocks) (n : ℕ) where
     own_ends : (es : List AliasingEffect) → is_none (terminal_effects b.terminal) ≡ true → (es ≡ [])
         ⊎ CanCarry b.terminal
         → map effect_text (recorded (terminal_effects (ends_for bs n (terminal_recorded_as k es) b).terminal))
-            ≡ flat_map said_ends (terminal_recorded_as k es)
+        ≡ flat_map said_ends (terminal_recorded_as k es)
     own_ends [] u c = ap (λ (es : List AliasingEffect). map effect_text es)
         (none_recorded (terminal_effects b.terminal) u)
     own_ends (e ∷ es) u c =
@@ -111,6 +114,6 @@ module _ (bs : Blocks) (n : ℕ) where
         → map effect_text (recorded (terminal_effects (ends_for bs n rs b).terminal)) ≡ flat_map said_ends rs
     terminal_lines rs u h =
         ap (λ (es : List TerminalEffects). map effect_text (recorded (terminal_effects (ends_for bs n es b).terminal)))
-            h.is
+        h.is
         ∙ own_ends h.effects u h.carried
         ∙ ap (flat_map said_ends) (sym h.is)

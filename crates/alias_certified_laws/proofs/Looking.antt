@@ -1,7 +1,7 @@
 -- Where each instruction is listed once, what is recorded of all blocks has of each instruction what its own block
 -- recorded of it.
-use Rattle.std.specs.Prelude.{◌≡◌, ℕ, Bool, true, false, ◌==◌, ◌||◌, nat_eq, if◌then◌else◌, List, [], ◌∷◌, ◌++◌, map,
-    Option, Some, None, slice_get, refl}
+use Rattle.std.specs.Prelude.{◌≡◌, ℕ, Bool, true, false, ◌==◌, ◌||◌, nat_eq, if◌then◌else◌, List, [], ◌∷◌, ◌++◌, map}
+use Rattle.std.specs.Prelude.{Option, Some, None, slice_get, refl}
 use Rattle.std.specs.List.{AllByRecursion, flat_map}
 use Rattle.std.proofs.Common.{subst, ap, ◌∙◌, append_assoc, arith, eq-eqb}
 use Rattle.std.proofs.lemmas.Bool.{eqb-true}
@@ -151,7 +151,7 @@ module _ (xs : List Instruction) where
       let b = both_false (nat_eq j i.0) (is_among seen j) h in
       let e : InstructionEffects = record { instruction = i; effects = es } in
       all_of_both (λ (z : InstructionEffects). (z.instruction.0 == j) ≡ false) pre (e ∷ []) (f j b.1)
-          (turned j i.0 b.0, tt)
+      (turned j i.0 b.0, tt)
 
   one_same : (i : ℕ) (es rest : List AliasingEffect) → (if i == i then es else rest) ≡ es
   one_same i es rest = ap (λ b. if b then es else rest) (eq-eqb i i refl)
@@ -165,18 +165,18 @@ module _ (xs : List Instruction) where
   segment pre post seen later (i ∷ is) here (skip k a) once f g =
       let p = once_step seen (numbers is ++ later) i.0 once in
       let others = all_of_parts (IsOther i.0) (numbers is) later
-          (apart (i.0 ∷ seen) (numbers is ++ later) i.0 p.1 (itself seen i.0)) in
+      (apart (i.0 ∷ seen) (numbers is ++ later) i.0 p.1 (itself seen i.0)) in
       let rest = all_of_both (λ (z : InstructionEffects). (z.instruction.0 == i.0) ≡ false) here post
-          (aligned_not_in i.0 a (all_others is i.0 others.0)) (g i.0 others.1) in
+      (aligned_not_in i.0 a (all_others is i.0 others.0)) (g i.0 others.1) in
       nothing i (past i.0 pre (here ++ post) (f i.0 p.0) ∙ nothing_for i.0 (here ++ post) rest)
       (segment pre post (i.0 ∷ seen) later is here a p.1 (before_more pre seen i.0 f) g)
   segment pre post seen later (i ∷ is) (e ∷ rest) (take k x es at a) once f g =
       let p = once_step seen (numbers is ++ later) i.0 once in
       let entry : InstructionEffects = record { instruction = i; effects = es } in
       something i x es at (past i.0 pre (entry ∷ (rest ++ post)) (f i.0 p.0)
-          ∙ one_same i.0 es (effects_for i.0 (rest ++ post)))
+      ∙ one_same i.0 es (effects_for i.0 (rest ++ post)))
       (subst (λ l. Lookups l is rest) (append_assoc pre (entry ∷ []) (rest ++ post))
-          (segment (pre ++ entry ∷ []) post (i.0 ∷ seen) later is rest a p.1 (before_one pre seen i es f) g))
+      (segment (pre ++ entry ∷ []) post (i.0 ∷ seen) later is rest a p.1 (before_one pre seen i es f) g))
 
   -- ---- blocks
 
@@ -194,7 +194,7 @@ module _ (xs : List Instruction) where
   behind_all (b ∷ bs) (r ∷ rs) (more a p) i h =
       let parts = all_of_parts (IsOther i) (numbers b.1.instructions) (listed bs) h in
       all_of_both (λ (z : InstructionEffects). (z.instruction.0 == i) ≡ false) (instructions_recorded r)
-          (flat_map instructions_recorded rs)
+      (flat_map instructions_recorded rs)
       (aligned_not_in i a (all_others b.1.instructions i parts.0)) (behind_all bs rs p i parts.1)
 
   before_block : (pre : List InstructionEffects) (seen : List ℕ) (is : List InstructionId)
@@ -203,7 +203,7 @@ module _ (xs : List Instruction) where
   before_block pre seen is here a f j h =
       let b = still_seen seen is j h in
       all_of_both (λ (z : InstructionEffects). (z.instruction.0 == j) ≡ false) pre here (f j b.0)
-          (aligned_not_in j a b.1)
+      (aligned_not_in j a b.1)
 
   abbrev pub BlockLookups : List InstructionEffects → BlockId × BasicBlock → Option BlockEffects → Type 0
   BlockLookups whole b r = Lookups whole b.1.instructions (instructions_recorded r)
@@ -220,7 +220,7 @@ module _ (xs : List Instruction) where
       more (segment pre post seen (listed bs) b.1.instructions here a once f (behind_all bs rs p))
       (subst (λ l. Paired (BlockLookups l) bs rs) (append_assoc pre here post)
       (each_lookups bs rs (pre ++ here) (seen_after seen b.1.instructions) p
-          (once_after seen b.1.instructions (listed bs) once) (before_block pre seen b.1.instructions here a f)))
+      (once_after seen b.1.instructions (listed bs) once) (before_block pre seen b.1.instructions here a f)))
 
   -- all blocks of a function that lists each instruction once
   pub all_lookup : (bs : Blocks) (rs : List (Option BlockEffects)) → Paired BlockAligned bs rs

@@ -1,8 +1,8 @@
 -- The entry states of a pass name what is there, and its temporaries are counted on.
 use Rattle.std.specs.Prelude.{slice_get}
 use Rattle.std.specs.List.{AllByRecursion, list_all, flat_map}
-use Rattle.std.proofs.Common.{◌≡◌, ℕ, ◌+◌, ◌<◌, Bool, true, false, ◌||◌, ◌==◌, List, [], ◌∷◌, ◌++◌, length, Option,
-    Some, None, refl, subst, eq-eqb}
+use Rattle.std.proofs.Common.{◌≡◌, ℕ, ◌+◌, ◌<◌, Bool, true, false, ◌||◌, ◌==◌, List, [], ◌∷◌, ◌++◌, length, Option}
+use Rattle.std.proofs.Common.{Some, None, refl, subst, eq-eqb}
 use Rattle.std.proofs.lemmas.Bool.{lt-ltb}
 use Rattle.alias_base.specs.declared.ids.BlockId.{BlockId}
 use Rattle.alias_base.specs.declared.ids.FunctionId.{FunctionId}
@@ -32,8 +32,8 @@ use Rattle.alias_nested.specs.Created.{one_of, created_by, created_by_all, creat
 use Rattle.alias_nesting_laws.specs.FittingLaws.{together}
 use Rattle.alias_certificate.specs.states.States.{is_created, is_site_there}
 use Rattle.alias_cert.specs.function.Temporaries.{is_key_there}
-use Rattle.alias_effects_laws.specs.entries.Named.{SiteNamed, SitesNamed, StateNamed, KeyNamed, AreNumbered, CreatesAt,
-    CreatesHas, BlocksCreate, EntriesNamed}
+use Rattle.alias_effects_laws.specs.entries.Named.{SiteNamed, SitesNamed, StateNamed, KeyNamed, AreNumbered, CreatesAt}
+use Rattle.alias_effects_laws.specs.entries.Named.{CreatesHas, BlocksCreate, EntriesNamed}
 use Rattle.alias_effects_laws.proofs.entries.Entries.{entries_named}
 use Rattle.alias_certificate_laws.specs.accepting.Certifying.{NamesItsOwn, IsAcceptedAsSaid}
 use Rattle.alias_certificate_laws.specs.accepting.Saying.{NamesThere, AreCounted}
@@ -87,13 +87,13 @@ module _ (func : HirFunction) where
   blocks_create =
       all_on (λ (b : BlockId × BasicBlock). AllByRecursion IsOne (created_by_all func b.1.instructions))
       (λ (b : BlockId × BasicBlock). AllByRecursion
-          (λ (i : InstructionId). CreatesAt IsOne (slice_get func.instructions i.0)) b.1.instructions)
+      (λ (i : InstructionId). CreatesAt IsOne (slice_get func.instructions i.0)) b.1.instructions)
       (λ b h. all_on (λ (i : InstructionId). AllByRecursion IsOne (created_by (slice_get func.instructions i.0)))
       (λ (i : InstructionId). CreatesAt IsOne (slice_get func.instructions i.0))
-          (λ i. at_has (slice_get func.instructions i.0)) b.1.instructions
+      (λ i. at_has (slice_get func.instructions i.0)) b.1.instructions
       (each_of IsOne (λ (i : InstructionId). created_by (slice_get func.instructions i.0)) b.1.instructions h))
       func.body.blocks (each_of IsOne (λ (b : BlockId × BasicBlock). created_by_all func b.1.instructions)
-          func.body.blocks (all_created (created_functions func)))
+      func.body.blocks (all_created (created_functions func)))
 
 -- ---- states
 
@@ -137,9 +137,13 @@ key_there n f (key.Rest g) h = lt-ltb g.0 f h
 
 are_counted : (env : Environment) (done xs : List Temporary) → AreNumbered env done xs → AreCounted env done xs
 are_counted env done [] h = tt
-are_counted env done (x ∷ xs) h = (h.0.0, h.0.1,
-    key_there (length env.identifiers + length done) (length env.functions) x.key h.0.2, h.0.3,
-    are_counted env (done ++ x ∷ []) xs h.1)
+are_counted env done (x ∷ xs) h = (
+  h.0.0,
+  h.0.1,
+  key_there (length env.identifiers + length done) (length env.functions) x.key h.0.2,
+  h.0.3,
+  are_counted env (done ++ x ∷ []) xs h.1,
+)
 
 -- ---- a pass
 
@@ -155,7 +159,7 @@ module _ (env : Environment) (func : HirFunction) (e : Bool) (w : SolverState (V
       record {
         states = λ b s is. state_there n (created_functions func) s
             (subst (HoldsOf (StateNamed (λ k. k < n) (IsOne func))) is
-                (at_holds (StateNamed (λ k. k < n) (IsOne func)) w.progress.joined_input b named.states));
+            (at_holds (StateNamed (λ k. k < n) (IsOne func)) w.progress.joined_input b named.states));
         temporaries = are_counted env [] w.tables.temporaries named.temporaries;
       }
 

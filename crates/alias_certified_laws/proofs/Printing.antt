@@ -1,6 +1,6 @@
 -- The lines that are printed of a function that carries its effects are those that are said of its solution.
-use Rattle.std.specs.Prelude.{◌≡◌, ℕ, Bool, true, List, [], ◌∷◌, ◌++◌, map, length, Option, Some, None, Ok, is_none,
-    replicate, slice_get, slice_index_or, refl}
+use Rattle.std.specs.Prelude.{◌≡◌, ℕ, Bool, true, List, [], ◌∷◌, ◌++◌, map, length, Option, Some, None, Ok, is_none}
+use Rattle.std.specs.Prelude.{replicate, slice_get, slice_index_or, refl}
 use Rattle.std.specs.List.{flat_map, list_all}
 use Rattle.std.specs.Option.{is_some}
 use Rattle.std.proofs.Common.{zero, suc, subst, ap, sym, ◌∙◌, arith}
@@ -8,8 +8,8 @@ use Rattle.alias_base.specs.AnswerLaws.{both_true}
 use Rattle.alias_base.specs.Find.{value_at}
 use Rattle.alias_base.specs.declared.ids.BlockId.{BlockId}
 use Rattle.alias_base.specs.declared.ids.InstructionId.{InstructionId}
-use Rattle.alias_rules.specs.function_rules.Rules.{instruction_is_uninferred, terminal_is_uninferred,
-    place_is_uninferred, listed_instructions, first_again, twice}
+use Rattle.alias_rules.specs.function_rules.Rules.{instruction_is_uninferred, terminal_is_uninferred}
+use Rattle.alias_rules.specs.function_rules.Rules.{place_is_uninferred, listed_instructions, first_again, twice}
 use Rattle.alias_hir.specs.Terminals.{terminal_effects, terminal_places}
 use Rattle.alias_hir.specs.declared.effect.AliasingEffect.{AliasingEffect}
 use Rattle.alias_hir.specs.declared.env.Environment.{Environment}
@@ -44,14 +44,14 @@ use Rattle.alias_certificate_laws.specs.text.Certifying.{cert_effect, effects_of
 use Rattle.alias_certificate.specs.declared.certificate.CertBlock.{CertBlock}
 use Rattle.alias_certificate.specs.declared.certificate.CertEffect.{CertEffect}
 use Rattle.alias_certificate_laws.specs.accepting.Alike.{Paired, none as no_pair, more}
-use Rattle.alias_certificate_laws.specs.accepting.Saying.{said_value, said_variable, said_effects, said_block, said_of,
-    said_each, those_there}
+use Rattle.alias_certificate_laws.specs.accepting.Saying.{said_value, said_variable, said_effects, said_block, said_of}
+use Rattle.alias_certificate_laws.specs.accepting.Saying.{said_each, those_there}
 use Rattle.alias_certificate_laws.proofs.accepting.Passing.{laws as pass_laws_of, solves as pass_ends, kept}
 use Rattle.alias_certified_laws.proofs.Aligning.{Aligned, none, skip, BlockSays, block_says}
 use Rattle.alias_certified_laws.proofs.Carrying.{effects_for, carried, not_carried, ends_for, named_end}
 use Rattle.alias_certified_laws.proofs.Ending.{NoneOf, none_of_other, ends_at, ends_instructions, terminal_lines}
-use Rattle.alias_certified_laws.proofs.Looking.{Lookups, no_more, nothing, something, BlockAligned, BlockLookups,
-    all_lookup}
+use Rattle.alias_certified_laws.proofs.Looking.{Lookups, no_more, nothing, something, BlockAligned, BlockLookups}
+use Rattle.alias_certified_laws.proofs.Looking.{all_lookup}
 use Rattle.alias_certified_laws.proofs.Placing.{at_its_place, reached_place}
 
 -- ---- lists
@@ -106,10 +106,10 @@ module _ (xs : List Instruction) (uninferred : (i : ℕ) (x : Instruction) → s
   instruction_lines no_more = refl
   instruction_lines (nothing i {is} h l) =
       ap (λ es. map (cert_effect i.0) es ++ flat_map (effects_of (recorded_instructions whole xs)) is)
-          (carries_at i.0 (slice_get xs i.0) refl h) ∙ instruction_lines l
+      (carries_at i.0 (slice_get xs i.0) refl h) ∙ instruction_lines l
   instruction_lines (something i x es {is} {rest} at h l) =
       ap (λ fs. map (cert_effect i.0) fs ++ flat_map (effects_of (recorded_instructions whole xs)) is)
-          (carries_these i.0 x es at h) ∙ ap (λ ls. map (cert_effect i.0) es ++ ls) (instruction_lines l)
+      (carries_these i.0 x es at h) ∙ ap (λ ls. map (cert_effect i.0) es ++ ls) (instruction_lines l)
 
 -- ---- the lines of blocks, side by side
 
@@ -124,7 +124,7 @@ module _ (g : HirFunction) where
   one_line : (b : BlockId × BasicBlock) (x : Option State) (r : Option BlockEffects) (bs : Blocks)
       (xs : List (Option State)) (rs : List (Option BlockEffects)) → LineIs b x r
       → map (cert_block g) (entries_of bs xs) ≡ those_there (said_each bs xs rs)
-          → map (cert_block g) (entries_of (b ∷ bs) (x ∷ xs)) ≡ those_there (said_of b x r ∷ said_each bs xs rs)
+      → map (cert_block g) (entries_of (b ∷ bs) (x ∷ xs)) ≡ those_there (said_of b x r ∷ said_each bs xs rs)
   one_line b None r bs xs rs h e = e
   one_line b (Some s) None bs xs rs h e = absurd h
   one_line b (Some s) (Some r) bs xs rs h e = ap (λ l. l ∷ map (cert_block g) (entries_of bs xs)) h
@@ -132,14 +132,14 @@ module _ (g : HirFunction) where
 
   all_lines : (bs : Blocks) (xs : List (Option State)) (rs : List (Option BlockEffects)) → length rs ≡ length bs
       → ((n : ℕ) (b : BlockId × BasicBlock) → slice_get bs n ≡ Some b
-          → LineIs b (entry_at xs n) (slice_index_or rs n None))
+      → LineIs b (entry_at xs n) (slice_index_or rs n None))
       → map (cert_block g) (entries_of bs xs) ≡ those_there (said_each bs xs rs)
   all_lines [] xs rs l f = refl
   all_lines (b ∷ bs) [] rs l f = refl
   all_lines (b ∷ bs) (x ∷ xs) [] l f = absurd (let k : 0 ≡ suc (length bs) = l in omega arith)
   all_lines (b ∷ bs) (x ∷ xs) (r ∷ rs) l f =
       one_line b x r bs xs rs (f zero b refl)
-          (all_lines bs xs rs (let k : suc (length rs) ≡ suc (length bs) = l in omega arith) (λ n. f (suc n)))
+      (all_lines bs xs rs (let k : suc (length rs) ≡ suc (length bs) = l in omega arith) (λ n. f (suc n)))
 
 -- ---- a function
 
@@ -182,7 +182,7 @@ module _ (env : Environment) (func : HirFunction) (e : Bool) (w : SolverState (V
   recorded_there n b s there h =
       let r = solves.keeps n s h in
       let step : step_at (context_of env func e) (Some b) w.tables s ≡ Stepped r.0 w.tables r.1 =
-          subst (λ o. step_at (context_of env func e) o w.tables s ≡ Stepped r.0 w.tables r.1) there r.2 in
+      subst (λ o. step_at (context_of env func e) o w.tables s ≡ Stepped r.0 w.tables r.1) there r.2 in
       record {
         effects = r.1;
         is = r.3;
@@ -198,7 +198,7 @@ module _ (env : Environment) (func : HirFunction) (e : Bool) (w : SolverState (V
   nothing_past n s past h =
       let r = solves.keeps n s h in
       let step : Stepped s w.tables no_effects ≡ Stepped r.0 w.tables r.1 =
-          subst (λ o. step_at (context_of env func e) o w.tables s ≡ Stepped r.0 w.tables r.1) past r.2 in
+      subst (λ o. step_at (context_of env func e) o w.tables s ≡ Stepped r.0 w.tables r.1) past r.2 in
       let same : r.1 ≡ no_effects = cc in
       r.3 ∙ ap (λ (k : BlockEffects). Some k) same
 
@@ -217,7 +217,7 @@ module _ (env : Environment) (func : HirFunction) (e : Bool) (w : SolverState (V
   lookups =
       all_lookup func.instructions func.body.blocks w.recorded
       (paired_from (BlockAligned func.instructions) func.body.blocks w.recorded recorded_long
-          (λ n b there. aligned_at n b (entry_at w.progress.joined_input n) there refl))
+      (λ n b there. aligned_at n b (entry_at w.progress.joined_input n) there refl))
       listed_once
 
   -- ---- terminals
@@ -231,7 +231,7 @@ module _ (env : Environment) (func : HirFunction) (e : Bool) (w : SolverState (V
       let r = recorded_there m b s at h in
       subst (λ o. NoneOf func.body.blocks n (terminal_recorded o)) (sym r.is)
       (subst (NoneOf func.body.blocks n) (sym r.says.end.is)
-          (none_of_other func.body.blocks n m b.0 r.says.end.effects r.at f))
+      (none_of_other func.body.blocks n m b.0 r.says.end.effects r.at f))
 
   others_end : (n m : ℕ) (o : Option State) → (m ≡ n → ⊥) → entry_at w.progress.joined_input m ≡ o
       → NoneOf func.body.blocks n (terminal_recorded (slice_index_or w.recorded m None))
@@ -241,47 +241,52 @@ module _ (env : Environment) (func : HirFunction) (e : Bool) (w : SolverState (V
   -- the block of the name carries what its own step recorded
   carries_own : (n : ℕ) (b : BlockId × BasicBlock) (r : Recorded n b) → slice_get func.body.blocks n ≡ Some b
       → value_at (recorded_terminals (flat_map terminal_recorded w.recorded) func.body.blocks) b.0
-          ≡ Some (ends_for func.body.blocks n r.effects.terminal b.1)
+      ≡ Some (ends_for func.body.blocks n r.effects.terminal b.1)
   carries_own n b r there =
       named_end (flat_map terminal_recorded w.recorded) func.body.blocks n b there r.at
       ∙ ap (λ (z : BasicBlock). Some z) (ends_at func.body.blocks n w.recorded n b.1
-          (λ m f. others_end n m (entry_at w.progress.joined_input m) f refl))
+      (λ m f. others_end n m (entry_at w.progress.joined_input m) f refl))
       ∙ ap (λ (o : Option BlockEffects). Some (ends_for func.body.blocks n (terminal_recorded o) b.1)) r.is
 
   -- ---- lines
 
   module _ (instructions : list_all instruction_is_uninferred func.instructions ≡ true)
       (terminals : list_all (λ (b : BlockId × BasicBlock). terminal_is_uninferred b.1.terminal) func.body.blocks
-          ≡ true) where
+      ≡ true) where
     no_effects_yet : (n : ℕ) (b : BlockId × BasicBlock) → slice_get func.body.blocks n ≡ Some b
         → is_none (terminal_effects b.1.terminal) ≡ true
     no_effects_yet n b there =
         (both_true (is_none (terminal_effects b.1.terminal))
-            (list_all place_is_uninferred (terminal_places b.1.terminal))
+        (list_all place_is_uninferred (terminal_places b.1.terminal))
         (holds_at (λ (b : BlockId × BasicBlock). terminal_is_uninferred b.1.terminal) func.body.blocks n b terminals
-            there)).0
+        there)).0
 
     line_there : (n : ℕ) (b : BlockId × BasicBlock) (s : State) (r : Recorded n b) → slice_get func.body.blocks n
         ≡ Some b
         → cert_block (with_effects_of (solved_of func w) func) (record { block = b.0; state = s })
-            ≡ said_block b.0 s r.effects
+        ≡ said_block b.0 s r.effects
     line_there n b s r there =
         let gi = recorded_instructions (flat_map instructions_recorded w.recorded) func.instructions in
         let z = ends_for func.body.blocks n r.effects.terminal b.1 in
         let line = λ (es : List CertEffect) (ls : List (List ℕ)).
-        let l : CertBlock = record { block = b.0; values = map said_value s.values;
-            variables = map said_variable s.variables; effects = es; end = ls } in l in
+        let l : CertBlock = record {
+          block = b.0;
+          values = map said_value s.values;
+          variables = map said_variable s.variables;
+          effects = es;
+          end = ls;
+        } in l in
         let lookup = subst (BlockLookups func.instructions (flat_map instructions_recorded w.recorded) b) r.is
         (paired_at (BlockLookups func.instructions (flat_map instructions_recorded w.recorded)) lookups n b there) in
         ap (λ (o : Option BasicBlock). line (effects_in gi o) (ends_in o)) (carries_own n b r there)
         ∙ ap (λ (is : List InstructionId). line (flat_map (effects_of gi) is) (ends_in (Some z)))
-            (ends_instructions func.body.blocks n r.effects.terminal b.1)
+        (ends_instructions func.body.blocks n r.effects.terminal b.1)
         ∙ ap (λ (es : List CertEffect). line es (ends_in (Some z)))
         (instruction_lines func.instructions (λ i x at.
-            holds_at instruction_is_uninferred func.instructions i x instructions at)
-            (flat_map instructions_recorded w.recorded) lookup)
+        holds_at instruction_is_uninferred func.instructions i x instructions at)
+        (flat_map instructions_recorded w.recorded) lookup)
         ∙ ap (λ (ls : List (List ℕ)). line (flat_map said_effects r.effects.instructions) ls)
-            (terminal_lines func.body.blocks n b.0 b.1 r.at r.effects.terminal (no_effects_yet n b there) r.says.end)
+        (terminal_lines func.body.blocks n b.0 b.1 r.at r.effects.terminal (no_effects_yet n b there) r.says.end)
 
     line_is : (n : ℕ) (b : BlockId × BasicBlock) (o : Option State) → slice_get func.body.blocks n ≡ Some b
         → entry_at w.progress.joined_input n ≡ o
@@ -295,5 +300,5 @@ module _ (env : Environment) (func : HirFunction) (e : Bool) (w : SolverState (V
         ≡ those_there (said_each func.body.blocks w.progress.joined_input w.recorded)
     prints =
         all_lines (with_effects_of (solved_of func w) func) func.body.blocks w.progress.joined_input w.recorded
-            recorded_long
+        recorded_long
         (λ n b there. line_is n b (entry_at w.progress.joined_input n) there refl)

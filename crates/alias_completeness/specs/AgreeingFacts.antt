@@ -1,7 +1,7 @@
 -- What is known of a function before its instructions are stepped is the same over an environment that agrees on what
 -- the function names.
-use Rattle.std.specs.Prelude.{◌≡◌, ℕ, ◌<◌, Bool, true, false, cond, if◌then◌else◌, is_some, List, [], ◌∷◌, ◌++◌, Option,
-    Some, None, option_map, option_and_then, map, length, slice_get, refl}
+use Rattle.std.specs.Prelude.{◌≡◌, ℕ, ◌<◌, Bool, true, false, cond, if◌then◌else◌, is_some, List, [], ◌∷◌, ◌++◌, Option}
+use Rattle.std.specs.Prelude.{Some, None, option_map, option_and_then, map, length, slice_get, refl}
 use Rattle.std.proofs.Common.{ap, sym, ◌∙◌}
 use Rattle.std.specs.List.{AllByRecursion, fold}
 use Rattle.std.specs.Option.{option_map_or}
@@ -15,13 +15,14 @@ use Rattle.alias_base.specs.declared.ids.IdentifierId.{IdentifierId}
 use Rattle.alias_base.specs.declared.ids.InstructionId.{InstructionId}
 use Rattle.alias_facts.specs.Candidates.{first_candidates, with_frozen, spread_of, without_spread, after_use, selves}
 use Rattle.alias_facts.specs.Facts.{function_facts}
-use Rattle.alias_facts.specs.Hoisted.{Accesses, declaration_of, access_at, with_access, read_by, after_read,
-    is_hoisting, with_hoisted, after_value as reads_after, after_instruction as reads_after_instruction,
-    after_listed as reads_after_listed, after_entry as reads_after_entry}
+use Rattle.alias_facts.specs.Hoisted.{Accesses, declaration_of, access_at, with_access, read_by, after_read}
+use Rattle.alias_facts.specs.Hoisted.{is_hoisting, with_hoisted, after_value as reads_after}
+use Rattle.alias_facts.specs.Hoisted.{after_instruction as reads_after_instruction, after_listed as reads_after_listed}
+use Rattle.alias_facts.specs.Hoisted.{after_entry as reads_after_entry}
 use Rattle.alias_facts.specs.Numbers.{value_of, with_value}
-use Rattle.alias_facts.specs.Spreads.{is_hook_at, after_hook, after_call, after_phi, after_value as spreads_after,
-    after_instruction as spreads_after_instruction, after_listed as spreads_after_listed,
-    after_entry as spreads_after_entry}
+use Rattle.alias_facts.specs.Spreads.{is_hook_at, after_hook, after_call, after_phi, after_value as spreads_after}
+use Rattle.alias_facts.specs.Spreads.{after_instruction as spreads_after_instruction}
+use Rattle.alias_facts.specs.Spreads.{after_listed as spreads_after_listed, after_entry as spreads_after_entry}
 use Rattle.alias_facts.specs.declared.candidates.Candidates.{Candidates}
 use Rattle.alias_hir.specs.ShapeNames.{shape_named}
 use Rattle.alias_hir.specs.Tables.{hook_kind_of, hook_kind}
@@ -37,8 +38,10 @@ use Rattle.alias_hir.specs.declared.place.Place.{Place}
 use Rattle.alias_hir.specs.declared.signature.Shape.{Shape}
 use Rattle.alias_hir.specs.declared.types.Ty.{Ty}
 use Rattle.alias_hir.specs.declared.value.InstructionValue.{InstructionValue}
-use Rattle.alias_hir.specs.declared.value.InstructionValue.TheVariants.{CallExpression, MethodCall, FunctionExpression,
-    ObjectMethod, DeclareLocal, DeclareContext, Destructure, StoreLocal, PostfixUpdate, PrefixUpdate}
+use Rattle.alias_hir.specs.declared.value.InstructionValue.TheVariants.{CallExpression, MethodCall, FunctionExpression}
+use Rattle.alias_hir.specs.declared.value.InstructionValue.TheVariants.{ObjectMethod, DeclareLocal, DeclareContext}
+use Rattle.alias_hir.specs.declared.value.InstructionValue.TheVariants.{Destructure, StoreLocal, PostfixUpdate}
+use Rattle.alias_hir.specs.declared.value.InstructionValue.TheVariants.{PrefixUpdate}
 use Rattle.alias_visit.specs.Operands.{context_at, owned_operands}
 use Rattle.alias_visit.specs.Places.{created_places}
 use Rattle.alias_plainness.specs.Making.{number}
@@ -189,10 +192,10 @@ module _ (env more : Environment) (agrees : Agrees env more) where
       → marks (after_read more g q) ≡ marks (after_read env h p)
   read_alike p q same there h g e =
       marks_read g (declaration_of more q.identifier) q
-          ∙ ap (λ (n : ℕ). marked_read (marks g) (declaration_of more (id_of n))) same
-          ∙ ap (marked_read (marks g)) (agrees.declarations p.identifier there)
+      ∙ ap (λ (n : ℕ). marked_read (marks g) (declaration_of more (id_of n))) same
+      ∙ ap (marked_read (marks g)) (agrees.declarations p.identifier there)
       ∙ ap (λ (m : Marks). marked_read m (declaration_of env p.identifier)) e
-          ∙ sym (marks_read h (declaration_of env p.identifier) p)
+      ∙ sym (marks_read h (declaration_of env p.identifier) p)
 
   reads_alike : (ps qs : List Place) → map number qs ≡ map number ps → AllByRecursion (InTable env) ps
       → (h g : Accesses) → marks g ≡ marks h → marks (fold (after_read more) g qs) ≡ marks (fold (after_read env) h ps)
@@ -209,8 +212,8 @@ module _ (env more : Environment) (agrees : Agrees env more) where
       ≡ marks (if b then with_hoisted h (declaration_of env p.identifier) else h)
   declared_alike true p there h g e =
       marks_hoisted g (declaration_of more p.identifier)
-          ∙ ap (marked_hoisted (marks g)) (agrees.declarations p.identifier there)
-          ∙ ap (λ (m : Marks). marked_hoisted m (declaration_of env p.identifier)) e
+      ∙ ap (marked_hoisted (marks g)) (agrees.declarations p.identifier there)
+      ∙ ap (λ (m : Marks). marked_hoisted m (declaration_of env p.identifier)) e
       ∙ sym (marks_hoisted h (declaration_of env p.identifier))
   declared_alike false p there h g e = e
 
@@ -231,8 +234,8 @@ module _ (env more : Environment) (agrees : Agrees env more) where
   hook_same : (x : IdentifierId) → x.0 < length env.identifiers → is_hook_at more x ≡ is_hook_at env x
   hook_same x there =
       ap (λ (shapes : List Shape). option_map_or
-          (λ (t : Ty). is_some (option_and_then hook_kind_of (option_and_then (shape_named shapes) (function_shape t))))
-          (type_of more x) false) agrees.shapes
+      (λ (t : Ty). is_some (option_and_then hook_kind_of (option_and_then (shape_named shapes) (function_shape t))))
+      (type_of more x) false) agrees.shapes
       ∙ ap (λ (o : Option Ty). option_map_or (λ (t : Ty). is_some (hook_kind env t)) o false) (agrees.types x there)
 
   called_same : (l : IdentifierId) → l.0 < length env.identifiers → (callee : Place) → InTable env callee
@@ -240,10 +243,10 @@ module _ (env more : Environment) (agrees : Agrees env more) where
       ≡ after_call env c l callee operands
   called_same l there callee inside operands c =
       ap (λ (b : Bool). if b then after_hook more c l else fold after_use c operands)
-          (hook_same callee.identifier inside)
+      (hook_same callee.identifier inside)
       ∙ ap (λ (o : Option Ty). if is_hook_at env callee.identifier
-          then (if option_map_or is_ref_or_ref_value o false then c else with_frozen c l)
-          else fold after_use c operands) (agrees.types l there)
+      then (if option_map_or is_ref_or_ref_value o false then c else with_frozen c l)
+      else fold after_use c operands) (agrees.types l there)
 
   spread_alike : (l : IdentifierId) → l.0 < length env.identifiers → (v : InstructionValue)
       → AllByRecursion (InTable env) (places_of v) → SameContext env more v → (c : Candidates)
@@ -286,8 +289,8 @@ module _ (func : HirFunction) (env more : Environment) (agrees : AgreesOn func e
   read_blocks (b ∷ bs) there h g e =
       read_blocks bs there.1 (reads_after_entry func env h b) (reads_after_entry func more g b)
       (reads_alike env more agrees.agrees (terminal_places b.1.terminal) (terminal_places b.1.terminal) refl there.0
-          (fold (reads_after_listed func env) h b.1.instructions)
-          (fold (reads_after_listed func more) g b.1.instructions)
+      (fold (reads_after_listed func env) h b.1.instructions)
+      (fold (reads_after_listed func more) g b.1.instructions)
       (reads_listed b.1.instructions h g e))
 
   -- the same declarations are hoisted

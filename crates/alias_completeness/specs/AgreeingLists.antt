@@ -1,7 +1,7 @@
 -- The effects that an instruction has whatever the state is are the same over an environment that agrees on what it
 -- names, but for what a new function captures.
-use Rattle.std.specs.Prelude.{◌≡◌, ℕ, Bool, true, false, not, ◌&&◌, ◌||◌, if◌then◌else◌, is_some, List, [], ◌∷◌, ◌++◌,
-    Option, Some, None, map, refl}
+use Rattle.std.specs.Prelude.{◌≡◌, ℕ, Bool, true, false, not, ◌&&◌, ◌||◌, if◌then◌else◌, is_some, List, [], ◌∷◌, ◌++◌}
+use Rattle.std.specs.Prelude.{Option, Some, None, map, refl}
 use Rattle.std.proofs.Common.{ap, ◌∙◌}
 use Rattle.std.specs.List.{AllByRecursion, flat_map}
 use Rattle.std.specs.Option.{option_map_or}
@@ -10,13 +10,13 @@ use Rattle.alias_base.specs.declared.ids.FunctionId.{FunctionId}
 use Rattle.alias_base.specs.declared.ids.TypeId.{TypeId}
 use Rattle.alias_facts.specs.Hoisted.{Accesses, declaration_of, access_at, is_hoisting}
 use Rattle.alias_facts.specs.declared.facts.FunctionFacts.{FunctionFacts}
-use Rattle.alias_hir.specs.Parts.{optional_place, element_places, property_places, item_places, places_in_pattern,
-    tag_places, attribute_places}
+use Rattle.alias_hir.specs.Parts.{optional_place, element_places, property_places, item_places, places_in_pattern}
+use Rattle.alias_hir.specs.Parts.{tag_places, attribute_places}
 use Rattle.alias_hir.specs.Types.{is_primitive_type, is_untyped, is_builtin_collection_type, returns_jsx, type_of}
 use Rattle.alias_hir.specs.Values.{places_of, created as created_function}
 use Rattle.alias_hir.specs.declared.effect.AliasingEffect.{AliasingEffect}
-use Rattle.alias_hir.specs.declared.effect.AliasingEffect.TheVariants.{Apply, CreateFrom, Capture, Alias, Render,
-    Assign, MutateTransitiveConditionally}
+use Rattle.alias_hir.specs.declared.effect.AliasingEffect.TheVariants.{Apply, CreateFrom, Capture, Alias, Render}
+use Rattle.alias_hir.specs.declared.effect.AliasingEffect.TheVariants.{Assign, MutateTransitiveConditionally}
 use Rattle.alias_hir.specs.declared.effect.MutationReason.TheVariants.{AssignCurrentProperty}
 use Rattle.alias_hir.specs.declared.effect.ValueKind.TheVariants.{Primitive, Mutable}
 use Rattle.alias_hir.specs.declared.env.Config.{Config}
@@ -43,8 +43,8 @@ use Rattle.alias_hir.specs.declared.value.Pattern.TheVariants as pattern
 use Rattle.alias_hir.specs.declared.value.PropertyLiteral.{PropertyLiteral}
 use Rattle.alias_signature.specs.Arrays.{element_effects, array_expression_effects}
 use Rattle.alias_signature.specs.Calls.{argument, call_effects}
-use Rattle.alias_signature.specs.Contexts.{is_hoisted_at, is_reassigning, binding_effect, declare_context_effects,
-    store_context_effects}
+use Rattle.alias_signature.specs.Contexts.{is_hoisted_at, is_reassigning, binding_effect, declare_context_effects}
+use Rattle.alias_signature.specs.Contexts.{store_context_effects}
 use Rattle.alias_signature.specs.Created.{created}
 use Rattle.alias_signature.specs.Functions.{function_effects}
 use Rattle.alias_signature.specs.Iterators.{iteration_effects, get_iterator_effects}
@@ -52,8 +52,8 @@ use Rattle.alias_signature.specs.Jsx.{jsx_effects, attribute_effects, render_eff
 use Rattle.alias_signature.specs.Known.{Known, known}
 use Rattle.alias_signature.specs.Loads.{property_load_effects}
 use Rattle.alias_signature.specs.Memoization.{frozen, memoize_effects}
-use Rattle.alias_signature.specs.Patterns.{target_effects, item_effects, target_property_effects, pattern_effects,
-    destructure_effects}
+use Rattle.alias_signature.specs.Patterns.{target_effects, item_effects, target_property_effects, pattern_effects}
+use Rattle.alias_signature.specs.Patterns.{destructure_effects}
 use Rattle.alias_signature.specs.Signatures.{signature_of_value}
 use Rattle.alias_signature.specs.Stores.{is_current, store_reason, property_store_effects}
 use Rattle.alias_visit.specs.Operands.{owned_operands}
@@ -69,7 +69,7 @@ parts_same P places f g k [] h = refl
 parts_same {A} {X} P places f g k (a ∷ xs) h =
     let b = front_of P (places a) (flat_map places xs) h in
     ap (λ (ys : List X). ys ++ flat_map f xs) (k a b.0)
-        ∙ ap (λ (ys : List X). g a ++ ys) (parts_same P places f g k xs b.1)
+    ∙ ap (λ (ys : List X). g a ++ ys) (parts_same P places f g k xs b.1)
 
 -- ---- what the kinds ask of the environment
 
@@ -118,8 +118,8 @@ module _ (env more : Environment) (agrees : Agrees env more) where
   iterator_same : (l c : Place) → In c → get_iterator_effects more l c ≡ get_iterator_effects env l c
   iterator_same l c there =
       ap (λ (b : Bool). let es : List AliasingEffect = created l Mutable
-          ∷ (if b then Capture c l ∷ [] else Alias c l ∷ MutateTransitiveConditionally c ∷ []) in es)
-          (typed is_builtin_collection_type c there)
+      ∷ (if b then Capture c l ∷ [] else Alias c l ∷ MutateTransitiveConditionally c ∷ []) in es)
+      (typed is_builtin_collection_type c there)
 
   attribute_same : (x : JsxAttribute) → AllByRecursion In (attribute_places x) → attribute_effects more x
       ≡ attribute_effects env x
@@ -132,7 +132,7 @@ module _ (env more : Environment) (agrees : Agrees env more) where
       ≡ render_effects env tag props children
   render_same tag props children h =
       ap (λ (es : List AliasingEffect). map Render (tag_places tag) ++ map Render children ++ es)
-          (parts_same In attribute_places (attribute_effects more) (attribute_effects env) attribute_same props h)
+      (parts_same In attribute_places (attribute_effects more) (attribute_effects env) attribute_same props h)
 
   target_same : (v p : Place) → In p → target_effects more v p ≡ target_effects env v p
   target_same v p there = ap (λ (b : Bool). let es : List AliasingEffect =
@@ -176,14 +176,14 @@ module _ (env more : Environment) (agrees : Agrees env more) where
       → declare_context_effects more g l variable ≡ declare_context_effects env h l variable
   declare_same h g e l variable there =
       ap (λ (b : Bool). let es : List AliasingEffect =
-          binding_effect (not (is_hoisting variable.kind) && b) variable.place ∷ created l Primitive ∷ [] in es)
-          (hoisted_same h g e variable.place there)
+      binding_effect (not (is_hoisting variable.kind) && b) variable.place ∷ created l Primitive ∷ [] in es)
+      (hoisted_same h g e variable.place there)
 
   context_store_same : (h g : Accesses) → marks g ≡ marks h → (l : Place) (variable : LValue) (v : Place)
       → In variable.place → store_context_effects more g l variable v ≡ store_context_effects env h l variable v
   context_store_same h g e l variable v there =
       ap (λ (b : Bool). let es : List AliasingEffect = binding_effect (is_reassigning variable.kind || b) variable.place
-          ∷ Capture v variable.place ∷ Assign v l ∷ [] in es) (hoisted_same h g e variable.place there)
+      ∷ Capture v variable.place ∷ Assign v l ∷ [] in es) (hoisted_same h g e variable.place there)
 
   memoize_same : (l : Place) (operands : List Place) → memoize_effects more l operands ≡ memoize_effects env l operands
   memoize_same l operands = ap (λ (c : Config). let es : List AliasingEffect =
@@ -221,7 +221,7 @@ module _ (env more : Environment) (agrees : Agrees env more) where
     same_effects l span (value.JsxExpression tag props children) i h n =
         ap (λ (es : List AliasingEffect). jsx_effects l (owned_operands (value.JsxExpression tag props children)) ++ es)
         (render_same tag props children (front_of In (tag_places tag) (flat_map attribute_places props)
-            (front_of In (tag_places tag ++ flat_map attribute_places props) children h).0).1)
+        (front_of In (tag_places tag ++ flat_map attribute_places props) children h).0).1)
     same_effects l span (value.Destructure variables v) i h n =
         destructure_same l variables.pattern v (front_of In (places_in_pattern variables.pattern) (v ∷ []) h).0
     same_effects l span (value.DeclareContext variable) i h n =

@@ -49,14 +49,14 @@ pub call_within : (env : Environment) (func : HirFunction) → IsWithin env func
     → (facts : FunctionFacts) (error : Option ReportId) (i : InstructionId) (x : Instruction)
     → slice_get func.instructions i.0 ≡ Some x
     → (r f : Place) (m : Bool) (args : List PlaceOrSpread) (into : Place) (signature : Option TypeId)
-        (span : Option Span) → signature_of (known env facts error) x
-        ≡ Apply r f m (map argument args) into signature span ∷ [] → CallIsWithin env r f args into
+    (span : Option Span) → signature_of (known env facts error) x
+    ≡ Apply r f m (map argument args) into signature span ∷ [] → CallIsWithin env r f args into
 call_within env func within facts error i x e r f m args into signature span is =
     let P : Place → Type 0 = λ p. number p < length env.identifiers in
     let speaks = subst (AllByRecursion (SpeaksOf (known env facts error) x)) is
-        (signature_speaks_of (known env facts error) x) in
+    (signature_speaks_of (known env facts error) x) in
     let places = all_more (IsOneOf (places_spoken_of env x)) P
-        (λ p h. one_of_all P (places_spoken_of env x) p h (within i x e))
-        (r ∷ f ∷ (flat_map apply_arg_places (map argument args) ++ into ∷ [])) speaks.0.0 in
+    (λ p h. one_of_all P (places_spoken_of env x) p h (within i x e))
+    (r ∷ f ∷ (flat_map apply_arg_places (map argument args) ++ into ∷ [])) speaks.0.0 in
     let behind = args_front P (flat_map apply_arg_places (map argument args)) into places.1.1 in
     record { receiver_within = places.0; function_within = places.1.0; into_within = behind.1; args_within = behind.0 }

@@ -1,6 +1,6 @@
 -- A function whose own identifiers are distinct is callable, where its summary is in order.
-use Rattle.std.specs.Prelude.{◌≡◌, ◌≢◌, ℕ, ◌<◌, Bool, true, false, ◌||◌, List, [], ◌∷◌, ◌++◌, Option, Some, None, Ok,
-    map, length, nat_eq, if◌then◌else◌, refl}
+use Rattle.std.specs.Prelude.{◌≡◌, ◌≢◌, ℕ, ◌<◌, Bool, true, false, ◌||◌, List, [], ◌∷◌, ◌++◌, Option, Some, None, Ok}
+use Rattle.std.specs.Prelude.{map, length, nat_eq, if◌then◌else◌, refl}
 use Rattle.std.proofs.Common.{sym, ◌∙◌, arith}
 use Rattle.std.proofs.lemmas.Bool.Decides.{nat_tests}
 use Rattle.std.specs.List.{AllByRecursion}
@@ -72,15 +72,15 @@ places_apart n (p ∷ ps) h = let b = both_false (nat_eq n p.identifier.0) _ h i
 pub callable : (env : Environment) (o : Option FunctionId) (f : HirFunction) → places_distinct o f ≡ Ok tt
     → f.returns.identifier.0 < length env.identifiers
     → ((es : List AliasingEffect) → f.aliasing_effects ≡ Some es → IsSummary f.returns.identifier.0 es)
-        → IsCallable env f
+    → IsCallable env f
 callable env o f distinct within summary =
     let ps = param_numbers f.params in
     let cs = map (λ (p : Place). p.identifier.0) f.context in
     let r = f.returns.identifier in
     let none : first_again [] (own_identifiers f) ≡ None =
-        not_repeated o (first_again [] (own_identifiers f)) distinct in
+    not_repeated o (first_again [] (own_identifiers f)) distinct in
     let both = both_false (is_among ps r.0) (is_among cs r.0)
-        (sym (among_both ps cs r.0) ∙ last_apart (ps ++ cs) r.0 none) in
+    (sym (among_both ps cs r.0) ∙ last_apart (ps ++ cs) r.0 none) in
     record {
       within = within;
       params = params_apart r f.params both.0;
@@ -103,7 +103,7 @@ returns_apart o f distinct =
     let cs = map (λ (p : Place). p.identifier.0) f.context in
     let r = f.returns.identifier.0 in
     let none : first_again [] (own_identifiers f) ≡ None =
-        not_repeated o (first_again [] (own_identifiers f)) distinct in
+    not_repeated o (first_again [] (own_identifiers f)) distinct in
     let both = both_false (is_among ps r) (is_among cs r) (sym (among_both ps cs r) ∙ last_apart (ps ++ cs) r none) in
     all_both (λ (p : Place). p.identifier.0 ≢ r) f.context (map param_place f.params) (places_apart r f.context both.1)
-        (params_elsewhere r f.params both.0)
+    (params_elsewhere r f.params both.0)

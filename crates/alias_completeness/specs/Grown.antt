@@ -1,8 +1,8 @@
 -- A function that is plain over an environment does what plain functions do over one that agrees with it on what the
 -- function names: its instructions are as asked,
 -- and its effects pass is refused for a counter alone, or since its visits aren't settled.
-use Rattle.std.specs.Prelude.{◌≡◌, ℕ, Bool, true, false, not, if◌then◌else◌, List, [], ◌∷◌, ◌++◌, Option, Some, None,
-    map, filter, slice_get, refl}
+use Rattle.std.specs.Prelude.{◌≡◌, ℕ, Bool, true, false, not, if◌then◌else◌, List, [], ◌∷◌, ◌++◌, Option, Some, None}
+use Rattle.std.specs.Prelude.{map, filter, slice_get, refl}
 use Rattle.std.proofs.Common.{ap, sym, ◌∙◌, subst}
 use Rattle.std.proofs.lemmas.List.{map-append}
 use Rattle.std.specs.List.{flat_map, list_all}
@@ -35,11 +35,11 @@ use Rattle.alias_signature.specs.Functions.{captured_by, captured, function_effe
 use Rattle.alias_signature.specs.Known.{known}
 use Rattle.alias_signature.specs.Signatures.{signature_of}
 use Rattle.alias_plainness.specs.Making.{number, all_made, needed}
-use Rattle.alias_plainness.specs.Sureness.{Sure, with_sure, defined_params, sure_at_first, with_phis, list_of, adds_at,
-    after_instruction, after_instructions}
+use Rattle.alias_plainness.specs.Sureness.{Sure, with_sure, defined_params, sure_at_first, with_phis, list_of, adds_at}
+use Rattle.alias_plainness.specs.Sureness.{after_instruction, after_instructions}
 use Rattle.alias_plainness.specs.Paths.{Path, begins, goes_on, phis_of, instructions_of, sure_on, sure_before}
-use Rattle.alias_plainness.specs.Conditions.{needs, names_sure, are_distinct, makes_well, is_compatible,
-    freezes_no_spread}
+use Rattle.alias_plainness.specs.Conditions.{needs, names_sure, are_distinct, makes_well, is_compatible}
+use Rattle.alias_plainness.specs.Conditions.{freezes_no_spread}
 use Rattle.alias_plainness.specs.Plainness.{IsPlain}
 use Rattle.alias_completeness.specs.Blocking.{AllSuit}
 use Rattle.alias_completeness.specs.CallPlaces.{IsWithin, call_within}
@@ -86,8 +86,8 @@ sure_captured s [] h = refl
 sure_captured s (p ∷ ps) h =
     let b = both_true (s (number p)) (list_all s (map number ps)) h in
     ap (list_all s) (map-append number (captured p) (flat_map captured ps))
-        ∙ both_sure s (map number (captured p)) (map number (flat_map captured ps)) (sure_captured_by s p.effect p b.0)
-        (sure_captured s ps b.1)
+    ∙ both_sure s (map number (captured p)) (map number (flat_map captured ps)) (sure_captured_by s p.effect p b.0)
+    (sure_captured s ps b.1)
 
 -- ---- a function whose context places have other effects, over an environment that agrees
 
@@ -112,8 +112,8 @@ module _ (func : HirFunction) (env more : Environment) (agrees : AgreesOn func e
         ≡ signature_of (known env (function_facts func env) error) x
     same_list error none =
         same_effects env more agrees.agrees (function_facts func env) (function_facts func more)
-            (same_hoisted func env more agrees inside) (found_spreads func env more agrees inside) error x.lvalue x.span
-            x.value here.lvalue here.places none
+        (same_hoisted func env more agrees inside) (found_spreads func env more agrees inside) error x.lvalue x.span
+        x.value here.lvalue here.places none
 
     function_list : (e : Environment) (error : Option ReportId) (f : FunctionId) → created x.value ≡ Some f
         → signature_of (known e (function_facts func e) error) x ≡ function_effects e x.lvalue f
@@ -138,13 +138,13 @@ module _ (func : HirFunction) (env more : Environment) (agrees : AgreesOn func e
         ∙ h
     needs_by_kind s (Some f) is h same =
         let context : list_all s (map number (context_at more f)) ≡ true = ap (list_all s) same
-            ∙ (sure_both s (needed (list_of func env x)) (map number (context_at env f)) h).1 in
+        ∙ (sure_both s (needed (list_of func env x)) (map number (context_at env f)) h).1 in
         let named : list_all s (needed (function_effects more x.lvalue f)) ≡ true
         = both_sure s (filter (λ n. not (is_among [] n)) (map number (flat_map captured (context_at more f)))) []
-            (sure_filtered s (λ n. not (is_among [] n)) (map number (flat_map captured (context_at more f)))
-            (sure_captured s (context_at more f) context)) refl in
+        (sure_filtered s (λ n. not (is_among [] n)) (map number (flat_map captured (context_at more f)))
+        (sure_captured s (context_at more f) context)) refl in
         both_sure s (needed (list_of func more x)) (map number (context_at more f))
-            (ap (λ (es : List AliasingEffect). list_all s (needed es)) (function_list more None f is) ∙ named) context
+        (ap (λ (es : List AliasingEffect). list_all s (needed es)) (function_list more None f is) ∙ named) context
 
     -- where what it needs is sure over env, what it needs over more is
     needs_sure : (s : Sure) → list_all s (needs func env x) ≡ true → list_all s (needs func more x) ≡ true
@@ -157,15 +157,15 @@ module _ (func : HirFunction) (env more : Environment) (agrees : AgreesOn func e
     call_by_kind : (error : Option ReportId) (r f : Place) (m : Bool) (args : List PlaceOrSpread) (into : Place)
         (span : Option Span) (o : Option FunctionId) → created x.value ≡ o
         → IsCall more (signature_of (known more (function_facts func more) error) x) r f m args into span
-            → IsCall env (list_of func env x) r f m args into span
+        → IsCall env (list_of func env x) r f m args into span
     call_by_kind error r f m args into span None none is =
         let call : list_of func env x ≡ Apply r f m (map argument args) into (type_id_of more f.identifier) span ∷ []
         = sym (same_list None none) ∙ call_without more (function_facts func more) error x.lvalue x.span x.value r f m
-            args into span is in
+        args into span is in
         let p = call_within env func within (function_facts func env) None i x found r f m args into
-            (type_id_of more f.identifier) span call in
+        (type_id_of more f.identifier) span call in
         call ∙ ap (λ (t : Option TypeId). let es : List AliasingEffect = Apply r f m (map argument args) into t span
-            ∷ [] in es) (agrees.agrees.type_ids f.identifier p.function_within)
+        ∷ [] in es) (agrees.agrees.type_ids f.identifier p.function_within)
     call_by_kind error r f m args into span (Some g) some is = let wrong : function_effects more x.lvalue g
         ≡ call_effects more r f m args into span = sym (function_list more error g some) ∙ is in cc
 
@@ -176,7 +176,7 @@ module _ (func : HirFunction) (env more : Environment) (agrees : AgreesOn func e
     where
       by_found : (o : Option Instruction) → slice_get func.instructions i.0 ≡ o
           → option_map_or (λ (x : Instruction). number x.lvalue ∷ all_made (list_of func more x)) o []
-              ≡ option_map_or (λ (x : Instruction). number x.lvalue ∷ all_made (list_of func env x)) o []
+          ≡ option_map_or (λ (x : Instruction). number x.lvalue ∷ all_made (list_of func env x)) o []
       by_found None e = refl
       by_found (Some x) e = ap (λ (ns : List ℕ). number x.lvalue ∷ ns) (same_made i x e)
 
@@ -196,16 +196,16 @@ module _ (func : HirFunction) (env more : Environment) (agrees : AgreesOn func e
       let params : List Place = defined_params func.fn_type func.params in
       ap (λ (ns : List ℕ). let s : Sure = λ n. is_among ns n in s)
       (map-append number cs params ∙ ap (λ (ns : List ℕ). ns ++ map number params) same_context
-          ∙ sym (map-append number func.context params))
+      ∙ sym (map-append number func.context params))
 
   same_sure : {b : BlockId} (p : Path other b) → sure_on other more p ≡ sure_on func env (back p)
   same_sure begins = ap (λ (s : Sure). with_phis None (phis_of (value_at func.body.blocks func.body.entry)) s)
       first_sure
   same_sure (goes_on b c p edge) =
       ap (λ (s : Sure). with_phis (Some b) (phis_of (value_at func.body.blocks c))
-          (after_instructions func more (instructions_of (value_at func.body.blocks b)) s)) (same_sure p)
+      (after_instructions func more (instructions_of (value_at func.body.blocks b)) s)) (same_sure p)
       ∙ ap (λ (s : Sure). with_phis (Some b) (phis_of (value_at func.body.blocks c)) s)
-          (same_after (instructions_of (value_at func.body.blocks b)) (sure_on func env (back p)))
+      (same_after (instructions_of (value_at func.body.blocks b)) (sure_on func env (back p)))
 
   same_before : {b : BlockId} (p : Path other b) (done : List InstructionId) → sure_before other more p done
       ≡ sure_before func env (back p) done
@@ -218,8 +218,8 @@ module _ (func : HirFunction) (env more : Environment) (agrees : AgreesOn func e
       let s : Sure = sure_before func env (back path) done in
       let list = list_of func env x in
       let holds : AllHold (names_sure func env s x) (are_distinct (all_made list)) (makes_well env list)
-          (is_compatible env list) (freezes_no_spread env list) =
-          all_hold func env s x (plain b done i rest split (back path) x e) in
+      (is_compatible env list) (freezes_no_spread env list) =
+      all_hold func env s x (plain b done i rest split (back path) x e) in
       record {
         names = ap (λ (z : Sure). list_all z (needs func more x)) (same_before path done)
             ∙ needs_sure i x e s holds.first;

@@ -1,6 +1,6 @@
 -- Entry states by positions, and by blocks.
-use Rattle.std.specs.Prelude.{◌≡◌, ℕ, zero, suc, Bool, true, false, cond, List, [], ◌∷◌, ◌++◌, length, map, Option,
-    Some, None, option_map, slice_get, slice_index_or, refl}
+use Rattle.std.specs.Prelude.{◌≡◌, ℕ, zero, suc, Bool, true, false, cond, List, [], ◌∷◌, ◌++◌, length, map, Option}
+use Rattle.std.specs.Prelude.{Some, None, option_map, slice_get, slice_index_or, refl}
 use Rattle.std.proofs.Common.{sym, ◌∙◌, ap, subst, inl, inr}
 use Rattle.std.specs.Map.{keys_of}
 use Rattle.std.specs.List.{flat_map, AllByRecursion, IsDistinct}
@@ -38,10 +38,10 @@ entered (e ∷ es) (None ∷ xs) (suc n) b x d h = entered es xs n b x d.1 h
 entered (e ∷ es) (Some s ∷ xs) zero b x d h =
     let same : e.0 ≡ b = cc in
     ap (λ t. cond t (Some s) (entry_state (entries_of es xs) b))
-        (subst (λ k. same_block b k ≡ true) (sym same) (same_self b))
+    (subst (λ k. same_block b k ≡ true) (sym same) (same_self b))
 entered (e ∷ es) (Some s ∷ xs) (suc n) b x d h =
     ap (λ t. cond t (Some s) (entry_state (entries_of es xs) b)) (other_way e.0 b (apart_at e.0 es n b x d.0 h))
-        ∙ entered es xs n b x d.1 h
+    ∙ entered es xs n b x d.1 h
 
 -- the block is at a position with that entry state
 pub record EnteredAt (es : Blocks) (xs : List (Option State)) (b : BlockId) (s : State) : Type 0 where
@@ -86,7 +86,7 @@ abbrev pub KeepsRecorded : (BlockEntry → BlockEffects) → Blocks → List (Op
     → Type 0
 KeepsRecorded from_entry es xs recorded =
     (n : ℕ) (b : BlockId × BasicBlock) → slice_get es n ≡ Some b → slice_index_or recorded n None
-        ≡ option_map (λ s. from_entry (record { block = b.0; state = s })) (entry_at xs n)
+    ≡ option_map (λ s. from_entry (record { block = b.0; state = s })) (entry_at xs n)
 
 module _ {A : Type 0} (of : BlockEffects → List A) (of_recorded : Option BlockEffects → List A)
     (none : of_recorded None ≡ []) (some : (r : BlockEffects) → of_recorded (Some r) ≡ of r)
@@ -106,10 +106,10 @@ module _ {A : Type 0} (of : BlockEffects → List A) (of_recorded : Option Block
   recorded_over (e ∷ es) (x ∷ xs) [] l m h = cc
   recorded_over (e ∷ es) (None ∷ xs) (k ∷ ks) l m h =
       one_recorded k ks None (flat_map (λ (e : BlockEntry). of (from_entry e)) (entries_of es xs)) (h 0 e refl)
-          (recorded_over es xs ks (cc) (cc) (λ n. h (suc n)))
+      (recorded_over es xs ks (cc) (cc) (λ n. h (suc n)))
       ∙ ap (λ z. z ++ flat_map (λ (e : BlockEntry). of (from_entry e)) (entries_of es xs)) none
   recorded_over (e ∷ es) (Some s ∷ xs) (k ∷ ks) l m h =
       let r = from_entry (record { block = e.0; state = s }) in
       one_recorded k ks (Some r) (flat_map (λ (e : BlockEntry). of (from_entry e)) (entries_of es xs)) (h 0 e refl)
-          (recorded_over es xs ks (cc) (cc) (λ n. h (suc n)))
+      (recorded_over es xs ks (cc) (cc) (λ n. h (suc n)))
       ∙ ap (λ z. z ++ flat_map (λ (e : BlockEntry). of (from_entry e)) (entries_of es xs)) (some r)

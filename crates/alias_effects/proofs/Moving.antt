@@ -1,6 +1,6 @@
 -- Lists that are made of what is left of others.
-use Rattle.std.proofs.Common.{◌≡◌, ℕ, ◌+◌, zero, suc, List, [], ◌∷◌, ◌++◌, length, drop, Option, Some, None, refl, ap,
-    sym, ◌∙◌, arith, append_assoc, add-one, drop-set-lt}
+use Rattle.std.proofs.Common.{◌≡◌, ℕ, ◌+◌, zero, suc, List, [], ◌∷◌, ◌++◌, length, drop, Option, Some, None, refl, ap}
+use Rattle.std.proofs.Common.{sym, ◌∙◌, arith, append_assoc, add-one, drop-set-lt}
 use Rattle.std.specs.Prelude.{slice_get, slice_set}
 use Rattle.std.specs.List.{flat_map}
 use Rattle.alias_hir.specs.Positions.{Blocks}
@@ -27,7 +27,7 @@ step_entries (e ∷ es) (y ∷ ys) (suc i) x l h = let m : length ys ≡ length 
 pub entries_left : (es : Blocks) (xs ys : List (Option State)) (i : ℕ) (x : Option State) (old new : List BlockEntry)
     → length xs ≡ length es → slice_get xs i ≡ Some x → ys ≡ slice_set xs i None
     → new ≡ old ++ entry_as (block_at es i) x → new ++ entries_of (drop (i + 1) es) (drop (i + 1) ys) ≡ old
-        ++ entries_of (drop i es) (drop i xs)
+    ++ entries_of (drop i es) (drop i xs)
 entries_left es xs ys i x old new l h e n =
     let rest = entries_of (drop (i + 1) es) (drop (i + 1) xs) in
     ap (λ z. new ++ entries_of (drop (i + 1) es) (drop (i + 1) z)) e

@@ -10,18 +10,21 @@ use Rattle.alias_hir.specs.declared.effect.AliasingEffect.{AliasingEffect}
 use Rattle.alias_hir.specs.declared.hir.BasicBlock.{BasicBlock}
 use Rattle.alias_hir.specs.declared.hir.HirFunction.{HirFunction}
 use Rattle.alias_hir.specs.declared.hir.Instruction.{Instruction}
-use Rattle.alias_rules.specs.RecordedLaws.{DiffersInEffects, without_instruction_effects, without_block_effects,
-    without_effects_again}
+use Rattle.alias_rules.specs.RecordedLaws.{DiffersInEffects, without_instruction_effects, without_block_effects}
+use Rattle.alias_rules.specs.RecordedLaws.{without_effects_again}
 use Rattle.alias_step.specs.declared.block.recorded.InstructionEffects.{InstructionEffects}
 use Rattle.alias_step.specs.declared.block.recorded.TerminalEffects.{TerminalEffects}
 use Rattle.alias_effects.specs.declared.solved.Solved.{Solved}
-use Rattle.alias_effects.specs.Recording.{recorded_instructions, block_with, with_terminal_at, recorded_terminals,
-    with_effects_of}
+use Rattle.alias_effects.specs.Recording.{recorded_instructions, block_with, with_terminal_at, recorded_terminals}
+use Rattle.alias_effects.specs.Recording.{with_effects_of}
 
 -- the function with other instructions and blocks, and no summary
 abbrev with_parts : HirFunction → List Instruction → List (BlockId × BasicBlock) → HirFunction
-with_parts func xs es = record func { instructions = xs; body = record func.body { blocks = es };
-    aliasing_effects = None }
+with_parts func xs es = record func {
+  instructions = xs;
+  body = record func.body { blocks = es };
+  aliasing_effects = None;
+}
 
 -- an instruction that gets effects is the same with none
 stripped_set : (xs : List Instruction) (i : ℕ) (x : Instruction) (es : List AliasingEffect) → slice_get xs i ≡ Some x
@@ -35,8 +38,8 @@ stripped_set (y ∷ ys) (suc i) x es h = ap (λ z. without_instruction_effects y
 -- and so where there is no such instruction
 stripped_at : (xs : List Instruction) (i : ℕ) (es : List AliasingEffect) (o : Option Instruction) → slice_get xs i ≡ o
     → map without_instruction_effects (option_map_or
-        (λ (x : Instruction). slice_set xs i (record x { effects = Some es })) o xs)
-        ≡ map without_instruction_effects xs
+    (λ (x : Instruction). slice_set xs i (record x { effects = Some es })) o xs)
+    ≡ map without_instruction_effects xs
 stripped_at xs i es None h = refl
 stripped_at xs i es (Some x) h = stripped_set xs i x es h
 
@@ -62,7 +65,7 @@ stripped_block_set (y ∷ ys) (suc i) x es h = ap (λ z. without_block_effects y
 stripped_block_at : (bs : List (BlockId × BasicBlock)) (i : ℕ) (es : List AliasingEffect)
     (o : Option (BlockId × BasicBlock)) → slice_get bs i ≡ o
     → map without_block_effects (option_map_or (λ (x : BlockId × BasicBlock). set_value_at bs i (block_with x.1 es)) o
-        bs) ≡ map without_block_effects bs
+    bs) ≡ map without_block_effects bs
 stripped_block_at bs i es None h = refl
 stripped_block_at bs i es (Some x) h = stripped_block_set bs i x es h
 
@@ -82,6 +85,6 @@ stripped_terminals (e ∷ es) bs =
 pub recorded_differs : (s : Solved) (func : HirFunction) → DiffersInEffects func (with_effects_of s func)
 recorded_differs s func = sym (
     ap (λ xs. with_parts func xs (map without_block_effects (recorded_terminals s.terminal_effects func.body.blocks)))
-        (stripped_instructions s.effects func.instructions)
+    (stripped_instructions s.effects func.instructions)
     ∙ ap (λ es. with_parts func (map without_instruction_effects func.instructions) es)
-        (stripped_terminals s.terminal_effects func.body.blocks))
+    (stripped_terminals s.terminal_effects func.body.blocks))

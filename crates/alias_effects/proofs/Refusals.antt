@@ -15,7 +15,7 @@ same_refusal (Err z) f g e h = cc
 pub refused_alike : {A B C : Type 0} (r : Result A InferError) (f : A → B) (g : A → C) (q : Result ⊤ InferError)
     (now : C) (e : InferError)
     → Gives {A = B} is_memory (r >>= (λ x. Ok (f x))) (Err e) → IsErrAnd q (λ z. z ≡ e)
-        → GivesInto is_memory (r >>= (λ x. Ok (g x))) q now
+    → GivesInto is_memory (r >>= (λ x. Ok (g x))) q now
 refused_alike r f g (Ok u) now e h is = absurd is
 refused_alike r f g (Err z) now e h is =
     subst (λ (y : InferError). GivesInto is_memory (r >>= (λ x. Ok (g x))) (Err y) now) (sym is)

@@ -40,9 +40,9 @@ forward_settled env func b entry forward n e =
     let c = context_of env func b in
     let none = replicate (length func.body.blocks) None in
     let laws : FlowLaws StateProper Extends (numbered c) none =
-        pass_laws c entry none (length-replicate (length func.body.blocks) None) in
+    pass_laws c entry none (length-replicate (length func.body.blocks) None) in
     forward_settles state_laws laws forward (tables_of env) n
-        (solution_work_list state_laws laws (tables_of env) ∙ ap (as_work_list_end state_below) e)
+    (solution_work_list state_laws laws (tables_of env) ∙ ap (as_work_list_end state_below) e)
 
 -- the refusal of a step isn't NotSettled
 refusal_settles : (env : Environment) (b : BlockId) (c : BlockRefusal) → is_unsettled (refusal env b c) ≡ false

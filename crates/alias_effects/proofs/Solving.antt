@@ -1,6 +1,6 @@
 -- What solves the flow over positions solves the flow over blocks.
-use Rattle.std.specs.Prelude.{◌≡◌, ℕ, zero, suc, ◌<◌, Bool, true, IsTrue, List, [], ◌∷◌, length, Option, Some, None,
-    option_map, is_some, slice_get, slice_index_or, replicate, refl}
+use Rattle.std.specs.Prelude.{◌≡◌, ℕ, zero, suc, ◌<◌, Bool, true, IsTrue, List, [], ◌∷◌, length, Option, Some, None}
+use Rattle.std.specs.Prelude.{option_map, is_some, slice_get, slice_index_or, replicate, refl}
 use Rattle.std.proofs.Common.{sym, ◌∙◌, ap, subst, inl, inr, arith}
 use Rattle.std.specs.Map.{keys_of}
 use Rattle.std.specs.List.{list_all, AllByRecursion, IsDistinct}
@@ -84,7 +84,7 @@ pub all_at_positions : (A : ℕ → Type 0) (B : BlockId → Type 0) (es : Block
 all_at_positions A B es [] f h a = tt
 all_at_positions A B es (c ∷ cs) f h a =
     let both : (is_some (value_at es c) ≡ true) × (list_all (λ c. is_some (value_at es c)) cs ≡ true) =
-        both_true _ _ h in
+    both_true _ _ h in
     let p = some_is (position_in es c) (found_has_position es c both.0) in
     let r = first_of A p.0 (position_in es c) (positions_of es cs) p.1 a in
     (f c p.0 p.1 r.0, all_at_positions A B es cs f both.1 r.1)
@@ -108,11 +108,11 @@ one_is_block : (es : Blocks) (c : BlockId) (cs : List BlockId) → list_all (λ 
 one_is_block es c [] h o = absurd o
 one_is_block es c (d ∷ ds) h (inl s) =
     let both : (is_some (value_at es d) ≡ true) × (list_all (λ c. is_some (value_at es c)) ds ≡ true) =
-        both_true _ _ h in
+    both_true _ _ h in
     ap (λ k. is_some (value_at es k)) s ∙ both.0
 one_is_block es c (d ∷ ds) h (inr o) =
     let both : (is_some (value_at es d) ≡ true) × (list_all (λ c. is_some (value_at es c)) ds ≡ true) =
-        both_true _ _ h in
+    both_true _ _ h in
     one_is_block es c ds both.1 o
 
 same_first : (p q : BlockId × BasicBlock) → Some p ≡ Some q → p.0 ≡ q.0
@@ -149,7 +149,7 @@ later_at edges [] n b x f h = cc
 later_at edges (e ∷ es) zero b x f h =
     let same : e.0 ≡ b = same_first e (b, x) h in
     subst (λ k. AllByRecursion (Later (e ∷ es) 0) (edges k)) same
-        (all_along (λ c. IsOneOf c (keys_of es)) (Later (e ∷ es) 0) (edges e.0) (later_first e es) f.0)
+    (all_along (λ c. IsOneOf c (keys_of es)) (Later (e ∷ es) 0) (edges e.0) (later_first e es) f.0)
 later_at edges (e ∷ es) (suc n) b x f h =
     all_along (Later es n) (Later (e ∷ es) (suc n)) (edges b) (later_more e es n) (later_at edges es n b x f.1 h)
 
@@ -211,13 +211,17 @@ module _ (env : Environment) (func : HirFunction) (is_function_expression : Bool
     reached : IsReached under at
 
   reached_at : (b : BlockId) → IsReached over b → ReachedAt b
-  reached_at b at_entry = record { at = entry_position func; block = entry_block.0; at_index = entry_block.1;
-      reached = at_entry }
+  reached_at b at_entry = record {
+    at = entry_position func;
+    block = entry_block.0;
+    at_index = entry_block.1;
+    reached = at_entry;
+  }
   reached_at b (by_edge a c r o) =
       let u = reached_at a r in
       let one : IsOneOf c (successors u.block.terminal) = subst (IsOneOf c) (edges_over u.at a u.block u.at_index) o in
       let p = some_is (position_in es c) (found_has_position es c
-          (one_is_block es c (successors u.block.terminal) (fits.successors u.at a u.block u.at_index) one)) in
+      (one_is_block es c (successors u.block.terminal) (fits.successors u.at a u.block u.at_index) one)) in
       let q = position_is_at es c p.0 p.1 in
       record {
         at = p.0;
@@ -235,12 +239,16 @@ module _ (env : Environment) (func : HirFunction) (is_function_expression : Bool
     reached : IsReached over name
 
   reached_over : (n : ℕ) → IsReached under n → ReachedOver n
-  reached_over n at_entry = record { name = func.body.entry; block = entry_block.0; at_index = entry_block.1;
-      reached = at_entry }
+  reached_over n at_entry = record {
+    name = func.body.entry;
+    block = entry_block.0;
+    at_index = entry_block.1;
+    reached = at_entry;
+  }
   reached_over n (by_edge m k r o) =
       let u = reached_over m r in
       let w = position_among es k (successors u.block.terminal)
-          (subst (IsOneOf k) (edges_under m u.name u.block u.at_index) o) in
+      (subst (IsOneOf k) (edges_under m u.name u.block u.at_index) o) in
       let q = position_is_at es w.block k w.at in
       record {
         name = w.block;
@@ -269,7 +277,7 @@ module _ (env : Environment) (func : HirFunction) (is_function_expression : Bool
       reached = λ b r.
           let u = reached_at b r in
           subst (λ o. IsTrue (is_some o)) (sym (entered es xs u.at b u.block fits.distinct u.at_index))
-              (sol.reached u.at u.reached);
+          (sol.reached u.at u.reached);
       only_reached = λ b s h.
           let a = has_entered es xs b s h in
           let u = reached_over a.at (sol.only_reached a.at s a.state) in
@@ -284,10 +292,10 @@ module _ (env : Environment) (func : HirFunction) (is_function_expression : Bool
             subst (AllByRecursion (IsAbove state_below over state_over t.0))
                 (sym (edges_over a.at b a.block a.at_index))
                 (all_at_positions (IsAbove state_below under (entry_at xs) t.0)
-                    (IsAbove state_below over state_over t.0) es (successors a.block.terminal) (above_over t.0)
+                (IsAbove state_below over state_over t.0) es (successors a.block.terminal) (above_over t.0)
                 (fits.successors a.at b a.block a.at_index)
                 (subst (AllByRecursion (IsAbove state_below under (entry_at xs) t.0))
-                    (edges_under a.at b a.block a.at_index) t.3)),
+                (edges_under a.at b a.block a.at_index) t.3)),
           );
     }
 
@@ -299,11 +307,11 @@ module _ (env : Environment) (func : HirFunction) (is_function_expression : Bool
         let b = e.0.0 in
         let x = e.0.1 in
         let later : AllByRecursion (Later es n) (successors x.terminal) =
-            subst (AllByRecursion (Later es n)) (edges_over n b x e.1) (later_at over.edges es n b x f e.1) in
+        subst (AllByRecursion (Later es n)) (edges_over n b x e.1) (later_at over.edges es n b x f e.1) in
         subst (AllByRecursion (λ m. n < m)) (sym (edges_under n b x e.1))
         (all_of_blocks (λ m. n < m) (Later es n) es (successors x.terminal)
         (λ c m p l. subst (λ k. n < k) (same_number l.0 m (sym (at_position es l.0 c l.2.0 fits.distinct l.2.1) ∙ p))
-            l.1) later)
+        l.1) later)
 
     pub joins_over : length xs ≡ length es → AreJoins state_below under StateProper left (entry_at xs)
         → AreJoins state_below over StateProper left state_over
@@ -319,8 +327,8 @@ module _ (env : Environment) (func : HirFunction) (is_function_expression : Bool
                 let w = has_entered es xs c x i in
                 j.above.stepped w.at x y r w.state (sym (steps_same w.at c w.block x w.at_index) ∙ t)
                 (subst (IsOneOf a.at) (sym (edges_under w.at c w.block w.at_index))
-                    (among_positions es a.at b (successors w.block.terminal)
-                    (subst (IsOneOf b) (edges_over w.at c w.block w.at_index) o) at));
+                (among_positions es a.at b (successors w.block.terminal)
+                (subst (IsOneOf b) (edges_over w.at c w.block w.at_index) o) at));
           };
           least = λ u p v. j.least u p (record {
             initial = λ e. v.initial (same_name a.at b func.body.entry a.block entry_block.0 a.at_index
@@ -330,21 +338,21 @@ module _ (env : Environment) (func : HirFunction) (is_function_expression : Bool
                 let c = e.0.0 in
                 let z = e.0.1 in
                 let w = position_among es a.at (successors z.terminal)
-                    (subst (IsOneOf a.at) (edges_under m c z e.1) o) in
+                (subst (IsOneOf a.at) (edges_under m c z e.1) o) in
                 let q = position_is_at es w.block a.at w.at in
                 v.stepped c x y r (entered es xs m c z fits.distinct e.1 ∙ i) (steps_same m c z x e.1 ∙ t)
                 (subst (IsOneOf b) (sym (edges_over m c z e.1))
-                    (subst (λ k. IsOneOf k (successors z.terminal))
-                    (same_name a.at w.block b q.0 a.block q.1 a.at_index) w.one));
+                (subst (λ k. IsOneOf k (successors z.terminal))
+                (same_name a.at w.block b q.0 a.block q.1 a.at_index) w.one));
           });
         }
 
     recorded_case : (recorded : List (Option BlockEffects)) (n : ℕ) (b : BlockId) (x : BasicBlock) (o : Option State)
         → slice_get es n ≡ Some (b, x) → entry_at xs n ≡ o
         → RecordsSteps under left (entry_at xs) recorded
-            → (entry_at xs n ≡ None → slice_index_or recorded n None ≡ None)
+        → (entry_at xs n ≡ None → slice_index_or recorded n None ≡ None)
         → slice_index_or recorded n None ≡ option_map
-            (λ s. recorded_under env func is_function_expression left (record { block = b; state = s })) o
+        (λ s. recorded_under env func is_function_expression left (record { block = b; state = s })) o
     recorded_case recorded n b x None h i k z = z i
     recorded_case recorded n b x (Some s) h i k z =
         let r = k n s i in
@@ -356,16 +364,16 @@ module _ (env : Environment) (func : HirFunction) (is_function_expression : Bool
     keeps_recorded recorded k z n e h =
         let h' : slice_get es n ≡ Some (e.0, e.1) = h in
         recorded_case recorded n e.0 e.1 (entry_at xs n) h' refl k
-            (λ i. z n i ∙ get_or-replicate (length es) n None None (slice_get_within es n e h))
+        (λ i. z n i ∙ get_or-replicate (length es) n None None (slice_get_within es n e h))
 
   -- what the solver leaves of the flow over positions solves the function's flow over blocks
   pub solved_over : (w : SolverState (VisitLog State) TableLists BlockEffects) → w.tables ≡ left
       → length w.progress.joined_input ≡ length es → length w.recorded ≡ length es
       → IsSolution state_below under left (entry_at w.progress.joined_input)
-          → RecordsSteps under left (entry_at w.progress.joined_input) w.recorded
-          → KeepsOthers (entry_at w.progress.joined_input) (replicate (length es) None) w.recorded
+      → RecordsSteps under left (entry_at w.progress.joined_input) w.recorded
+      → KeepsOthers (entry_at w.progress.joined_input) (replicate (length es) None) w.recorded
       → (IsForward (numbered (context_of env func is_function_expression))
-          → AreJoins state_below under StateProper left (entry_at w.progress.joined_input))
+      → AreJoins state_below under StateProper left (entry_at w.progress.joined_input))
       → IsSolvedUnder env func is_function_expression left (solved_of func w)
   solved_over w tables_are long recorded_long sol k z joins =
       let r = recorded_under env func is_function_expression left in

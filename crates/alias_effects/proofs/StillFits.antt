@@ -1,6 +1,6 @@
 -- The inference takes the function again, with what it recorded, in the environment that took over what the pass added.
-use Rattle.std.specs.Prelude.{◌≡◌, ℕ, Bool, true, false, not, ◌&&◌, is_ok, List, [], ◌∷◌, length, Option, Some, None,
-    Result, Ok, Err, replicate, slice_get, slice_set}
+use Rattle.std.specs.Prelude.{◌≡◌, ℕ, Bool, true, false, not, ◌&&◌, is_ok, List, [], ◌∷◌, length, Option, Some, None}
+use Rattle.std.specs.Prelude.{Result, Ok, Err, replicate, slice_get, slice_set}
 use Rattle.std.specs.List.{list_all, flat_map, AllByRecursion}
 use Rattle.std.specs.Option.{option_map_or}
 use Rattle.std.proofs.Common.{zero, suc, subst, ap, sym, refl, ◌∙◌}
@@ -24,8 +24,9 @@ use Rattle.alias_lattice.specs.States.{State, state_join, state_below}
 use Rattle.alias_flow.specs.Machine.{SolverState, VisitLog, End}
 use Rattle.alias_flow.specs.Machine as end
 use Rattle.alias_flow.specs.RecordingLaws.{AllHold}
-use Rattle.alias_rules.specs.Fitting.{effect_within_tables, recorded_within_tables, effects_within_tables,
-    holds_no_call, effects_fit, effects_fit_at, reports_no_invariant, function_rules, function_fits}
+use Rattle.alias_rules.specs.Fitting.{effect_within_tables, recorded_within_tables, effects_within_tables}
+use Rattle.alias_rules.specs.Fitting.{holds_no_call, effects_fit, effects_fit_at, reports_no_invariant, function_rules}
+use Rattle.alias_rules.specs.Fitting.{function_fits}
 use Rattle.alias_rules.specs.RecordedLaws.{fits_with_other_effects}
 use Rattle.alias_rules.specs.RuleLaws.{fitting_tree}
 use Rattle.alias_nesting_laws.specs.FittingLaws.{together}
@@ -51,13 +52,13 @@ use Rattle.alias_step_laws.specs.blocks.WrittenLaws.{fits_with_tables, all_effec
 use Rattle.alias_effects.specs.declared.output.LastVisits.{LastVisits}
 use Rattle.alias_effects.specs.declared.output.PassEnd.{PassEnd}
 use Rattle.alias_effects.specs.declared.solved.Solved.{Solved}
-use Rattle.alias_effects.specs.Inference.{instructions_recorded, terminal_recorded, end_of, end_tables, answer_of,
-    pass_end, env_after, env_inferred, effects_inferred}
+use Rattle.alias_effects.specs.Inference.{instructions_recorded, terminal_recorded, end_of, end_tables, answer_of}
+use Rattle.alias_effects.specs.Inference.{pass_end, env_after, env_inferred, effects_inferred}
 use Rattle.alias_effects.specs.Numbered.{step_at, numbered, visits_end}
 use Rattle.alias_effects.specs.Output.{last_of, last_visits}
 use Rattle.alias_effects.specs.PassLaws.{outcome_is}
-use Rattle.alias_effects.specs.Recording.{recorded_instructions, block_with, with_terminal_at, recorded_terminals,
-    with_effects_of}
+use Rattle.alias_effects.specs.Recording.{recorded_instructions, block_with, with_terminal_at, recorded_terminals}
+use Rattle.alias_effects.specs.Recording.{with_effects_of}
 use Rattle.alias_effects.proofs.RecordedDiffers.{recorded_differs}
 
 -- ---- lists of which one item is another
@@ -76,7 +77,7 @@ set_value_all p [] i w h a = refl
 set_value_all {K} {V} p (y ∷ ys) zero w h a = rw h (both_true (p y.1) (list_all (λ (e : K × V). p e.1) ys) a).1
 set_value_all {K} {V} p (y ∷ ys) (suc i) w h a =
     let b : (p y.1 ≡ true) × (list_all (λ (e : K × V). p e.1) ys ≡ true) =
-        both_true (p y.1) (list_all (λ (e : K × V). p e.1) ys) a in
+    both_true (p y.1) (list_all (λ (e : K × V). p e.1) ys) a in
     rw (b.0) (set_value_all p ys i w h b.1)
 
 -- ---- what was recorded is on the function
@@ -97,7 +98,7 @@ OfTerminals env es = list_all (λ (t : TerminalEffects). list_all (effect_within
 instruction_put : (env : Environment) (e : InstructionEffects) (o : Option Instruction) (xs : List Instruction)
     → list_all (effect_within_tables env) e.effects ≡ true → InstructionsWithinTables env xs
     → InstructionsWithinTables env (option_map_or
-        (λ (x : Instruction). slice_set xs e.instruction.0 (record x { effects = Some e.effects })) o xs)
+    (λ (x : Instruction). slice_set xs e.instruction.0 (record x { effects = Some e.effects })) o xs)
 instruction_put env e None xs h a = a
 instruction_put env e (Some x) xs h a = set_all (λ (i : Instruction). recorded_within_tables env i.effects) xs
     e.instruction.0 (record x { effects = Some e.effects }) h a
@@ -142,18 +143,18 @@ blocks_at env [] n x h e = cc
 blocks_at env (y ∷ ys) zero x h e =
     let same : y ≡ x = cc in
     subst (λ (z : BlockId × BasicBlock). recorded_within_tables env (terminal_effects z.1.terminal) ≡ true) same
-        (both_true (recorded_within_tables env (terminal_effects y.1.terminal)) _ h).0
+    (both_true (recorded_within_tables env (terminal_effects y.1.terminal)) _ h).0
 blocks_at env (y ∷ ys) (suc n) x h e = blocks_at env ys n x
     (both_true (recorded_within_tables env (terminal_effects y.1.terminal)) _ h).1 e
 
 terminal_set : (env : Environment) (es : List AliasingEffect) (bs : Blocks) (n : ℕ) (o : Option (BlockId × BasicBlock))
     → slice_get bs n ≡ o → list_all (effect_within_tables env) es ≡ true → TerminalsWithinTables env bs
     → TerminalsWithinTables env (option_map_or (λ (x : BlockId × BasicBlock). set_value_at bs n (block_with x.1 es)) o
-        bs)
+    bs)
 terminal_set env es bs n None e h a = a
 terminal_set env es bs n (Some x) e h a =
     set_value_all (λ (b : BasicBlock). recorded_within_tables env (terminal_effects b.terminal)) bs n
-        (block_with x.1 es) (terminal_put env x.1.terminal es h (blocks_at env bs n x a e)) a
+    (block_with x.1 es) (terminal_put env x.1.terminal es h (blocks_at env bs n x a e)) a
 
 terminal_at : (env : Environment) (es : List AliasingEffect) (bs : Blocks) (o : Option ℕ)
     → list_all (effect_within_tables env) es ≡ true → TerminalsWithinTables env bs
@@ -217,9 +218,13 @@ module _ (func : HirFunction) (env : Environment) (f : Bool) (h : function_fits 
       }
   step_within n (Some b) t x y u k o i g e =
       let r = (block_inferred c (context_within func env f h) b.0 b.1 x t i (return_within func env n b h o) g).leads u
-          (y, k) (outcome_is (infer_block c b.0 b.1 x t) y u k e) in
-      record { tables = r.tables; state = r.value.0; said = r.value.1;
-          still = λ j q. block_effects_grow env t u r.grown j q }
+      (y, k) (outcome_is (infer_block c b.0 b.1 x t) y u k e) in
+      record {
+        tables = r.tables;
+        state = r.value.0;
+        said = r.value.1;
+        still = λ j q. block_effects_grow env t u r.grown j q;
+      }
 
   -- a step from tables and a state that are within
   pub position_within : (n : ℕ) (t : TableLists) (x y : State) (u : TableLists) (k : BlockEffects) → TablesWithin env t
@@ -232,10 +237,10 @@ module _ (func : HirFunction) (env : Environment) (f : Bool) (h : function_fits 
       → TablesWithin env w.tables × AllHold (BlockEffectsWithin env w.tables) w.recorded
   end_within w e =
       solution_stands state_join state_below (numbered c) (TablesWithin env) (StateWithin env) (BlockEffectsWithin env)
-          joins_within
+      joins_within
       (λ t n x y u k i g s. position_within n t x y u k i g s)
       (tables_of env) (replicate (length func.body.blocks) None) w begun_within initial_within
-          (none_hold (BlockEffectsWithin env (tables_of env)) (length func.body.blocks)) e
+      (none_hold (BlockEffectsWithin env (tables_of env)) (length func.body.blocks)) e
 
   all_instructions : (t : TableLists) (recorded : List (Option BlockEffects))
       → AllHold (BlockEffectsWithin env t) recorded
@@ -261,18 +266,18 @@ module _ (func : HirFunction) (env : Environment) (f : Bool) (h : function_fits 
       let a = both_true _ (reports_no_invariant more) (fitting_tree func more k).2 in
       let b = both_true _ (list_all (effects_fit_at more) (fitting_tree func more k).0) a.0 in
       let d : (is_ok (function_rules more func (fitting_tree func more k).0) ≡ true) × (effects_fit more func ≡ true) =
-          both_true _ _ b.0 in
+      both_true _ _ b.0 in
       let e : (effects_within_tables more func ≡ true) × (holds_no_call func.aliasing_effects ≡ true) =
-          both_true _ _ d.1 in
+      both_true _ _ d.1 in
       let g : HirFunction = with_effects_of s func in
       let l = both_true _ (recorded_within_tables more func.aliasing_effects) e.0 in
       let m : InstructionsWithinTables more func.instructions × TerminalsWithinTables more func.body.blocks =
-          both_true _ _ l.0 in
+      both_true _ _ l.0 in
       let n : InstructionsWithinTables more g.instructions = instructions_put more s.effects func.instructions i m.0 in
       let o : TerminalsWithinTables more g.body.blocks = terminals_put more s.terminal_effects func.body.blocks t m.1 in
       let w : effects_within_tables more g ≡ true = rw (n, o) (l.1) in
       fits_with_other_effects func g more (recorded_differs s func) k
-          (together (effects_within_tables more g) (holds_no_call g.aliasing_effects) w e.1)
+      (together (effects_within_tables more g) (holds_no_call g.aliasing_effects) w e.1)
 
   -- the function with what is recorded within tables that are
   pub recorded_fits : (w : SolverState (VisitLog State) TableLists BlockEffects) → TablesWithin env w.tables
@@ -281,9 +286,9 @@ module _ (func : HirFunction) (env : Environment) (f : Bool) (h : function_fits 
   recorded_fits w a =
       put_fits (with_tables w.tables env) (end_of func w).solved (fits_with_tables env w.tables a.0 func h)
       (all_effects_written env w.tables a.0 (λ (i : InstructionEffects). i.effects)
-          (flat_map instructions_recorded w.recorded) (all_instructions w.tables w.recorded a.1))
+      (flat_map instructions_recorded w.recorded) (all_instructions w.tables w.recorded a.1))
       (all_effects_written env w.tables a.0 (λ (i : TerminalEffects). i.effects) (flat_map terminal_recorded w.recorded)
-          (all_terminals w.tables w.recorded a.1))
+      (all_terminals w.tables w.recorded a.1))
 
   solved_fits : (w : SolverState (VisitLog State) TableLists BlockEffects) → visits_end c ≡ end.Solved w
       → function_fits (with_effects_of (end_of func w).solved func) (env_after env (end_of func w)) ≡ true
@@ -334,7 +339,7 @@ last_at : (func : HirFunction) (env : Environment) (f : Bool) (l : LastVisits) (
 last_at func env f l (Ok e) k i h =
     let same : last_of e ≡ l = cc in
     subst (λ (z : LastVisits). function_fits (with_last z func) (env_after_last z env) ≡ true) same
-        (pass_end_fits func env f e k i)
+    (pass_end_fits func env f e k i)
 last_at func env f l (Err z) k i h = cc
 
 pub last_fits : (func : HirFunction) (env : Environment) (f : Bool) (l : LastVisits) → function_fits func env ≡ true
@@ -378,8 +383,9 @@ pub recorded_as : (func : HirFunction) (s : Solved) (effects : List InstructionE
     ≡ recorded_terminals terminal func.body.blocks → terminal ≡ s.terminal_effects
     → with_effects_of s func ≡ record func { instructions = xs; body = record func.body { blocks = bs } }
 recorded_as func s effects terminal xs bs p q r t =
-    ap (λ (ys : List Instruction). record func
-        { instructions = ys; body = record func.body { blocks = recorded_terminals s.terminal_effects func.body.blocks }
-        }) (sym (p ∙ ap (λ es. recorded_instructions es func.instructions) q))
+    ap (λ (ys : List Instruction). record func {
+      instructions = ys;
+      body = record func.body { blocks = recorded_terminals s.terminal_effects func.body.blocks };
+    }) (sym (p ∙ ap (λ es. recorded_instructions es func.instructions) q))
     ∙ ap (λ (cs : Blocks). record func { instructions = xs; body = record func.body { blocks = cs } })
-        (sym (r ∙ ap (λ es. recorded_terminals es func.body.blocks) t))
+    (sym (r ∙ ap (λ es. recorded_terminals es func.body.blocks) t))

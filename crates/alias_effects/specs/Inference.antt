@@ -101,8 +101,12 @@ inferred env func is_function_expression = do
 
 -- the tables that the pass ends with
 abbrev pub end_tables : PassEnd → TableLists
-end_tables e = record { first = e.solved.first; temporaries = e.solved.temporaries; reports = e.reports;
-    reads = e.reads }
+end_tables e = record {
+  first = e.solved.first;
+  temporaries = e.solved.temporaries;
+  reports = e.reports;
+  reads = e.reads;
+}
 
 -- the environment with what the pass added to it
 abbrev pub env_after : Environment → PassEnd → Environment

@@ -29,15 +29,19 @@ entry_as b (Some x) = record { block = b; state = x } ∷ []
 
 -- what was recorded of all blocks that were visited
 abbrev pub all_recorded : List (Option BlockEffects) → BlockEffects
-all_recorded recorded = record { instructions = flat_map instructions_recorded recorded;
-    terminal = flat_map terminal_recorded recorded }
+all_recorded recorded = record {
+  instructions = flat_map instructions_recorded recorded;
+  terminal = flat_map terminal_recorded recorded;
+}
 
 -- where the visits ended, as far as it is handed out
 abbrev pub solver_state_with : Solution State → TableLists → List (Option BlockEffects)
     → SolverState (VisitLog State) TableLists BlockEffects
-solver_state_with s tables recorded = record
-    { progress = record { visits = s.visits; joined_input = s.entries; last_input = [] }; tables = tables;
-    recorded = recorded }
+solver_state_with s tables recorded = record {
+  progress = record { visits = s.visits; joined_input = s.entries; last_input = [] };
+  tables = tables;
+  recorded = recorded;
+}
 
 -- a block was still dirty after 100 rounds
 abbrev pub unsettled : ℕ → InferError

@@ -11,8 +11,8 @@ use Rattle.alias_explain.specs.declared.explain.ExplainFault.{ExplainFault}
 use Rattle.alias_explain.specs.declared.explain.ExplainFault.TheVariants.{NotHere, TooMany, Memory}
 use Rattle.alias_explain.specs.declared.function.IdentifierExplanation.{IdentifierExplanation}
 use Rattle.alias_explain.specs.Explanations.{explained, function_of}
-use Rattle.alias_explain.specs.Functions.{numbered, if_here, with_found, each_explained, explained_there,
-    function_explained, IsExplanationOf}
+use Rattle.alias_explain.specs.Functions.{numbered, if_here, with_found, each_explained, explained_there}
+use Rattle.alias_explain.specs.Functions.{function_explained, IsExplanationOf}
 
 module _ (u : HirUnit) (function : Option FunctionId) where
   abbrev Alone : List IdentifierExplanation → Type 0
@@ -27,7 +27,7 @@ module _ (u : HirUnit) (function : Option FunctionId) where
   next_of : (n : ℕ) (ns : List ℕ) (found xs : List IdentifierExplanation) (r : Result Explanation ExplainFault)
       → explained u function (numbered n) ≡ r → Alone found
       → ((more : List IdentifierExplanation) → Alone more → each_explained u function more ns ≡ Ok xs → Alone xs)
-          → (if_here r >>= (λ e. each_explained u function (with_found found (numbered n) e) ns)) ≡ Ok xs → Alone xs
+      → (if_here r >>= (λ e. each_explained u function (with_found found (numbered n) e) ns)) ≡ Ok xs → Alone xs
   next_of n ns found xs (Ok e) is h rest all =
       let x : IdentifierExplanation = record { identifier = numbered n; explanation = e } in
       rest (found ++ x ∷ []) (one_more found x h is) all

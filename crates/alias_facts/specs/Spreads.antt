@@ -1,6 +1,6 @@
 -- The spreads of patterns that nothing writes.
-use Rattle.std.specs.Prelude.{ℕ, Bool, true, false, ◌&&◌, not, if◌then◌else◌, List, [], Option, None, Some, is_some,
-    map, slice_get}
+use Rattle.std.specs.Prelude.{ℕ, Bool, true, false, ◌&&◌, not, if◌then◌else◌, List, [], Option, None, Some, is_some}
+use Rattle.std.specs.Prelude.{map, slice_get}
 use Rattle.std.specs.List.{fold}
 use Rattle.std.specs.Option.{option_map_or}
 use Rattle.alias_base.specs.declared.ids.BlockId.{BlockId}
@@ -18,16 +18,17 @@ use Rattle.alias_hir.specs.declared.types.Ty.{Ty}
 use Rattle.alias_hir.specs.declared.value.InstructionKind.{InstructionKind}
 use Rattle.alias_hir.specs.declared.value.InstructionKind.TheVariants.{Const, Let}
 use Rattle.alias_hir.specs.declared.value.InstructionValue.{InstructionValue}
-use Rattle.alias_hir.specs.declared.value.InstructionValue.TheVariants.{CallExpression, MethodCall, PropertyLoad,
-    JsxExpression, JsxFragment, Destructure, LoadLocal, StoreLocal}
+use Rattle.alias_hir.specs.declared.value.InstructionValue.TheVariants.{CallExpression, MethodCall, PropertyLoad}
+use Rattle.alias_hir.specs.declared.value.InstructionValue.TheVariants.{JsxExpression, JsxFragment, Destructure}
+use Rattle.alias_hir.specs.declared.value.InstructionValue.TheVariants.{LoadLocal, StoreLocal}
 use Rattle.alias_hir.specs.declared.value.LValuePattern.{LValuePattern}
 use Rattle.alias_hir.specs.declared.value.Pattern.{Pattern}
 use Rattle.alias_hir.specs.declared.value.Pattern.TheVariants as pattern
 use Rattle.alias_visit.specs.Operands.{operands_of}
 use Rattle.alias_facts.specs.declared.candidates.Candidates.{Candidates}
 use Rattle.alias_facts.specs.Numbers.{has}
-use Rattle.alias_facts.specs.Candidates.{first_candidates, with_frozen, with_spread, is_frozen, spread_of, after_use,
-    after_property, selves}
+use Rattle.alias_facts.specs.Candidates.{first_candidates, with_frozen, with_spread, is_frozen, spread_of, after_use}
+use Rattle.alias_facts.specs.Candidates.{after_property, selves}
 
 -- the set has the identifier of the place
 abbrev pub is_spread : List ℕ → Place → Bool

@@ -1,6 +1,6 @@
 -- A state sent along edges, one after the other.
-use Rattle.std.proofs.Common.{◌≡◌, ℕ, ◌+◌, ◌-◌, ◌≤◌, List, [], ◌∷◌, length, take, drop, get_or, Option, zero, suc, refl,
-    ap, sym, ◌∙◌, arith}
+use Rattle.std.proofs.Common.{◌≡◌, ℕ, ◌+◌, ◌-◌, ◌≤◌, List, [], ◌∷◌, length, take, drop, get_or, Option, zero, suc, refl}
+use Rattle.std.proofs.Common.{ap, sym, ◌∙◌, arith}
 use Rattle.alias_flow.specs.Machine.{send, send_all}
 
 drop_all : (ys : List ℕ) (i : ℕ) → length ys ≤ i → drop i ys ≡ []
@@ -25,4 +25,4 @@ module _ {P : Type 0} (join : P → P → P) (x : P) where
       let none : drop i (take (length es - 1) es) ≡ [] = drop_all (take (length es - 1) es) i past in
       let all : now ≡ send_all join x before (take (length es - 1) es) = sym (ap (send_all join x now) none) ∙ h in
       ap (λ joined_input. send join x joined_input (get_or es (length es - 1) 0)) all
-          ∙ sym (sends_last es (length es - 1) (omega arith) before)
+      ∙ sym (sends_last es (length es - 1) (omega arith) before)

@@ -1,6 +1,6 @@
 -- What the test of edges says.
-use Rattle.std.proofs.Common.{◌≡◌, ℕ, ◌+◌, ◌<◌, ◌≤◌, ⊎_elim, Bool, true, nat_lt, List, [], ◌∷◌, zero, suc, arith, refl,
-    ap, ◌∙◌}
+use Rattle.std.proofs.Common.{◌≡◌, ℕ, ◌+◌, ◌<◌, ◌≤◌, ⊎_elim, Bool, true, nat_lt, List, [], ◌∷◌, zero, suc, arith, refl}
+use Rattle.std.proofs.Common.{ap, ◌∙◌}
 use Rattle.std.proofs.lemmas.Bool.{ltb-true, cases_eq}
 use Rattle.std.specs.List.{list_all, AllByRecursion}
 use Rattle.alias_base.specs.AnswerLaws.{both_true}
@@ -17,7 +17,7 @@ all_up test i zero h b le lt = absurd (omega arith)
 all_up test i (suc n) h b le lt =
     let p = both_true (test i) (list_all test (up (i + 1) n)) h in
     ⊎_elim (λ same. ap test same ∙ p.0) (λ other. all_up test (i + 1) n p.1 b (omega (arith, other)) (omega arith))
-        (cases_eq b i)
+    (cases_eq b i)
 
 -- where the test passes, each edge goes to a later block
 pub forward_is : {P T K C : Type 0} (rules : Rules P T K C) → goes_forward rules ≡ true → IsForward rules

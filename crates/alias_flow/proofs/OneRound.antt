@@ -1,22 +1,22 @@
 -- Where each edge goes to a later block, one round is enough, and each state is the join of what arrives.
-use Rattle.std.proofs.Common.{◌≡◌, ℕ, ◌+◌, ◌<◌, ◌≤◌, ◌≢◌, ◌⊎◌, inl, inr, ⊎_elim, Bool, true, false, if◌then◌else◌,
-    IsTrue, List, [], ◌∷◌, ◌++◌, length, get_or, set, replicate, Option, Some, None, refl, ap, sym, ◌∙◌, subst, zero,
-    suc, arith}
+use Rattle.std.proofs.Common.{◌≡◌, ℕ, ◌+◌, ◌<◌, ◌≤◌, ◌≢◌, ◌⊎◌, inl, inr, ⊎_elim, Bool, true, false, if◌then◌else◌}
+use Rattle.std.proofs.Common.{IsTrue, List, [], ◌∷◌, ◌++◌, length, get_or, set, replicate, Option, Some, None, refl, ap}
+use Rattle.std.proofs.Common.{sym, ◌∙◌, subst, zero, suc, arith}
 use Rattle.std.proofs.lemmas.List.{get_or-set_same, get_or-set_other, length-set}
 use Rattle.std.proofs.lemmas.Bool.{cases_eq, false≢true}
 use Rattle.std.specs.List.{AllByRecursion, list_any}
 use Rattle.alias_lattice.specs.Laws.{LatticeLaws}
 use Rattle.alias_lattice.specs.Flows.{Outcome, Stepped, Refused, IsOneOf, ArrivesBelow, IsAbove, IsSolution, AreJoins}
-use Rattle.alias_flow.specs.Machine.{Rules, SolverState, Run, Going, Stopped, End, Solved, Fault, NotSettled, after,
-    ending, up, FlowLaws}
-use Rattle.alias_flow.specs.WorkLists.{WorkList, work_list_sends, work_list_visited, work_list_outcome,
-    work_list_visit_at, work_list_visit, work_list_turn, work_list_round, work_list_rounds, work_list_start,
-    work_list_solution}
+use Rattle.alias_flow.specs.Machine.{Rules, SolverState, Run, Going, Stopped, End, Solved, Fault, NotSettled, after}
+use Rattle.alias_flow.specs.Machine.{ending, up, FlowLaws}
+use Rattle.alias_flow.specs.WorkLists.{WorkList, work_list_sends, work_list_visited, work_list_outcome}
+use Rattle.alias_flow.specs.WorkLists.{work_list_visit_at, work_list_visit, work_list_turn, work_list_round}
+use Rattle.alias_flow.specs.WorkLists.{work_list_rounds, work_list_start, work_list_solution}
 use Rattle.alias_flow.specs.Solutions.{entry_at, IsForward, IsAscending}
-use Rattle.alias_flow.proofs.Sends.{at, is_dirty, Sound, Raised, sends_raise, sends_keep, sends_cover, sends_apart,
-    sends_dirty, sends_least}
-use Rattle.alias_flow.proofs.Solving.{HoldsInvariant, visited, going_is, start_holds, solution_solves, empty,
-    empty_sound, to_entry, nothing, none_at}
+use Rattle.alias_flow.proofs.Sends.{at, is_dirty, Sound, Raised, sends_raise, sends_keep, sends_cover, sends_apart}
+use Rattle.alias_flow.proofs.Sends.{sends_dirty, sends_least}
+use Rattle.alias_flow.proofs.Solving.{HoldsInvariant, visited, going_is, start_holds, solution_solves, empty}
+use Rattle.alias_flow.proofs.Solving.{empty_sound, to_entry, nothing, none_at}
 use Rattle.alias_flow.proofs.Rounds.{rounds_suc, rounds_settled, solution_is}
 
 module _ {P T K C : Type 0} {proper : P → Type 0} {join : P → P → P} {below : P → P → Bool} {extends : T → T → Type 0}
@@ -79,8 +79,11 @@ module _ {P T K C : Type 0} {proper : P → Type 0} {join : P → P → P} {belo
     ahead = λ q s le is. h.ahead q s (omega arith) is;
     has_state = h.has_state;
     least = λ b s is u p a. h.least b s is u p
-        (record { initial = a.initial; stepped =
-        λ c lt x y k at_c step among. a.stepped c (omega arith) x y k at_c step among });
+        (record {
+          initial = a.initial;
+          stepped =
+              λ c lt x y k at_c step among. a.stepped c (omega arith) x y k at_c step among;
+        });
     visited_before = one_more w.progress.visits i h.visited_before;
     in_order = h.in_order;
   }
@@ -98,9 +101,11 @@ module _ {P T K C : Type 0} {proper : P → Type 0} {join : P → P → P} {belo
     y_proper = f.step_proper w.tables i x y t k (h.holds_invariant.sound.proper_at i x was) step
 
     sound : Sound l rules.blocks d
-    sound = record { input_length = h.holds_invariant.sound.input_length;
-        dirty_length = length-set w.progress.dirty i false ∙ h.holds_invariant.sound.dirty_length;
-        proper_at = h.holds_invariant.sound.proper_at }
+    sound = record {
+      input_length = h.holds_invariant.sound.input_length;
+      dirty_length = length-set w.progress.dirty i false ∙ h.holds_invariant.sound.dirty_length;
+      proper_at = h.holds_invariant.sound.proper_at;
+    }
 
     edges : AllByRecursion (λ e. e < rules.blocks) (rules.flow.edges i)
     edges = f.edges_below i lt
@@ -153,10 +158,10 @@ module _ {P T K C : Type 0} {proper : P → Type 0} {join : P → P → P} {belo
             initial = a.initial;
             stepped = λ c c_lt x' y' k' at_c step' among.
                 a.stepped c (omega arith) x' y' k' ((unchanged c (omega arith)).0 ∙ at_c)
-                    (f.replay w.tables c x' y' w.tables t k' step' (f.grow w.tables i x y t k step)) among;
+                (f.replay w.tables c x' y' w.tables t k' step' (f.grow w.tables i x y t k step)) among;
           }))
           (λ among. a.stepped i (omega arith) x y k ((unchanged i (omega arith)).0 ∙ was)
-              (f.replay w.tables i x y t t k step (f.reflexive t)) among)
+          (f.replay w.tables i x y t t k step (f.reflexive t)) among)
           s is;
       visited_before = subst (AllByRecursion (λ v. v < i + 1)) (sym (sends_visits y (rules.flow.edges i) d))
           (all_append (λ v. v < i + 1) w.progress.visits i (one_more w.progress.visits i h.visited_before)
@@ -184,7 +189,7 @@ module _ {P T K C : Type 0} {proper : P → Type 0} {join : P → P → P} {belo
   turn_ahead i lt w v h true is e =
       let had = h.has_state i is in
       outcome_ahead i lt w v h had.0 had.1 (rules.flow.step w.tables i had.0) refl
-          (ap (work_list_visit_at join below rules w i) (sym had.1) ∙ e)
+      (ap (work_list_visit_at join below rules w i) (sym had.1) ∙ e)
   turn_ahead i lt w v h false is e = subst (Ahead (i + 1)) (going_is l f w v e) (skipped i w h is)
 
   round_ahead : (i n : ℕ) → i + n ≡ rules.blocks → (w v : SolverState (WorkList P) T K) → Ahead i w
@@ -193,9 +198,9 @@ module _ {P T K C : Type 0} {proper : P → Type 0} {join : P → P → P} {belo
       subst (λ m. Ahead m v) done (subst (Ahead i) (going_is l f w v e) h)
   round_ahead i (suc n) all w v h e =
       let s = after_going (work_list_turn join below rules w i) (λ u. work_list_round join below rules u (up (i + 1) n))
-          v e in
+      v e in
       round_ahead (i + 1) n (omega arith) s.0 v (turn_ahead i (omega arith) w s.0 h (is_dirty l w.progress i) refl s.1)
-          s.2
+      s.2
 
   any_none : (xs : List Bool) → ((q : ℕ) → q < length xs → get_or xs q false ≡ false) → list_any (λ b. b) xs ≡ false
   any_none [] h = refl
@@ -255,8 +260,8 @@ module _ {P T K C : Type 0} {proper : P → Type 0} {join : P → P → P} {belo
       ahead = λ q s le is. ⊎_elim
           (λ yes. yes)
           (λ no. absurd (none_some s (sym (nothing l f rules.blocks q)
-              ∙ sym (sends_keep l rules.flow.initial (empty l f tables) (rules.flow.entry ∷ []) rules.blocks
-              f.initial_proper (empty_sound l f tables) (to_entry l f tables) q no).1 ∙ is)))
+          ∙ sym (sends_keep l rules.flow.initial (empty l f tables) (rules.flow.entry ∷ []) rules.blocks
+          f.initial_proper (empty_sound l f tables) (to_entry l f tables) q no).1 ∙ is)))
           (true_or_false (is_dirty l d₀ q));
       has_state = λ q yes. ⊎_elim
           (λ before. absurd (false≢true (sym (no_wish rules.blocks q) ∙ before)))
@@ -274,7 +279,7 @@ module _ {P T K C : Type 0} {proper : P → Type 0} {join : P → P → P} {belo
     pub forward_ends : Fine (work_list_solution join below rules tables recorded₀)
     forward_ends =
         subst Fine (sym (solution_is join below rules tables recorded₀
-            ∙ rounds_suc join below rules 99 (work_list_start join below rules tables recorded₀)))
+        ∙ rounds_suc join below rules 99 (work_list_start join below rules tables recorded₀)))
         (fine_if 99 (work_list_start join below rules tables recorded₀) begun _ refl)
 
     stepped_is : (y z : P) (t : T) (k m : K) → ◌≡◌ {A = Outcome P T K C} (Stepped y t k) (Stepped z t m) → y ≡ z
@@ -299,8 +304,8 @@ module _ {P T K C : Type 0} {proper : P → Type 0} {join : P → P → P} {belo
           let below_all = h.steps c x at_c in
           let same : below_all.0 ≡ y = stepped_is below_all.0 y t below_all.1 k (sym below_all.2 ∙ step) in
           subst (λ z. IsTrue (below z s)) same
-              (at_state es below_all.0 s b (among_all (IsAbove below rules.flow (entry_at es) below_all.0)
-              (rules.flow.edges c) b below_all.3 among) is);
+          (at_state es below_all.0 s b (among_all (IsAbove below rules.flow (entry_at es) below_all.0)
+          (rules.flow.edges c) b below_all.3 among) is);
     }
 
     -- a solution that a forward flow ends with
@@ -308,8 +313,11 @@ module _ {P T K C : Type 0} {proper : P → Type 0} {join : P → P → P} {belo
         ≡ Solved v → (es : List (Option P)) → es ≡ v.progress.joined_input
         → AreJoins below rules.flow proper v.tables (entry_at es)
     forward_joins v e es es_is = subst (λ i. AreJoins below rules.flow proper v.tables (entry_at i)) (sym es_is)
-        (λ b s is. record { above = arrives v.tables v.progress.joined_input (solution_solves l f tables v e).solves b s
-            is; least = subst Fine e forward_ends b s is })
+        (λ b s is. record {
+          above = arrives v.tables v.progress.joined_input (solution_solves l f tables v e).solves b s
+              is;
+          least = subst Fine e forward_ends b s is;
+        })
 
     pub forward_settles : (n : ℕ) → work_list_solution join below rules tables recorded₀ ≡ NotSettled n → ⊥
     forward_settles n e = subst Fine e forward_ends

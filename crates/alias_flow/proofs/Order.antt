@@ -22,7 +22,7 @@ module _ {P : Type 0} {proper : P → Type 0} {join : P → P → P} {below : P 
   below_right x y h i =
       (l.order y (join x y) i (l.closed x y h i)).1
       (ap (join y) (l.commutative x y h i) ∙ sym (l.associative y y x i i h) ∙ ap (λ w. join w x) (l.idempotent y i)
-          ∙ l.commutative y x i h)
+      ∙ l.commutative y x i h)
 
   pub absorbed : (old x : P) → proper old → proper x → IsTrue (below x old) → join old x ≡ old
   absorbed old x h i p = l.commutative old x h i ∙ (l.order x old i h).0 p
@@ -31,4 +31,4 @@ module _ {P : Type 0} {proper : P → Type 0} {join : P → P → P} {below : P 
       → IsTrue (below (join x y) u)
   below_join x y u h i k p q =
       (l.order (join x y) u (l.closed x y h i) k).1
-          (l.associative x y u h i k ∙ ap (join x) ((l.order y u i k).0 q) ∙ (l.order x u h k).0 p)
+      (l.associative x y u h i k ∙ ap (join x) ((l.order y u i k).0 q) ∙ (l.order x u h k).0 p)

@@ -1,5 +1,5 @@
-use Rattle.std.proofs.Common.{◌≡◌, ℕ, ◌+◌, ◌-◌, ◌<◌, ◌∷◌, Bool, true, false, if◌then◌else◌, List, Option, length, suc,
-    zero, refl, ap, ◌∙◌, arith}
+use Rattle.std.proofs.Common.{◌≡◌, ℕ, ◌+◌, ◌-◌, ◌<◌, ◌∷◌, Bool, true, false, if◌then◌else◌, List, Option, length, suc}
+use Rattle.std.proofs.Common.{zero, refl, ap, ◌∙◌, arith}
 use Rattle.std.specs.List.{list_any}
 use Rattle.alias_flow.specs.Machine.{up, ending, Rules, SolverState, Solved, NotSettled}
 use Rattle.alias_flow.specs.WorkLists.{WorkList, work_list_rounds, work_list_round, work_list_solution, work_list_start}
@@ -27,8 +27,8 @@ module _ {P T K C : Type 0} (join : P → P → P) (below : P → P → Bool) (r
   rounds_more i w h t =
       let e : 100 - i ≡ suc (100 - (i + 1)) = omega arith in
       ap (λ n. work_list_rounds join below rules n w) e ∙ rounds_suc (100 - (i + 1)) w
-          ∙ ap (λ b. if b then ending (work_list_round join below rules w (up 0 rules.blocks))
-          (work_list_rounds join below rules (100 - (i + 1))) else Solved w) t
+      ∙ ap (λ b. if b then ending (work_list_round join below rules w (up 0 rules.blocks))
+      (work_list_rounds join below rules (100 - (i + 1))) else Solved w) t
 
   -- nothing is dirty
   pub rounds_settled : (n : ℕ) (w : SolverState (WorkList P) T K) → list_any (λ x. x) w.progress.dirty ≡ false

@@ -1,6 +1,6 @@
 -- What sending a state along edges changes.
-use Rattle.std.proofs.Common.{◌≡◌, ℕ, ◌<◌, ◌≢◌, ◌⊎◌, inl, inr, ⊎_elim, Bool, true, false, not, if◌then◌else◌, IsTrue,
-    List, [], ◌∷◌, length, get_or, set, Option, Some, None, refl, ap, sym, ◌∙◌, subst, arith}
+use Rattle.std.proofs.Common.{◌≡◌, ℕ, ◌<◌, ◌≢◌, ◌⊎◌, inl, inr, ⊎_elim, Bool, true, false, not, if◌then◌else◌, IsTrue}
+use Rattle.std.proofs.Common.{List, [], ◌∷◌, length, get_or, set, Option, Some, None, refl, ap, sym, ◌∙◌, subst, arith}
 use Rattle.std.proofs.lemmas.List.{get_or-set_same, get_or-set_other, length-set}
 use Rattle.std.proofs.lemmas.Bool.{cases_eq, false≢true}
 use Rattle.std.specs.List.{AllByRecursion}
@@ -60,7 +60,7 @@ module _ {P : Type 0} {proper : P → Type 0} {join : P → P → P} {below : P 
     dirty_length = length_if (grows join below (at d e) x) d.dirty e ∙ h.dirty_length;
     proper_at = λ q s is. ⊎_elim
         (λ same. subst proper (some_is _ _ (sym (at_input x d e n h lt)
-            ∙ ap (at (work_list_send join below x d e)) (sym same) ∙ is)) (joined_proper (at d e) x (h.proper_at e) p))
+        ∙ ap (at (work_list_send join below x d e)) (sym same) ∙ is)) (joined_proper (at d e) x (h.proper_at e) p))
         (λ other. h.proper_at q s (sym (get_or-set_other d.joined_input e q _ None other) ∙ is))
         (cases_eq q e);
   }
@@ -74,8 +74,11 @@ module _ {P : Type 0} {proper : P → Type 0} {join : P → P → P} {below : P 
   pub send_raises : (x : P) (d : WorkList P) (e n : ℕ) → proper x → Sound n d → e < n → (q : ℕ) (s : P) → at d q
       ≡ Some s → Raised (work_list_send join below x d e) q s
   send_raises x d e n p h lt q s is = ⊎_elim
-      (λ same. (joined join (at d e) x, ap (at (work_list_send join below x d e)) same ∙ at_input x d e n h lt,
-          raise (at d e) x s (h.proper_at e) p (ap (at d) (sym same) ∙ is)))
+      (λ same. (
+        joined join (at d e) x,
+        ap (at (work_list_send join below x d e)) same ∙ at_input x d e n h lt,
+        raise (at d e) x s (h.proper_at e) p (ap (at d) (sym same) ∙ is),
+      ))
       (λ other. (s, get_or-set_other d.joined_input e q _ None other ∙ is, below_itself l s (h.proper_at q s is)))
       (cases_eq q e)
 
@@ -106,15 +109,17 @@ module _ {P : Type 0} {proper : P → Type 0} {join : P → P → P} {below : P 
   send_keeps x d e n p h lt q is = ⊎_elim
       (λ same.
       let at_e : is_dirty (work_list_send join below x d e) e ≡ false =
-          ap (is_dirty (work_list_send join below x d e)) (sym same) ∙ is in
+      ap (is_dirty (work_list_send join below x d e)) (sym same) ∙ is in
       let i : e < length d.dirty = omega (arith, h.dirty_length) in
       let quiet : grows join below (at d e) x ≡ false = grew_at (grows join below (at d e) x) d.dirty e i at_e in (
         ap (is_dirty d) same ∙ sym (same_if (grows join below (at d e) x) d.dirty e quiet) ∙ at_e,
         ap (at (work_list_send join below x d e)) same ∙ at_input x d e n h lt
             ∙ still (at d e) x (h.proper_at e) p quiet ∙ ap (at d) (sym same),
       ))
-      (λ other. (sym (other_if (grows join below (at d e) x) d.dirty e q other) ∙ is,
-          get_or-set_other d.joined_input e q _ None other))
+      (λ other. (
+        sym (other_if (grows join below (at d e) x) d.dirty e q other) ∙ is,
+        get_or-set_other d.joined_input e q _ None other,
+      ))
       (cases_eq q e)
 
   -- what has a state after a send had one before, or was sent it
@@ -137,9 +142,13 @@ module _ {P : Type 0} {proper : P → Type 0} {join : P → P → P} {below : P 
   sends_raise x d (e ∷ es) n p h lt q s is =
       let once = send_raises x d e n p h lt.0 q s is in
       let sound = send_sound x d e n p h lt.0 in
-      let more = sends_raise x (work_list_send join below x d e) es n p sound lt.1 q once.0 once.1 in
-      (more.0, more.1, below_trans l s once.0 more.0 (h.proper_at q s is) (sound.proper_at q once.0 once.1)
-          ((sends_sound x (work_list_send join below x d e) es n p sound lt.1).proper_at q more.0 more.1) once.2 more.2)
+      let more = sends_raise x (work_list_send join below x d e) es n p sound lt.1 q once.0 once.1 in (
+        more.0,
+        more.1,
+        below_trans l s once.0 more.0 (h.proper_at q s is) (sound.proper_at q once.0 once.1)
+            ((sends_sound x (work_list_send join below x d e) es n p sound lt.1).proper_at q more.0 more.1) once.2
+            more.2,
+      )
 
   pub sends_keep : (x : P) (d : WorkList P) (es : List ℕ) (n : ℕ) → proper x → Sound n d
       → AllByRecursion (λ e. e < n) es → (q : ℕ) → is_dirty (work_list_sends join below x d es) q ≡ false
@@ -157,9 +166,13 @@ module _ {P : Type 0} {proper : P → Type 0} {join : P → P → P} {below : P 
       let sound = send_sound x d e n p h lt.0 in
       let u : P = joined join (at d e) x in
       let more = sends_raise x (work_list_send join below x d e) es n p sound lt.1 e u (at_input x d e n h lt.0) in (
-        (more.0, more.1, below_trans l x u more.0 p (joined_proper (at d e) x (h.proper_at e) p)
-            ((sends_sound x (work_list_send join below x d e) es n p sound lt.1).proper_at e more.0 more.1)
-            (joined_above (at d e) x (h.proper_at e) p) more.2),
+        (
+          more.0,
+          more.1,
+          below_trans l x u more.0 p (joined_proper (at d e) x (h.proper_at e) p)
+              ((sends_sound x (work_list_send join below x d e) es n p sound lt.1).proper_at e more.0 more.1)
+              (joined_above (at d e) x (h.proper_at e) p) more.2,
+        ),
         sends_cover x (work_list_send join below x d e) es n p sound lt.1,
       )
 
@@ -178,9 +191,10 @@ module _ {P : Type 0} {proper : P → Type 0} {join : P → P → P} {below : P 
   sends_apart x d [] q h = (refl, refl)
   sends_apart x d (e ∷ es) q h =
       let apart : q ≢ e = omega (arith, h.0) in
-      let more = sends_apart x (work_list_send join below x d e) es q h.1 in
-      (more.0 ∙ get_or-set_other d.joined_input e q _ None apart,
-          more.1 ∙ other_if (grows join below (at d e) x) d.dirty e q apart)
+      let more = sends_apart x (work_list_send join below x d e) es q h.1 in (
+        more.0 ∙ get_or-set_other d.joined_input e q _ None apart,
+        more.1 ∙ other_if (grows join below (at d e) x) d.dirty e q apart,
+      )
 
   -- a block that is dirty was dirty before, or an edge leads to it
   pub sends_dirty : (x : P) (d : WorkList P) (es : List ℕ) (q : ℕ) → is_dirty (work_list_sends join below x d es) q
@@ -188,7 +202,7 @@ module _ {P : Type 0} {proper : P → Type 0} {join : P → P → P} {below : P 
   sends_dirty x d [] q is = inl is
   sends_dirty x d (e ∷ es) q is = ⊎_elim
       (λ w. ⊎_elim (λ same. inr (inl same)) (λ other.
-          inl (sym (other_if (grows join below (at d e) x) d.dirty e q other) ∙ w)) (cases_eq q e))
+      inl (sym (other_if (grows join below (at d e) x) d.dirty e q other) ∙ w)) (cases_eq q e))
       (λ among. inr (inr among))
       (sends_dirty x (work_list_send join below x d e) es q is)
 
@@ -201,13 +215,13 @@ module _ {P : Type 0} {proper : P → Type 0} {join : P → P → P} {below : P 
   pub sends_least : (x : P) (d : WorkList P) (es : List ℕ) (n : ℕ) → proper x → Sound n d
       → AllByRecursion (λ e. e < n) es → (q : ℕ) (u : P) → proper u
       → ((s : P) → at d q ≡ Some s → IsTrue (below s u)) → (IsOneOf q es → IsTrue (below x u)) → (s : P)
-          → at (work_list_sends join below x d es) q ≡ Some s → IsTrue (below s u)
+      → at (work_list_sends join below x d es) q ≡ Some s → IsTrue (below s u)
   sends_least x d [] n p h lt q u k old new s is = old s is
   sends_least x d (e ∷ es) n p h lt q u k old new s is =
       sends_least x (work_list_send join below x d e) es n p (send_sound x d e n p h lt.0) lt.1 q u k
       (λ t is. ⊎_elim
       (λ same. subst (λ z. IsTrue (below z u))
-          (some_is _ _ (sym (at_input x d e n h lt.0) ∙ ap (at (work_list_send join below x d e)) (sym same) ∙ is))
+      (some_is _ _ (sym (at_input x d e n h lt.0) ∙ ap (at (work_list_send join below x d e)) (sym same) ∙ is))
       (joined_least (at d e) x u (h.proper_at e) p k (λ r z. old r (ap (at d) same ∙ z)) (new (inl same))))
       (λ other. old t (sym (get_or-set_other d.joined_input e q _ None other) ∙ is))
       (cases_eq q e))

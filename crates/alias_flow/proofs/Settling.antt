@@ -36,11 +36,11 @@ module _ {P T K C E : Type 0} {proper : P → Type 0} {join : P → P → P} {be
       ends = settled_ends l f tables cause v whole r is;
       solves = settled_case v.progress r is (λ x. IfOk x (λ s. IsSolution below now.flow v.tables (entry_at s.entries)))
           (λ clean. solution_found l f tables now same v (whole ∙ rounds_settled join below rules 0 v clean) _ refl)
-              (λ dirty. tt);
+          (λ dirty. tt);
       keeps = settled_case v.progress r is (λ x.
           IfOk x (λ s. RecordsSteps now.flow v.tables (entry_at s.entries) v.recorded))
           (λ clean. recorded_found l f tables now same v (whole ∙ rounds_settled join below rules 0 v clean) _ refl)
-              (λ dirty. tt);
+          (λ dirty. tt);
       others = settled_case v.progress r is (λ x. IfOk x (λ s. KeepsOthers (entry_at s.entries) recorded₀ v.recorded))
           (λ clean. others_found l f tables v (whole ∙ rounds_settled join below rules 0 v clean) _ refl) (λ dirty. tt);
       count = settled_case v.progress r is (λ x. IfOk x (λ s. length s.entries ≡ rules.blocks))
@@ -48,7 +48,7 @@ module _ {P T K C E : Type 0} {proper : P → Type 0} {join : P → P → P} {be
       joins = λ forward. settled_case v.progress r is
           (λ x. IfOk x (λ s. AreJoins below rules.flow proper v.tables (entry_at s.entries)))
           (λ clean. forward_joins l f forward tables v (whole ∙ rounds_settled join below rules 0 v clean) _ refl)
-              (λ dirty. tt);
+          (λ dirty. tt);
       settles = λ forward. settled_case v.progress r is IsSettled (λ clean n h. cc)
           (λ dirty n h. forward_settles l f forward tables _ (whole ∙ rounds_over join below rules v dirty));
     }

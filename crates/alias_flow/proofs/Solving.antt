@@ -1,22 +1,23 @@
 -- A sequence of visits that ends with nothing dirty gives a solution.
-use Rattle.std.proofs.Common.{◌≡◌, ℕ, ◌+◌, ◌<◌, inl, inr, ⊎_elim, Bool, true, false, if◌then◌else◌, IsTrue, List, [],
-    ◌∷◌, length, get_or, set, replicate, Option, Some, None, refl, ap, sym, ◌∙◌, subst, zero, suc, arith}
+use Rattle.std.proofs.Common.{◌≡◌, ℕ, ◌+◌, ◌<◌, inl, inr, ⊎_elim, Bool, true, false, if◌then◌else◌, IsTrue, List, []}
+use Rattle.std.proofs.Common.{◌∷◌, length, get_or, set, replicate, Option, Some, None, refl, ap, sym, ◌∙◌, subst, zero}
+use Rattle.std.proofs.Common.{suc, arith}
 use Rattle.std.proofs.lemmas.List.{get_or-set_same, get_or-set_other, length-set, length-replicate}
 use Rattle.std.proofs.lemmas.Bool.{cases_eq, false≢true}
 use Rattle.std.specs.List.{AllByRecursion, list_any}
 use Rattle.std.specs.Option.{is_some}
 use Rattle.alias_lattice.specs.Laws.{LatticeLaws}
-use Rattle.alias_lattice.specs.Flows.{Outcome, Stepped, Refused, IsOneOf, IsReached, at_entry, by_edge, IsAbove,
-    IsSolution}
-use Rattle.alias_flow.specs.Machine.{Rules, SolverState, Run, Going, Stopped, End, Solved, NotSettled, after, ending,
-    up, FlowLaws}
-use Rattle.alias_flow.specs.WorkLists.{WorkList, work_list_sends, work_list_visited, work_list_outcome,
-    work_list_visit_at, work_list_visit, work_list_turn, work_list_round, work_list_rounds, work_list_start,
-    work_list_solution}
+use Rattle.alias_lattice.specs.Flows.{Outcome, Stepped, Refused, IsOneOf, IsReached, at_entry, by_edge, IsAbove}
+use Rattle.alias_lattice.specs.Flows.{IsSolution}
+use Rattle.alias_flow.specs.Machine.{Rules, SolverState, Run, Going, Stopped, End, Solved, NotSettled, after, ending}
+use Rattle.alias_flow.specs.Machine.{up, FlowLaws}
+use Rattle.alias_flow.specs.WorkLists.{WorkList, work_list_sends, work_list_visited, work_list_outcome}
+use Rattle.alias_flow.specs.WorkLists.{work_list_visit_at, work_list_visit, work_list_turn, work_list_round}
+use Rattle.alias_flow.specs.WorkLists.{work_list_rounds, work_list_start, work_list_solution}
 use Rattle.alias_flow.specs.Solutions.{entry_at, RecordsSteps, KeepsOthers}
 use Rattle.alias_flow.proofs.Order.{below_trans}
-use Rattle.alias_flow.proofs.Sends.{at, is_dirty, Sound, Raised, sends_sound, sends_raise, sends_keep, sends_cover,
-    sends_source}
+use Rattle.alias_flow.proofs.Sends.{at, is_dirty, Sound, Raised, sends_sound, sends_raise, sends_keep, sends_cover}
+use Rattle.alias_flow.proofs.Sends.{sends_source}
 
 module _ {P T K C : Type 0} (below : P → P → Bool) (rules : Rules P T K C) where
   -- the step from the state leaves the tables, gives what is recorded of the block, and a state below that of each
@@ -24,7 +25,7 @@ module _ {P T K C : Type 0} (below : P → P → Bool) (rules : Rules P T K C) w
   abbrev pub Settles : T → List (Option P) → List (Option K) → ℕ → P → Type 0
   Settles tables entries recorded b s =
       (y : P) × (k : K) × (rules.flow.step tables b s ≡ Stepped y tables k) × (get_or recorded b None ≡ Some k)
-          × AllByRecursion (IsAbove below rules.flow (entry_at entries) y) (rules.flow.edges b)
+      × AllByRecursion (IsAbove below rules.flow (entry_at entries) y) (rules.flow.edges b)
 
 module _ {P T K C : Type 0} {proper : P → Type 0} {join : P → P → P} {below : P → P → Bool} {extends : T → T → Type 0}
     {rules : Rules P T K C} {recorded₀ : List (Option K)}
@@ -65,8 +66,11 @@ module _ {P T K C : Type 0} {proper : P → Type 0} {join : P → P → P} {belo
     y_proper = f.step_proper w.tables b x y t k (h.sound.proper_at b x was) step
 
     sound : Sound l rules.blocks d
-    sound = record { input_length = h.sound.input_length;
-        dirty_length = length-set w.progress.dirty b false ∙ h.sound.dirty_length; proper_at = h.sound.proper_at }
+    sound = record {
+      input_length = h.sound.input_length;
+      dirty_length = length-set w.progress.dirty b false ∙ h.sound.dirty_length;
+      proper_at = h.sound.proper_at;
+    }
 
     edges : AllByRecursion (λ e. e < rules.blocks) (rules.flow.edges b)
     edges = f.edges_below b lt
@@ -93,7 +97,7 @@ module _ {P T K C : Type 0} {proper : P → Type 0} {join : P → P → P} {belo
         (λ same.
         let s_is : s ≡ x = some_is s x (sym before_it ∙ ap (at l w.progress) same ∙ was) in
         let again : rules.flow.step t q s ≡ Stepped y t k = ap (λ i. rules.flow.step t i s) same
-            ∙ ap (rules.flow.step t b) s_is ∙ f.replay w.tables b x y t t k step (f.reflexive t) in
+        ∙ ap (rules.flow.step t b) s_is ∙ f.replay w.tables b x y t t k step (f.reflexive t) in
         let i : b < length w.recorded = omega (arith, h.recorded_length) in (
           y,
           k,
@@ -105,8 +109,7 @@ module _ {P T K C : Type 0} {proper : P → Type 0} {join : P → P → P} {belo
         (λ other.
         let had = h.settled q s before_it (sym (get_or-set_other w.progress.dirty b q false false other) ∙ keep.0) in
         let z : P = had.0 in
-        let z_proper : proper z = f.step_proper w.tables q s z w.tables had.1 (h.sound.proper_at q s before_it) had.2 in
-            (
+        let z_proper : proper z = f.step_proper w.tables q s z w.tables had.1 (h.sound.proper_at q s before_it) had.2 in (
           z,
           had.1,
           f.replay w.tables q s z w.tables t had.1 had.2 (f.grow w.tables b x y t k step),
@@ -130,7 +133,7 @@ module _ {P T K C : Type 0} {proper : P → Type 0} {join : P → P → P} {belo
     keeps_others q none = ⊎_elim
         (λ same. let r = raised b x was in absurd (none_some r.0 (sym none ∙ ap (at l d') same ∙ r.1)))
         (λ other. get_or-set_other w.recorded b q (Some k) None other
-            ∙ h.others q (untouched q (at l w.progress q) refl none))
+        ∙ h.others q (untouched q (at l w.progress q) refl none))
         (cases_eq q b)
 
     pub visited : HoldsInvariant (record { progress = d'; tables = t; recorded = recorded' })
@@ -237,7 +240,7 @@ module _ {P T K C : Type 0} {proper : P → Type 0} {join : P → P → P} {belo
       let before = state_at v h none b r in
       let y : P = (h.settled b before.0 before.1 (none_at v.progress.dirty b none)).0 in
       let above = all_at (IsAbove below rules.flow (entry_at v.progress.joined_input) y) (rules.flow.edges b) e
-          (h.settled b before.0 before.1 (none_at v.progress.dirty b none)).4 among in
+      (h.settled b before.0 before.1 (none_at v.progress.dirty b none)).4 among in
       (above.0, above.1)
 
   pub nothing : (n q : ℕ) → ◌≡◌ {A = Option P} (get_or (replicate n None) q None) None
@@ -250,9 +253,11 @@ module _ {P T K C : Type 0} {proper : P → Type 0} {join : P → P → P} {belo
     empty = record { visits = []; joined_input = replicate rules.blocks None; dirty = replicate rules.blocks false }
 
     pub empty_sound : Sound l rules.blocks empty
-    empty_sound = record { input_length = length-replicate rules.blocks None;
-        dirty_length = length-replicate rules.blocks false;
-        proper_at = λ q s e. absurd (none_some s (sym (nothing rules.blocks q) ∙ e)) }
+    empty_sound = record {
+      input_length = length-replicate rules.blocks None;
+      dirty_length = length-replicate rules.blocks false;
+      proper_at = λ q s e. absurd (none_some s (sym (nothing rules.blocks q) ∙ e));
+    }
 
     abbrev pub to_entry : AllByRecursion (λ e. e < rules.blocks) (rules.flow.entry ∷ [])
     to_entry = (f.entry_below, tt)
@@ -288,7 +293,7 @@ module _ {P T K C : Type 0} {proper : P → Type 0} {join : P → P → P} {belo
     solution_solves v e =
         let ends = rounds_ends 100 (work_list_start join below rules tables recorded₀) v start_holds e in
         let settled = λ (b : ℕ) (s : P) (is : at l v.progress b ≡ Some s).
-            ends.0.settled b s is (none_at v.progress.dirty b ends.1) in
+        ends.0.settled b s is (none_at v.progress.dirty b ends.1) in
         record {
           solves = record {
             reached = λ b r. let h = state_at v ends.0 ends.1 b r in subst (λ o. IsTrue (is_some o)) (sym h.1) refl;
@@ -307,16 +312,16 @@ module _ {P T K C : Type 0} {proper : P → Type 0} {join : P → P → P} {belo
         → (es : List (Option P)) → es ≡ v.progress.joined_input → IsSolution below now.flow v.tables (entry_at es)
     solution_found now r v e es es_is =
         subst (λ i. IsSolution below i.flow v.tables (entry_at es)) (sym r)
-            (subst (λ i. IsSolution below rules.flow v.tables (entry_at i)) (sym es_is) (solution_solves v e).solves)
+        (subst (λ i. IsSolution below rules.flow v.tables (entry_at i)) (sym es_is) (solution_solves v e).solves)
 
     pub recorded_found : (now : Rules P T K C) → now ≡ rules → (v : SolverState (WorkList P) T K)
         → work_list_solution join below rules tables recorded₀ ≡ Solved v
         → (es : List (Option P)) → es ≡ v.progress.joined_input
-            → RecordsSteps now.flow v.tables (entry_at es) v.recorded
+        → RecordsSteps now.flow v.tables (entry_at es) v.recorded
     recorded_found now r v e es es_is =
         subst (λ i. RecordsSteps i.flow v.tables (entry_at es) v.recorded) (sym r)
-            (subst (λ i. RecordsSteps rules.flow v.tables (entry_at i) v.recorded) (sym es_is)
-            (solution_solves v e).keeps)
+        (subst (λ i. RecordsSteps rules.flow v.tables (entry_at i) v.recorded) (sym es_is)
+        (solution_solves v e).keeps)
 
     pub others_found : (v : SolverState (WorkList P) T K) → work_list_solution join below rules tables recorded₀
         ≡ Solved v → (es : List (Option P)) → es ≡ v.progress.joined_input

@@ -11,8 +11,11 @@ ForwardPass P = List (Option P)
 module _ {P T K C : Type 0} (join : P → P → P) (rules : Rules P T K C) where
   abbrev pub forward_outcome : SolverState (ForwardPass P) T K → ℕ → Outcome P T K C → Run (ForwardPass P) T K C
   forward_outcome w b (Stepped out tables recorded) =
-      Going (record { progress = send_all join out w.progress (rules.flow.edges b); tables = tables;
-          recorded = slice_set w.recorded b (Some recorded) })
+      Going (record {
+        progress = send_all join out w.progress (rules.flow.edges b);
+        tables = tables;
+        recorded = slice_set w.recorded b (Some recorded);
+      })
   forward_outcome w b (Refused cause) = Stopped b cause
 
   abbrev pub forward_turn_at : SolverState (ForwardPass P) T K → ℕ → Option P → Run (ForwardPass P) T K C

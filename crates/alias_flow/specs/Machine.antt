@@ -1,6 +1,6 @@
 -- A flow over numbered blocks, and the sequence of visits that solves it.
-use Rattle.std.specs.Prelude.{◌≡◌, ℕ, ◌+◌, ◌<◌, Bool, true, false, not, ◌&&◌, if◌then◌else◌, List, [], ◌∷◌, ◌++◌,
-    length, Option, Some, None, slice_index_or, slice_set, replicate}
+use Rattle.std.specs.Prelude.{◌≡◌, ℕ, ◌+◌, ◌<◌, Bool, true, false, not, ◌&&◌, if◌then◌else◌, List, [], ◌∷◌, ◌++◌}
+use Rattle.std.specs.Prelude.{length, Option, Some, None, slice_index_or, slice_set, replicate}
 use Rattle.std.specs.List.{list_any, AllByRecursion}
 use Rattle.std.proofs.Common.{zero, suc}
 use Rattle.alias_lattice.specs.Flows.{Flow, Outcome, Stepped, Refused}
@@ -90,8 +90,11 @@ dirty below d b = input_changed below (slice_index_or d.joined_input b None) (sl
 module _ {P T K C : Type 0} (join : P → P → P) (below : P → P → Bool) (rules : Rules P T K C) where
   abbrev pub outcome_after : SolverState (VisitLog P) T K → ℕ → P → Outcome P T K C → Run (VisitLog P) T K C
   outcome_after w b x (Stepped out tables recorded) =
-      Going (record { progress = visited join w.progress b x out (rules.flow.edges b); tables = tables;
-          recorded = slice_set w.recorded b (Some recorded) })
+      Going (record {
+        progress = visited join w.progress b x out (rules.flow.edges b);
+        tables = tables;
+        recorded = slice_set w.recorded b (Some recorded);
+      })
   outcome_after w b x (Refused cause) = Stopped b cause
 
   abbrev pub visit_at : SolverState (VisitLog P) T K → ℕ → Option P → Run (VisitLog P) T K C

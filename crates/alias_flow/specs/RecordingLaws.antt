@@ -1,11 +1,12 @@
 -- What a sequence of visits records comes from steps.
-use Rattle.std.specs.Prelude.{◌≡◌, ℕ, Bool, true, false, if◌then◌else◌, List, [], ◌∷◌, length, Option, Some, None,
-    slice_index_or, slice_set, refl}
+use Rattle.std.specs.Prelude.{◌≡◌, ℕ, Bool, true, false, if◌then◌else◌, List, [], ◌∷◌, length, Option, Some, None}
+use Rattle.std.specs.Prelude.{slice_index_or, slice_set, refl}
 use Rattle.std.specs.List.{AllByRecursion}
 use Rattle.std.proofs.Common.{zero, suc, subst}
 use Rattle.alias_lattice.specs.Flows.{Flow, Outcome, Stepped, Refused}
-use Rattle.alias_flow.specs.Machine.{Rules, VisitLog, SolverState, Run, Going, Stopped, End, Solved, Fault, NotSettled,
-    after, ending, up, outcome_after, visit_at, visit, turn, round, any_dirty, rounds, start, solution, dirty}
+use Rattle.alias_flow.specs.Machine.{Rules, VisitLog, SolverState, Run, Going, Stopped, End, Solved, Fault, NotSettled}
+use Rattle.alias_flow.specs.Machine.{after, ending, up, outcome_after, visit_at, visit, turn, round, any_dirty, rounds}
+use Rattle.alias_flow.specs.Machine.{start, solution, dirty}
 
 -- what is recorded of a block, if anything is, has the property
 abbrev pub HoldsOf : {K : Type 0} → (K → Type 0) → Option K → Type 0
@@ -57,7 +58,7 @@ module _ {P T K C : Type 0} (join : P → P → P) (below : P → P → Bool) (r
   round_keeps [] w v h e = let same : w ≡ v = cc in subst (λ z. AllHold q z.recorded) same h
   round_keeps (b ∷ bs) w v h e =
       after_keeps (turn join below rules w b) (λ u. round join below rules u bs) v
-          (λ u g. turn_keeps w u b (dirty below w.progress b) h g) (λ u g f. round_keeps bs u v g f) e
+      (λ u g. turn_keeps w u b (dirty below w.progress b) h g) (λ u g f. round_keeps bs u v g f) e
 
   ending_keeps : (r : Run (VisitLog P) T K C) (f : W → End (VisitLog P) T K C) (v : W)
       → ((u : W) → r ≡ Going u → AllHold q u.recorded)
@@ -75,7 +76,7 @@ module _ {P T K C : Type 0} (join : P → P → P) (below : P → P → Bool) (r
   more_keeps : (w v : W) (f : W → End (VisitLog P) T K C)
       → ((u : W) → AllHold q u.recorded → f u ≡ Solved v → AllHold q v.recorded) → (b : Bool) → AllHold q w.recorded
       → (if b then ending (round join below rules w (up 0 rules.blocks)) f else Solved w) ≡ Solved v
-          → AllHold q v.recorded
+      → AllHold q v.recorded
   more_keeps w v f later true h e = ending_keeps (round join below rules w (up 0 rules.blocks)) f v
       (λ u g. round_keeps (up 0 rules.blocks) w u h g) later e
   more_keeps w v f later false h e = let same : w ≡ v = cc in subst (λ z. AllHold q z.recorded) same h

@@ -40,7 +40,7 @@ abbrev pub EndGives : {P T K C E : Type 0} → (E → C) → End (VisitLog P) T 
     → List (Option K) → Type 0
 EndGives {P} {T} {K} cause end (Ok solution) tables recorded =
     (w : SolverState (VisitLog P) T K) × (end ≡ Solved w) × (solution.visits ≡ w.progress.visits)
-        × (solution.entries ≡ w.progress.joined_input) × (tables ≡ w.tables) × (recorded ≡ w.recorded)
+    × (solution.entries ≡ w.progress.joined_input) × (tables ≡ w.tables) × (recorded ≡ w.recorded)
 EndGives cause end (Err fault) tables recorded =
     MatchFault cause fault (λ b c. end ≡ Fault b c) (λ n. end ≡ NotSettled n)
 
@@ -50,7 +50,7 @@ abbrev pub EndsWith : {P T K C E : Type 0} → (E → C) → End (VisitLog P) T 
     → List (Option K) → (VisitLog P → Type 0) → Type 0
 EndsWith {P} {T} {K} cause end (Ok u) tables recorded holds =
     (w : SolverState (VisitLog P) T K) × (end ≡ Solved w) × (tables ≡ w.tables) × (recorded ≡ w.recorded)
-        × holds w.progress
+    × holds w.progress
 EndsWith cause end (Err fault) tables recorded holds = MatchFault cause fault (λ b c. end ≡ Fault b c) (λ n. ⊥)
 
 -- the answer isn't NotSettled

@@ -12,7 +12,7 @@ entry_at entries b = slice_index_or entries b None
 abbrev pub RecordsSteps : {P T K C : Type 0} → Flow ℕ P T K C → T → (ℕ → Option P) → List (Option K) → Type 0
 RecordsSteps {P} {T} {K} flow tables entry_state recorded =
     (b : ℕ) (s : P) → entry_state b ≡ Some s → (y : P) × (k : K) × (flow.step tables b s ≡ Stepped y tables k)
-        × (slice_index_or recorded b None ≡ Some k)
+    × (slice_index_or recorded b None ≡ Some k)
 
 -- what is recorded of a block with no entry state is what was recorded before
 abbrev pub KeepsOthers : {P K : Type 0} → (ℕ → Option P) → List (Option K) → List (Option K) → Type 0

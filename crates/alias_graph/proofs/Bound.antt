@@ -1,6 +1,6 @@
 -- How many entries a walk expands and pops.
-use Rattle.std.proofs.Common.{◌≡◌, ℕ, ◌+◌, ◌≤◌, ◌⊎◌, inl, inr, ⊎_elim, Bool, true, false, cond, IsTrue, List, [], ◌∷◌,
-    length, refl, ap, sym, ◌∙◌, arith, suc, zero}
+use Rattle.std.proofs.Common.{◌≡◌, ℕ, ◌+◌, ◌≤◌, ◌⊎◌, inl, inr, ⊎_elim, Bool, true, false, cond, IsTrue, List, [], ◌∷◌}
+use Rattle.std.proofs.Common.{length, refl, ap, sym, ◌∙◌, arith, suc, zero}
 use Rattle.alias_graph.proofs.Visits.{new_exists}
 use Rattle.alias_graph.specs.Walks.{IsOneOf, put_all, total, Walk, is_covered, is_new, pop, step_at, run}
 
@@ -60,7 +60,7 @@ module _ {E : Type 0} (covers : E → E → Bool) (node_exists : E → Bool) (ne
   room_falls weight e done [] own new i = absurd i
   room_falls weight e done (u ∷ us) own new (inl same) =
       let one = now_closed weight (covers e u) (is_covered covers done u) u (ap (covers e) (sym same) ∙ own)
-          (ap (is_covered covers done) (sym same) ∙ new) in
+      (ap (is_covered covers done) (sym same) ∙ new) in
       let rest = room_less weight e done us in
       let w = ap weight same in
       omega arith
@@ -103,7 +103,7 @@ module _ {E : Type 0} (covers : E → E → Bool) (node_exists : E → Bool) (ne
   pub pops_at_most : ((e : E) → IsTrue (covers e e)) → (us : List E) → ((e : E) → IsTrue (node_exists e) → IsOneOf e us)
       → (s : E) (n : ℕ)
       → (run covers node_exists next s n).popped + length (run covers node_exists next s n).stack ≤ 1
-          + total (λ e. length (next e)) us
+      + total (λ e. length (next e)) us
   pops_at_most own us among s n =
       let counted = (run_counted s n).all in
       let weighs = done_weighs own (λ e. length (next e)) us (λ e t. inl (among e t)) s n in

@@ -1,7 +1,7 @@
 -- What flags keep, and the graph that is cut off by them.
-use Rattle.std.proofs.Common.{◌≡◌, ℕ, ◌+◌, ◌<◌, ◌≤◌, ◌⊎◌, ⊎_elim, inl, inr, Bool, true, false, cond, not, ◌||◌, IsTrue,
-    List, [], ◌∷◌, Option, Some, None, is_some, option_map, length, take, drop, slice_index_or, slice_set, slice_get,
-    refl, ap, sym, ◌∙◌, subst, arith, suc, zero}
+use Rattle.std.proofs.Common.{◌≡◌, ℕ, ◌+◌, ◌<◌, ◌≤◌, ◌⊎◌, ⊎_elim, inl, inr, Bool, true, false, cond, not, ◌||◌, IsTrue}
+use Rattle.std.proofs.Common.{List, [], ◌∷◌, Option, Some, None, is_some, option_map, length, take, drop}
+use Rattle.std.proofs.Common.{slice_index_or, slice_set, slice_get, refl, ap, sym, ◌∙◌, subst, arith, suc, zero}
 use Rattle.std.proofs.lemmas.Bool.{false≢true, cases_eq}
 use Rattle.std.proofs.lemmas.List.{take_more, drop_more, at_drop_more, get_or-set_same, get_or-set_other, length-set}
 use Rattle.indexmap.specs.IndexMap.{set_value_at}
@@ -9,10 +9,10 @@ use Rattle.alias_base.specs.declared.ids.IdentifierId.{IdentifierId}
 use Rattle.alias_hir.specs.declared.env.Environment.{Environment}
 use Rattle.alias_graph.specs.declared.types.Node.{Node as StoredNode}
 use Rattle.alias_graph.specs.declared.types.StoredLink.{StoredLink}
-use Rattle.alias_graph.specs.Cutting.{flag_at, flagged, any_edge, any_source, leads, leads_at, FlagsGrow, unflagged,
-    IsClosed, stored_value_quiet, stored_bare, bare_at, cut_to}
-use Rattle.alias_graph.specs.Flat.{link_at, edges_at, sources_at, AllBelow, AllFit, LinksFit, NodeFits, node_of,
-    nodes_of, stored_links, all_stored_links}
+use Rattle.alias_graph.specs.Cutting.{flag_at, flagged, any_edge, any_source, leads, leads_at, FlagsGrow, unflagged}
+use Rattle.alias_graph.specs.Cutting.{IsClosed, stored_value_quiet, stored_bare, bare_at, cut_to}
+use Rattle.alias_graph.specs.Flat.{link_at, edges_at, sources_at, AllBelow, AllFit, LinksFit, NodeFits, node_of}
+use Rattle.alias_graph.specs.Flat.{nodes_of, stored_links, all_stored_links}
 use Rattle.alias_graph.specs.Nodes.{Edge, Source, Node, Entries, node_at, has_node, slot_of, same_id}
 use Rattle.alias_graph.specs.Parts.{LeadsOut, HasNoLink, SamePart, CutOff}
 use Rattle.alias_graph.specs.Reach.{once}
@@ -36,7 +36,7 @@ grow_set fs p lt = record {
   size = length-set fs p true;
   kept = λ i t. ⊎_elim
       (λ (same : i ≡ p). ap (λ j. slice_index_or (slice_set fs p true) j false) same
-          ∙ get_or-set_same fs p true false lt)
+      ∙ get_or-set_same fs p true false lt)
       (λ other. get_or-set_other fs p i true false other ∙ t)
       (cases_eq i p);
 }
@@ -103,9 +103,9 @@ leading_passes links g old new more i h out = record {
       (λ (here : j ≡ i).
       let same = h.same is in
       let at : slice_index_or new i false ≡ false = ap (λ z. slice_index_or z i false) same
-          ∙ ap (λ k. slice_index_or old k false) (sym here) ∙ no in
+      ∙ ap (λ k. slice_index_or old k false) (sym here) ∙ no in
       ap (λ k. leads_at (flagged g old) links (stored_at g k)) here
-          ∙ ap (λ z. leads_at (flagged g z) links (stored_at g i)) (sym same) ∙ out at)
+      ∙ ap (λ z. leads_at (flagged g z) links (stored_at g i)) (sym same) ∙ out at)
       (λ other. h.closed is j (omega arith) no)
       (cases_eq j i);
 }
@@ -146,14 +146,14 @@ leading_ends links g old new more i h size last is = (
 pub flags_more : (g : Entries StoredNode) (ids : List IdentifierId) (i : ℕ) (d : IdentifierId) (a b : List Bool) → i
     < length ids → FlagsGrow a b
     → ((id : IdentifierId) → IsOneOf id (take i ids) → (p : ℕ) → slot_of g id ≡ Some p → slice_index_or a p false
-        ≡ true)
+    ≡ true)
     → ((p : ℕ) → slot_of g (slice_index_or ids i d) ≡ Some p → slice_index_or b p false ≡ true)
     → (id : IdentifierId) → IsOneOf id (take (i + 1) ids) → (p : ℕ) → slot_of g id ≡ Some p → slice_index_or b p false
-        ≡ true
+    ≡ true
 flags_more g ids i d a b lt grow before here id is p at = ⊎_elim
     (λ earlier. grow.kept p (before id earlier p at))
     (λ last. ⊎_elim (λ (same : id ≡ slice_index_or ids i d). here p (ap (slot_of g) (sym same) ∙ at))
-        (λ none. absurd none) last)
+    (λ none. absurd none) last)
     (in_either (take i ids) (slice_index_or ids i d ∷ []) id (subst (IsOneOf id) (take_more ids i d lt) is))
 
 -- one link more
@@ -204,19 +204,19 @@ module _ (keep : IdentifierId → Bool) where
   no_edge [] h l i = absurd i
   no_edge (x ∷ ls) h l i = elim (keep x.other) as
       (λ b. keep x.other ≡ b → cond b true (any_edge keep ls) ≡ false → keep l.other ≡ false) [
-    | true ↦ λ is e. cc
-    | false ↦ λ is e. ⊎_elim (λ (same : l ≡ x). ap (λ (z : Edge). keep z.other) same ∙ is)
-        (λ other. no_edge ls e l other) i
-  ] refl h
+        | true ↦ λ is e. cc
+        | false ↦ λ is e. ⊎_elim (λ (same : l ≡ x). ap (λ (z : Edge). keep z.other) same ∙ is)
+            (λ other. no_edge ls e l other) i
+      ] refl h
 
   no_source : (ls : List Source) → any_source keep ls ≡ false → (l : Source) → IsOneOf l ls → keep l.other ≡ false
   no_source [] h l i = absurd i
   no_source (x ∷ ls) h l i = elim (keep x.other) as
       (λ b. keep x.other ≡ b → cond b true (any_source keep ls) ≡ false → keep l.other ≡ false) [
-    | true ↦ λ is e. cc
-    | false ↦ λ is e. ⊎_elim (λ (same : l ≡ x). ap (λ (z : Source). keep z.other) same ∙ is)
-        (λ other. no_source ls e l other) i
-  ] refl h
+        | true ↦ λ is e. cc
+        | false ↦ λ is e. ⊎_elim (λ (same : l ≡ x). ap (λ (z : Source). keep z.other) same ∙ is)
+            (λ other. no_source ls e l other) i
+      ] refl h
 
   leads_out : (n : Node) → leads keep n ≡ false → LeadsOut keep n
   leads_out n h =
@@ -314,8 +314,11 @@ bare_fits m n = record { forward = tt; created_from = tt; captures = tt; aliases
 cut_fits : (m : ℕ) (fs : List Bool) (g : Entries StoredNode) → AllFit m g → AllFit m (cut_to fs g)
 cut_fits m [] g h = h
 cut_fits m (b ∷ fs) [] h = tt
-cut_fits m (b ∷ fs) (e ∷ g) h = (elim b as (λ z. NodeFits m (cond z e.1 (stored_bare e.1)))
-    [ true ↦ h.0 | false ↦ bare_fits m e.1 ], cut_fits m fs g h.1)
+cut_fits m (b ∷ fs) (e ∷ g) h = (
+  elim b as (λ z. NodeFits m (cond z e.1 (stored_bare e.1)))
+      [ true ↦ h.0 | false ↦ bare_fits m e.1 ],
+  cut_fits m fs g h.1,
+)
 
 cut_fewer : (fs : List Bool) (g : Entries StoredNode) → all_stored_links (cut_to fs g) ≤ all_stored_links g
 cut_fewer [] g = omega arith
@@ -352,28 +355,33 @@ module _ (links : List StoredLink) (g : Entries StoredNode) (fs : List Bool) (si
   out_at id n (Some p) at there out =
       let f = slot_some g id p at in
       let is : Some (node_of links f.0) ≡ Some n =
-          sym (node_at_of links g id ∙ ap (option_map (node_of links)) (found_node g id p f.0 f.1)) ∙ there in
+      sym (node_at_of links g id ∙ ap (option_map (node_of links)) (found_node g id p f.0 f.1)) ∙ there in
       let same : node_of links f.0 ≡ n = cc in
       let none : leads keep (node_of links f.0) ≡ false = ap (leads_at keep links) (sym (found_stored g id p f.0 f.1))
-          ∙ closed p out in
+      ∙ closed p out in
       subst (LeadsOut keep) same (leads_out keep (node_of links f.0) none)
 
   stripped_at : (id : IdentifierId) (n : Node) (o : Option ℕ) → slot_of g id ≡ o → node_at (nodes_of links cut) id
       ≡ Some n → flag_at fs o ≡ false → HasNoLink n
   stripped_at id n None at there out =
       let none : has_node (nodes_of links cut) id ≡ false = has_node_of links cut id ∙ cut_ids fs g id
-          ∙ ap is_some (slot_missing g id at) in
+      ∙ ap is_some (slot_missing g id at) in
       let some : has_node (nodes_of links cut) id ≡ true = ap is_some there in
       absurd (false≢true (sym none ∙ some))
   stripped_at id n (Some p) at there out =
       let f = slot_some g id p at in
       let found : node_at cut id ≡ Some (stored_bare f.0) = cut_found fs g id p f.0 size f.1
-          ∙ ap (λ z. Some (cond z f.0 (stored_bare f.0))) out in
+      ∙ ap (λ z. Some (cond z f.0 (stored_bare f.0))) out in
       let is : Some (node_of links (stored_bare f.0)) ≡ Some n =
-          sym (node_at_of links cut id ∙ ap (option_map (node_of links)) found) ∙ there in
+      sym (node_at_of links cut id ∙ ap (option_map (node_of links)) found) ∙ there in
       let same : node_of links (stored_bare f.0) ≡ n = cc in
-      subst HasNoLink same (record { forward = refl; created_from = refl; captures = refl; aliases = refl;
-          maybe_aliases = refl })
+      subst HasNoLink same (record {
+        forward = refl;
+        created_from = refl;
+        captures = refl;
+        aliases = refl;
+        maybe_aliases = refl;
+      })
 
   cut_part : SamePart keep (nodes_of links g) (nodes_of links cut)
   cut_part = record {
@@ -398,27 +406,27 @@ module _ (links : List StoredLink) (g : Entries StoredNode) (fs : List Bool) (si
     quiet_at id n (Some p) at there out =
         let f = slot_some g id p at in
         let is : Some (node_of links f.0) ≡ Some n =
-            sym (node_at_of links g id ∙ ap (option_map (node_of links)) (found_node g id p f.0 f.1)) ∙ there in
+        sym (node_at_of links g id ∙ ap (option_map (node_of links)) (found_node g id p f.0 f.1)) ∙ there in
         let same : node_of links f.0 ≡ n = cc in
         ap (λ (z : Node). value_reports env z.value) (sym same)
-            ∙ subst (stored_value_quiet env) (found_stored g id p f.0 f.1) (quiet p out)
+        ∙ subst (stored_value_quiet env) (found_stored g id p f.0 f.1) (quiet p out)
 
     other_at : (id : IdentifierId) (n : Node) (o : Option ℕ) → slot_of g id ≡ o → node_at (nodes_of links cut) id
         ≡ Some n → flag_at fs o ≡ false → value_reports env n.value ≡ []
     other_at id n None at there out =
         let none : has_node (nodes_of links cut) id ≡ false = has_node_of links cut id ∙ cut_ids fs g id
-            ∙ ap is_some (slot_missing g id at) in
+        ∙ ap is_some (slot_missing g id at) in
         let some : has_node (nodes_of links cut) id ≡ true = ap is_some there in
         absurd (false≢true (sym none ∙ some))
     other_at id n (Some p) at there out =
         let f = slot_some g id p at in
         let found : node_at cut id ≡ Some (stored_bare f.0) = cut_found fs g id p f.0 size f.1
-            ∙ ap (λ z. Some (cond z f.0 (stored_bare f.0))) out in
+        ∙ ap (λ z. Some (cond z f.0 (stored_bare f.0))) out in
         let is : Some (node_of links (stored_bare f.0)) ≡ Some n =
-            sym (node_at_of links cut id ∙ ap (option_map (node_of links)) found) ∙ there in
+        sym (node_at_of links cut id ∙ ap (option_map (node_of links)) found) ∙ there in
         let same : node_of links (stored_bare f.0) ≡ n = cc in
         ap (λ (z : Node). value_reports env z.value) (sym same)
-            ∙ subst (stored_value_quiet env) (found_stored g id p f.0 f.1) (quiet p out)
+        ∙ subst (stored_value_quiet env) (found_stored g id p f.0 f.1) (quiet p out)
 
 -- the graph is cut off
 pub cut_is : (record_errors : Bool) (env : Environment) (targets : List IdentifierId) (links : List StoredLink)
@@ -429,9 +437,11 @@ pub cut_is : (record_errors : Bool) (env : Environment) (targets : List Identifi
     → new ≡ cut_to fs g → CutOff record_errors env targets (nodes_of links g) (nodes_of links new)
 cut_is record_errors env targets links g new fs size closed there quiet is =
     subst (λ z. CutOff record_errors env targets (nodes_of links g) (nodes_of links z)) (sym is) (record {
-  keep = λ id. flagged g fs id;
-  part = cut_part links g fs size closed;
-  kept = λ id i t. kept_at links g fs size closed id (slot_of g id) refl t (there id i);
-  quiet = λ r. (λ id n at k. quiet_at links g fs size closed env (quiet r) id n (slot_of g id) refl at k,
-      λ id n at k. other_at links g fs size closed env (quiet r) id n (slot_of g id) refl at k);
-})
+      keep = λ id. flagged g fs id;
+      part = cut_part links g fs size closed;
+      kept = λ id i t. kept_at links g fs size closed id (slot_of g id) refl t (there id i);
+      quiet = λ r. (
+        λ id n at k. quiet_at links g fs size closed env (quiet r) id n (slot_of g id) refl at k,
+        λ id n at k. other_at links g fs size closed env (quiet r) id n (slot_of g id) refl at k,
+      );
+    })

@@ -1,7 +1,7 @@
 -- What a walk leaves, by the legal paths.
-use Rattle.std.proofs.Common.{◌≡◌, ℕ, ◌+◌, ◌*◌, ◌<◌, ◌≤◌, ◌⊎◌, max, inl, inr, ⊎_elim, Bool, true, false, cond, IsTrue,
-    List, [], ◌∷◌, Option, Some, None, is_some, length, option_map, slice_get, slice_set, refl, ap, sym, ◌∙◌, subst,
-    arith, suc, zero}
+use Rattle.std.proofs.Common.{◌≡◌, ℕ, ◌+◌, ◌*◌, ◌<◌, ◌≤◌, ◌⊎◌, max, inl, inr, ⊎_elim, Bool, true, false, cond, IsTrue}
+use Rattle.std.proofs.Common.{List, [], ◌∷◌, Option, Some, None, is_some, length, option_map, slice_get, slice_set}
+use Rattle.std.proofs.Common.{refl, ap, sym, ◌∙◌, subst, arith, suc, zero}
 use Rattle.std.proofs.lemmas.Bool.{cases_eq}
 use Rattle.std.specs.Option.{option_map_or}
 use Rattle.alias_base.specs.declared.ids.IdentifierId.{IdentifierId}
@@ -18,10 +18,10 @@ use Rattle.alias_graph.specs.Graph.{changed}
 use Rattle.alias_graph.specs.Walks.{IsOneOf}
 use Rattle.alias_graph.specs.Links.{covers, node_exists, next, walk, all_links, is_definite, at_least}
 use Rattle.alias_graph.specs.Legal.{Legal}
-use Rattle.alias_graph.specs.NodeMarks.{later, higher, remarked, info, marked_by, visited, marked, raised, raised_at,
-    range_visited, ranges_after}
-use Rattle.alias_graph.specs.Reach.{end_of, end_at, but_end, Visits, AtLeast, Covered, Caused, IsDefiniteMark,
-    SeenDefinite, MutatedAt, Reached, Marks}
+use Rattle.alias_graph.specs.NodeMarks.{later, higher, remarked, info, marked_by, visited, marked, raised, raised_at}
+use Rattle.alias_graph.specs.NodeMarks.{range_visited, ranges_after}
+use Rattle.alias_graph.specs.Reach.{end_of, end_at, but_end, Visits, AtLeast, Covered, Caused, IsDefiniteMark}
+use Rattle.alias_graph.specs.Reach.{SeenDefinite, MutatedAt, Reached, Marks}
 use Rattle.alias_graph.proofs.Covering.{eqb_is, opened}
 use Rattle.alias_graph.proofs.Visits.{Met, run_new}
 use Rattle.alias_graph.proofs.Size.{eight_times}
@@ -135,14 +135,14 @@ ranges_there end rs (d ∷ done) e (inl same) lt =
     (range_there end e.id (ranges_after end rs done) (let n = ranges_length end rs done in omega arith))
 ranges_there end rs (d ∷ done) e (inr other) lt =
     least_up end (end_at (ranges_after end rs done) e.id.0) (end_at (ranges_after end rs (d ∷ done)) e.id.0)
-        (range_up end d.id (ranges_after end rs done) e.id.0) (ranges_there end rs done e other lt)
+    (range_up end d.id (ranges_after end rs done) e.id.0) (ranges_there end rs done e other lt)
 
 abbrev HasEnd : Option EvaluationOrder → ℕ → Type 0
 HasEnd end n = (v : EvaluationOrder) × (end ≡ Some v) × (n ≡ v.0)
 
 range_cause : (end : Option EvaluationOrder) (id : IdentifierId) (rs : List Identifier) (j : ℕ)
     → (slice_get (range_visited end id rs) j ≡ slice_get rs j)
-        ⊎ ((id.0 ≡ j) × HasEnd end (end_at (range_visited end id rs) j))
+    ⊎ ((id.0 ≡ j) × HasEnd end (end_at (range_visited end id rs) j))
 range_cause None id rs j = inl refl
 range_cause (Some v) id rs j =
     subst (λ z. (slice_get z j ≡ slice_get rs j) ⊎ ((id.0 ≡ j) × HasEnd (Some v) (end_at z j))) (sym (lifts rs id.0 v))
@@ -150,7 +150,7 @@ range_cause (Some v) id rs j =
 
 pub ranges_cause : (end : Option EvaluationOrder) (rs : List Identifier) (done : List Entry) (j : ℕ)
     → (slice_get (ranges_after end rs done) j ≡ slice_get rs j)
-        ⊎ (HasEnd end (end_at (ranges_after end rs done) j) × (e : Entry) × (e.id.0 ≡ j) × IsOneOf e done)
+    ⊎ (HasEnd end (end_at (ranges_after end rs done) j) × (e : Entry) × (e.id.0 ≡ j) × IsOneOf e done)
 ranges_cause end rs [] j = inl refl
 ranges_cause end rs (d ∷ done) j = ⊎_elim
     (λ same. ⊎_elim
@@ -167,22 +167,22 @@ changed_here [] id f = refl
 changed_here (p ∷ g) id f = elim (same_id id p.0) as
     (λ b. same_id id p.0 ≡ b → node_at (cond b ((p.0, f p.1) ∷ g) (p ∷ changed g id f)) id
     ≡ option_map f (cond b (Some p.1) (node_at g id))) [
-  | true ↦ λ is. ap (λ b. cond b (Some (f p.1)) (node_at g id)) is
-  | false ↦ λ is. ap (λ b. cond b (Some p.1) (node_at (changed g id f) id)) is ∙ changed_here g id f
-] refl
+      | true ↦ λ is. ap (λ b. cond b (Some (f p.1)) (node_at g id)) is
+      | false ↦ λ is. ap (λ b. cond b (Some p.1) (node_at (changed g id f) id)) is ∙ changed_here g id f
+    ] refl
 
 pub changed_apart : (g : Nodes) (id q : IdentifierId) (f : Node → Node) → (id.0 ≡ q.0 → ⊥) → node_at (changed g id f) q
     ≡ node_at g q
 changed_apart [] id q f h = refl
 changed_apart (p ∷ g) id q f h = elim (same_id id p.0) as
     (λ b. same_id id p.0 ≡ b → node_at (cond b ((p.0, f p.1) ∷ g) (p ∷ changed g id f)) q ≡ node_at (p ∷ g) q) [
-  | true ↦ λ is. elim (same_id q p.0) as (λ b. same_id q p.0 ≡ b → cond b (Some (f p.1)) (node_at g q)
-      ≡ cond b (Some p.1) (node_at g q)) [
-    | true ↦ λ at. absurd (let x = eqb_is id.0 p.0.0 is in let y = eqb_is q.0 p.0.0 at in h (x ∙ sym y))
-    | false ↦ λ at. refl
-  ] refl
-  | false ↦ λ is. ap (cond (same_id q p.0) (Some p.1)) (changed_apart g id q f h)
-] refl
+      | true ↦ λ is. elim (same_id q p.0) as (λ b. same_id q p.0 ≡ b → cond b (Some (f p.1)) (node_at g q)
+          ≡ cond b (Some p.1) (node_at g q)) [
+            | true ↦ λ at. absurd (let x = eqb_is id.0 p.0.0 is in let y = eqb_is q.0 p.0.0 at in h (x ∙ sym y))
+            | false ↦ λ at. refl
+          ] refl
+      | false ↦ λ is. ap (cond (same_id q p.0) (Some p.1)) (changed_apart g id q f h)
+    ] refl
 
 some_node : (o : Option Node) → is_some o ≡ true → (n : Node) × (o ≡ Some n)
 some_node None h = cc
@@ -217,7 +217,7 @@ module _ (m : ℕ) (origin : Origin) (g : Nodes) where
         → Holds (node_at (marked m origin g (d ∷ done)) q)
     stored_one done d q h = ⊎_elim
         (λ same. subst Holds (sym (ap (λ z. node_at (changed (marked m origin g done) z (visited m origin d)) q)
-            (id_is d.id q same) ∙ changed_here (marked m origin g done) q (visited m origin d)))
+        (id_is d.id q same) ∙ changed_here (marked m origin g done) q (visited m origin d)))
         (keep d (node_at (marked m origin g done) q) h))
         (λ other. subst Holds (sym (changed_apart (marked m origin g done) d.id q (visited m origin d) other)) h)
         (cases_eq d.id.0 q.0)
@@ -229,13 +229,16 @@ module _ (m : ℕ) (origin : Origin) (g : Nodes) where
         let n = some_node (node_at (marked m origin g done) e.id) (still_there done e.id t) in
         subst (λ (z : Entry). Holds (node_at (changed (marked m origin g done) z.id (visited m origin z)) e.id)) same
         (subst Holds (sym (changed_here (marked m origin g done) e.id (visited m origin e)
-            ∙ ap (option_map (visited m origin e)) n.1)) (visited m origin e n.0, refl, brings n.0))
+        ∙ ap (option_map (visited m origin e)) n.1)) (visited m origin e n.0, refl, brings n.0))
     brought (d ∷ done) e brings (inr other) t = stored_one done d e.id (brought done e brings other t)
 
 definite_stays : (i : MutationInfo) (o : Option MutationInfo) → IsDefiniteMark o → IsDefiniteMark (remarked i o)
 definite_stays i None h = absurd (cc)
-definite_stays i (Some old) h = (old, ap Some (stays i.kind old.kind (ap (λ (z : MutationInfo). z.kind) same ∙ h.2)),
-    ap (λ (z : MutationInfo). z.kind) same ∙ h.2)
+definite_stays i (Some old) h = (
+  old,
+  ap Some (stays i.kind old.kind (ap (λ (z : MutationInfo). z.kind) same ∙ h.2)),
+  ap (λ (z : MutationInfo). z.kind) same ∙ h.2,
+)
   where
     same : old ≡ h.0
     same = let e = h.1 in cc
@@ -319,13 +322,13 @@ module _ (g : Nodes) (m : ℕ) (s : Entry) (origin : Origin) where
         let same = id_is by.0.id e.id (opened by.0 e by.2).id in
         subst (λ q. Reached (marked m origin g visits) m q) same
         (brought m origin g (MutatedAt m) (λ d n h. later_is m n.last_mutated) visits by.0
-            (λ n. later_is m n.last_mutated) by.1 (legal_exists g m s by.0 (visit_legal by.0 by.1)));
+        (λ n. later_is m n.last_mutated) by.1 (legal_exists g m s by.0 (visit_legal by.0 by.1)));
     definite = λ e p is.
         let by = met e p in
         let o = opened by.0 e by.2 in
         subst (λ q. SeenDefinite (marked m origin g visits) q) (id_is by.0.id e.id o.id)
         (brought m origin g EitherDefinite (λ d n h. marks_stay d.transitive (info d.kind origin.span) n h) visits by.0
-            (λ n. marks_come by.0.transitive (info by.0.kind origin.span) n (high by.0.kind e.kind o.kind is)) by.1
+        (λ n. marks_come by.0.transitive (info by.0.kind origin.span) n (high by.0.kind e.kind o.kind is)) by.1
         (legal_exists g m s by.0 (visit_legal by.0 by.1)));
     untouched = λ id none. marked_apart m origin g visits id (λ e i same. none e (visit_legal e i) same);
   }

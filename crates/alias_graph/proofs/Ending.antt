@@ -1,6 +1,6 @@
 -- A walk ends.
-use Rattle.std.proofs.Common.{◌≡◌, ℕ, ◌+◌, ◌*◌, ◌≤◌, ◌⊎◌, inl, inr, ⊎_elim, Bool, true, false, List, [], ◌∷◌, length,
-    refl, ap, ◌∙◌, arith, suc, zero, add-one}
+use Rattle.std.proofs.Common.{◌≡◌, ℕ, ◌+◌, ◌*◌, ◌≤◌, ◌⊎◌, inl, inr, ⊎_elim, Bool, true, false, List, [], ◌∷◌, length}
+use Rattle.std.proofs.Common.{refl, ap, ◌∙◌, arith, suc, zero, add-one}
 use Rattle.alias_graph.specs.declared.types.Entry.{Entry}
 use Rattle.alias_graph.specs.Nodes.{Nodes}
 use Rattle.alias_graph.specs.Links.{covers, next, node_exists, step_to, walk, all_links}
@@ -36,5 +36,5 @@ module _ (g : Nodes) (m : ℕ) where
   walk_empties s = ⊎_elim
       (λ h. h)
       (λ h. let few = pops_few g m s (1 + 8 * all_links g) in
-          empty (walk g m s).stack (1 + 8 * all_links g) (omega arith))
+      empty (walk g m s).stack (1 + 8 * all_links g) (omega arith))
       (goes s (1 + 8 * all_links g))

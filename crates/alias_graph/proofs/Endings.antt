@@ -1,6 +1,6 @@
 -- A walk with few pops ends.
-use Rattle.std.proofs.Common.{◌≡◌, ℕ, ◌+◌, ◌-◌, ◌≤◌, ◌⊎◌, inl, inr, ⊎_elim, Bool, true, false, List, [], ◌∷◌, length,
-    refl, ap, ◌∙◌, sym, arith, suc, zero, add-one}
+use Rattle.std.proofs.Common.{◌≡◌, ℕ, ◌+◌, ◌-◌, ◌≤◌, ◌⊎◌, inl, inr, ⊎_elim, Bool, true, false, List, [], ◌∷◌, length}
+use Rattle.std.proofs.Common.{refl, ap, ◌∙◌, sym, arith, suc, zero, add-one}
 use Rattle.alias_graph.specs.Walks.{Walk, is_new, pop, step_at, step, run}
 
 module _ {E : Type 0} (covers : E → E → Bool) (node_exists : E → Bool) (next : E → List E) where
@@ -42,7 +42,7 @@ module _ {E : Type 0} (covers : E → E → Bool) (node_exists : E → Bool) (ne
   run_still s n (suc j) h =
       let more : n + suc j ≡ suc (n + j) = omega arith in
       ap (run covers node_exists next s) more ∙ ap (step covers node_exists next) (run_still s n j h)
-          ∙ still (run covers node_exists next s n) h
+      ∙ still (run covers node_exists next s n) h
 
   -- once nothing is left to pop, nothing more happens
   pub run_ends : (s : E) (n k : ℕ) → n ≤ k → (run covers node_exists next s n).stack ≡ []

@@ -1,6 +1,6 @@
 -- The legal paths of walks settle all range ends.
-use Rattle.std.proofs.Common.{◌≡◌, ℕ, ◌≤◌, ⊎_elim, List, [], ◌∷◌, Some, option_map, length, slice_get, refl, ap, sym,
-    ◌∙◌, subst, arith, suc}
+use Rattle.std.proofs.Common.{◌≡◌, ℕ, ◌≤◌, ⊎_elim, List, [], ◌∷◌, Some, option_map, length, slice_get, refl, ap, sym}
+use Rattle.std.proofs.Common.{◌∙◌, subst, arith, suc}
 use Rattle.alias_hir.specs.declared.env.Identifier.{Identifier}
 use Rattle.alias_graph.specs.Nodes.{Nodes}
 use Rattle.alias_graph.specs.declared.types.RangeWalk.{RangeWalk}
@@ -10,9 +10,9 @@ use Rattle.alias_graph.specs.Reach.{end_at, but_end}
 same_identifier : (x y : Identifier) → but_end x ≡ but_end y → x.mutable_range.end.0 ≡ y.mutable_range.end.0 → x ≡ y
 same_identifier x y rest end =
     ap (λ n. let z : Identifier = record x { mutable_range = record x.mutable_range { end = record { 0 = n } } } in z)
-        end
+    end
     ∙ ap (λ (b : Identifier). let z : Identifier =
-        record b { mutable_range = record b.mutable_range { end = record { 0 = y.mutable_range.end.0 } } } in z) rest
+    record b { mutable_range = record b.mutable_range { end = record { 0 = y.mutable_range.end.0 } } } in z) rest
 
 same_all : (xs ys : List Identifier) → length xs ≡ length ys
     → ((i : ℕ) → option_map but_end (slice_get xs i) ≡ option_map but_end (slice_get ys i))

@@ -1,6 +1,6 @@
 -- The lists of nodes have each link at most twice.
-use Rattle.std.proofs.Common.{◌≡◌, ℕ, ◌+◌, ◌≤◌, true, false, cond, List, [], ◌∷◌, ◌++◌, length, if◌then◌else◌, ap, sym,
-    ◌∙◌, subst, arith, length-append}
+use Rattle.std.proofs.Common.{◌≡◌, ℕ, ◌+◌, ◌≤◌, true, false, cond, List, [], ◌∷◌, ◌++◌, length, if◌then◌else◌, ap, sym}
+use Rattle.std.proofs.Common.{◌∙◌, subst, arith, length-append}
 use Rattle.alias_base.specs.declared.ids.IdentifierId.{IdentifierId}
 use Rattle.alias_graph.specs.declared.types.EdgeKind.{EdgeKind}
 use Rattle.alias_graph.specs.declared.types.EdgeKind.TheVariants.{Capture, Alias, MaybeAlias}
@@ -14,8 +14,9 @@ use Rattle.alias_graph.specs.Nodes.{Entries, with_node, same_id}
 use Rattle.alias_graph.specs.Graph.{changed, has_source}
 use Rattle.alias_graph.specs.Links.{all_links}
 use Rattle.alias_graph.specs.NodeMarks.{marked}
-use Rattle.alias_graph.specs.Flat.{AllFit, LinksFit, IsCreated, link_at, sources_at, nodes_of, noted_slot, stored_links,
-    all_stored_links, stored_fresh, with_forward_slot, with_created_slot, with_source_slot}
+use Rattle.alias_graph.specs.Flat.{AllFit, LinksFit, IsCreated, link_at, sources_at, nodes_of, noted_slot, stored_links}
+use Rattle.alias_graph.specs.Flat.{all_stored_links, stored_fresh, with_forward_slot, with_created_slot}
+use Rattle.alias_graph.specs.Flat.{with_source_slot}
 use Rattle.alias_graph.proofs.Flats.{fits_after_link, with_node_fits, fit_fresh}
 use Rattle.alias_graph.proofs.FlatWalk.{links_kept}
 use Rattle.alias_graph.proofs.Shapes.{marked_links}
@@ -27,7 +28,7 @@ changed_links F f (p ∷ g) id =
     let here = f p.1 in
     let rest = changed_links F f g id in
     elim (same_id id p.0) as (λ b. all_stored_links (cond b ((p.0, F p.1) ∷ g) (p ∷ changed g id F)) ≤ stored_links p.1
-        + all_stored_links g + 1) [ true ↦ omega arith | false ↦ omega arith ]
+    + all_stored_links g + 1) [ true ↦ omega arith | false ↦ omega arith ]
 
 forward_links : (p : ℕ) (k : StoredNode) → stored_links (with_forward_slot p k) ≤ stored_links k + 1
 forward_links p k = let n = length-append k.forward (p ∷ []) in omega arith
@@ -36,7 +37,7 @@ noted_length : (links : List StoredLink) (p : ℕ) (ps : List ℕ) → length (n
 noted_length links p ps =
     let n = length-append ps (p ∷ []) in
     elim (has_source (link_at links p).from (sources_at links ps)) as
-        (λ b. length (cond b ps (ps ++ p ∷ [])) ≤ length ps + 1) [ true ↦ omega arith | false ↦ omega arith ]
+    (λ b. length (cond b ps (ps ++ p ∷ [])) ≤ length ps + 1) [ true ↦ omega arith | false ↦ omega arith ]
 
 created_links : (links : List StoredLink) (p : ℕ) (k : StoredNode) → stored_links (with_created_slot links p k)
     ≤ stored_links k + 1
@@ -54,8 +55,8 @@ made_links [] id v = omega arith
 made_links (p ∷ g) id v =
     let rest = made_links g id v in
     elim (same_id id p.0) as (λ b. all_stored_links
-        (if b then (p.0, stored_fresh v) ∷ g else p ∷ with_node g id (stored_fresh v)) ≤ stored_links p.1
-        + all_stored_links g) [ true ↦ omega arith | false ↦ omega arith ]
+    (if b then (p.0, stored_fresh v) ∷ g else p ∷ with_node g id (stored_fresh v)) ≤ stored_links p.1
+    + all_stored_links g) [ true ↦ omega arith | false ↦ omega arith ]
 
 -- a node without links
 pub make_fits : (links : List StoredLink) (g new : Entries StoredNode) (id : IdentifierId) (k : StoredNode)
@@ -64,8 +65,10 @@ make_fits links g new id k v h fresh is =
     subst (LinksFit links) (sym (is ∙ ap (with_node g id) fresh)) (
     let few = made_links g id v in
     let twice = h.twice in
-    record { within = with_node_fits (length links) g id (stored_fresh v) (fit_fresh (length links) v) h.within;
-        twice = omega arith })
+    record {
+      within = with_node_fits (length links) g id (stored_fresh v) (fit_fresh (length links) v) h.within;
+      twice = omega arith;
+    })
 
 -- a link that no node has
 pub link_fits : (links more : List StoredLink) (g new : Entries StoredNode) (l : StoredLink) → LinksFit links g → more
@@ -85,7 +88,7 @@ module _ (links more : List StoredLink) (g new : Entries StoredNode) (l : Stored
   join_fits kind all from into p at =
       let one = changed_links (with_forward_slot p) (forward_links p) g from in
       let two = changed_links (with_source_slot kind all p) (source_links kind all p)
-          (changed g from (with_forward_slot p)) into in
+      (changed g from (with_forward_slot p)) into in
       let n = ap length is ∙ length-append links (l ∷ []) in
       let same = ap all_stored_links at in
       let twice = h.twice in
@@ -97,7 +100,7 @@ module _ (links more : List StoredLink) (g new : Entries StoredNode) (l : Stored
       let made = made_links g into Object in
       let one = changed_links (with_forward_slot p) (forward_links p) (with_node g into (stored_fresh Object)) from in
       let two = changed_links (with_created_slot links p) (created_links links p)
-          (changed (with_node g into (stored_fresh Object)) from (with_forward_slot p)) into in
+      (changed (with_node g into (stored_fresh Object)) from (with_forward_slot p)) into in
       let n = ap length is ∙ length-append links (l ∷ []) in
       let same = ap all_stored_links (at links) in
       let twice = h.twice in

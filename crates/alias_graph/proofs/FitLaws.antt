@@ -1,6 +1,7 @@
 -- What a function that fits records fits.
-use Rattle.std.proofs.Common.{◌≡◌, ℕ, ◌+◌, ◌<◌, Bool, true, false, ◌||◌, if◌then◌else◌, IsTrue, List, [], ◌∷◌, ◌++◌,
-    Option, Some, None, is_some, nat_lt, length, replicate, slice_get, slice_set, refl, subst, arith, zero, suc}
+use Rattle.std.proofs.Common.{◌≡◌, ℕ, ◌+◌, ◌<◌, Bool, true, false, ◌||◌, if◌then◌else◌, IsTrue, List, [], ◌∷◌, ◌++◌}
+use Rattle.std.proofs.Common.{Option, Some, None, is_some, nat_lt, length, replicate, slice_get, slice_set, refl, subst}
+use Rattle.std.proofs.Common.{arith, zero, suc}
 use Rattle.std.specs.Prelude.{Result, Ok, Err}
 use Rattle.std.specs.Option.{option_map_or}
 use Rattle.alias_base.specs.Answer.{◌>>=◌}
@@ -38,14 +39,16 @@ use Rattle.alias_graph.proofs.RemainingNodes.{graph_is_remaining}
 use Rattle.alias_graph.specs.declared.recorded.listing.Listing.{Listing}
 use Rattle.alias_graph.specs.declared.recorded.listing.RecordedMutation.{RecordedMutation}
 use Rattle.alias_graph.specs.recorded.Each.{each}
-use Rattle.alias_graph.specs.recorded.Fitting.{AllOf, OrderHasNext, OrderFits, EffectFits, EffectsFit, InstructionFits,
-    PhiFits, BlockFits, EventFits, StandsBefore, FunctionFits, ListingFits}
+use Rattle.alias_graph.specs.recorded.Fitting.{AllOf, OrderHasNext, OrderFits, EffectFits, EffectsFit, InstructionFits}
+use Rattle.alias_graph.specs.recorded.Fitting.{PhiFits, BlockFits, EventFits, StandsBefore, FunctionFits, ListingFits}
 use Rattle.alias_graph.specs.recorded.IdSets.{has_made}
-use Rattle.alias_graph.specs.recorded.Listings.{position_after, with_event, made, made_once, positioned, linked,
-    created_from, mutated, summarized, rendered, effect_listed, effects_in, recorded_in, instruction_listed}
-use Rattle.alias_graph.specs.recorded.BlockListings.{pending_at, pending_more, added_or_pending, link_of, slot_of_block,
-    operand_listed, phi_listed, returns_listed, alias_listed, aliases_in, with_pending, end_listed, block_listed,
-    blocks_listed, first_listing, listed}
+use Rattle.alias_graph.specs.recorded.Listings.{position_after, with_event, made, made_once, positioned, linked}
+use Rattle.alias_graph.specs.recorded.Listings.{created_from, mutated, summarized, rendered, effect_listed, effects_in}
+use Rattle.alias_graph.specs.recorded.Listings.{recorded_in, instruction_listed}
+use Rattle.alias_graph.specs.recorded.BlockListings.{pending_at, pending_more, added_or_pending, link_of, slot_of_block}
+use Rattle.alias_graph.specs.recorded.BlockListings.{operand_listed, phi_listed, returns_listed, alias_listed}
+use Rattle.alias_graph.specs.recorded.BlockListings.{aliases_in, with_pending, end_listed, block_listed, blocks_listed}
+use Rattle.alias_graph.specs.recorded.BlockListings.{first_listing, listed}
 
 module _ {A : Type 0} (P : A → Type 0) where
   pub all_append : (xs ys : List A) → AllOf P xs → AllOf P ys → AllOf P (xs ++ ys)
@@ -109,17 +112,25 @@ module _ (n : ℕ) where
   same l m p h = let e : l ≡ m = cc in subst Fits e p
 
   fits_event : (e : GraphEvent) (l : Listing) → EventFits n e → Fits l → Fits (with_event e l)
-  fits_event e l q p = record { events = all_push (EventFits n) l.events e p.events q; pending = p.pending;
-      orders = p.orders; before = p.before }
+  fits_event e l q p = record {
+    events = all_push (EventFits n) l.events e p.events q;
+    pending = p.pending;
+    orders = p.orders;
+    before = p.before;
+  }
 
   fits_positioned : (e : ℕ → GraphEvent) → ((i : ℕ) → EventFits n (e i)) → (l m : Listing) → Fits l → positioned e l
       ≡ Ok m → Fits m
   fits_positioned e q l m p h =
       let w = went_on (position_after l.next)
-          (λ after. Ok (record l { next = after; events = l.events ++ e l.next ∷ [] })) m h in
+      (λ after. Ok (record l { next = after; events = l.events ++ e l.next ∷ [] })) m h in
       same (record l { next = w.0; events = l.events ++ e l.next ∷ [] }) m
-          (record { events = all_push (EventFits n) l.events (e l.next) p.events (q l.next); pending = p.pending;
-          orders = p.orders; before = before_up l.next w.0 (next_is l.next w.0 w.1) l.mutations p.before }) w.2
+      (record {
+        events = all_push (EventFits n) l.events (e l.next) p.events (q l.next);
+        pending = p.pending;
+        orders = p.orders;
+        before = before_up l.next w.0 (next_is l.next w.0 w.1) l.mutations p.before;
+      }) w.2
 
   fits_linked : (kind : EdgeKind) (a x : Place) (l m : Listing) → Fits l → linked kind a x l ≡ Ok m → Fits m
   fits_linked kind a x l m p h = fits_positioned (λ i. event.Link kind i a.identifier x.identifier) (λ i. tt) l m p h
@@ -130,27 +141,38 @@ module _ (n : ℕ) where
   fits_mutated : (i : InstructionId) (o : EvaluationOrder) (x : Place) (t : Bool) (k : MutationKind)
       (r : Option MutationReason) (l m : Listing) → OrderHasNext o → Fits l → mutated i o x t k r l ≡ Ok m → Fits m
   fits_mutated i o x t k r l m q p h =
-      let more : ℕ → Listing = λ after. record l
-          { next = after; mutations = l.mutations
-          ++ record { index = l.next; instruction = i; order = o; place = x; transitive = t; kind = k; reason = r }
-          ∷ [] } in
+      let more : ℕ → Listing = λ after. record l {
+        next = after;
+        mutations = l.mutations
+            ++ record { index = l.next; instruction = i; order = o; place = x; transitive = t; kind = k; reason = r }
+            ∷ [];
+      } in
       let w = went_on (position_after l.next) (λ after. Ok (more after)) m h in
-      same (more w.0) m (record { events = p.events; pending = p.pending;
-          orders = orders_push l.mutations (record
-          { index = l.next; instruction = i; order = o; place = x; transitive = t; kind = k; reason = r }) p.orders q;
-          before = all_push (StandsBefore w.0) l.mutations
-          (record { index = l.next; instruction = i; order = o; place = x; transitive = t; kind = k; reason = r })
-          (before_up l.next w.0 (next_is l.next w.0 w.1) l.mutations p.before)
-          (let is : w.0 ≡ l.next + 1 = next_is l.next w.0 w.1 in omega arith) }) w.2
+      same (more w.0) m (record {
+        events = p.events;
+        pending = p.pending;
+        orders = orders_push l.mutations (record
+            { index = l.next; instruction = i; order = o; place = x; transitive = t; kind = k; reason = r }) p.orders q;
+        before = all_push (StandsBefore w.0) l.mutations
+            (record { index = l.next; instruction = i; order = o; place = x; transitive = t; kind = k; reason = r })
+            (before_up l.next w.0 (next_is l.next w.0 w.1) l.mutations p.before)
+            (let is : w.0 ≡ l.next + 1 = next_is l.next w.0 w.1 in omega arith);
+      }) w.2
 
   fits_rendered : (i : InstructionId) (x : Place) (l m : Listing) → Fits l → rendered i x l ≡ Ok m → Fits m
   fits_rendered i x l m p h =
-      let more : ℕ → Listing = λ after. record l
-          { next = after; renders = l.renders ++ record { index = l.next; instruction = i; place = x } ∷ [];
-          summary = l.summary ++ effect.Render x ∷ [] } in
+      let more : ℕ → Listing = λ after. record l {
+        next = after;
+        renders = l.renders ++ record { index = l.next; instruction = i; place = x } ∷ [];
+        summary = l.summary ++ effect.Render x ∷ [];
+      } in
       let w = went_on (position_after l.next) (λ after. Ok (more after)) m h in
-      same (more w.0) m (record { events = p.events; pending = p.pending; orders = p.orders;
-          before = before_up l.next w.0 (next_is l.next w.0 w.1) l.mutations p.before }) w.2
+      same (more w.0) m (record {
+        events = p.events;
+        pending = p.pending;
+        orders = p.orders;
+        before = before_up l.next w.0 (next_is l.next w.0 w.1) l.mutations p.before;
+      }) w.2
 
   fits_summarized : (e : AliasingEffect) (l : Listing) → Fits l → Fits (summarized e l)
   fits_summarized e l p = record { events = p.events; pending = p.pending; orders = p.orders; before = p.before }
@@ -221,9 +243,12 @@ module _ (n : ℕ) where
   fits_added : (b : Bool) (k : ℕ) (e : GraphEvent) (l : Listing) → EventFits n e → Fits l
       → Fits (if b then with_event e l else record l { pending = pending_more l.pending k e })
   fits_added true k e l q p = fits_event e l q p
-  fits_added false k e l q p = record { events = p.events;
-      pending = pending_fits l.pending k e (slice_get l.pending k) p.pending q refl; orders = p.orders;
-      before = p.before }
+  fits_added false k e l q p = record {
+    events = p.events;
+    pending = pending_fits l.pending k e (slice_get l.pending k) p.pending q refl;
+    orders = p.orders;
+    before = p.before;
+  }
 
   fits_added_or_pending : (k : ℕ) (o : Option ℕ) (e : GraphEvent) (l : Listing) → EventFits n e → Fits l
       → Fits (added_or_pending k o e l)
@@ -234,19 +259,22 @@ module _ (n : ℕ) where
       → Unit {0} → Fits l → operand_listed blocks k x e l ≡ Ok m → Fits m
   fits_operand blocks k x e l m u p h =
       let more : ℕ → Listing = λ after. added_or_pending k (slot_of_block blocks e.0) (link_of l.next e.1 x)
-          (record l { next = after }) in
+      (record l { next = after }) in
       let w = went_on (position_after l.next) (λ after. Ok (more after)) m h in
       same (more w.0) m (fits_added_or_pending k (slot_of_block blocks e.0) (link_of l.next e.1 x)
-          (record l { next = w.0 }) tt (record
-          { events = p.events; pending = p.pending; orders = p.orders;
-          before = before_up l.next w.0 (next_is l.next w.0 w.1) l.mutations p.before })) w.2
+      (record l { next = w.0 }) tt (record {
+        events = p.events;
+        pending = p.pending;
+        orders = p.orders;
+        before = before_up l.next w.0 (next_is l.next w.0 w.1) l.mutations p.before;
+      })) w.2
 
   fits_phi : (blocks : List (BlockId × BasicBlock)) (k : ℕ) (phi : Phi) (l m : Listing) → PhiFits n phi → Fits l
       → phi_listed blocks k phi l ≡ Ok m → Fits m
   fits_phi blocks k phi l m q p h =
       each_keeps Fits (λ _. Unit {0}) (operand_listed blocks k phi.place) (fits_operand blocks k phi.place) phi.operands
-          (made PhiNode phi.place l) m (all_unit phi.operands)
-          (fits_event (event.Make phi.place.identifier PhiNode) l q p) h
+      (made PhiNode phi.place l) m (all_unit phi.operands)
+      (fits_event (event.Make phi.place.identifier PhiNode) l q p) h
 
   fits_returns : (returns : Place) (t : Terminal) (l m : Listing) → Fits l → returns_listed returns t l ≡ Ok m → Fits m
   fits_returns returns (terminal.Return id value effects) l m p h = fits_linked Alias value returns l m p h
@@ -269,10 +297,13 @@ module _ (n : ℕ) where
   fits_end : (returns : Place) (k : ℕ) (t : Terminal) (l m : Listing) → Fits l → end_listed returns k t l ≡ Ok m
       → Fits m
   fits_end returns k t l m p h =
-      let added : Fits (with_pending k l) = record
-          { events = all_append (EventFits n) l.events (pending_at l.pending k) p.events
-          (pending_at_fits l.pending k (slice_get l.pending k) p.pending refl); pending = p.pending; orders = p.orders;
-          before = p.before } in
+      let added : Fits (with_pending k l) = record {
+        events = all_append (EventFits n) l.events (pending_at l.pending k) p.events
+            (pending_at_fits l.pending k (slice_get l.pending k) p.pending refl);
+        pending = p.pending;
+        orders = p.orders;
+        before = p.before;
+      } in
       let w = went_on (returns_listed returns t (with_pending k l)) (λ r. aliases_in (terminal_effects t) r) m h in
       fits_aliases (terminal_effects t) w.0 m (fits_returns returns t (with_pending k l) w.0 added w.1) w.2
 
@@ -280,14 +311,14 @@ module _ (n : ℕ) where
       → AllOf (PhiFits n) b.phis → Fits l → block_listed f k b l ≡ Ok m → Fits m
   fits_block f q k b l m phis p h =
       let v = went_on (each (phi_listed f.body.blocks k) b.phis l)
-          (λ z. each (instruction_listed f.instructions) b.instructions z
-          >>= (λ y. end_listed f.returns k b.terminal y)) m h in
+      (λ z. each (instruction_listed f.instructions) b.instructions z
+      >>= (λ y. end_listed f.returns k b.terminal y)) m h in
       let w = went_on (each (instruction_listed f.instructions) b.instructions v.0)
-          (λ y. end_listed f.returns k b.terminal y) m v.2 in
+      (λ y. end_listed f.returns k b.terminal y) m v.2 in
       let first : Fits v.0 = each_keeps Fits (PhiFits n) (phi_listed f.body.blocks k) (fits_phi f.body.blocks k) b.phis
-          l v.0 phis p v.1 in
+      l v.0 phis p v.1 in
       let second : Fits w.0 = each_keeps Fits (λ _. Unit {0}) (instruction_listed f.instructions)
-          (fits_instruction f.instructions q) b.instructions v.0 w.0 (all_unit b.instructions) first w.1 in
+      (fits_instruction f.instructions q) b.instructions v.0 w.0 (all_unit b.instructions) first w.1 in
       fits_end f.returns k b.terminal w.0 m second w.2
 
   fits_blocks : (f : HirFunction) → AllOf (InstructionFits n) f.instructions
@@ -305,8 +336,12 @@ module _ (n : ℕ) where
   pub listed_fits : (f : HirFunction) (l : Listing) → FunctionFits n f → listed f ≡ Ok l → ListingFits n l
   listed_fits f l fit h =
       fits_blocks f fit.instructions 0 f.body.blocks (first_listing f) l fit.blocks
-          (record { events = fit.first_events; pending = nothing_fits (length f.body.blocks); orders = tt;
-          before = tt }) h
+      (record {
+        events = fit.first_events;
+        pending = nothing_fits (length f.body.blocks);
+        orders = tt;
+        before = tt;
+      }) h
 
   -- ---- and so all nodes are below n
 
@@ -333,4 +368,4 @@ module _ (n : ℕ) where
   graph_within es p id h =
       let P : Option Node → Type 0 = λ z. IsTrue (is_some z) in
       made_below es id p (when_some (was_made id (events_of es)) (remaining_node (events_of es) id)
-          (subst P (graph_is_remaining (events_of es) id) h))
+      (subst P (graph_is_remaining (events_of es) id) h))

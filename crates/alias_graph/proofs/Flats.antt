@@ -1,7 +1,7 @@
 -- Changes of stored nodes are changes of nodes.
-use Rattle.std.proofs.Common.{◌≡◌, ℕ, ◌+◌, ◌<◌, Bool, true, false, cond, List, [], ◌∷◌, ◌++◌, Option, Some, None,
-    is_some, length, option_map, slice_get, position, if◌then◌else◌, refl, ap, sym, ◌∙◌, subst, arith, suc, zero,
-    length-append}
+use Rattle.std.proofs.Common.{◌≡◌, ℕ, ◌+◌, ◌<◌, Bool, true, false, cond, List, [], ◌∷◌, ◌++◌, Option, Some, None}
+use Rattle.std.proofs.Common.{is_some, length, option_map, slice_get, position, if◌then◌else◌, refl, ap, sym, ◌∙◌}
+use Rattle.std.proofs.Common.{subst, arith, suc, zero, length-append}
 use Rattle.std.specs.Map.{keys_of}
 use Rattle.indexmap.specs.IndexMap.{set_value_at}
 use Rattle.alias_base.specs.declared.ids.IdentifierId.{IdentifierId}
@@ -15,9 +15,9 @@ use Rattle.alias_graph.specs.declared.types.Node.{Node as StoredNode}
 use Rattle.alias_graph.specs.Nodes.{Node, Entries, node_at, has_node, slot_of, with_node, same_id}
 use Rattle.alias_graph.specs.Graph.{changed, with_edge, with_created_from, with_source, noted, has_source}
 use Rattle.alias_graph.specs.NodeMarks.{visited, info, marked_by, later, first_reason}
-use Rattle.alias_graph.specs.Flat.{link_at, edge_of, source_of, edges_at, sources_at, node_of, nodes_of, AllBelow,
-    NodeFits, AllFit, noted_slot, stored_visited, stored_marked_by, stored_fresh, with_forward_slot, with_created_slot,
-    with_source_slot}
+use Rattle.alias_graph.specs.Flat.{link_at, edge_of, source_of, edges_at, sources_at, node_of, nodes_of, AllBelow}
+use Rattle.alias_graph.specs.Flat.{NodeFits, AllFit, noted_slot, stored_visited, stored_marked_by, stored_fresh}
+use Rattle.alias_graph.specs.Flat.{with_forward_slot, with_created_slot, with_source_slot}
 use Rattle.alias_graph.proofs.Slots.{Found, slot_found}
 
 -- a change of the stored node is a change of the node
@@ -29,9 +29,9 @@ nodes_changed links F f h (p ∷ g) id = elim (same_id id p.0) as
     (λ b. nodes_of links (cond b ((p.0, F p.1) ∷ g) (p ∷ changed g id F))
     ≡ cond b ((p.0, f (node_of links p.1)) ∷ nodes_of links g)
     ((p.0, node_of links p.1) ∷ changed (nodes_of links g) id f)) [
-  | true ↦ ap (λ n. (p.0, n) ∷ nodes_of links g) (h p.1)
-  | false ↦ ap (λ r. (p.0, node_of links p.1) ∷ r) (nodes_changed links F f h g id)
-]
+      | true ↦ ap (λ n. (p.0, n) ∷ nodes_of links g) (h p.1)
+      | false ↦ ap (λ r. (p.0, node_of links p.1) ∷ r) (nodes_changed links F f h g id)
+    ]
 
 edges_push : (links : List StoredLink) (ps : List ℕ) (p : ℕ) → edges_at links (ps ++ p ∷ []) ≡ edges_at links ps
     ++ edge_of (link_at links p) ∷ []
@@ -71,9 +71,9 @@ source_slot MaybeAlias links p n = ap (λ z. let v : Node = record (node_of link
 
 visit_slot : (b : Bool) (links : List StoredLink) (index : ℕ) (origin : Origin) (e : Entry) (n : StoredNode)
     → node_of links (record (stored_marked_by b (info e.kind origin.span) n)
-        { last_mutated = later index n.last_mutated; mutation_reason = first_reason origin.reason n.mutation_reason })
-        ≡ record (marked_by b (info e.kind origin.span) (node_of links n))
-        { last_mutated = later index n.last_mutated; mutation_reason = first_reason origin.reason n.mutation_reason }
+    { last_mutated = later index n.last_mutated; mutation_reason = first_reason origin.reason n.mutation_reason })
+    ≡ record (marked_by b (info e.kind origin.span) (node_of links n))
+    { last_mutated = later index n.last_mutated; mutation_reason = first_reason origin.reason n.mutation_reason }
 visit_slot true links index origin e n = refl
 visit_slot false links index origin e n = refl
 
@@ -96,9 +96,13 @@ below_up n [] h = tt
 below_up n (p ∷ ps) h = let lt = h.0 in (omega arith, below_up n ps h.1)
 
 pub fits_up : (n : ℕ) (k : StoredNode) → NodeFits n k → NodeFits (n + 1) k
-fits_up n k h = record { forward = below_up n k.forward h.forward;
-    created_from = below_up n k.created_from h.created_from; captures = below_up n k.captures h.captures;
-    aliases = below_up n k.aliases h.aliases; maybe_aliases = below_up n k.maybe_aliases h.maybe_aliases }
+fits_up n k h = record {
+  forward = below_up n k.forward h.forward;
+  created_from = below_up n k.created_from h.created_from;
+  captures = below_up n k.captures h.captures;
+  aliases = below_up n k.aliases h.aliases;
+  maybe_aliases = below_up n k.maybe_aliases h.maybe_aliases;
+}
 
 pub all_fit_up : (n : ℕ) (g : Entries StoredNode) → AllFit n g → AllFit (n + 1) g
 all_fit_up n [] h = tt
@@ -109,29 +113,46 @@ pub all_fit_changed : (n : ℕ) (F : StoredNode → StoredNode) → ((k : Stored
 all_fit_changed n F f [] id h = tt
 all_fit_changed n F f (p ∷ g) id h = elim (same_id id p.0) as
     (λ b. AllFit n (cond b ((p.0, F p.1) ∷ g) (p ∷ changed g id F))) [
-  | true ↦ (f p.1 h.0, h.1)
-  | false ↦ (h.0, all_fit_changed n F f g id h.1)
-]
+      | true ↦ (f p.1 h.0, h.1)
+      | false ↦ (h.0, all_fit_changed n F f g id h.1)
+    ]
 
 pub fit_forward : (n p : ℕ) → p < n → (k : StoredNode) → NodeFits n k → NodeFits n (with_forward_slot p k)
-fit_forward n p lt k h = record { forward = below_push n k.forward p lt h.forward; created_from = h.created_from;
-    captures = h.captures; aliases = h.aliases; maybe_aliases = h.maybe_aliases }
+fit_forward n p lt k h = record {
+  forward = below_push n k.forward p lt h.forward;
+  created_from = h.created_from;
+  captures = h.captures;
+  aliases = h.aliases;
+  maybe_aliases = h.maybe_aliases;
+}
 
 pub fit_created : (links : List StoredLink) (n p : ℕ) → p < n → (k : StoredNode) → NodeFits n k
     → NodeFits n (with_created_slot links p k)
-fit_created links n p lt k h = record { forward = h.forward;
-    created_from = below_noted links n k.created_from p lt h.created_from; captures = h.captures; aliases = h.aliases;
-    maybe_aliases = h.maybe_aliases }
+fit_created links n p lt k h = record {
+  forward = h.forward;
+  created_from = below_noted links n k.created_from p lt h.created_from;
+  captures = h.captures;
+  aliases = h.aliases;
+  maybe_aliases = h.maybe_aliases;
+}
 
 fit_marked : (b : Bool) (n index : ℕ) (origin : Origin) (e : Entry) (k : StoredNode) → NodeFits n k
     → NodeFits n (record (stored_marked_by b (info e.kind origin.span) k)
     { last_mutated = later index k.last_mutated; mutation_reason = first_reason origin.reason k.mutation_reason })
-fit_marked true n index origin e k h = record
-    { forward = h.forward; created_from = h.created_from; captures = h.captures; aliases = h.aliases;
-    maybe_aliases = h.maybe_aliases }
-fit_marked false n index origin e k h = record
-    { forward = h.forward; created_from = h.created_from; captures = h.captures; aliases = h.aliases;
-    maybe_aliases = h.maybe_aliases }
+fit_marked true n index origin e k h = record {
+  forward = h.forward;
+  created_from = h.created_from;
+  captures = h.captures;
+  aliases = h.aliases;
+  maybe_aliases = h.maybe_aliases;
+}
+fit_marked false n index origin e k h = record {
+  forward = h.forward;
+  created_from = h.created_from;
+  captures = h.captures;
+  aliases = h.aliases;
+  maybe_aliases = h.maybe_aliases;
+}
 
 pub fit_visited : (n index : ℕ) (origin : Origin) (e : Entry) (k : StoredNode) → NodeFits n k
     → NodeFits n (stored_visited index origin e k)
@@ -178,9 +199,18 @@ node_kept links l n h =
     let c = sources_kept links l n.captures h.captures in
     let d = sources_kept links l n.aliases h.aliases in
     let e = sources_kept links l n.maybe_aliases h.maybe_aliases in
-    λ i. let v : Node = record { value = n.value; local = n.local; transitive = n.transitive;
-        last_mutated = n.last_mutated; mutation_reason = n.mutation_reason; forward = a i; created_from = b i;
-        captures = c i; aliases = d i; maybe_aliases = e i } in v
+    λ i. let v : Node = record {
+      value = n.value;
+      local = n.local;
+      transitive = n.transitive;
+      last_mutated = n.last_mutated;
+      mutation_reason = n.mutation_reason;
+      forward = a i;
+      created_from = b i;
+      captures = c i;
+      aliases = d i;
+      maybe_aliases = e i;
+    } in v
 
 pub nodes_kept : (links : List StoredLink) (l : StoredLink) (g : Entries StoredNode) → AllFit (length links) g
     → nodes_of (links ++ l ∷ []) g ≡ nodes_of links g
@@ -223,18 +253,18 @@ with_node_of links (p ∷ g) id k = elim (same_id id p.0) as
     (λ b. nodes_of links (if b then (p.0, k) ∷ g else p ∷ with_node g id k)
     ≡ (if b then (p.0, node_of links k) ∷ nodes_of links g else (p.0, node_of links p.1)
     ∷ with_node (nodes_of links g) id (node_of links k))) [
-  | true ↦ refl
-  | false ↦ ap (λ r. (p.0, node_of links p.1) ∷ r) (with_node_of links g id k)
-]
+      | true ↦ refl
+      | false ↦ ap (λ r. (p.0, node_of links p.1) ∷ r) (with_node_of links g id k)
+    ]
 
 pub with_node_fits : (n : ℕ) (g : Entries StoredNode) (id : IdentifierId) (k : StoredNode) → NodeFits n k → AllFit n g
     → AllFit n (with_node g id k)
 with_node_fits n [] id k f h = (f, tt)
 with_node_fits n (p ∷ g) id k f h = elim (same_id id p.0) as
     (λ b. AllFit n (if b then (p.0, k) ∷ g else p ∷ with_node g id k)) [
-  | true ↦ (f, h.1)
-  | false ↦ (h.0, with_node_fits n g id k f h.1)
-]
+      | true ↦ (f, h.1)
+      | false ↦ (h.0, with_node_fits n g id k f h.1)
+    ]
 
 pub fit_fresh : (n : ℕ) (v : NodeValue) → NodeFits n (stored_fresh v)
 fit_fresh n v = record { forward = tt; created_from = tt; captures = tt; aliases = tt; maybe_aliases = tt }
@@ -264,8 +294,8 @@ module _ (links : List StoredLink) (g : Entries StoredNode) (fit : AllFit (lengt
   forward_is : nodes_of more with_forward ≡ changed (nodes_of links g) l.from (with_edge (edge_of l))
   forward_is =
       nodes_changed more (with_forward_slot new_slot) (with_edge (edge_of l))
-          (λ n. forward_slot more new_slot n ∙ ap (λ z. with_edge (edge_of z) (node_of more n)) (link_new links l)) g
-          l.from
+      (λ n. forward_slot more new_slot n ∙ ap (λ z. with_edge (edge_of z) (node_of more n)) (link_new links l)) g
+      l.from
       ∙ ap (λ z. changed z l.from (with_edge (edge_of l))) (nodes_kept links l g fit)
 
   pub created_fits : AllFit (length more) (changed with_forward l.into (with_created_slot more new_slot))
@@ -276,16 +306,16 @@ module _ (links : List StoredLink) (g : Entries StoredNode) (fit : AllFit (lengt
       ≡ changed (changed (nodes_of links g) l.from (with_edge (edge_of l))) l.into (with_created_from (source_of l))
   created_is =
       nodes_changed more (with_created_slot more new_slot) (with_created_from (source_of l))
-          (λ n. created_slot more new_slot n ∙ ap (λ z. with_created_from (source_of z) (node_of more n))
-          (link_new links l)) with_forward l.into
+      (λ n. created_slot more new_slot n ∙ ap (λ z. with_created_from (source_of z) (node_of more n))
+      (link_new links l)) with_forward l.into
       ∙ ap (λ z. changed z l.into (with_created_from (source_of l))) forward_is
 
   pub source_is : nodes_of more (changed with_forward l.into (with_source_slot l.kind more new_slot))
       ≡ changed (changed (nodes_of links g) l.from (with_edge (edge_of l))) l.into (with_source l.kind (source_of l))
   source_is =
       nodes_changed more (with_source_slot l.kind more new_slot) (with_source l.kind (source_of l))
-          (λ n. source_slot l.kind more new_slot n
-          ∙ ap (λ z. with_source l.kind (source_of z) (node_of more n)) (link_new links l)) with_forward l.into
+      (λ n. source_slot l.kind more new_slot n
+      ∙ ap (λ z. with_source l.kind (source_of z) (node_of more n)) (link_new links l)) with_forward l.into
       ∙ ap (λ z. changed z l.into (with_source l.kind (source_of l))) forward_is
 
 pub forward_keeps : (n p : ℕ) (g : Entries StoredNode) (id : IdentifierId) → p < n → AllFit n g

@@ -1,6 +1,6 @@
 -- Last positions are those of the nodes that a walk visits.
-use Rattle.std.proofs.Common.{◌≡◌, ℕ, ◌+◌, ◌*◌, ◌<◌, ◌≤◌, ◌⊎◌, max, inl, inr, ⊎_elim, List, [], ◌∷◌, Option, Some, None,
-    option_map, refl, ap, sym, ◌∙◌, arith}
+use Rattle.std.proofs.Common.{◌≡◌, ℕ, ◌+◌, ◌*◌, ◌<◌, ◌≤◌, ◌⊎◌, max, inl, inr, ⊎_elim, List, [], ◌∷◌, Option, Some, None}
+use Rattle.std.proofs.Common.{option_map, refl, ap, sym, ◌∙◌, arith}
 use Rattle.std.proofs.lemmas.Bool.{cases_eq}
 use Rattle.alias_base.specs.declared.ids.IdentifierId.{IdentifierId}
 use Rattle.alias_graph.specs.declared.types.Origin.{Origin}
@@ -31,8 +31,8 @@ module _ (m : ℕ) (origin : Origin) (g : Nodes) (before : AllMutatedBefore g m)
       (λ same.
       let w = was_mapped (visited m origin e) (node_at (marked m origin g done) q) n
       (sym (changed_here (marked m origin g done) q (visited m origin e))
-          ∙ ap (λ z. node_at (changed (marked m origin g done) z (visited m origin e)) q) (sym (id_is e.id q same))
-          ∙ at) in
+      ∙ ap (λ z. node_at (changed (marked m origin g done) z (visited m origin e)) q) (sym (id_is e.id q same))
+      ∙ at) in
       later_low m w.0.last_mutated k (λ j h. low done q w.0 j w.1 h) (ap (λ (z : Node). z.last_mutated) w.2 ∙ is))
       (λ other. low done q n k (sym (changed_apart (marked m origin g done) e.id q (visited m origin e) other) ∙ at) is)
       (cases_eq e.id.0 q.0)
@@ -55,7 +55,7 @@ module _ (m : ℕ) (origin : Origin) (g : Nodes) (before : AllMutatedBefore g m)
         listed = λ id h. ⊎_elim
             (λ r. (r.0, r.2, walk_stays g m s (1 + 8 * all_links g) r.0 r.1))
             (λ none. let lt : m < m = before id h.0 m (sym (marked_apart m origin g visits id none) ∙ h.1) h.2 in
-                absurd (omega arith))
+            absurd (omega arith))
             (among visits id);
         all = λ e p.
             let r = (walk_marks g m s origin).reached e p in

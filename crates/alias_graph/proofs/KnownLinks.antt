@@ -1,7 +1,7 @@
 -- What is known of the links behind the first few of a list.
-use Rattle.std.proofs.Common.{◌≡◌, ℕ, ◌+◌, ◌*◌, ◌<◌, ◌≤◌, Bool, true, false, not, cond, ◌&&◌, ◌||◌, slice_get, List, [],
-    ◌∷◌, ◌++◌, Option, Some, None, nat_lt, take, drop, length, option_map, if◌then◌else◌, refl, ap, sym, ◌∙◌, subst,
-    arith, suc, zero}
+use Rattle.std.proofs.Common.{◌≡◌, ℕ, ◌+◌, ◌*◌, ◌<◌, ◌≤◌, Bool, true, false, not, cond, ◌&&◌, ◌||◌, slice_get, List, []}
+use Rattle.std.proofs.Common.{◌∷◌, ◌++◌, Option, Some, None, nat_lt, take, drop, length, option_map, if◌then◌else◌}
+use Rattle.std.proofs.Common.{refl, ap, sym, ◌∙◌, subst, arith, suc, zero}
 use Rattle.std.specs.Prelude.{IsTrue}
 use Rattle.std.specs.List.{AllByRecursion}
 use Rattle.std.specs.Option.{option_map_or}
@@ -13,12 +13,12 @@ use Rattle.alias_graph.specs.declared.types.NodeValue.TheVariants.{Object}
 use Rattle.alias_graph.specs.declared.types.StoredLink.{StoredLink}
 use Rattle.alias_graph.specs.declared.types.Node.{Node as StoredNode}
 use Rattle.alias_graph.specs.Nodes.{Source, Node, Entries, Nodes, node_at, has_node, slot_of, same_id}
-use Rattle.alias_graph.specs.Graph.{changed, created, made_from, linked, fresh, edge, source, noted, has_source,
-    with_edge, with_created_from, with_source}
-use Rattle.alias_graph.specs.Flat.{link_at, source_of, sources_at, node_of, nodes_of, stored_sources,
-    stored_sources_into, with_forward_slot, AllFit, AllBelow, NodeFits, IsFirst}
-use Rattle.alias_graph.specs.KnownLinks.{ends, is_known, Grows, few, AreKnown, SourcesKnown, AllKnown, sources_of,
-    sources_into, found_early}
+use Rattle.alias_graph.specs.Graph.{changed, created, made_from, linked, fresh, edge, source, noted, has_source}
+use Rattle.alias_graph.specs.Graph.{with_edge, with_created_from, with_source}
+use Rattle.alias_graph.specs.Flat.{link_at, source_of, sources_at, node_of, nodes_of, stored_sources}
+use Rattle.alias_graph.specs.Flat.{stored_sources_into, with_forward_slot, AllFit, AllBelow, NodeFits, IsFirst}
+use Rattle.alias_graph.specs.KnownLinks.{ends, is_known, Grows, few, AreKnown, SourcesKnown, AllKnown, sources_of}
+use Rattle.alias_graph.specs.KnownLinks.{sources_into, found_early}
 use Rattle.alias_graph.proofs.Covering.{eqb_is}
 use Rattle.alias_graph.proofs.Flats.{node_at_of, sources_kept, link_new}
 use Rattle.alias_graph.proofs.Lists.{fit_node}
@@ -164,7 +164,7 @@ still_first links l g fit h =
     let ps = stored_sources_into g l.into l.kind in
     ap (λ (z : StoredLink). has_source z.from (sources_at (links ++ l ∷ []) ps)) (link_new links l)
     ∙ ap (has_source l.from) (sources_kept links l ps
-        (sources_fit (length links) l.kind (node_at g l.into) (λ k e. fit_node (length links) g l.into k fit e)))
+    (sources_fit (length links) l.kind (node_at g l.into) (λ k e. fit_node (length links) g l.into k fit e)))
     ∙ ap (has_source l.from) (sym (into_stored links g l.into l.kind)) ∙ h
 
 -- what a change of a node leaves as it is
@@ -175,11 +175,11 @@ module _ {V X : Type 0} (r : V → X) (d : X) (f : V → V) (same : (v : V) → 
   left_as_is (p ∷ g) id q = elim (same_id id p.0) as
       (λ b. option_map_or r (node_at (cond b ((p.0, f p.1) ∷ g) (p ∷ changed g id f)) q) d
       ≡ option_map_or r (cond (same_id q p.0) (Some p.1) (node_at g q)) d) [
-    | true ↦ elim (same_id q p.0) as (λ b. option_map_or r (cond b (Some (f p.1)) (node_at g q)) d
-        ≡ option_map_or r (cond b (Some p.1) (node_at g q)) d) [ true ↦ same p.1 | false ↦ refl ]
-    | false ↦ elim (same_id q p.0) as (λ b. option_map_or r (cond b (Some p.1) (node_at (changed g id f) q)) d
-        ≡ option_map_or r (cond b (Some p.1) (node_at g q)) d) [ true ↦ refl | false ↦ left_as_is g id q ]
-  ]
+        | true ↦ elim (same_id q p.0) as (λ b. option_map_or r (cond b (Some (f p.1)) (node_at g q)) d
+            ≡ option_map_or r (cond b (Some p.1) (node_at g q)) d) [ true ↦ same p.1 | false ↦ refl ]
+        | false ↦ elim (same_id q p.0) as (λ b. option_map_or r (cond b (Some p.1) (node_at (changed g id f) q)) d
+            ≡ option_map_or r (cond b (Some p.1) (node_at g q)) d) [ true ↦ refl | false ↦ left_as_is g id q ]
+      ]
 
 forward_sources : (kind : EdgeKind) (p : ℕ) (k : StoredNode) → stored_sources kind (with_forward_slot p k)
     ≡ stored_sources kind k
@@ -193,7 +193,7 @@ pub first_beside : (links : List StoredLink) (p : ℕ) (g new : Entries StoredNo
     → IsFirst links p (stored_sources_into new into kind)
 first_beside links p g new from into kind e h =
     subst (IsFirst links p) (sym (ap (λ z. stored_sources_into z into kind) e
-        ∙ left_as_is (stored_sources kind) [] (with_forward_slot p) (forward_sources kind p) g from into)) h
+    ∙ left_as_is (stored_sources kind) [] (with_forward_slot p) (forward_sources kind p) g from into)) h
 
 -- the node that the link enters
 pub first_there : (links : List StoredLink) (p : ℕ) (g : Entries StoredNode) (into : IdentifierId) (kind : EdgeKind)
@@ -202,7 +202,7 @@ pub first_there : (links : List StoredLink) (p : ℕ) (g : Entries StoredNode) (
     → IsFirst links p (stored_sources_into g into kind) → IsFirst links p (stored_sources kind k)
 first_there links p g into kind i k at is h =
     subst (IsFirst links p) (ap (λ o. option_map_or (stored_sources kind) o [])
-        (found_node g into i k (slot_found g into i k at (sym is)))) h
+    (found_node g into i k (slot_found g into i k at (sym is)))) h
 
 -- ---- all nodes
 
@@ -215,9 +215,11 @@ known_grows ks ls f into ss h = all_known_more (λ (s : Source). is_known (ends 
 pub all_grows : (ks ls : List ℕ) → Grows ks ls → (g : Nodes) → AllKnown ks g → AllKnown ls g
 all_grows ks ls f [] h = tt
 all_grows ks ls f (e ∷ g) h = (
-  record { captures = known_grows ks ls f e.0 e.1.captures h.0.captures;
-      aliases = known_grows ks ls f e.0 e.1.aliases h.0.aliases;
-      maybe_aliases = known_grows ks ls f e.0 e.1.maybe_aliases h.0.maybe_aliases },
+  record {
+    captures = known_grows ks ls f e.0 e.1.captures h.0.captures;
+    aliases = known_grows ks ls f e.0 e.1.aliases h.0.aliases;
+    maybe_aliases = known_grows ks ls f e.0 e.1.maybe_aliases h.0.maybe_aliases;
+  },
   all_grows ks ls f g h.1,
 )
 
@@ -227,49 +229,60 @@ module _ (ks : List ℕ) where
   created_known [] id v h = (record { captures = tt; aliases = tt; maybe_aliases = tt }, tt)
   created_known (p ∷ g) id v h = elim (same_id id p.0) as
       (λ b. AllKnown ks (if b then (p.0, fresh v) ∷ g else p ∷ created g id v)) [
-    | true ↦ (record { captures = tt; aliases = tt; maybe_aliases = tt }, h.1)
-    | false ↦ (h.0, created_known g id v h.1)
-  ]
+        | true ↦ (record { captures = tt; aliases = tt; maybe_aliases = tt }, h.1)
+        | false ↦ (h.0, created_known g id v h.1)
+      ]
 
   changed_known : (f : Node → Node) → ((id : IdentifierId) (n : Node) → SourcesKnown ks id n → SourcesKnown ks id (f n))
       → (g : Nodes) (id : IdentifierId) → AllKnown ks g → AllKnown ks (changed g id f)
   changed_known f k [] id h = tt
   changed_known f k (p ∷ g) id h = elim (same_id id p.0) as
       (λ b. AllKnown ks (cond b ((p.0, f p.1) ∷ g) (p ∷ changed g id f))) [
-    | true ↦ (k p.0 p.1 h.0, h.1)
-    | false ↦ (h.0, changed_known f k g id h.1)
-  ]
+        | true ↦ (k p.0 p.1 h.0, h.1)
+        | false ↦ (h.0, changed_known f k g id h.1)
+      ]
 
   -- a node that is made from another
   pub made_known : (g : Nodes) (index : ℕ) (from into : IdentifierId) → AllKnown ks g
       → AllKnown ks (made_from g index from into)
   made_known g index from into h =
       changed_known (with_created_from (source index from))
-          (λ id n k. record { captures = k.captures; aliases = k.aliases; maybe_aliases = k.maybe_aliases })
-          (changed (created g into Object) from (with_edge (edge index into Alias))) into
+      (λ id n k. record { captures = k.captures; aliases = k.aliases; maybe_aliases = k.maybe_aliases })
+      (changed (created g into Object) from (with_edge (edge index into Alias))) into
       (changed_known (with_edge (edge index into Alias))
-          (λ id n k. record { captures = k.captures; aliases = k.aliases; maybe_aliases = k.maybe_aliases })
-          (created g into Object) from (created_known g into Object h))
+      (λ id n k. record { captures = k.captures; aliases = k.aliases; maybe_aliases = k.maybe_aliases })
+      (created g into Object) from (created_known g into Object h))
 
   noted_known : (index : ℕ) (from id : IdentifierId) (ss : List Source) → AreKnown ks id ss
       → (few ≤ length ss → is_known (ends from id) ks ≡ true) → AreKnown ks id (noted (source index from) ss)
   noted_known index from id ss h k =
-      elim (has_source from ss) as (λ b. AreKnown ks id (cond b ss (ss ++ source index from ∷ [])))
-          [ true ↦ h | false ↦ rear_push (λ (s : Source). is_known (ends s.other id) ks ≡ true) few ss
-          (source index from) h k ]
+      elim (has_source from ss) as (λ b. AreKnown ks id (cond b ss (ss ++ source index from ∷ []))) [
+        | true ↦ h
+        | false ↦ rear_push (λ (s : Source). is_known (ends s.other id) ks ≡ true) few ss
+            (source index from) h k
+      ]
 
   source_known : (kind : EdgeKind) (index : ℕ) (from id : IdentifierId) (n : Node) → SourcesKnown ks id n
       → (few ≤ length (sources_of kind n) → is_known (ends from id) ks ≡ true)
       → SourcesKnown ks id (with_source kind (source index from) n)
   source_known Capture index from id n h k =
-      record { captures = noted_known index from id n.captures h.captures k; aliases = h.aliases;
-      maybe_aliases = h.maybe_aliases }
+      record {
+        captures = noted_known index from id n.captures h.captures k;
+        aliases = h.aliases;
+        maybe_aliases = h.maybe_aliases;
+      }
   source_known Alias index from id n h k =
-      record { captures = h.captures; aliases = noted_known index from id n.aliases h.aliases k;
-      maybe_aliases = h.maybe_aliases }
+      record {
+        captures = h.captures;
+        aliases = noted_known index from id n.aliases h.aliases k;
+        maybe_aliases = h.maybe_aliases;
+      }
   source_known MaybeAlias index from id n h k =
-      record { captures = h.captures; aliases = h.aliases;
-      maybe_aliases = noted_known index from id n.maybe_aliases h.maybe_aliases k }
+      record {
+        captures = h.captures;
+        aliases = h.aliases;
+        maybe_aliases = noted_known index from id n.maybe_aliases h.maybe_aliases k;
+      }
 
   entered_known : (kind : EdgeKind) (index : ℕ) (from into : IdentifierId) (g : Nodes) → AllKnown ks g
       → (few ≤ length (sources_into g into kind) → is_known (ends from into) ks ≡ true)
@@ -277,12 +290,15 @@ module _ (ks : List ℕ) where
   entered_known kind index from into [] h k = tt
   entered_known kind index from into (p ∷ g) h k =
       elim (same_id into p.0) as (λ b. same_id into p.0 ≡ b
-          → (few ≤ length (option_map_or (sources_of kind) (cond b (Some p.1) (node_at g into)) [])
-          → is_known (ends from into) ks ≡ true)
-          → AllKnown ks (cond b ((p.0, with_source kind (source index from) p.1) ∷ g)
-          (p ∷ changed g into (with_source kind (source index from))))) [
-        | true ↦ λ is q. (source_known kind index from p.0 p.1 h.0
-            (λ le. ap (λ n. is_known (from.0 * 4294967296 + n) ks) (sym (eqb_is into.0 p.0.0 is)) ∙ q le), h.1)
+      → (few ≤ length (option_map_or (sources_of kind) (cond b (Some p.1) (node_at g into)) [])
+      → is_known (ends from into) ks ≡ true)
+      → AllKnown ks (cond b ((p.0, with_source kind (source index from) p.1) ∷ g)
+      (p ∷ changed g into (with_source kind (source index from))))) [
+        | true ↦ λ is q. (
+          source_known kind index from p.0 p.1 h.0
+              (λ le. ap (λ n. is_known (from.0 * 4294967296 + n) ks) (sym (eqb_is into.0 p.0.0 is)) ∙ q le),
+          h.1,
+        )
         | false ↦ λ is q. (h.0, entered_known kind index from into g h.1 q)
       ] refl k
 
@@ -298,14 +314,14 @@ module _ (ks : List ℕ) where
       → AllKnown ks (linked kind g index from into)
   linked_known g kind index from into h k =
       elim (has_node g from && has_node g into) as
-          (λ b. AllKnown ks (cond b (changed (changed g from (with_edge (edge index into kind))) into
-          (with_source kind (source index from))) g)) [
+      (λ b. AllKnown ks (cond b (changed (changed g from (with_edge (edge index into kind))) into
+      (with_source kind (source index from))) g)) [
         | true ↦ entered_known kind index from into (changed g from (with_edge (edge index into kind)))
             (changed_known (with_edge (edge index into kind))
             (λ id n k. record { captures = k.captures; aliases = k.aliases; maybe_aliases = k.maybe_aliases }) g from h)
             (λ le. k (subst (λ ss. few ≤ length ss)
-                (left_as_is (sources_of kind) [] (with_edge (edge index into kind)) (edge_sources kind index into) g
-                from into) le))
+            (left_as_is (sources_of kind) [] (with_edge (edge index into kind)) (edge_sources kind index into) g
+            from into) le))
         | false ↦ h
       ]
 
@@ -325,8 +341,8 @@ module _ (ks : List ℕ) (from into : IdentifierId) (unknown : is_known (ends fr
   not_linked [] kind h k = refl
   not_linked (p ∷ g) kind h k =
       elim (same_id into p.0) as (λ b. same_id into p.0 ≡ b
-          → has_source from (take few (option_map_or (sources_of kind) (cond b (Some p.1) (node_at g into)) [])) ≡ false
-          → has_source from (option_map_or (sources_of kind) (cond b (Some p.1) (node_at g into)) []) ≡ false) [
+      → has_source from (take few (option_map_or (sources_of kind) (cond b (Some p.1) (node_at g into)) [])) ≡ false
+      → has_source from (option_map_or (sources_of kind) (cond b (Some p.1) (node_at g into)) []) ≡ false) [
         | true ↦ λ is q. node_unknown kind p.0 p.1 (eqb_is into.0 p.0.0 is) h.0 q
         | false ↦ λ is q. not_linked g kind h.1 q
       ] refl k

@@ -1,6 +1,6 @@
 -- What an entry leads to is what links lead to, and links fit the order that skips entries.
-use Rattle.std.proofs.Common.{◌≡◌, ℕ, ◌<◌, ◌⊎◌, inl, inr, ⊎_elim, Bool, true, false, cond, List, [], ◌∷◌, ◌++◌, nat_lt,
-    refl, ap, sym, ◌∙◌, subst, arith}
+use Rattle.std.proofs.Common.{◌≡◌, ℕ, ◌<◌, ◌⊎◌, inl, inr, ⊎_elim, Bool, true, false, cond, List, [], ◌∷◌, ◌++◌, nat_lt}
+use Rattle.std.proofs.Common.{refl, ap, sym, ◌∙◌, subst, arith}
 use Rattle.alias_graph.specs.declared.types.MutationKind.{MutationKind}
 use Rattle.alias_graph.specs.declared.types.MutationKind.TheVariants.{Conditional}
 use Rattle.alias_graph.specs.declared.types.Direction.{Direction}
@@ -14,10 +14,10 @@ use Rattle.alias_graph.specs.Nodes.{Source}
 use Rattle.alias_graph.specs.declared.types.Entry.{Entry}
 use Rattle.alias_graph.specs.Nodes.{Node}
 use Rattle.alias_graph.specs.Walks.{IsOneOf}
-use Rattle.alias_graph.specs.Links.{entry, back_entries, along, forward_entries, opens, alias_entries, capture_entries,
-    led_to}
-use Rattle.alias_graph.specs.Legal.{Link, IsOpen, forward_alias, forward_maybe_alias, forward_capture, created_from,
-    alias, maybe_alias, capture}
+use Rattle.alias_graph.specs.Links.{entry, back_entries, along, forward_entries, opens, alias_entries, capture_entries}
+use Rattle.alias_graph.specs.Links.{led_to}
+use Rattle.alias_graph.specs.Legal.{Link, IsOpen, forward_alias, forward_maybe_alias, forward_capture, created_from}
+use Rattle.alias_graph.specs.Legal.{alias, maybe_alias, capture}
 
 module _ {A : Type 0} where
   pub in_left : (xs ys : List A) (x : A) → IsOneOf x xs → IsOneOf x (xs ++ ys)
@@ -46,8 +46,8 @@ back_of : (m : ℕ) (t : Bool) (k : MutationKind) (ls : List Source) (f : Entry)
 back_of m t k [] f h = absurd h
 back_of m t k (l ∷ ls) f h =
     elim (nat_lt l.index m) as (λ b. nat_lt l.index m ≡ b
-        → IsOneOf f (cond b (entry l.other t Backwards k ∷ back_entries m t k ls) (back_entries m t k ls))
-        → (s : Source) × IsOneOf s (l ∷ ls) × (s.index < m) × (f ≡ entry s.other t Backwards k)) [
+    → IsOneOf f (cond b (entry l.other t Backwards k ∷ back_entries m t k ls) (back_entries m t k ls))
+    → (s : Source) × IsOneOf s (l ∷ ls) × (s.index < m) × (f ≡ entry s.other t Backwards k)) [
       | true ↦ λ is i. ⊎_elim (λ e. (l, inl refl, less_is l.index m is, e))
           (λ j. let r = back_of m t k ls f j in (r.0, inr r.1, r.2, r.3)) i
       | false ↦ λ is i. let r = back_of m t k ls f i in (r.0, inr r.1, r.2, r.3)
@@ -59,13 +59,13 @@ back_in m t k [] l i lt = absurd i
 back_in m t k (x ∷ ls) l (inl same) lt =
     let is : nat_lt x.index m ≡ true = is_less x.index m (subst (λ (z : Source). z.index < m) same lt) in
     subst (λ b. IsOneOf (entry l.other t Backwards k)
-        (cond b (entry x.other t Backwards k ∷ back_entries m t k ls) (back_entries m t k ls))) (sym is)
-        (inl (ap (λ (z : Source). entry z.other t Backwards k) same))
+    (cond b (entry x.other t Backwards k ∷ back_entries m t k ls) (back_entries m t k ls))) (sym is)
+    (inl (ap (λ (z : Source). entry z.other t Backwards k) same))
 back_in m t k (x ∷ ls) l (inr other) lt =
     let rest = back_in m t k ls l other lt in
     elim (nat_lt x.index m) as (λ b. IsOneOf (entry l.other t Backwards k)
-        (cond b (entry x.other t Backwards k ∷ back_entries m t k ls) (back_entries m t k ls)))
-        [ true ↦ inr rest | false ↦ rest ]
+    (cond b (entry x.other t Backwards k ∷ back_entries m t k ls) (back_entries m t k ls)))
+    [ true ↦ inr rest | false ↦ rest ]
 
 -- the edges
 forward_of : (m : ℕ) (t : Bool) (k : MutationKind) (ls : List Edge) (f : Entry) → IsOneOf f (forward_entries m t k ls)
@@ -73,8 +73,8 @@ forward_of : (m : ℕ) (t : Bool) (k : MutationKind) (ls : List Edge) (f : Entry
 forward_of m t k [] f h = absurd h
 forward_of m t k (l ∷ ls) f h =
     elim (nat_lt l.index m) as (λ b. nat_lt l.index m ≡ b
-        → IsOneOf f (cond b (along l.kind l.other t k ∷ forward_entries m t k ls) (forward_entries m t k ls))
-        → (s : Edge) × IsOneOf s (l ∷ ls) × (s.index < m) × (f ≡ along s.kind s.other t k)) [
+    → IsOneOf f (cond b (along l.kind l.other t k ∷ forward_entries m t k ls) (forward_entries m t k ls))
+    → (s : Edge) × IsOneOf s (l ∷ ls) × (s.index < m) × (f ≡ along s.kind s.other t k)) [
       | true ↦ λ is i. ⊎_elim (λ e. (l, inl refl, less_is l.index m is, e))
           (λ j. let r = forward_of m t k ls f j in (r.0, inr r.1, r.2, r.3)) i
       | false ↦ λ is i. let r = forward_of m t k ls f i in (r.0, inr r.1, r.2, r.3)
@@ -86,13 +86,13 @@ forward_in m t k [] l i lt = absurd i
 forward_in m t k (x ∷ ls) l (inl same) lt =
     let is : nat_lt x.index m ≡ true = is_less x.index m (subst (λ (z : Edge). z.index < m) same lt) in
     subst (λ b. IsOneOf (along l.kind l.other t k)
-        (cond b (along x.kind x.other t k ∷ forward_entries m t k ls) (forward_entries m t k ls))) (sym is)
-        (inl (ap (λ (z : Edge). along z.kind z.other t k) same))
+    (cond b (along x.kind x.other t k ∷ forward_entries m t k ls) (forward_entries m t k ls))) (sym is)
+    (inl (ap (λ (z : Edge). along z.kind z.other t k) same))
 forward_in m t k (x ∷ ls) l (inr other) lt =
     let rest = forward_in m t k ls l other lt in
     elim (nat_lt x.index m) as (λ b. IsOneOf (along l.kind l.other t k)
-        (cond b (along x.kind x.other t k ∷ forward_entries m t k ls) (forward_entries m t k ls)))
-        [ true ↦ inr rest | false ↦ rest ]
+    (cond b (along x.kind x.other t k ∷ forward_entries m t k ls) (forward_entries m t k ls)))
+    [ true ↦ inr rest | false ↦ rest ]
 
 -- a phi that is entered forwards
 open_is : (v : NodeValue) (d : Direction) → opens v d ≡ true → v ≡ Phi → d ≡ Forwards → ⊥
@@ -114,7 +114,7 @@ alias_of true m n e f is h = let free : IsOpen n e = open_is n.value e.direction
     (λ a. let r = back_of m e.transitive e.kind n.aliases f a in alias r.0 r.1 r.2 free r.3)
     (λ a. let r = back_of m e.transitive Conditional n.maybe_aliases f a in maybe_alias r.0 r.1 r.2 free r.3)
     (in_either (back_entries m e.transitive e.kind n.aliases) (back_entries m e.transitive Conditional n.maybe_aliases)
-        f h)
+    f h)
 
 capture_of : (b : Bool) (m : ℕ) (n : Node) (e f : Entry) → e.transitive ≡ b
     → IsOneOf f (capture_entries b m e.kind n.captures) → Link m n e f
@@ -147,7 +147,7 @@ module _ (m : ℕ) (n : Node) (e : Entry) where
       (λ three. ⊎_elim
       (λ two. ⊎_elim
       (λ a. let r = forward_of m e.transitive e.kind n.forward f a in
-          forward_link m n e f r.0 r.1 r.2 r.0.kind refl r.3)
+      forward_link m n e f r.0 r.1 r.2 r.0.kind refl r.3)
       (λ a. let r = back_of m true e.kind n.created_from f a in created_from r.0 r.1 r.2 r.3)
       (in_either as_forward as_created f two))
       (λ a. alias_of (opens n.value e.direction) m n e f refl a)
@@ -168,7 +168,7 @@ module _ (m : ℕ) (n : Node) (e : Entry) where
   at_alias f free h = in_left (as_forward ++ as_created ++ as_alias) as_capture f
       (in_right (as_forward ++ as_created) as_alias f
       (subst (λ b. IsOneOf f (alias_entries b m e.transitive e.kind n.aliases n.maybe_aliases))
-          (sym (is_open n.value e.direction free)) h))
+      (sym (is_open n.value e.direction free)) h))
 
   at_capture : (f : Entry) → e.transitive ≡ true → IsOneOf f (capture_entries true m e.kind n.captures)
       → IsOneOf f (led_to m e n)

@@ -1,15 +1,15 @@
 -- What the walk of a render pops and expands.
-use Rattle.std.proofs.Common.{◌≡◌, ℕ, ◌+◌, ◌≤◌, ◌<◌, inl, inr, ⊎_elim, Bool, true, false, cond, ◌==◌, IsTrue, List, [],
-    ◌∷◌, Some, nat_lt, length, slice_index_or, slice_set, replicate, refl, ap, sym, ◌∙◌, subst, arith, suc, zero,
-    length-append}
+use Rattle.std.proofs.Common.{◌≡◌, ℕ, ◌+◌, ◌≤◌, ◌<◌, inl, inr, ⊎_elim, Bool, true, false, cond, ◌==◌, IsTrue, List, []}
+use Rattle.std.proofs.Common.{◌∷◌, Some, nat_lt, length, slice_index_or, slice_set, replicate, refl, ap, sym, ◌∙◌}
+use Rattle.std.proofs.Common.{subst, arith, suc, zero, length-append}
 use Rattle.std.proofs.lemmas.List.{get_or-set_same, get_or-set_other, length-set, length-replicate}
 use Rattle.std.proofs.lemmas.Bool.{cases_eq}
 use Rattle.alias_base.specs.declared.ids.IdentifierId.{IdentifierId}
 use Rattle.alias_graph.specs.Nodes.{Node, Nodes, Source, node_at, same_id}
 use Rattle.alias_graph.specs.Links.{links_of, all_links}
 use Rattle.alias_graph.specs.Walks.{IsOneOf, total, is_covered}
-use Rattle.alias_graph.specs.Renders.{is_lit, lit, before, sources_of, sources_at_node, sources, render_to, rendered,
-    Renders}
+use Rattle.alias_graph.specs.Renders.{is_lit, lit, before, sources_of, sources_at_node, sources, render_to, rendered}
+use Rattle.alias_graph.specs.Renders.{Renders}
 use Rattle.alias_graph.proofs.Covering.{eqb_is, eqb_itself}
 use Rattle.alias_graph.proofs.Reaching.{id_is}
 use Rattle.alias_graph.proofs.Visits.{CoverLaws, run_reaches, run_on_paths, run_new}
@@ -46,7 +46,7 @@ stays_in id e (u ∷ us) apart (inl same) =
     (sym (ap (λ z. same_id z id) (sym same) ∙ apart)) (inl same)
 stays_in id e (u ∷ us) apart (inr other) = let rest = stays_in id e us apart other in
     elim (same_id u id) as (λ b. IsOneOf e (cond b (without id us) (u ∷ without id us)))
-        [ true ↦ rest | false ↦ inr rest ]
+    [ true ↦ rest | false ↦ inr rest ]
 
 abbrev names : Nodes → List IdentifierId
 names [] = []
@@ -56,7 +56,7 @@ names_exist : (g : Nodes) (e : IdentifierId) → IsTrue (lit g e) → IsOneOf e 
 names_exist [] e t = cc
 names_exist (p ∷ g) e t =
     elim (same_id e p.0) as (λ b. same_id e p.0 ≡ b → is_lit (cond b (Some p.1) (node_at g e)) ≡ true
-        → IsOneOf e (names (p ∷ g))) [
+    → IsOneOf e (names (p ∷ g))) [
       | true ↦ λ is h. inl (same_is e p.0 is)
       | false ↦ λ is h. inr (stays_in p.0 e (names g) is (names_exist g e h))
     ] refl t
@@ -65,7 +65,7 @@ before_length : (m : ℕ) (ls : List Source) → length (before m ls) ≤ length
 before_length m [] = omega arith
 before_length m (l ∷ ls) = let rest = before_length m ls in
     elim (nat_lt l.index m) as (λ b. length (cond b (l.other ∷ before m ls) (before m ls)) ≤ suc (length ls))
-        [ true ↦ omega arith | false ↦ omega arith ]
+    [ true ↦ omega arith | false ↦ omega arith ]
 
 sources_length : (m : ℕ) (n : Node) → length (sources_of m n) ≤ links_of n
 sources_length m n =
@@ -82,7 +82,7 @@ weigh_rest : (p : IdentifierId × Node) (g : Nodes) (m : ℕ) (us : List Identif
 weigh_rest p g m [] = omega arith
 weigh_rest p g m (u ∷ us) = let rest = weigh_rest p g m us in
     elim (same_id u p.0) as (λ b. same_id u p.0 ≡ b
-        → total (weigh (p ∷ g) m) (cond b (without p.0 us) (u ∷ without p.0 us)) ≤ weigh g m u + total (weigh g m) us) [
+    → total (weigh (p ∷ g) m) (cond b (without p.0 us) (u ∷ without p.0 us)) ≤ weigh g m u + total (weigh g m) us) [
       | true ↦ λ is. omega arith
       | false ↦ λ is. let here : weigh (p ∷ g) m u ≡ weigh g m u =
           ap (λ b. length (sources_at_node m (cond b (Some p.1) (node_at g u)))) is in omega arith
@@ -91,7 +91,7 @@ weigh_rest p g m (u ∷ us) = let rest = weigh_rest p g m us in
 weigh_own : (p : IdentifierId × Node) (g : Nodes) (m : ℕ) → weigh (p ∷ g) m p.0 ≤ links_of p.1
 weigh_own p g m =
     let is : weigh (p ∷ g) m p.0 ≡ length (sources_of m p.1) =
-        ap (λ b. length (sources_at_node m (cond b (Some p.1) (node_at g p.0)))) (eqb_itself p.0.0) in
+    ap (λ b. length (sources_at_node m (cond b (Some p.1) (node_at g p.0)))) (eqb_itself p.0.0) in
     let h = sources_length m p.1 in omega arith
 
 weigh_all : (g : Nodes) (m : ℕ) → total (weigh g m) (names g) ≤ all_links g
@@ -156,6 +156,6 @@ flags_more g seen done d p n found h =
           get_or-set_other seen p i true false other
           ∙ h.says e i w at
           ∙ ap (λ b. cond b true (is_covered same_id done e))
-              (not_same d.0 e.0 (λ ids. other (one_slot g e d i p w n (sym ids) at found))))
+          (not_same d.0 e.0 (λ ids. other (one_slot g e d i p w n (sym ids) at found))))
           (cases_eq i p);
     }

@@ -1,14 +1,14 @@
 -- Links at positions of a node's lists.
-use Rattle.std.proofs.Common.{◌≡◌, ℕ, ◌<◌, true, false, cond, List, [], ◌∷◌, Some, None, map, option_map, slice_get,
-    slice_index_or, length, ◌≤◌, refl, ap, sym, ◌∙◌, subst, arith, suc, zero}
+use Rattle.std.proofs.Common.{◌≡◌, ℕ, ◌<◌, true, false, cond, List, [], ◌∷◌, Some, None, map, option_map, slice_get}
+use Rattle.std.proofs.Common.{slice_index_or, length, ◌≤◌, refl, ap, sym, ◌∙◌, subst, arith, suc, zero}
 use Rattle.alias_base.specs.declared.ids.IdentifierId.{IdentifierId}
 use Rattle.alias_graph.specs.declared.types.StoredLink.{StoredLink}
 use Rattle.alias_graph.specs.declared.types.LinkList.{LinkList}
 use Rattle.alias_graph.specs.declared.types.Node.{Node as StoredNode}
 use Rattle.alias_graph.specs.Nodes.{Entries, node_at, same_id}
 use Rattle.alias_graph.specs.Lists.{forward_link, backward_link, links_in, link_in}
-use Rattle.alias_graph.specs.Flat.{AllBelow, AllFit, NodeFits, link_at, edge_of, source_of, edges_at, sources_at,
-    node_of, nodes_of}
+use Rattle.alias_graph.specs.Flat.{AllBelow, AllFit, NodeFits, link_at, edge_of, source_of, edges_at, sources_at}
+use Rattle.alias_graph.specs.Flat.{node_of, nodes_of}
 use Rattle.alias_graph.proofs.Flats.{node_at_of}
 
 pub below_at : (n : ℕ) (ps : List ℕ) (i : ℕ) → AllBelow n ps → i < length ps → slice_index_or ps i 0 < n
@@ -45,8 +45,7 @@ source_missing links (p ∷ ps) (suc i) le = source_missing links ps i (omega ar
 pub fit_node : (n : ℕ) (g : Entries StoredNode) (id : IdentifierId) (k : StoredNode) → AllFit n g → Some k
     ≡ node_at g id → NodeFits n k
 fit_node n [] id k h is = absurd (cc)
-fit_node n (p ∷ g) id k h is = elim (same_id id p.0) as (λ b. Some k ≡ cond b (Some p.1) (node_at g id) → NodeFits n k)
-    [
+fit_node n (p ∷ g) id k h is = elim (same_id id p.0) as (λ b. Some k ≡ cond b (Some p.1) (node_at g id) → NodeFits n k) [
   | true ↦ λ e. let same : p.1 ≡ k = cc in subst (NodeFits n) same h.0
   | false ↦ λ e. fit_node n g id k h.1 e
 ] is

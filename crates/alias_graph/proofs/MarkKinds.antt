@@ -1,6 +1,6 @@
 -- The kinds of the marks that a walk leaves.
-use Rattle.std.proofs.Common.{◌≡◌, ℕ, ◌⊎◌, inl, inr, ⊎_elim, Bool, true, false, List, [], ◌∷◌, Option, Some, None,
-    option_map, refl, ap, sym, ◌∙◌}
+use Rattle.std.proofs.Common.{◌≡◌, ℕ, ◌⊎◌, inl, inr, ⊎_elim, Bool, true, false, List, [], ◌∷◌, Option, Some, None}
+use Rattle.std.proofs.Common.{option_map, refl, ap, sym, ◌∙◌}
 use Rattle.std.proofs.lemmas.Bool.{cases_eq}
 use Rattle.alias_base.specs.declared.ids.IdentifierId.{IdentifierId}
 use Rattle.alias_graph.specs.declared.types.MutationKind.{MutationKind}
@@ -27,9 +27,12 @@ high_stays i old x Conditional k e h = h
 mark_stays : (k : MutationKind) (i : MutationInfo) (o : Option MutationInfo) → MarkedAs k o → MarkedAs k (remarked i o)
 mark_stays k i None h = absurd (let e = h.1 in cc)
 mark_stays k i (Some old) h =
-    let same : h.0 ≡ old = (let e = h.1 in cc) in
-    (higher i i.kind old.kind old, refl, high_stays i old (is_definite k) i.kind old.kind refl
-        (ap (λ (z : MutationInfo). at_least (is_definite z.kind) (is_definite k)) (sym same) ∙ h.2))
+    let same : h.0 ≡ old = (let e = h.1 in cc) in (
+      higher i i.kind old.kind old,
+      refl,
+      high_stays i old (is_definite k) i.kind old.kind refl
+          (ap (λ (z : MutationInfo). at_least (is_definite z.kind) (is_definite k)) (sym same) ∙ h.2),
+    )
 
 least_low : (b : Bool) → at_least b false ≡ true
 least_low true = refl
@@ -116,11 +119,11 @@ module _ (m : ℕ) (origin : Origin) (g : Nodes) (t : Bool) where
       (λ same.
       let r = was_mapped (visited m origin e) (node_at (marked m origin g done) id) w
       (sym (changed_here (marked m origin g done) id (visited m origin e))
-          ∙ ap (λ z. node_at (changed (marked m origin g done) z (visited m origin e)) id) (sym (id_is e.id id same))
-          ∙ is) in
+      ∙ ap (λ z. node_at (changed (marked m origin g done) z (visited m origin e)) id) (sym (id_is e.id id same))
+      ∙ is) in
       let i = info e.kind origin.span in
       let now : mark_of t w ≡ mark_of t (marked_by e.transitive i r.0) = ap (mark_of t) (sym r.2)
-          ∙ mark_visited t m origin e r.0 in
+      ∙ mark_visited t m origin e r.0 in
       ⊎_elim
       (λ h. cause_later e done id (mark_of t n) (mark_of t r.0) (mark_of t w) (now ∙ h) (causes done id n r.0 at r.1))
       (λ h. inr (e, inl refl, same, h.0, now ∙ h.1))
@@ -145,12 +148,14 @@ walk_kinds g m s origin = record {
       let o = opened by.0 e by.2 in
       let d = by.0 in
       let r = brought m origin g (λ n. MarkedAs d.kind n.transitive)
-          (λ c n h. transitive_stays d.kind c.transitive (info c.kind origin.span) n h) (walk g m s).done d
+      (λ c n h. transitive_stays d.kind c.transitive (info c.kind origin.span) n h) (walk g m s).done d
       (λ n. transitive_comes d.transitive (info d.kind origin.span) n
-          (flag_up d.transitive e.transitive o.transitive flag)) by.1
-          (legal_exists g m s d (visit_legal g m s origin d by.1)) in
-      (r.0, ap (node_at (marked m origin g (walk g m s).done)) (sym (id_is d.id e.id o.id)) ∙ r.1,
-          lower_mark d.kind e.kind r.0.transitive o.kind r.2);
+      (flag_up d.transitive e.transitive o.transitive flag)) by.1
+      (legal_exists g m s d (visit_legal g m s origin d by.1)) in (
+        r.0,
+        ap (node_at (marked m origin g (walk g m s).done)) (sym (id_is d.id e.id o.id)) ∙ r.1,
+        lower_mark d.kind e.kind r.0.transitive o.kind r.2,
+      );
   transitive_cause = λ id n w at is. legal_cause g m s origin true id n w at is;
   local_cause = λ id n w at is. legal_cause g m s origin false id n w at is;
 }

@@ -1,6 +1,6 @@
 -- Two walks that lead to the same in a part, and from outside not into it, expand the same of it in the same order.
-use Rattle.std.proofs.Common.{◌≡◌, ℕ, ◌+◌, inl, inr, Bool, true, false, not, cond, IsTrue, List, [], ◌∷◌, refl, ap, sym,
-    ◌∙◌, subst, arith, suc, zero}
+use Rattle.std.proofs.Common.{◌≡◌, ℕ, ◌+◌, inl, inr, Bool, true, false, not, cond, IsTrue, List, [], ◌∷◌, refl, ap, sym}
+use Rattle.std.proofs.Common.{◌∙◌, subst, arith, suc, zero}
 use Rattle.std.proofs.lemmas.Bool.{false≢true}
 use Rattle.alias_graph.specs.Walks.{IsOneOf, put_all, Walk, is_covered, is_new, pop, step_at, step, run}
 
@@ -31,18 +31,18 @@ module _ {E : Type 0} (keep : E → Bool) where
         → cond (covers d e) true (is_covered covers ds e) ≡ is_covered covers ds e
     not_covers d e ds out is = elim (covers d e) as
         (λ b. covers d e ≡ b → cond b true (is_covered covers ds e) ≡ is_covered covers ds e) [
-      | true ↦ λ c. absurd (false≢true (sym out ∙ alike d e c ∙ is))
-      | false ↦ λ c. refl
-    ] refl
+          | true ↦ λ c. absurd (false≢true (sym out ∙ alike d e c ∙ is))
+          | false ↦ λ c. refl
+        ] refl
 
     covered_kept : (ds : List E) (e : E) → keep e ≡ true → is_covered covers (kept keep ds) e ≡ is_covered covers ds e
     covered_kept [] e is = refl
     covered_kept (d ∷ ds) e is = elim (keep d) as
         (λ b. keep d ≡ b → is_covered covers (cond b (d ∷ kept keep ds) (kept keep ds)) e
         ≡ cond (covers d e) true (is_covered covers ds e)) [
-      | true ↦ λ k. ap (cond (covers d e) true) (covered_kept ds e is)
-      | false ↦ λ k. covered_kept ds e is ∙ sym (not_covers d e ds k is)
-    ] refl
+          | true ↦ λ k. ap (cond (covers d e) true) (covered_kept ds e is)
+          | false ↦ λ k. covered_kept ds e is ∙ sym (not_covers d e ds k is)
+        ] refl
 
     pub same_covered : (ds cs : List E) (e : E) → keep e ≡ true → kept keep ds ≡ kept keep cs → is_covered covers ds e
         ≡ is_covered covers cs e
@@ -58,8 +58,10 @@ module _ {E : Type 0} (keep : E → Bool) (covers : E → E → Bool) (node_exis
   pub pop_out : (b : Bool) (e : E) (es done : List E) (n : ℕ) → keep e ≡ false
       → StaysOut es done (pop covers node_exists next b e es done n)
   pop_out false e es done n k = (refl, refl)
-  pop_out true e es done n k = (kept_put keep (next e) es ∙ ap (λ z. put_all z (kept keep es)) (out e k),
-      kept_out keep e done k)
+  pop_out true e es done n k = (
+    kept_put keep (next e) es ∙ ap (λ z. put_all z (kept keep es)) (out e k),
+    kept_out keep e done k,
+  )
 
   step_out : (es done : List E) (n : ℕ) → kept keep es ≡ []
       → StaysOut [] done (step_at covers node_exists next es done n)
@@ -67,9 +69,9 @@ module _ {E : Type 0} (keep : E → Bool) (covers : E → E → Bool) (node_exis
   step_out (e ∷ es) done n none = elim (keep e) as
       (λ b. keep e ≡ b → cond b (e ∷ kept keep es) (kept keep es) ≡ []
       → StaysOut [] done (step_at covers node_exists next (e ∷ es) done n)) [
-    | true ↦ λ k h. absurd (cc)
-    | false ↦ λ k h. let p = pop_out (is_new covers node_exists next done e) e es done n k in (p.0 ∙ h, p.1)
-  ] refl none
+        | true ↦ λ k h. absurd (cc)
+        | false ↦ λ k h. let p = pop_out (is_new covers node_exists next done e) e es done n k in (p.0 ∙ h, p.1)
+      ] refl none
 
   abbrev at : E → ℕ → Walk E
   at s n = run covers node_exists next s n
@@ -148,40 +150,56 @@ module _ {E : Type 0} (keep : E → Bool) (covers : E → E → Bool) (exists_on
   comes s e rest [] done n k is h = absurd (cc)
   comes s e rest (x ∷ es) done n k is h =
       elim (keep x) as (λ b. keep x ≡ b → cond b (x ∷ kept keep es) (kept keep es) ≡ e ∷ rest → Comes s e rest done) [
-    | true ↦ λ t q.
-        let same : x ≡ e = cc in
-        let others : kept keep es ≡ rest = cc in
-        record { steps = k; left = es; expanded = done; popped = n; is = is ∙ ap (λ z. state (z ∷ es) done n) same;
-            stack = others; same = refl }
-    | false ↦ λ t q.
-        let b = is_new covers exists_two two done x in
-        let w = pop covers exists_two two b x es done n in
-        let after : second s (suc k) ≡ state es w.done (n + 1) = ap (step covers exists_two two) is
+        | true ↦ λ t q.
+            let same : x ≡ e = cc in
+            let others : kept keep es ≡ rest = cc in
+            record {
+              steps = k;
+              left = es;
+              expanded = done;
+              popped = n;
+              is = is ∙ ap (λ z. state (z ∷ es) done n) same;
+              stack = others;
+              same = refl;
+            }
+        | false ↦ λ t q.
+            let b = is_new covers exists_two two done x in
+            let w = pop covers exists_two two b x es done n in
+            let after : second s (suc k) ≡ state es w.done (n + 1) = ap (step covers exists_two two) is
             ∙ passed b x es done n t in
-        let c = comes s e rest es w.done (n + 1) (suc k) after q in
-        record { steps = c.steps; left = c.left; expanded = c.expanded; popped = c.popped; is = c.is; stack = c.stack;
-            same = c.same ∙ (pop_out keep covers exists_two two two_out b x es done n t).1 }
-  ] refl h
+            let c = comes s e rest es w.done (n + 1) (suc k) after q in
+            record {
+              steps = c.steps;
+              left = c.left;
+              expanded = c.expanded;
+              popped = c.popped;
+              is = c.is;
+              stack = c.stack;
+              same = c.same ∙ (pop_out keep covers exists_two two two_out b x es done n t).1;
+            }
+      ] refl h
 
   step_alike : (s : E) (es done : List E) (n k : ℕ) → Alike (state es done n) (second s k) → (j : ℕ)
       × Alike (step_at covers exists_one one es done n) (second s j)
   step_alike s [] done n k h = (k, h)
   step_alike s (e ∷ es) done n k h = elim (keep e) as
       (λ b. keep e ≡ b → (j : ℕ) × Alike (step_at covers exists_one one (e ∷ es) done n) (second s j)) [
-    | true ↦ λ is.
-        let w = second s k in
-        let c = comes s e (kept keep es) w.stack w.done w.popped k refl (sym h.stacks ∙ kept_in keep e es is) in
-        let dones : kept keep done ≡ kept keep c.expanded = h.dones ∙ sym c.same in
-        let b = is_new covers exists_one one done e in
-        let after : second s (suc c.steps) ≡ pop covers exists_two two b e c.left c.expanded c.popped =
-        ap (step covers exists_two two) c.is ∙ ap (λ z. pop covers exists_two two z e c.left c.expanded c.popped)
-            (sym (same_new e done c.expanded is dones)) in
-        (suc c.steps, subst (λ z. Alike (pop covers exists_one one b e es done n) z) (sym after)
-            (popped_alike b e es c.left done c.expanded n c.popped is (sym c.stack) dones))
-    | false ↦ λ is.
-        let p = pop_out keep covers exists_one one laws.out (is_new covers exists_one one done e) e es done n is in
-        (k, record { stacks = p.0 ∙ sym (kept_out keep e es is) ∙ h.stacks; dones = p.1 ∙ h.dones })
-  ] refl
+        | true ↦ λ is.
+            let w = second s k in
+            let c = comes s e (kept keep es) w.stack w.done w.popped k refl (sym h.stacks ∙ kept_in keep e es is) in
+            let dones : kept keep done ≡ kept keep c.expanded = h.dones ∙ sym c.same in
+            let b = is_new covers exists_one one done e in
+            let after : second s (suc c.steps) ≡ pop covers exists_two two b e c.left c.expanded c.popped =
+            ap (step covers exists_two two) c.is ∙ ap (λ z. pop covers exists_two two z e c.left c.expanded c.popped)
+            (sym (same_new e done c.expanded is dones)) in (
+              suc c.steps,
+              subst (λ z. Alike (pop covers exists_one one b e es done n) z) (sym after)
+                  (popped_alike b e es c.left done c.expanded n c.popped is (sym c.stack) dones),
+            )
+        | false ↦ λ is.
+            let p = pop_out keep covers exists_one one laws.out (is_new covers exists_one one done e) e es done n is in
+            (k, record { stacks = p.0 ∙ sym (kept_out keep e es is) ∙ h.stacks; dones = p.1 ∙ h.dones })
+      ] refl
 
   run_alike : (s : E) (n : ℕ) → (k : ℕ) × Alike (first s n) (second s k)
   run_alike s zero = (0, record { stacks = refl; dones = refl })

@@ -1,6 +1,7 @@
 -- What walks and renders leave in a part of a graph, where the rest is cut off.
-use Rattle.std.proofs.Common.{◌≡◌, ℕ, ◌+◌, ◌*◌, ⊎_elim, Bool, true, false, cond, ◌||◌, IsTrue, List, [], ◌∷◌, ◌++◌,
-    Option, Some, None, nat_lt, is_some, option_map, inl, inr, refl, ap, sym, ◌∙◌, subst, append-nil}
+use Rattle.std.proofs.Common.{◌≡◌, ℕ, ◌+◌, ◌*◌, ⊎_elim, Bool, true, false, cond, ◌||◌, IsTrue, List, [], ◌∷◌, ◌++◌}
+use Rattle.std.proofs.Common.{Option, Some, None, nat_lt, is_some, option_map, inl, inr, refl, ap, sym, ◌∙◌, subst}
+use Rattle.std.proofs.Common.{append-nil}
 use Rattle.std.proofs.lemmas.Bool.{cases_eq, false≢true}
 use Rattle.alias_base.specs.declared.ids.IdentifierId.{IdentifierId}
 use Rattle.alias_hir.specs.declared.env.Environment.{Environment}
@@ -9,15 +10,15 @@ use Rattle.alias_graph.specs.declared.types.Entry.{Entry}
 use Rattle.alias_graph.specs.declared.types.MutationKind.{MutationKind}
 use Rattle.alias_graph.specs.declared.types.Origin.{Origin}
 use Rattle.alias_graph.specs.Graph.{changed}
-use Rattle.alias_graph.specs.Legal.{Link, forward_alias, forward_maybe_alias, forward_capture, created_from, alias,
-    maybe_alias, capture}
-use Rattle.alias_graph.specs.Links.{covers, back_entries, forward_entries, opens, alias_entries, capture_entries,
-    led_to, led_from, next, node_exists, walk, all_links}
+use Rattle.alias_graph.specs.Legal.{Link, forward_alias, forward_maybe_alias, forward_capture, created_from, alias}
+use Rattle.alias_graph.specs.Legal.{maybe_alias, capture}
+use Rattle.alias_graph.specs.Links.{covers, back_entries, forward_entries, opens, alias_entries, capture_entries}
+use Rattle.alias_graph.specs.Links.{led_to, led_from, next, node_exists, walk, all_links}
 use Rattle.alias_graph.specs.NodeMarks.{visited, marked}
 use Rattle.alias_graph.specs.Nodes.{Source, Node, Nodes, node_at, same_id}
 use Rattle.alias_graph.specs.Parts.{LeadsOut, HasNoLink, SamePart, IsQuiet}
-use Rattle.alias_graph.specs.Renders.{is_lit, lit, before, sources_of, sources_at_node, sources, rendered,
-    render_reports}
+use Rattle.alias_graph.specs.Renders.{is_lit, lit, before, sources_of, sources_at_node, sources, rendered}
+use Rattle.alias_graph.specs.Renders.{render_reports}
 use Rattle.alias_graph.specs.Reports.{value_reports, reported_at, reports_after}
 use Rattle.alias_graph.specs.Walks.{IsOneOf}
 use Rattle.alias_graph.proofs.Covering.{eqb_is, opened}
@@ -47,9 +48,9 @@ nothing_led m e n h =
     let t = e.transitive in
     let k = e.kind in
     ap (λ z. forward_entries m t k z ++ back_entries m true k n.created_from
-        ++ alias_entries b m t k n.aliases n.maybe_aliases ++ capture_entries t m k n.captures) h.forward
+    ++ alias_entries b m t k n.aliases n.maybe_aliases ++ capture_entries t m k n.captures) h.forward
     ∙ ap (λ z. [] ++ back_entries m true k z ++ alias_entries b m t k n.aliases n.maybe_aliases
-        ++ capture_entries t m k n.captures) h.created_from
+    ++ capture_entries t m k n.captures) h.created_from
     ∙ ap (λ z. [] ++ [] ++ alias_entries b m t k z n.maybe_aliases ++ capture_entries t m k n.captures) h.aliases
     ∙ ap (λ z. [] ++ [] ++ alias_entries b m t k [] z ++ capture_entries t m k n.captures) h.maybe_aliases
     ∙ ap (λ z. [] ++ [] ++ z ++ capture_entries t m k n.captures) (no_aliases b m t k)
@@ -80,20 +81,40 @@ module _ (keep : IdentifierId → Bool) where
   keeps e = keep e.id
 
   out_shape : (n : Node) → LeadsOut keep n → LeadsOut keep (shape n)
-  out_shape n h = record { forward = h.forward; created_from = h.created_from; captures = h.captures;
-      aliases = h.aliases; maybe_aliases = h.maybe_aliases }
+  out_shape n h = record {
+    forward = h.forward;
+    created_from = h.created_from;
+    captures = h.captures;
+    aliases = h.aliases;
+    maybe_aliases = h.maybe_aliases;
+  }
 
   out_unshape : (n : Node) → LeadsOut keep (shape n) → LeadsOut keep n
-  out_unshape n h = record { forward = h.forward; created_from = h.created_from; captures = h.captures;
-      aliases = h.aliases; maybe_aliases = h.maybe_aliases }
+  out_unshape n h = record {
+    forward = h.forward;
+    created_from = h.created_from;
+    captures = h.captures;
+    aliases = h.aliases;
+    maybe_aliases = h.maybe_aliases;
+  }
 
   bare_shape : (n : Node) → HasNoLink n → HasNoLink (shape n)
-  bare_shape n h = record { forward = h.forward; created_from = h.created_from; captures = h.captures;
-      aliases = h.aliases; maybe_aliases = h.maybe_aliases }
+  bare_shape n h = record {
+    forward = h.forward;
+    created_from = h.created_from;
+    captures = h.captures;
+    aliases = h.aliases;
+    maybe_aliases = h.maybe_aliases;
+  }
 
   bare_unshape : (n : Node) → HasNoLink (shape n) → HasNoLink n
-  bare_unshape n h = record { forward = h.forward; created_from = h.created_from; captures = h.captures;
-      aliases = h.aliases; maybe_aliases = h.maybe_aliases }
+  bare_unshape n h = record {
+    forward = h.forward;
+    created_from = h.created_from;
+    captures = h.captures;
+    aliases = h.aliases;
+    maybe_aliases = h.maybe_aliases;
+  }
 
   same_keeps : (d e : Entry) → IsTrue (covers d e) → keep d.id ≡ keep e.id
   same_keeps d e h = ap keep (id_is d.id e.id (opened d e h).id)
@@ -112,10 +133,10 @@ module _ (keep : IdentifierId → Bool) where
   before_out m [] h id i = absurd i
   before_out m (l ∷ ls) h id i = elim (nat_lt l.index m) as
       (λ b. IsOneOf id (cond b (l.other ∷ before m ls) (before m ls)) → keep id ≡ false) [
-    | true ↦ λ j. ⊎_elim (λ same. ap keep same ∙ h l (inl refl))
-        (λ other. before_out m ls (λ x k. h x (inr k)) id other) j
-    | false ↦ λ j. before_out m ls (λ x k. h x (inr k)) id j
-  ] i
+        | true ↦ λ j. ⊎_elim (λ same. ap keep same ∙ h l (inl refl))
+            (λ other. before_out m ls (λ x k. h x (inr k)) id other) j
+        | false ↦ λ j. before_out m ls (λ x k. h x (inr k)) id j
+      ] i
 
   sources_out : (m : ℕ) (n : Node) → LeadsOut keep n → (id : IdentifierId) → IsOneOf id (sources_of m n) → keep id
       ≡ false
@@ -137,9 +158,9 @@ module _ (keep : IdentifierId → Bool) where
         let to : d.id ≡ id = id_is d.id id same in
         let f = visited index origin d in
         ap (λ z. node_at (changed g z f) id) to ∙ changed_here g id f ∙ ap (option_map f) is ∙ sym (changed_here h id f)
-            ∙ ap (λ z. node_at (changed h z f) id) (sym to))
+        ∙ ap (λ z. node_at (changed h z f) id) (sym to))
         (λ other. changed_apart g d.id id (visited index origin d) other ∙ is
-            ∙ sym (changed_apart h d.id id (visited index origin d) other))
+        ∙ sym (changed_apart h d.id id (visited index origin d) other))
         (cases_eq d.id.0 id.0)
 
     not_it : (d : Entry) (id : IdentifierId) → keep d.id ≡ false → keep id ≡ true → d.id.0 ≡ id.0 → ⊥
@@ -151,11 +172,11 @@ module _ (keep : IdentifierId → Bool) where
     marked_kept g (d ∷ done) id is = elim (keep d.id) as
         (λ b. keep d.id ≡ b → node_at (changed (marked index origin g done) d.id (visited index origin d)) id
         ≡ node_at (marked index origin g (cond b (d ∷ kept keeps done) (kept keeps done))) id) [
-      | true ↦ λ k. one_alike (marked index origin g done) (marked index origin g (kept keeps done)) d id
-          (marked_kept g done id is)
-      | false ↦ λ k. changed_apart (marked index origin g done) d.id id (visited index origin d) (not_it d id k is)
-          ∙ marked_kept g done id is
-    ] refl
+          | true ↦ λ k. one_alike (marked index origin g done) (marked index origin g (kept keeps done)) d id
+              (marked_kept g done id is)
+          | false ↦ λ k. changed_apart (marked index origin g done) d.id id (visited index origin d) (not_it d id k is)
+              ∙ marked_kept g done id is
+        ] refl
 
     marked_alike : (g h : Nodes) (done : List Entry) (id : IdentifierId) → node_at h id ≡ node_at g id
         → node_at (marked index origin h done) id ≡ node_at (marked index origin g done) id
@@ -260,14 +281,14 @@ module _ (keep : IdentifierId → Bool) where
     reported_kept g quiet (d ∷ done) = elim (keep d.id) as
         (λ b. keep d.id ≡ b → reported g done ++ reported_at env (node_at (marked index origin g done) d.id)
         ≡ reported g (cond b (d ∷ kept keeps done) (kept keeps done))) [
-      | true ↦ λ k. ap (λ z. z ++ reported_at env (node_at (marked index origin g done) d.id))
-          (reported_kept g quiet done) ∙ ap (λ z. reported g (kept keeps done) ++ reported_at env z)
-          (marked_kept index origin g done d.id k)
-      | false ↦ λ k.
-          ap (λ z. reported g done ++ z) (quiet_at env (marked index origin g done) d.id
+          | true ↦ λ k. ap (λ z. z ++ reported_at env (node_at (marked index origin g done) d.id))
+              (reported_kept g quiet done) ∙ ap (λ z. reported g (kept keeps done) ++ reported_at env z)
+              (marked_kept index origin g done d.id k)
+          | false ↦ λ k.
+              ap (λ z. reported g done ++ z) (quiet_at env (marked index origin g done) d.id
               (node_at (marked index origin g done) d.id) (quiet_marked env g index origin done quiet) refl k)
-          ∙ append-nil (reported g done) ∙ reported_kept g quiet done
-    ] refl
+              ∙ append-nil (reported g done) ∙ reported_kept g quiet done
+        ] refl
 
     reported_alike : (g h : Nodes) → SamePart keep g h → (done : List Entry) → reported h (kept keeps done)
         ≡ reported g (kept keeps done)
@@ -275,13 +296,13 @@ module _ (keep : IdentifierId → Bool) where
     reported_alike g h same (d ∷ done) = elim (keep d.id) as
         (λ b. keep d.id ≡ b → reported h (cond b (d ∷ kept keeps done) (kept keeps done))
         ≡ reported g (cond b (d ∷ kept keeps done) (kept keeps done))) [
-      | true ↦ λ k.
-          ap (λ z. z ++ reported_at env (node_at (marked index origin h (kept keeps done)) d.id))
+          | true ↦ λ k.
+              ap (λ z. z ++ reported_at env (node_at (marked index origin h (kept keeps done)) d.id))
               (reported_alike g h same done)
-          ∙ ap (λ z. reported g (kept keeps done) ++ reported_at env z)
+              ∙ ap (λ z. reported g (kept keeps done) ++ reported_at env z)
               (marked_alike index origin g h (kept keeps done) d.id (same.alike d.id k))
-      | false ↦ λ k. reported_alike g h same done
-    ] refl
+          | false ↦ λ k. reported_alike g h same done
+        ] refl
 
     -- walks that expanded the same of the part tell the same
     pub reported_part : (g h : Nodes) → SamePart keep g h → IsQuiet keep env g → IsQuiet keep env h
@@ -296,10 +317,10 @@ module _ (keep : IdentifierId → Bool) where
     lit_kept g quiet (id ∷ ids) = elim (keep id) as
         (λ b. keep id ≡ b → render_reports env g ids ++ reported_at env (node_at g id)
         ≡ render_reports env g (cond b (id ∷ kept keep ids) (kept keep ids))) [
-      | true ↦ λ k. ap (λ z. z ++ reported_at env (node_at g id)) (lit_kept g quiet ids)
-      | false ↦ λ k. ap (λ z. render_reports env g ids ++ z) (quiet_at env g id (node_at g id) quiet refl k)
-          ∙ append-nil (render_reports env g ids) ∙ lit_kept g quiet ids
-    ] refl
+          | true ↦ λ k. ap (λ z. z ++ reported_at env (node_at g id)) (lit_kept g quiet ids)
+          | false ↦ λ k. ap (λ z. render_reports env g ids ++ z) (quiet_at env g id (node_at g id) quiet refl k)
+              ∙ append-nil (render_reports env g ids) ∙ lit_kept g quiet ids
+        ] refl
 
     lit_alike : (g h : Nodes) → SamePart keep g h → (ids : List IdentifierId) → render_reports env h (kept keep ids)
         ≡ render_reports env g (kept keep ids)
@@ -307,10 +328,10 @@ module _ (keep : IdentifierId → Bool) where
     lit_alike g h same (id ∷ ids) = elim (keep id) as
         (λ b. keep id ≡ b → render_reports env h (cond b (id ∷ kept keep ids) (kept keep ids))
         ≡ render_reports env g (cond b (id ∷ kept keep ids) (kept keep ids))) [
-      | true ↦ λ k. ap (λ z. z ++ reported_at env (node_at h id)) (lit_alike g h same ids)
-          ∙ ap (λ z. render_reports env g (kept keep ids) ++ reported_at env z) (same.alike id k)
-      | false ↦ λ k. lit_alike g h same ids
-    ] refl
+          | true ↦ λ k. ap (λ z. z ++ reported_at env (node_at h id)) (lit_alike g h same ids)
+              ∙ ap (λ z. render_reports env g (kept keep ids) ++ reported_at env z) (same.alike id k)
+          | false ↦ λ k. lit_alike g h same ids
+        ] refl
 
     -- renders that expanded the same of the part tell the same
     pub rendered_part : (g h : Nodes) → SamePart keep g h → IsQuiet keep env g → IsQuiet keep env h

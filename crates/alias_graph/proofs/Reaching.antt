@@ -1,6 +1,6 @@
 -- A walk of the graph visits exactly the nodes of legal paths.
-use Rattle.std.proofs.Common.{◌≡◌, ℕ, Bool, true, false, IsTrue, [], Option, Some, None, is_some, refl, ap, sym, ◌∙◌,
-    subst}
+use Rattle.std.proofs.Common.{◌≡◌, ℕ, Bool, true, false, IsTrue, [], Option, Some, None, is_some, refl, ap, sym, ◌∙◌}
+use Rattle.std.proofs.Common.{subst}
 use Rattle.alias_base.specs.declared.ids.IdentifierId.{IdentifierId}
 use Rattle.alias_graph.specs.declared.types.MutationKind.{MutationKind}
 use Rattle.alias_graph.specs.declared.types.MutationKind.TheVariants.{Conditional}
@@ -11,15 +11,19 @@ use Rattle.alias_graph.specs.Nodes.{Node}
 use Rattle.alias_graph.specs.Nodes.{Nodes, node_at}
 use Rattle.alias_graph.specs.Walks.{IsOneOf, Path, begin as starting, more, run}
 use Rattle.alias_graph.specs.Links.{is_backwards, is_definite, at_least, covers, entry, led_from, next, node_exists}
-use Rattle.alias_graph.specs.Legal.{Legal, begin, go_on, Link, IsOpen, forward_alias, forward_maybe_alias,
-    forward_capture, created_from, alias, maybe_alias, capture}
+use Rattle.alias_graph.specs.Legal.{Legal, begin, go_on, Link, IsOpen, forward_alias, forward_maybe_alias}
+use Rattle.alias_graph.specs.Legal.{forward_capture, created_from, alias, maybe_alias, capture}
 use Rattle.alias_graph.proofs.Covering.{Covers, opened, closed, least_itself, least_trans}
 use Rattle.alias_graph.proofs.Legality.{link_of, of_link}
 use Rattle.alias_graph.proofs.Visits.{CoverLaws, Met, run_reaches, run_on_paths}
 
 pub covers_itself : (e : Entry) → IsTrue (covers e e)
-covers_itself e = closed e e (record { id = refl; transitive = least_itself e.transitive;
-    direction = least_itself (is_backwards e.direction); kind = least_itself (is_definite e.kind) })
+covers_itself e = closed e e (record {
+  id = refl;
+  transitive = least_itself e.transitive;
+  direction = least_itself (is_backwards e.direction);
+  kind = least_itself (is_definite e.kind);
+})
 
 covers_trans : (d e f : Entry) → IsTrue (covers d e) → IsTrue (covers e f) → IsTrue (covers d f)
 covers_trans d e f p q = let a = opened d e p in let b = opened e f q in closed d f (record {
@@ -49,7 +53,7 @@ lower false false h i = i
 stays_open : (v : Node) (d e : Entry) → Covers d e → IsOpen v e → IsOpen v d
 stays_open v d e h free phi forwards =
     free phi (back e.direction (λ is. not_forwards d.direction
-        (lower (is_backwards d.direction) (is_backwards e.direction) h.direction is) forwards))
+    (lower (is_backwards d.direction) (is_backwards e.direction) h.direction is) forwards))
   where
     back : (x : Direction) → (is_backwards x ≡ true → ⊥) → x ≡ Forwards
     back Backwards never = absurd (never refl)
@@ -67,8 +71,11 @@ module _ (m : ℕ) (n : Node) (d e : Entry) (h : Covers d e) where
 
   by : (id : IdentifierId) (t s : Bool) (x : Direction) (j k : MutationKind) (f : Entry) → f ≡ entry id s x k
       → Link m n d (entry id t x j) → at_least t s ≡ true → at_least (is_definite j) (is_definite k) ≡ true → By f
-  by id t s x j k f is l p q = (entry id t x j, l,
-      subst (λ z. IsTrue (covers (entry id t x j) z)) (sym is) (ahead id t s x j k p q))
+  by id t s x j k f is l p q = (
+    entry id t x j,
+    l,
+    subst (λ z. IsTrue (covers (entry id t x j) z)) (sym is) (ahead id t s x j k p q),
+  )
 
   link_mono : (f : Entry) → Link m n e f → By f
   link_mono f (forward_alias l i lt is z) =

@@ -1,7 +1,7 @@
 -- The graph that the calls make is the graph of the links that remain.
-use Rattle.std.proofs.Common.{◌≡◌, ℕ, ⊎_elim, Bool, true, false, cond, ◌&&◌, ◌||◌, ◌==◌, List, [], ◌∷◌, ◌++◌, Option,
-    Some, None, option_to_list, option_map, is_some, fold, if◌then◌else◌, refl, ap, sym, ◌∙◌, arith, append_assoc,
-    append-nil}
+use Rattle.std.proofs.Common.{◌≡◌, ℕ, ⊎_elim, Bool, true, false, cond, ◌&&◌, ◌||◌, ◌==◌, List, [], ◌∷◌, ◌++◌, Option}
+use Rattle.std.proofs.Common.{Some, None, option_to_list, option_map, is_some, fold, if◌then◌else◌, refl, ap, sym, ◌∙◌}
+use Rattle.std.proofs.Common.{arith, append_assoc, append-nil}
 use Rattle.std.proofs.lemmas.Bool.{cases_eq}
 use Rattle.std.proofs.lemmas.List.Sums.{fold_push}
 use Rattle.std.specs.List.{list_any}
@@ -14,10 +14,10 @@ use Rattle.alias_graph.specs.Nodes.{Edge}
 use Rattle.alias_graph.specs.Nodes.{Source}
 use Rattle.alias_graph.specs.Nodes.{Node}
 use Rattle.alias_graph.specs.Nodes.{Nodes, node_at, has_node, with_node, same_id}
-use Rattle.alias_graph.specs.Graph.{Event, made, created_out, joined, edge, source, noted, fresh, created, changed,
-    with_edge, with_created_from, with_source, after, graph_of}
-use Rattle.alias_graph.specs.RemainingLinks.{makes, was_made, Own, when, edge_own, created_own, same_kind, source_own,
-    remaining, firsts, value_after, last_value, remaining_node, remaining_at}
+use Rattle.alias_graph.specs.Graph.{Event, made, created_out, joined, edge, source, noted, fresh, created, changed}
+use Rattle.alias_graph.specs.Graph.{with_edge, with_created_from, with_source, after, graph_of}
+use Rattle.alias_graph.specs.RemainingLinks.{makes, was_made, Own, when, edge_own, created_own, same_kind, source_own}
+use Rattle.alias_graph.specs.RemainingLinks.{remaining, firsts, value_after, last_value, remaining_node, remaining_at}
 use Rattle.alias_graph.proofs.Covering.{eqb_is, eqb_itself}
 use Rattle.alias_graph.proofs.Effects.{changed_here, changed_apart}
 use Rattle.alias_graph.proofs.Reaching.{id_is}
@@ -63,9 +63,9 @@ module _ {A : Type 0} (own : Own A) (id : IdentifierId) where
       let last = option_to_list (own (before ++ x ∷ xs) e) in
       let ih : remaining own id (before ++ x ∷ []) (xs ++ e ∷ []) ≡ cond (makes id e) [] rest ++ last =
       remaining_push (before ++ x ∷ []) xs e
-          ∙ ap (λ z. cond (makes id e) [] rest ++ option_to_list (own z e)) (append_assoc before (x ∷ []) xs) in
+      ∙ ap (λ z. cond (makes id e) [] rest ++ option_to_list (own z e)) (append_assoc before (x ∷ []) xs) in
       ap (λ b. cond b (remaining own id (before ++ x ∷ []) (xs ++ e ∷ []))
-          (first ++ remaining own id (before ++ x ∷ []) (xs ++ e ∷ []))) (any_push (makes id) xs e)
+      (first ++ remaining own id (before ++ x ∷ []) (xs ++ e ∷ []))) (any_push (makes id) xs e)
       ∙ ap (λ z. cond (was_made id xs || makes id e) z (first ++ z)) ih
       ∙ join_cases (was_made id xs) (makes id e) rest first last
 
@@ -94,8 +94,18 @@ firsts_more own id xs e =
     ∙ ap (λ z. grown z (own xs e)) (firsts_kept (makes id e) (remaining own id [] xs))
 
 abbrev plain : NodeValue → List Edge → List Source → List Source → List Source → List Source → Node
-plain v f c p a b = record { value = v; local = None; transitive = None; last_mutated = None; mutation_reason = None;
-    forward = f; created_from = c; captures = p; aliases = a; maybe_aliases = b }
+plain v f c p a b = record {
+  value = v;
+  local = None;
+  transitive = None;
+  last_mutated = None;
+  mutation_reason = None;
+  forward = f;
+  created_from = c;
+  captures = p;
+  aliases = a;
+  maybe_aliases = b;
+}
 
 -- the node after an event, from the node before it
 abbrev next_node : Bool → NodeValue → Node → Option Edge → Option Source → Option Source → Option Source → Option Source
@@ -128,9 +138,9 @@ changed_at : (g : Nodes) (i q : IdentifierId) (f : Node → Node) → node_at (c
 changed_at g i q f = ⊎_elim
     (λ same. ap (λ z. node_at (changed g z f) q) (id_is i q same) ∙ changed_here g q f
     ∙ ap (λ b. cond b (option_map f (node_at g q)) (node_at g q))
-        (sym (eqb_itself q.0) ∙ ap (λ n. q.0 == n) (sym same)))
+    (sym (eqb_itself q.0) ∙ ap (λ n. q.0 == n) (sym same)))
     (λ other. changed_apart g i q f other ∙ ap (λ b. cond b (option_map f (node_at g q)) (node_at g q))
-        (sym (differ q.0 i.0 (λ h. other (sym h)))))
+    (sym (differ q.0 i.0 (λ h. other (sym h)))))
     (cases_eq i.0 q.0)
   where
     differ : (a b : ℕ) → (a ≡ b → ⊥) → (a == b) ≡ false
@@ -143,17 +153,17 @@ put_at [] i q n = refl
 put_at (p ∷ g) i q n = elim (same_id i p.0) as
     (λ b. same_id i p.0 ≡ b → node_at (if b then (p.0, n) ∷ g else p ∷ with_node g i n) q
     ≡ cond (same_id q i) (Some n) (node_at (p ∷ g) q)) [
-  | true ↦ λ is. let ids : p.0 ≡ i = id_is p.0 i (sym (eqb_is i.0 p.0.0 is)) in
-      ap (λ z. cond (same_id q z) (Some n) (node_at g q)) ids
+      | true ↦ λ is. let ids : p.0 ≡ i = id_is p.0 i (sym (eqb_is i.0 p.0.0 is)) in
+          ap (λ z. cond (same_id q z) (Some n) (node_at g q)) ids
           ∙ both_cond (same_id q i) (Some n) (Some p.1) (node_at g q)
           ∙ ap (λ z. cond (same_id q i) (Some n) (cond (same_id q z) (Some p.1) (node_at g q))) (sym ids)
-  | false ↦ λ is. elim (same_id q p.0) as
-      (λ b. same_id q p.0 ≡ b → cond b (Some p.1) (node_at (with_node g i n) q)
-      ≡ cond (same_id q i) (Some n) (cond b (Some p.1) (node_at g q))) [
-    | true ↦ λ at. ap (λ b. cond b (Some n) (Some p.1)) (sym (apart i q p.0 is at))
-    | false ↦ λ at. put_at g i q n
-  ] refl
-] refl
+      | false ↦ λ is. elim (same_id q p.0) as
+          (λ b. same_id q p.0 ≡ b → cond b (Some p.1) (node_at (with_node g i n) q)
+          ≡ cond (same_id q i) (Some n) (cond b (Some p.1) (node_at g q))) [
+            | true ↦ λ at. ap (λ b. cond b (Some n) (Some p.1)) (sym (apart i q p.0 is at))
+            | false ↦ λ at. put_at g i q n
+          ] refl
+    ] refl
   where
     both_cond : (b : Bool) (x y z : Option Node) → cond b x z ≡ cond b x (cond b y z)
     both_cond true x y z = refl
@@ -164,7 +174,7 @@ put_at (p ∷ g) i q n = elim (same_id i p.0) as
 
 made_cases : (m w : Bool) (v old : NodeValue) (f : List Edge) (c p a b : List Source)
     → cond m (Some (fresh v)) (when w (plain old f c p a b))
-        ≡ when (w || m) (next_node m (cond m v old) (plain old f c p a b) None None None None None)
+    ≡ when (w || m) (next_node m (cond m v old) (plain old f c p a b) None None None None None)
 made_cases true true v old f c p a b = refl
 made_cases true false v old f c p a b = refl
 made_cases false true v old f c p a b = refl
@@ -172,9 +182,9 @@ made_cases false false v old f c p a b = refl
 
 out_cases : (m o w : Bool) (E : Edge) (S : Source) (old : NodeValue) (f : List Edge) (c p a b : List Source)
     → (let x = cond m (Some (fresh Object)) (when w (plain old f c p a b)) in let y =
-        cond o (option_map (with_edge E) x) x in cond m (option_map (with_created_from S) y) y)
+    cond o (option_map (with_edge E) x) x in cond m (option_map (with_created_from S) y) y)
     ≡ when (w || m) (next_node m (cond m Object old) (plain old f c p a b) (when (o && (m || w)) E) (when m S) None None
-        None)
+    None)
 out_cases true true true E S old f c p a b = refl
 out_cases true true false E S old f c p a b = refl
 out_cases true false true E S old f c p a b = refl
@@ -187,10 +197,10 @@ out_cases false false false E S old f c p a b = refl
 joined_cases : (both t o w : Bool) (kind : EdgeKind) (E : Edge) (S : Source) (old : NodeValue) (f : List Edge)
     (c p a b : List Source)
     → (let x = when w (plain old f c p a b) in let y = cond o (option_map (with_edge E) x) x in
-        cond both (cond t (option_map (with_source kind S) y) y) x)
+    cond both (cond t (option_map (with_source kind S) y) y) x)
     ≡ when (w || false) (next_node false old (plain old f c p a b) (when (o && both) E) None
-        (when (same_kind Capture kind && (t && both)) S) (when (same_kind Alias kind && (t && both)) S)
-        (when (same_kind MaybeAlias kind && (t && both)) S))
+    (when (same_kind Capture kind && (t && both)) S) (when (same_kind Alias kind && (t && both)) S)
+    (when (same_kind MaybeAlias kind && (t && both)) S))
 joined_cases true true true true Capture E S old f c p a b = refl
 joined_cases true true true false Capture E S old f c p a b = refl
 joined_cases true true false true Capture E S old f c p a b = refl
@@ -263,7 +273,7 @@ module _ (xs : List Event) (g : Nodes) (ih : (q : IdentifierId) → node_at g q 
       changed_at g₂ into id (with_created_from S)
       ∙ ap (λ y. cond m (option_map (with_created_from S) y) y) (changed_at g₁ from id (with_edge E)
       ∙ ap (λ x. cond o (option_map (with_edge E) x) x)
-          (put_at g into id (fresh Object) ∙ ap (cond m (Some (fresh Object))) (ih id)))
+      (put_at g into id (fresh Object) ∙ ap (cond m (Some (fresh Object))) (ih id)))
       ∙ out_cases m o (was_made id xs) E S (last_value id xs) _ _ _ _ _
   step_exists (joined kind index from into) =
       let E = edge index into kind in
@@ -273,14 +283,14 @@ module _ (xs : List Event) (g : Nodes) (ih : (q : IdentifierId) → node_at g q 
       let both = was_made from xs && was_made into xs in
       let g₁ = changed g from (with_edge E) in
       let there : (has_node g from && has_node g into) ≡ both = ap (λ b. b && has_node g into) (has_made from)
-          ∙ ap (λ b. was_made from xs && b) (has_made into) in
+      ∙ ap (λ b. was_made from xs && b) (has_made into) in
       ap (λ b. node_at (cond b (changed g₁ into (with_source kind S)) g) id) there
       ∙ choose both (changed g₁ into (with_source kind S)) g
       ∙ ap (λ z. cond both z (node_at g id))
-          (changed_at g₁ into id (with_source kind S)
-          ∙ ap (λ y. cond t (option_map (with_source kind S) y) y) (changed_at g from id (with_edge E)))
+      (changed_at g₁ into id (with_source kind S)
+      ∙ ap (λ y. cond t (option_map (with_source kind S) y) y) (changed_at g from id (with_edge E)))
       ∙ ap (λ x. let y = cond o (option_map (with_edge E) x) x in
-          cond both (cond t (option_map (with_source kind S) y) y) x) (ih id)
+      cond both (cond t (option_map (with_source kind S) y) y) x) (ih id)
       ∙ joined_cases both t o (was_made id xs) kind E S (last_value id xs) _ _ _ _ _
     where
       choose : (b : Bool) (x y : Nodes) → node_at (cond b x y) id ≡ cond b (node_at x id) (node_at y id)
@@ -295,7 +305,7 @@ exists_from : (xs es : List Event) (g : Nodes) → ((q : IdentifierId) → node_
 exists_from xs [] g ih id = ih id ∙ ap (λ z. remaining_at z id) (sym (append-nil xs))
 exists_from xs (e ∷ es) g ih id =
     exists_from (xs ++ e ∷ []) es (after g e) (λ q. step_exists_at xs g ih q e) id
-        ∙ ap (λ z. remaining_at z id) (append_assoc xs (e ∷ []) es)
+    ∙ ap (λ z. remaining_at z id) (append_assoc xs (e ∷ []) es)
 
 -- the nodes of the graph of a list of events are those of the links that remain
 pub graph_is_remaining : (events : List Event) (id : IdentifierId) → node_at (graph_of events) id

@@ -1,7 +1,7 @@
 -- What a walk has recorded.
-use Rattle.std.proofs.Common.{◌≡◌, ℕ, ◌+◌, ◌*◌, ◌-◌, ◌≤◌, ◌||◌, Bool, true, false, cond, List, [], ◌∷◌, ◌++◌, Option,
-    Some, None, is_some, slice_get, option_map, refl, ap, sym, ◌∙◌, subst, arith, suc, zero, append_assoc, append-nil,
-    Result, Ok, Err, OnErr, OnOk}
+use Rattle.std.proofs.Common.{◌≡◌, ℕ, ◌+◌, ◌*◌, ◌-◌, ◌≤◌, ◌||◌, Bool, true, false, cond, List, [], ◌∷◌, ◌++◌, Option}
+use Rattle.std.proofs.Common.{Some, None, is_some, slice_get, option_map, refl, ap, sym, ◌∙◌, subst, arith, suc, zero}
+use Rattle.std.proofs.Common.{append_assoc, append-nil, Result, Ok, Err, OnErr, OnOk}
 use Rattle.alias_base.specs.declared.ids.EvaluationOrder.{EvaluationOrder}
 use Rattle.alias_base.specs.declared.ids.IdentifierId.{IdentifierId}
 use Rattle.alias_hir.specs.declared.env.Environment.{Environment}
@@ -21,8 +21,8 @@ use Rattle.alias_graph.specs.Links.{covers, next, node_exists, step_to, walk, al
 use Rattle.alias_graph.specs.NodeMarks.{marked, range_visited, ranges_after}
 use Rattle.alias_graph.specs.Nodes.{Node, Nodes, Entries, node_at}
 use Rattle.alias_graph.specs.Walks.{is_new, pop, step_at, step}
-use Rattle.alias_graph.specs.Reports.{value_reports, reported_at, stored_reported_at, reports_after, recorded_after,
-    with_reports, walked, Front, recorded_by, Stopped}
+use Rattle.alias_graph.specs.Reports.{value_reports, reported_at, stored_reported_at, reports_after, recorded_after}
+use Rattle.alias_graph.specs.Reports.{with_reports, walked, Front, recorded_by, Stopped}
 use Rattle.alias_graph.proofs.Flats.{node_at_of}
 
 -- ---- what is reported depends on the functions and the interned reports alone
@@ -94,12 +94,12 @@ module _ (r : Bool) (m : ℕ) (origin : Origin) (end : Option EvaluationOrder) (
     pub tells_more : (env₁ : Environment) → env₁
         ≡ with_reports (cond r (stored_reported_at env (node_at k e.id)) []) env
         → record env₁ { identifiers = range_visited end e.id env₁.identifiers }
-            ≡ walked r m origin end g₀ (e ∷ done) env₀
+        ≡ walked r m origin end g₀ (e ∷ done) env₀
     tells_more env₁ is =
         ap (λ (z : Environment). with_identifiers (range_visited end e.id z.identifiers) z)
         (is ∙ ap (λ rs. with_reports (cond r rs []) env) reported_now ∙ ap (with_reports (cond r new [])) tells)
         ∙ ap (both_set env₀ (range_visited end e.id (ranges_after end env₀.identifiers done)))
-            (more_reported r env₀.errors (reports_after env₀ m origin g₀ done) new)
+        (more_reported r env₀.errors (reports_after env₀ m origin g₀ done) new)
 
 -- ---- a walk pops no less later
 
@@ -124,7 +124,7 @@ steps_more g m s n (suc j) =
     let one = step_more g m w.stack w.done w.popped in
     let more : n + suc j ≡ suc (n + j) = omega arith in
     let same : (step_to g m s (n + suc j)).popped ≡ (step covers (node_exists g) (next g m) w).popped =
-        ap (λ k. (step_to g m s k).popped) more in
+    ap (λ k. (step_to g m s k).popped) more in
     omega arith
 
 pub pops_within : (g : Nodes) (m : ℕ) (s : Entry) (n : ℕ) → n ≤ 1 + 8 * all_links g → (step_to g m s n).popped ≡ n → n
@@ -133,7 +133,7 @@ pops_within g m s n few is =
     let more = steps_more g m s n (1 + 8 * all_links g - n) in
     let all : n + (1 + 8 * all_links g - n) ≡ 1 + 8 * all_links g = omega arith in
     let same : (step_to g m s (n + (1 + 8 * all_links g - n))).popped ≡ (walk g m s).popped =
-        ap (λ k. (step_to g m s k).popped) all in
+    ap (λ k. (step_to g m s k).popped) all in
     omega arith
 
 -- ---- where a walk is refused
@@ -170,8 +170,12 @@ stopped_first r m origin end g₀ s env steps = record {
   identifiers = refl;
   next = recorded_by r m origin end g₀ s env 1;
   whole = nothing_yet r (recorded_by r m origin end g₀ s env 1);
-  reports = record { some = []; rest = recorded_by r m origin end g₀ s env 1; grown = still_nothing r env.errors;
-      whole = refl };
+  reports = record {
+    some = [];
+    rest = recorded_by r m origin end g₀ s env 1;
+    grown = still_nothing r env.errors;
+    whole = refl;
+  };
 }
 
 front_when : (r : Bool) (old new all : List Report) → r ≡ true → Front old new all → Front old new (cond r all [])
@@ -196,9 +200,9 @@ stopped_later r m origin end g₀ s env₀ steps n steps' env env' e links k tel
     let done = (step_to g₀ m s n).done in
     let new = reported_at env₀ (node_at (marked m origin g₀ done) e.id) in
     let reported_is : stored_reported_at env (node_at k e.id) ≡ new =
-        reported_now r m origin end g₀ env₀ done env tells e links k nodes in
+    reported_now r m origin end g₀ env₀ done env tells e links k nodes in
     let errors_are : env.errors ≡ env₀.errors ++ recorded_by r m origin end g₀ s env₀ n =
-        ap (λ (z : Environment). z.errors) tells in
+    ap (λ (z : Environment). z.errors) tells in
     record {
       popped = n;
       within = within;

@@ -1,6 +1,6 @@
 -- Rows of walks, and what one of the walks has seen.
-use Rattle.std.proofs.Common.{◌≡◌, ℕ, ◌<◌, ◌≤◌, ◌==◌, false, cond, List, [], ◌∷◌, ◌++◌, length, take, slice_index_or,
-    slice_set, replicate, refl, ap, sym, ◌∙◌, subst, arith, suc, zero}
+use Rattle.std.proofs.Common.{◌≡◌, ℕ, ◌<◌, ◌≤◌, ◌==◌, false, cond, List, [], ◌∷◌, ◌++◌, length, take, slice_index_or}
+use Rattle.std.proofs.Common.{slice_set, replicate, refl, ap, sym, ◌∙◌, subst, arith, suc, zero}
 use Rattle.std.proofs.lemmas.List.{get_or-map, map-set, length-map}
 use Rattle.alias_graph.specs.declared.types.Entry.{Entry}
 use Rattle.alias_graph.specs.declared.seen.Seen.{Seen}

@@ -1,6 +1,6 @@
 -- How far a walk has come after a search.
-use Rattle.std.proofs.Common.{◌≡◌, ℕ, ◌+◌, ◌*◌, ◌<◌, ◌≤◌, true, List, [], ◌∷◌, ◌++◌, Option, Some, None, length,
-    replicate, refl, ap, sym, ◌∙◌, subst, arith, suc, zero, append_assoc, append-nil}
+use Rattle.std.proofs.Common.{◌≡◌, ℕ, ◌+◌, ◌*◌, ◌<◌, ◌≤◌, true, List, [], ◌∷◌, ◌++◌, Option, Some, None, length}
+use Rattle.std.proofs.Common.{replicate, refl, ap, sym, ◌∙◌, subst, arith, suc, zero, append_assoc, append-nil}
 use Rattle.alias_base.specs.declared.ids.EvaluationOrder.{EvaluationOrder}
 use Rattle.alias_hir.specs.declared.env.Identifier.{Identifier}
 use Rattle.alias_graph.specs.declared.types.Entry.{Entry}
@@ -20,8 +20,8 @@ use Rattle.alias_graph.specs.Seen.{nothing_seen}
 use Rattle.alias_graph.specs.Waiting.{AllOld, Searched, waiting, stored_at, followed_in}
 use Rattle.alias_graph.proofs.Flats.{slot_of_nodes, length_of_nodes, nodes_changed, visited_slot}
 use Rattle.alias_graph.proofs.Waiting.{claimed_slot, waiting_visited}
-use Rattle.alias_graph.proofs.Walking.{Walking, walking_begins, walking_same, walking_skips, walking_expands,
-    walking_more, done_kept, done_more, claimed_has, claimed_below}
+use Rattle.alias_graph.proofs.Walking.{Walking, walking_begins, walking_same, walking_skips, walking_expands}
+use Rattle.alias_graph.proofs.Walking.{walking_more, done_kept, done_more, claimed_has, claimed_below}
 
 -- the entries to come, with the next one where it was found
 abbrev pub coming : List Entry → Option Found → List Entry
@@ -61,7 +61,7 @@ module _ (g₀ : Nodes) (rs₀ : List Identifier) (m : ℕ) (origin : Origin) (e
   skips (e ∷ old) rest n olds h =
       let more = skips old (rest ++ e ∷ []) n olds.1 (subst (λ z. At z n) (sym (append_assoc rest (e ∷ []) old)) h) in
       let claim : claimed (slot_of (nodes_of links k) e.id) seen e ≡ None =
-          ap (λ o. claimed o seen e) (slot_of_nodes links k e.id) ∙ olds.0 in
+      ap (λ o. claimed o seen e) (slot_of_nodes links k e.id) ∙ olds.0 in
       let j = n + length old in
       let same : j + 1 ≡ n + suc (length old) = omega arith in (
         subst (At rest) same (walking_skips g₀ rs₀ m origin end s (nodes_of links k) rs seen (rest ++ e ∷ []) rest e j
@@ -82,11 +82,16 @@ module _ (g₀ : Nodes) (rs₀ : List Identifier) (m : ℕ) (origin : Origin) (e
       → Searched k seen entries left steps counted next → Came left next n steps counted
   came entries left None n steps counted h q =
       let all = skips entries [] n q.1 h in
-      record { passed = length entries; steps_are = q.2;
-          walking = subst (λ z. At z (n + length entries)) (sym q.0) all.0; done_are = all.1; comes = q.0 }
+      record {
+        passed = length entries;
+        steps_are = q.2;
+        walking = subst (λ z. At z (n + length entries)) (sym q.0) all.0;
+        done_are = all.1;
+        comes = q.0;
+      }
   came entries left (Some f) n steps counted h q =
       let all = skips q.0 (left ++ f.entry ∷ []) n q.2
-          (subst (λ z. At z n) (q.1 ∙ sym (append_assoc left (f.entry ∷ []) q.0)) h) in
+      (subst (λ z. At z n) (q.1 ∙ sym (append_assoc left (f.entry ∷ []) q.0)) h) in
       record { passed = length q.0; steps_are = q.3; walking = all.0; done_are = all.1; comes = q.4 }
 
   -- the next entry, where there is one
@@ -125,10 +130,10 @@ pub expanded : (g₀ : Nodes) (rs₀ : List Identifier) (m : ℕ) (origin : Orig
     (links : List StoredLink) (k : Entries StoredNode) (rs : List Identifier) (seen : List Seen) (stack : List Pending)
     (next : Option Found) (f : Found) (n : ℕ)
     → next ≡ Some f → Walking g₀ rs₀ m origin end s (nodes_of links k) rs seen (coming (waiting links k m stack) next) n
-        → Comes k seen (waiting links k m stack) next
+    → Comes k seen (waiting links k m stack) next
     → (k' : Entries StoredNode) (rs' : List Identifier) (seen' : List Seen) (stack' : List Pending)
     → k' ≡ changed k f.entry.id (stored_visited m origin f.entry) → rs' ≡ range_visited end f.entry.id rs → seen'
-        ≡ noted_at (Some f.slot) seen f.entry → stack' ≡ stack ++ followed_in f.slot f.entry (stored_at k f.slot)
+    ≡ noted_at (Some f.slot) seen f.entry → stack' ≡ stack ++ followed_in f.slot f.entry (stored_at k f.slot)
     → Walking g₀ rs₀ m origin end s (nodes_of links k') rs' seen' (waiting links k' m stack') (n + 1)
 expanded g₀ rs₀ m origin end s links k rs seen stack next f n is h comes k' rs' seen' stack' nodes_are ranges_are notes
     stack_is =
@@ -137,7 +142,7 @@ expanded g₀ rs₀ m origin end s links k rs seen stack next f n is h comes k' 
     let more = next_expands g₀ rs₀ m origin end s links k rs seen left next f n is h comes in
     walking_same g₀ rs₀ m origin end s _ _ _ _ (n + 1) more (nodes_of links k') rs' seen' (waiting links k' m stack')
     (ap (nodes_of links) nodes_are ∙ nodes_changed links (stored_visited m origin f.entry) (visited m origin f.entry)
-        (visited_slot links m origin f.entry) k f.entry.id)
+    (visited_slot links m origin f.entry) k f.entry.id)
     ranges_are
     notes
     (waiting_visited links k k' m f.slot m origin f.entry stack stack' at nodes_are stack_is)
@@ -147,12 +152,12 @@ pub begun : (rs₀ : List Identifier) (m : ℕ) (origin : Origin) (end : Option 
     (links : List StoredLink) (k : Entries StoredNode) (seen : List Seen) (stack : List Pending) (next : Option Found)
     (steps counted : ℕ)
     → seen ≡ replicate (length k) nothing_seen → stack ≡ [] → Searched k seen (s ∷ []) [] steps counted next
-        → Came (nodes_of links k) rs₀ m origin end s links k rs₀ seen (waiting links k m stack) next 0 steps counted
+    → Came (nodes_of links k) rs₀ m origin end s links k rs₀ seen (waiting links k m stack) next 0 steps counted
 begun rs₀ m origin end s links k seen stack next steps counted nothing empty q =
     let g₀ = nodes_of links k in
     let same : seen ≡ replicate (length g₀) nothing_seen = nothing
-        ∙ ap (λ n. replicate n nothing_seen) (sym (length_of_nodes links k)) in
+    ∙ ap (λ n. replicate n nothing_seen) (sym (length_of_nodes links k)) in
     let first = walking_same g₀ rs₀ m origin end s g₀ rs₀ (replicate (length g₀) nothing_seen) (s ∷ []) 0
-        (walking_begins g₀ rs₀ m origin end s) g₀ rs₀ seen (s ∷ []) refl refl same refl in
+    (walking_begins g₀ rs₀ m origin end s) g₀ rs₀ seen (s ∷ []) refl refl same refl in
     subst (λ z. Came g₀ rs₀ m origin end s links k rs₀ seen (waiting links k m z) next 0 steps counted) (sym empty)
-        (came g₀ rs₀ m origin end s links k rs₀ seen (s ∷ []) [] next 0 steps counted first q)
+    (came g₀ rs₀ m origin end s links k rs₀ seen (s ∷ []) [] next 0 steps counted first q)

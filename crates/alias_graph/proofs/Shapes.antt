@@ -1,6 +1,6 @@
 -- A walk's marks change no link.
-use Rattle.std.proofs.Common.{◌≡◌, ℕ, ◌+◌, Bool, true, false, cond, List, [], ◌∷◌, Option, Some, None, length,
-    option_map, position, refl, ap, sym, ◌∙◌, suc}
+use Rattle.std.proofs.Common.{◌≡◌, ℕ, ◌+◌, Bool, true, false, cond, List, [], ◌∷◌, Option, Some, None, length}
+use Rattle.std.proofs.Common.{option_map, position, refl, ap, sym, ◌∙◌, suc}
 use Rattle.std.specs.Map.{keys_of}
 use Rattle.alias_base.specs.declared.ids.IdentifierId.{IdentifierId}
 use Rattle.alias_graph.specs.declared.types.Entry.{Entry}
@@ -37,43 +37,43 @@ changed_shape : (f : Node → Node) → ((n : Node) → shape (f n) ≡ shape n)
 changed_shape f h [] id q = refl
 changed_shape f h (p ∷ g) id q =
     elim (same_id id p.0) as (λ b. option_map shape (node_at (cond b ((p.0, f p.1) ∷ g) (p ∷ changed g id f)) q)
-        ≡ option_map shape (node_at (p ∷ g) q)) [
+    ≡ option_map shape (node_at (p ∷ g) q)) [
       | true ↦ elim (same_id q p.0) as (λ b. option_map shape (cond b (Some (f p.1)) (node_at g q))
           ≡ option_map shape (cond b (Some p.1) (node_at g q))) [
-        | true ↦ ap Some (h p.1)
-        | false ↦ refl
-      ]
+            | true ↦ ap Some (h p.1)
+            | false ↦ refl
+          ]
       | false ↦ elim (same_id q p.0) as (λ b. option_map shape (cond b (Some p.1) (node_at (changed g id f) q))
           ≡ option_map shape (cond b (Some p.1) (node_at g q))) [
-        | true ↦ refl
-        | false ↦ changed_shape f h g id q
-      ]
+            | true ↦ refl
+            | false ↦ changed_shape f h g id q
+          ]
     ]
 
 keys_changed : (g : Nodes) (id : IdentifierId) (f : Node → Node) → keys_of (changed g id f) ≡ keys_of g
 keys_changed [] id f = refl
 keys_changed (p ∷ g) id f = elim (same_id id p.0) as
     (λ b. keys_of (cond b ((p.0, f p.1) ∷ g) (p ∷ changed g id f)) ≡ keys_of (p ∷ g)) [
-  | true ↦ refl
-  | false ↦ ap (λ ks. p.0 ∷ ks) (keys_changed g id f)
-]
+      | true ↦ refl
+      | false ↦ ap (λ ks. p.0 ∷ ks) (keys_changed g id f)
+    ]
 
 pub length_changed : (g : Nodes) (id : IdentifierId) (f : Node → Node) → length (changed g id f) ≡ length g
 length_changed [] id f = refl
 length_changed (p ∷ g) id f = elim (same_id id p.0) as
     (λ b. length (cond b ((p.0, f p.1) ∷ g) (p ∷ changed g id f)) ≡ suc (length g)) [
-  | true ↦ refl
-  | false ↦ ap suc (length_changed g id f)
-]
+      | true ↦ refl
+      | false ↦ ap suc (length_changed g id f)
+    ]
 
 links_changed : (f : Node → Node) → ((n : Node) → links_of (f n) ≡ links_of n) → (g : Nodes) (id : IdentifierId)
     → all_links (changed g id f) ≡ all_links g
 links_changed f h [] id = refl
 links_changed f h (p ∷ g) id = elim (same_id id p.0) as
     (λ b. all_links (cond b ((p.0, f p.1) ∷ g) (p ∷ changed g id f)) ≡ links_of p.1 + all_links g) [
-  | true ↦ ap (λ n. n + all_links g) (h p.1)
-  | false ↦ ap (λ n. links_of p.1 + n) (links_changed f h g id)
-]
+      | true ↦ ap (λ n. n + all_links g) (h p.1)
+      | false ↦ ap (λ n. links_of p.1 + n) (links_changed f h g id)
+    ]
 
 module _ (index : ℕ) (origin : Origin) (g : Nodes) where
   pub marked_links : (done : List Entry) → all_links (marked index origin g done) ≡ all_links g
@@ -105,4 +105,4 @@ module _ (index : ℕ) (origin : Origin) (g : Nodes) where
   pub marked_next : (done : List Entry) (m : ℕ) (e : Entry) → next (marked index origin g done) m e ≡ next g m e
   marked_next done m e =
       sym (next_shape m e (node_at (marked index origin g done) e.id)) ∙ ap (led_from m e) (marked_shape done e.id)
-          ∙ next_shape m e (node_at g e.id)
+      ∙ next_shape m e (node_at g e.id)

@@ -1,6 +1,7 @@
 -- A walk pops at most one entry more than eight times the links.
-use Rattle.std.proofs.Common.{◌≡◌, ℕ, ◌+◌, ◌*◌, ◌≤◌, ◌⊎◌, inl, inr, Bool, true, false, cond, ◌==◌, IsTrue, List, [],
-    ◌∷◌, ◌++◌, Some, nat_lt, is_some, length, refl, ap, sym, ◌∙◌, subst, arith, suc, length-append}
+use Rattle.std.proofs.Common.{◌≡◌, ℕ, ◌+◌, ◌*◌, ◌≤◌, ◌⊎◌, inl, inr, Bool, true, false, cond, ◌==◌, IsTrue, List, []}
+use Rattle.std.proofs.Common.{◌∷◌, ◌++◌, Some, nat_lt, is_some, length, refl, ap, sym, ◌∙◌, subst, arith, suc}
+use Rattle.std.proofs.Common.{length-append}
 use Rattle.alias_base.specs.declared.ids.IdentifierId.{IdentifierId}
 use Rattle.alias_graph.specs.declared.types.MutationKind.{MutationKind}
 use Rattle.alias_graph.specs.declared.types.MutationKind.TheVariants.{Conditional, Definite}
@@ -12,8 +13,8 @@ use Rattle.alias_graph.specs.declared.types.Entry.{Entry}
 use Rattle.alias_graph.specs.Nodes.{Node}
 use Rattle.alias_graph.specs.Nodes.{Nodes, node_at}
 use Rattle.alias_graph.specs.Walks.{IsOneOf, run, total}
-use Rattle.alias_graph.specs.Links.{covers, entry, back_entries, along, forward_entries, opens, alias_entries,
-    capture_entries, led_to, led_from, next, node_exists, links_of, all_links}
+use Rattle.alias_graph.specs.Links.{covers, entry, back_entries, along, forward_entries, opens, alias_entries}
+use Rattle.alias_graph.specs.Links.{capture_entries, led_to, led_from, next, node_exists, links_of, all_links}
 use Rattle.alias_graph.specs.Reach.{once, times}
 use Rattle.alias_graph.proofs.Covering.{eqb_is, eqb_itself}
 use Rattle.alias_graph.proofs.Legality.{in_left, in_right}
@@ -24,15 +25,15 @@ back_length : (m : ℕ) (t : Bool) (k : MutationKind) (ls : List Source) → len
 back_length m t k [] = omega arith
 back_length m t k (l ∷ ls) = let rest = back_length m t k ls in
     elim (nat_lt l.index m) as (λ b. length
-        (cond b (entry l.other t Backwards k ∷ back_entries m t k ls) (back_entries m t k ls)) ≤ suc (length ls))
-        [ true ↦ omega arith | false ↦ omega arith ]
+    (cond b (entry l.other t Backwards k ∷ back_entries m t k ls) (back_entries m t k ls)) ≤ suc (length ls))
+    [ true ↦ omega arith | false ↦ omega arith ]
 
 forward_length : (m : ℕ) (t : Bool) (k : MutationKind) (ls : List Edge) → length (forward_entries m t k ls) ≤ length ls
 forward_length m t k [] = omega arith
 forward_length m t k (l ∷ ls) = let rest = forward_length m t k ls in
     elim (nat_lt l.index m) as (λ b. length
-        (cond b (along l.kind l.other t k ∷ forward_entries m t k ls) (forward_entries m t k ls)) ≤ suc (length ls))
-        [ true ↦ omega arith | false ↦ omega arith ]
+    (cond b (along l.kind l.other t k ∷ forward_entries m t k ls) (forward_entries m t k ls)) ≤ suc (length ls))
+    [ true ↦ omega arith | false ↦ omega arith ]
 
 alias_length : (b : Bool) (m : ℕ) (t : Bool) (k : MutationKind) (ls bs : List Source)
     → length (alias_entries b m t k ls bs) ≤ length ls + length bs
@@ -57,9 +58,9 @@ led_length m e n =
 abbrev pub eight : IdentifierId → List Entry
 eight id =
     entry id true Backwards Definite ∷ entry id true Backwards Conditional ∷ entry id true Forwards Definite
-        ∷ entry id true Forwards Conditional
+    ∷ entry id true Forwards Conditional
     ∷ entry id false Backwards Definite ∷ entry id false Backwards Conditional ∷ entry id false Forwards Definite
-        ∷ entry id false Forwards Conditional ∷ []
+    ∷ entry id false Forwards Conditional ∷ []
 
 in_eight : (id : IdentifierId) (t : Bool) (x : Direction) (k : MutationKind) → IsOneOf (entry id t x k) (eight id)
 in_eight id true Backwards Definite = inl refl
@@ -83,7 +84,7 @@ stays_in id e (u ∷ us) apart (inl same) =
     (sym (ap (λ (z : Entry). z.id.0 == id.0) (sym same) ∙ apart)) (inl same)
 stays_in id e (u ∷ us) apart (inr other) = let rest = stays_in id e us apart other in
     elim (u.id.0 == id.0) as (λ b. IsOneOf e (cond b (without id us) (u ∷ without id us)))
-        [ true ↦ rest | false ↦ inr rest ]
+    [ true ↦ rest | false ↦ inr rest ]
 
 -- the entries that a walk may expand
 abbrev everyone : Nodes → List Entry
@@ -94,7 +95,7 @@ pub everyone_exists : (g : Nodes) (e : Entry) → IsTrue (node_exists g e) → I
 everyone_exists [] e t = cc
 everyone_exists (p ∷ g) e t =
     elim (e.id.0 == p.0.0) as (λ b. (e.id.0 == p.0.0) ≡ b → is_some (cond b (Some p.1) (node_at g e.id)) ≡ true
-        → IsOneOf e (everyone (p ∷ g))) [
+    → IsOneOf e (everyone (p ∷ g))) [
       | true ↦ λ is h. in_left (eight p.0) (without p.0 (everyone g)) e
           (subst (λ i. IsOneOf e (eight i)) (id_is e.id p.0 (eqb_is e.id.0 p.0.0 is))
           (in_eight e.id e.transitive e.direction e.kind))
@@ -115,7 +116,7 @@ weigh_rest : (p : IdentifierId × Node) (g : Nodes) (m : ℕ) (us : List Entry) 
 weigh_rest p g m [] = omega arith
 weigh_rest p g m (u ∷ us) = let rest = weigh_rest p g m us in
     elim (u.id.0 == p.0.0) as (λ b. (u.id.0 == p.0.0) ≡ b
-        → total (weigh (p ∷ g) m) (cond b (without p.0 us) (u ∷ without p.0 us)) ≤ weigh g m u + total (weigh g m) us) [
+    → total (weigh (p ∷ g) m) (cond b (without p.0 us) (u ∷ without p.0 us)) ≤ weigh g m u + total (weigh g m) us) [
       | true ↦ λ is. omega arith
       | false ↦ λ is. let here : weigh (p ∷ g) m u ≡ weigh g m u =
           ap (λ b. length (led_from m u (cond b (Some p.1) (node_at g u.id)))) is in omega arith
@@ -126,7 +127,7 @@ weigh_own : (p : IdentifierId × Node) (g : Nodes) (m : ℕ) (t : Bool) (x : Dir
 weigh_own p g m t x k =
     let e = entry p.0 t x k in
     let is : weigh (p ∷ g) m e ≡ length (led_to m e p.1) =
-        ap (λ b. length (led_from m e (cond b (Some p.1) (node_at g p.0)))) (eqb_itself p.0.0) in
+    ap (λ b. length (led_from m e (cond b (Some p.1) (node_at g p.0)))) (eqb_itself p.0.0) in
     let h = led_length m e p.1 in omega arith
 
 weigh_eight : (p : IdentifierId × Node) (g : Nodes) (m : ℕ) → total (weigh (p ∷ g) m) (eight p.0) ≤ 8 * links_of p.1
@@ -173,7 +174,7 @@ pub eight_times : (g : Nodes) (m : ℕ) (s : Entry) (k : ℕ) (id : IdentifierId
     → times id (run covers (node_exists g) (next g m) s k).done ≤ 8
 eight_times g m s k id =
     let h = done_weighs covers (node_exists g) (next g m) covers_itself (λ e. once (e.id.0 == id.0)) (eight id)
-        (λ e t. only_eight id e) s k in
+    (λ e t. only_eight id e) s k in
     let w = times_eight id in
     omega arith
 
@@ -186,7 +187,7 @@ length_without : (id : IdentifierId) (us : List Entry) → length (without id us
 length_without id [] = omega arith
 length_without id (u ∷ us) = let rest = length_without id us in
     elim (u.id.0 == id.0) as (λ b. length (cond b (without id us) (u ∷ without id us)) ≤ suc (length us))
-        [ true ↦ omega arith | false ↦ omega arith ]
+    [ true ↦ omega arith | false ↦ omega arith ]
 
 everyone_few : (g : Nodes) → length (everyone g) ≤ 8 * length g
 everyone_few [] = omega arith
@@ -199,7 +200,7 @@ pub done_few : (g : Nodes) (m : ℕ) (s : Entry) (k : ℕ) → length (run cover
     ≤ 8 * length g
 done_few g m s k =
     let h = done_weighs covers (node_exists g) (next g m) covers_itself (λ e. 1) (everyone g)
-        (λ e t. inl (everyone_exists g e t)) s k in
+    (λ e t. inl (everyone_exists g e t)) s k in
     let few = everyone_few g in
     let all = length_total (everyone g) in
     let these = length_total (run covers (node_exists g) (next g m) s k).done in

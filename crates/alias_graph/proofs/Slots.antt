@@ -1,6 +1,6 @@
 -- The slot of a node, and a change there.
-use Rattle.std.proofs.Common.{◌≡◌, ◌==◌, ℕ, ◌+◌, Bool, true, false, not, cond, [], ◌∷◌, Option, Some, None, nat_lt,
-    length, option_map, is_some, slice_get, refl, ap, sym, ◌∙◌, arith, suc, zero}
+use Rattle.std.proofs.Common.{◌≡◌, ◌==◌, ℕ, ◌+◌, Bool, true, false, not, cond, [], ◌∷◌, Option, Some, None, nat_lt}
+use Rattle.std.proofs.Common.{length, option_map, is_some, slice_get, refl, ap, sym, ◌∙◌, arith, suc, zero}
 use Rattle.std.specs.List.{position_or_len}
 use Rattle.std.specs.Map.{keys_of}
 use Rattle.std.specs.Cmp.{IsEquivalence}
@@ -32,8 +32,11 @@ same_either : (a b : ℕ) → (a == b) ≡ (b == a)
 same_either a b = grind arith
 
 same_laws : IsEquivalence same_id
-same_laws = record { refl = λ x. eqb_itself x.0; symm = λ x y. same_either x.0 y.0;
-    congr = λ x y z h. ap (λ n. n == z.0) (eqb_is x.0 y.0 h) }
+same_laws = record {
+  refl = λ x. eqb_itself x.0;
+  symm = λ x y. same_either x.0 y.0;
+  congr = λ x y z h. ap (λ n. n == z.0) (eqb_is x.0 y.0 h);
+}
 
 module _ {V : Type 0} where
   -- an entry of the identifier is where its node is
@@ -42,7 +45,7 @@ module _ {V : Type 0} where
   slot_here g id key i n distinct at same =
       let one : key ≡ id = ap (λ (k : ℕ). let z : IdentifierId = record { 0 = k } in z) same in
       sym (index-first (same_id id) g i (own_first same_id same_laws g i id n distinct
-          (sym at ∙ ap (λ k. Some (k, n)) one)))
+      (sym at ∙ ap (λ k. Some (k, n)) one)))
 
   -- a lookup of the same identifier
   pub same_key : (g : Entries V) (id key : IdentifierId) (n : V) → node_at g key ≡ Some n → key.0 ≡ id.0 → Some n
@@ -103,8 +106,8 @@ module _ {V : Type 0} where
   missing [] id f h = refl
   missing (e ∷ g) id f h =
       elim (same_id id e.0) as (λ b. same_id id e.0 ≡ b
-          → nat_lt (cond (not b) (1 + slot g id) 0) (length (keys_of (e ∷ g))) ≡ false
-          → cond b ((e.0, f e.1) ∷ g) (e ∷ changed g id f) ≡ e ∷ g) [
+      → nat_lt (cond (not b) (1 + slot g id) 0) (length (keys_of (e ∷ g))) ≡ false
+      → cond b ((e.0, f e.1) ∷ g) (e ∷ changed g id f) ≡ e ∷ g) [
         | true ↦ λ is q. absurd (grind arith)
         | false ↦ λ is q. ap (λ r. e ∷ r) (missing g id f (grind arith))
       ] refl h
@@ -122,7 +125,7 @@ module _ {V : Type 0} where
   found_some [] id h = absurd (grind arith)
   found_some (e ∷ g) id h =
       elim (same_id id e.0) as (λ b. nat_lt (cond (not b) (1 + slot g id) 0) (length (keys_of (e ∷ g))) ≡ true → (n : V)
-          × (value_at (e ∷ g) (cond (not b) (1 + slot g id) 0) ≡ Some n)) [
+      × (value_at (e ∷ g) (cond (not b) (1 + slot g id) 0) ≡ Some n)) [
         | true ↦ λ q. (e.1, refl)
         | false ↦ λ q. let r = found_some g id (grind arith) in
             (r.0, ap (value_at (e ∷ g)) (one_more (slot g id)) ∙ r.1)
@@ -149,7 +152,7 @@ module _ {V : Type 0} where
   no_node [] id h = refl
   no_node (e ∷ g) id h =
       elim (same_id id e.0) as (λ b. nat_lt (cond (not b) (1 + slot g id) 0) (length (keys_of (e ∷ g))) ≡ false
-          → cond b (Some e.1) (node_at g id) ≡ None) [
+      → cond b (Some e.1) (node_at g id) ≡ None) [
         | true ↦ λ q. absurd (grind arith)
         | false ↦ λ q. no_node g id (grind arith)
       ] h

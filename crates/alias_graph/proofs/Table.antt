@@ -1,6 +1,7 @@
 -- The table of what was seen is that of the entries that were expanded.
-use Rattle.std.proofs.Common.{◌≡◌, ℕ, ◌<◌, ⊎_elim, Bool, true, false, cond, ◌&&◌, ◌==◌, List, [], ◌∷◌, Option, Some,
-    None, length, slice_index_or, slice_set, replicate, refl, ap, sym, ◌∙◌, subst, arith, suc, zero}
+use Rattle.std.proofs.Common.{◌≡◌, ℕ, ◌<◌, ⊎_elim, Bool, true, false, cond, ◌&&◌, ◌==◌, List, [], ◌∷◌, Option, Some}
+use Rattle.std.proofs.Common.{None, length, slice_index_or, slice_set, replicate, refl, ap, sym, ◌∙◌, subst, arith, suc}
+use Rattle.std.proofs.Common.{zero}
 use Rattle.std.proofs.lemmas.List.{get_or-set_same, get_or-set_other, length-set, length-replicate}
 use Rattle.std.proofs.lemmas.Bool.{cases_eq, false≢true}
 use Rattle.alias_base.specs.declared.ids.IdentifierId.{IdentifierId}
@@ -30,8 +31,8 @@ reaches_risen Conditional (Some Definite) Definite = refl
 
 seen_more_at : (t : Bool) (x : Direction) (k : MutationKind) (s : Seen) (u : Bool) (y : Direction) (j : MutationKind)
     → reaches (level (see_at t x k s) u y) j
-        ≡ cond (at_least t u && at_least (is_backwards x) (is_backwards y) && at_least (is_definite k) (is_definite j))
-        true (reaches (level s u y) j)
+    ≡ cond (at_least t u && at_least (is_backwards x) (is_backwards y) && at_least (is_definite k) (is_definite j))
+    true (reaches (level s u y) j)
 seen_more_at true Backwards k s true Backwards j = reaches_risen k s.transitive_backwards j
 seen_more_at true Backwards k s true Forwards j = reaches_risen k s.transitive_forwards j
 seen_more_at true Backwards k s false Backwards j = reaches_risen k s.local_backwards j
@@ -122,11 +123,11 @@ sees_more g seen done d p n found h =
           ∙ seen_more d s e
           ∙ ap (cond (mode_covers d e) true) (h.says e p w at_p)
           ∙ same_true (d.id.0 == e.id.0) (mode_covers d e) (is_covered covers done e)
-              (ap (λ m. m == e.id.0) ids ∙ eqb_itself e.id.0))
+          (ap (λ m. m == e.id.0) ids ∙ eqb_itself e.id.0))
           (λ other.
           ap (λ z. is_seen z e) (get_or-set_other seen p i (see d s) nothing_seen other)
           ∙ h.says e i w at
           ∙ same_false (d.id.0 == e.id.0) (mode_covers d e) (is_covered covers done e)
-              (not_same d.id.0 e.id.0 (λ ids. other (one_slot g e.id d.id i p w n (sym ids) at found))))
+          (not_same d.id.0 e.id.0 (λ ids. other (one_slot g e.id d.id i p w n (sym ids) at found))))
           (cases_eq i p);
     }

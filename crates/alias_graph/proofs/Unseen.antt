@@ -1,6 +1,6 @@
 -- What a table hasn't seen gets less with each entry that is noted.
-use Rattle.std.proofs.Common.{◌≡◌, ◌==◌, ℕ, ◌+◌, ◌<◌, ◌≤◌, Bool, true, false, not, cond, List, [], ◌∷◌, length,
-    slice_index_or, slice_set, inl, inr, refl, ap, sym, ◌∙◌, subst, arith, suc, zero}
+use Rattle.std.proofs.Common.{◌≡◌, ◌==◌, ℕ, ◌+◌, ◌<◌, ◌≤◌, Bool, true, false, not, cond, List, [], ◌∷◌, length}
+use Rattle.std.proofs.Common.{slice_index_or, slice_set, inl, inr, refl, ap, sym, ◌∙◌, subst, arith, suc, zero}
 use Rattle.alias_base.specs.declared.ids.IdentifierId.{IdentifierId}
 use Rattle.alias_graph.specs.declared.seen.Seen.{Seen}
 use Rattle.alias_graph.specs.declared.types.Direction.{Direction}
@@ -62,7 +62,7 @@ gaps_less d s e = subst (λ b. once (not b) ≤ gap s e) (sym (seen_more d s e))
 gap_closes : (e : Entry) (s : Seen) → is_seen s e ≡ false → gap (see e s) e < gap s e
 gap_closes e s new =
     let now : is_seen (see e s) e ≡ true = seen_more e s e
-        ∙ ap (λ b. cond b true (is_seen s e)) (second (e.id.0 == e.id.0) (mode_covers e e) (covers_itself e)) in
+    ∙ ap (λ b. cond b true (is_seen s e)) (second (e.id.0 == e.id.0) (mode_covers e e) (covers_itself e)) in
     let after : gap (see e s) e ≡ 0 = ap (λ b. once (not b)) now in
     let before : gap s e ≡ 1 = ap (λ b. once (not b)) new in
     omega arith

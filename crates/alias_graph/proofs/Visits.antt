@@ -1,9 +1,9 @@
 -- What a walk reaches.
-use Rattle.std.proofs.Common.{◌≡◌, ℕ, ◌+◌, ◌⊎◌, inl, inr, ⊎_elim, Bool, true, false, not, cond, IsTrue, List, [], ◌∷◌,
-    refl, ap, sym, ◌∙◌, subst, suc, zero}
+use Rattle.std.proofs.Common.{◌≡◌, ℕ, ◌+◌, ◌⊎◌, inl, inr, ⊎_elim, Bool, true, false, not, cond, IsTrue, List, [], ◌∷◌}
+use Rattle.std.proofs.Common.{refl, ap, sym, ◌∙◌, subst, suc, zero}
 use Rattle.std.proofs.lemmas.Bool.{false≢true}
-use Rattle.alias_graph.specs.Walks.{IsOneOf, AllNew, put_all, Path, begin, more, Walk, is_covered, is_new, pop, step_at,
-    run}
+use Rattle.alias_graph.specs.Walks.{IsOneOf, AllNew, put_all, Path, begin, more, Walk, is_covered, is_new, pop, step_at}
+use Rattle.alias_graph.specs.Walks.{run}
 
 module _ {E : Type 0} where
   put_old : (xs ys : List E) (x : E) → IsOneOf x ys → IsOneOf x (put_all xs ys)
@@ -49,19 +49,19 @@ module _ {E : Type 0} (covers : E → E → Bool) (node_exists : E → Bool) (ne
       × (is_covered covers done e ≡ false)
   new_exists done e h = elim (node_exists e) as
       (λ b. cond b (not (is_covered covers done e)) false ≡ true → (b ≡ true) × (is_covered covers done e ≡ false)) [
-    | true ↦ elim (is_covered covers done e) as (λ b. not b ≡ true → (true ≡ true) × (b ≡ false))
-        [ true ↦ λ g. cc | false ↦ λ g. (refl, refl) ]
-    | false ↦ λ g. cc
-  ] h
+        | true ↦ elim (is_covered covers done e) as (λ b. not b ≡ true → (true ≡ true) × (b ≡ false))
+            [ true ↦ λ g. cc | false ↦ λ g. (refl, refl) ]
+        | false ↦ λ g. cc
+      ] h
 
   old_covered : (done : List E) (e : E) → is_new covers node_exists next done e ≡ false → (node_exists e ≡ false)
       ⊎ (is_covered covers done e ≡ true)
   old_covered done e h = elim (node_exists e) as
       (λ b. cond b (not (is_covered covers done e)) false ≡ false → (b ≡ false) ⊎ (is_covered covers done e ≡ true)) [
-    | true ↦ elim (is_covered covers done e) as (λ b. not b ≡ false → (true ≡ false) ⊎ (b ≡ true))
-        [ true ↦ λ g. inr refl | false ↦ λ g. cc ]
-    | false ↦ λ g. inl refl
-  ] h
+        | true ↦ elim (is_covered covers done e) as (λ b. not b ≡ false → (true ≡ false) ⊎ (b ≡ true))
+            [ true ↦ λ g. inr refl | false ↦ λ g. cc ]
+        | false ↦ λ g. inl refl
+      ] h
 
   -- the walk stays on paths
   pub record OnPaths (s : E) (w : Walk E) : Type 0 where
@@ -83,9 +83,12 @@ module _ {E : Type 0} (covers : E → E → Bool) (node_exists : E → Bool) (ne
   step_on_paths s (e ∷ es) done n h = pop_on_paths s (is_new covers node_exists next done e) e es done n refl h
 
   pub run_on_paths : (s : E) (n : ℕ) → OnPaths s (run covers node_exists next s n)
-  run_on_paths s zero = record { waiting =
-      λ x i t. ⊎_elim (λ a. subst (Path node_exists next s) (sym a) (begin (ap node_exists (sym a) ∙ t)))
-      (λ b. absurd b) i; expanded = λ x i. absurd i }
+  run_on_paths s zero = record {
+    waiting =
+        λ x i t. ⊎_elim (λ a. subst (Path node_exists next s) (sym a) (begin (ap node_exists (sym a) ∙ t)))
+        (λ b. absurd b) i;
+    expanded = λ x i. absurd i;
+  }
   run_on_paths s (suc n) = let w = run covers node_exists next s n in
       step_on_paths s w.stack w.done w.popped (run_on_paths s n)
 
@@ -125,7 +128,7 @@ module _ {E : Type 0} {covers : E → E → Bool} {node_exists : E → Bool} {ne
       (λ same. ⊎_elim
       (λ missing. absurd (false≢true (sym missing ∙ ap node_exists (sym same) ∙ laws.alike m.0 f m.2 ∙ t)))
       (λ is. let by = covered_met covers done e is in
-          inl (by.0, by.1, laws.trans by.0 e f by.2 (subst (λ z. IsTrue (covers z f)) same m.2)))
+      inl (by.0, by.1, laws.trans by.0 e f by.2 (subst (λ z. IsTrue (covers z f)) same m.2)))
       why)
       (λ other. inr (m.0, other, m.2)) m.1)
       (h t)

@@ -1,7 +1,7 @@
 -- What waits on the stack, and what a search passes over.
-use Rattle.std.proofs.Common.{◌≡◌, ℕ, ◌+◌, ◌<◌, ◌≤◌, Bool, true, false, cond, List, [], ◌∷◌, ◌++◌, Option, Some, None,
-    nat_lt, min, length, take, slice_get, slice_index_or, option_map, refl, ap, sym, ◌∙◌, subst, arith, suc, zero,
-    append_assoc, append-nil, length-append}
+use Rattle.std.proofs.Common.{◌≡◌, ℕ, ◌+◌, ◌<◌, ◌≤◌, Bool, true, false, cond, List, [], ◌∷◌, ◌++◌, Option, Some, None}
+use Rattle.std.proofs.Common.{nat_lt, min, length, take, slice_get, slice_index_or, option_map, refl, ap, sym, ◌∙◌}
+use Rattle.std.proofs.Common.{subst, arith, suc, zero, append_assoc, append-nil, length-append}
 use Rattle.std.proofs.lemmas.List.{take_all}
 use Rattle.alias_base.specs.declared.ids.IdentifierId.{IdentifierId}
 use Rattle.alias_graph.specs.declared.types.MutationKind.{MutationKind}
@@ -16,16 +16,16 @@ use Rattle.alias_graph.specs.declared.types.Found.{Found}
 use Rattle.alias_graph.specs.declared.types.Pending.{Pending}
 use Rattle.alias_graph.specs.declared.seen.Seen.{Seen}
 use Rattle.alias_graph.specs.Claims.{claimed}
-use Rattle.alias_graph.specs.Flat.{AllBelow, AllFit, NodeFits, link_at, edges_at, sources_at, node_of, nodes_of,
-    stored_visited, stored_marked_by}
+use Rattle.alias_graph.specs.Flat.{AllBelow, AllFit, NodeFits, link_at, edges_at, sources_at, node_of, nodes_of}
+use Rattle.alias_graph.specs.Flat.{stored_visited, stored_marked_by}
 use Rattle.alias_graph.specs.Graph.{changed}
-use Rattle.alias_graph.specs.Links.{along, back_entries, forward_entries, opens, alias_entries, capture_entries, led_to,
-    led_from, next}
+use Rattle.alias_graph.specs.Links.{along, back_entries, forward_entries, opens, alias_entries, capture_entries, led_to}
+use Rattle.alias_graph.specs.Links.{led_from, next}
 use Rattle.alias_graph.specs.NodeMarks.{info, later, first_reason}
 use Rattle.alias_graph.specs.Nodes.{Entries, slot_of, same_id}
 use Rattle.alias_graph.specs.Seen.{is_seen, nothing_seen}
-use Rattle.alias_graph.specs.Waiting.{listed, listed_in, stored_at, led, led_entries, waiting_of, waiting, pending,
-    pending_aliases, pending_captures, followed, followed_in, AllOld, Searched}
+use Rattle.alias_graph.specs.Waiting.{listed, listed_in, stored_at, led, led_entries, waiting_of, waiting, pending}
+use Rattle.alias_graph.specs.Waiting.{pending_aliases, pending_captures, followed, followed_in, AllOld, Searched}
 use Rattle.alias_graph.proofs.Flats.{node_at_of}
 use Rattle.alias_graph.proofs.Slots.{slot_some, found_node, Found as FoundAt}
 use Rattle.alias_graph.proofs.Walking.{seen_slot}
@@ -43,9 +43,9 @@ module _ (list : LinkList) (m : ℕ) (t : Bool) (k : MutationKind) (links : List
       (λ b. cond b (led list t k (link_at links x) ∷ of (xs ++ p ∷ [])) (of (xs ++ p ∷ []))
       ≡ cond b (led list t k (link_at links x) ∷ of xs) (of xs)
       ++ cond (nat_lt (link_at links p).index m) (led list t k (link_at links p) ∷ []) []) [
-    | true ↦ ap (λ z. led list t k (link_at links x) ∷ z) (last xs p)
-    | false ↦ last xs p
-  ]
+        | true ↦ ap (λ z. led list t k (link_at links x) ∷ z) (last xs p)
+        | false ↦ last xs p
+      ]
 
   one_more : (ps : List ℕ) (j : ℕ) → j < length ps → take (suc j) ps ≡ take j ps ++ slice_index_or ps j 0 ∷ []
   one_more [] j lt = absurd (omega arith)
@@ -79,7 +79,7 @@ module _ (list : LinkList) (m : ℕ) (t : Bool) (k : MutationKind) (links : List
     none_off le old =
         let e = led list t k (link_at links (slice_index_or ps j 0)) in
         ap (λ z. z ++ old) (split ∙ ap (λ b. of (take j ps) ++ cond b (e ∷ []) []) (is_not_before _ _ le)
-            ∙ append-nil (of (take j ps)))
+        ∙ append-nil (of (take j ps)))
 
 -- no more are taken than there are
 pub take_min : (l n : ℕ) (ps : List ℕ) → l ≡ min n (length ps) → take l ps ≡ take n ps
@@ -105,8 +105,8 @@ module _ (links : List StoredLink) (g : Entries StoredNode) (m : ℕ) where
 
 listed_marked : (list : LinkList) (b : Bool) (index : ℕ) (origin : Origin) (e : Entry) (n : StoredNode)
     → listed list (record (stored_marked_by b (info e.kind origin.span) n)
-        { last_mutated = later index n.last_mutated; mutation_reason = first_reason origin.reason n.mutation_reason })
-        ≡ listed list n
+    { last_mutated = later index n.last_mutated; mutation_reason = first_reason origin.reason n.mutation_reason })
+    ≡ listed list n
 listed_marked Forward true index origin e n = refl
 listed_marked Forward false index origin e n = refl
 listed_marked CreatedFrom true index origin e n = refl
@@ -121,7 +121,7 @@ listed_marked MaybeAliases false index origin e n = refl
 listed_changed : (f : StoredNode → StoredNode)
     → ((list : LinkList) (n : StoredNode) → listed list (f n) ≡ listed list n)
     → (g : Entries StoredNode) (id : IdentifierId) (list : LinkList) (i : ℕ)
-        → listed_in list (stored_at (changed g id f) i) ≡ listed_in list (stored_at g i)
+    → listed_in list (stored_at (changed g id f) i) ≡ listed_in list (stored_at g i)
 listed_changed f h [] id list i = refl
 listed_changed f h (p ∷ g) id list zero =
     elim (same_id id p.0) as (λ b. listed_in list (stored_at (cond b ((p.0, f p.1) ∷ g) (p ∷ changed g id f)) zero)
@@ -136,9 +136,9 @@ pub waiting_changed : (links : List StoredLink) (g : Entries StoredNode) (m : �
 waiting_changed links g m id index origin e [] = refl
 waiting_changed links g m id index origin e (p ∷ ps) =
     let same = listed_changed (stored_visited index origin e)
-        (λ list n. listed_marked list e.transitive index origin e n) g id p.list p.slot in
+    (λ list n. listed_marked list e.transitive index origin e n) g id p.list p.slot in
     ap (λ z. led_entries p.list m p.transitive p.kind links (take p.left z)
-        ++ waiting links (changed g id (stored_visited index origin e)) m ps) same
+    ++ waiting links (changed g id (stored_visited index origin e)) m ps) same
     ∙ ap (λ z. waiting_of links g m p ++ z) (waiting_changed links g m id index origin e ps)
 
 -- ---- what an entry follows is what it leads to
@@ -160,7 +160,7 @@ sources_led list h m t k links (p ∷ ps) =
     let l = link_at links p in
     ap (λ z. cond (nat_lt l.index m) (led list t k l ∷ z) z) (sources_led list h m t k links ps)
     ∙ ap (λ e. cond (nat_lt l.index m) (e ∷ back_entries m t k (sources_at links ps))
-        (back_entries m t k (sources_at links ps))) (h t k l)
+    (back_entries m t k (sources_at links ps))) (h t k l)
 
 module _ (links : List StoredLink) (g : Entries StoredNode) (m slot : ℕ) (n : StoredNode)
     (at : stored_at g slot ≡ Some n) where
@@ -185,11 +185,11 @@ module _ (links : List StoredLink) (g : Entries StoredNode) (m slot : ℕ) (n : 
       ≡ alias_entries b m t k (sources_at links n.aliases) (sources_at links n.maybe_aliases)
   aliases_led true t k =
       waiting_append links g m (pending slot Aliases t k n.aliases)
-          (pending slot MaybeAliases t Conditional n.maybe_aliases)
+      (pending slot MaybeAliases t Conditional n.maybe_aliases)
       ∙ ap (λ z. z ++ waiting links g m (pending slot MaybeAliases t Conditional n.maybe_aliases))
-          (backward_led Aliases (λ t k l. refl) t k)
+      (backward_led Aliases (λ t k l. refl) t k)
       ∙ ap (λ z. back_entries m t k (sources_at links n.aliases) ++ z)
-          (backward_led MaybeAliases (λ t k l. refl) t Conditional)
+      (backward_led MaybeAliases (λ t k l. refl) t Conditional)
   aliases_led false t k = refl
 
   captures_led : (b : Bool) (k : MutationKind) → waiting links g m (pending_captures b slot k n)
@@ -206,7 +206,7 @@ module _ (links : List StoredLink) (g : Entries StoredNode) (m slot : ℕ) (n : 
       let edges = forward_entries m e.transitive e.kind (edges_at links n.forward) in
       let made = back_entries m true e.kind (sources_at links n.created_from) in
       let same = alias_entries (opens n.value e.direction) m e.transitive e.kind (sources_at links n.aliases)
-          (sources_at links n.maybe_aliases) in
+      (sources_at links n.maybe_aliases) in
       let two : waiting links g m (f ++ c) ≡ edges ++ made =
       waiting_append links g m f c
       ∙ ap (λ z. z ++ waiting links g m c) (forward_led e.transitive e.kind)
@@ -223,14 +223,14 @@ module _ (links : List StoredLink) (g : Entries StoredNode) (m slot : ℕ) (n : 
 pub waiting_visited : (links : List StoredLink) (g k : Entries StoredNode) (m slot : ℕ) (index : ℕ) (origin : Origin)
     (e : Entry) (old new : List Pending)
     → slot_of g e.id ≡ Some slot → k ≡ changed g e.id (stored_visited index origin e) → new ≡ old
-        ++ followed_in slot e (stored_at g slot)
+    ++ followed_in slot e (stored_at g slot)
     → waiting links k m new ≡ waiting links g m old ++ next (nodes_of links g) m e
 waiting_visited links g k m slot index origin e old new at is put =
     let f = slot_some g e.id slot at in
     let there : stored_at g slot ≡ Some f.0 = found_stored g e.id slot f.0 f.1 in
     let leads : next (nodes_of links g) m e ≡ led_to m e (node_of links f.0) =
-        ap (led_from m e) (node_at_of links g e.id
-        ∙ ap (option_map (node_of links)) (found_node g e.id slot f.0 f.1)) in
+    ap (led_from m e) (node_at_of links g e.id
+    ∙ ap (option_map (node_of links)) (found_node g e.id slot f.0 f.1)) in
     ap (λ z. waiting links z m new) is
     ∙ waiting_changed links g m e.id index origin e new
     ∙ ap (waiting links g m) (put ∙ ap (λ o. old ++ followed_in slot e o) there)
@@ -270,11 +270,11 @@ pub search_none : (links : List StoredLink) (g : Entries StoredNode) (seen : Lis
     → Searched g seen (waiting_of links g m p) (waiting_of links g m (record p { left = 0 })) s s None
 search_none links g seen m p s at =
     let none : listed_in p.list (stored_at g p.slot) ≡ [] =
-        ap (λ (o : Option (IdentifierId × StoredNode)).
-        listed_in p.list (option_map (λ (e : IdentifierId × StoredNode). e.1) o)) (sym at) in
+    ap (λ (o : Option (IdentifierId × StoredNode)).
+    listed_in p.list (option_map (λ (e : IdentifierId × StoredNode). e.1) o)) (sym at) in
     let all : [] ≡ waiting_of links g m p =
-        sym (ap (λ z. led_entries p.list m p.transitive p.kind links (take p.left z)) none
-        ∙ ap (led_entries p.list m p.transitive p.kind links) (take_all p.left [] (omega arith))) in
+    sym (ap (λ z. led_entries p.list m p.transitive p.kind links (take p.left z)) none
+    ∙ ap (led_entries p.list m p.transitive p.kind links) (take_all p.left [] (omega arith))) in
     (refl, subst (AllOld g seen) all tt, let n = ap length all in omega arith)
 
 -- the pending links of a node that is there
@@ -287,11 +287,11 @@ pub search_list : (links : List StoredLink) (g : Entries StoredNode) (seen : Lis
     (key : IdentifierId) (n : StoredNode) (slots : List ℕ) (left s counted : ℕ) (found : Option Found) → Some (key, n)
     ≡ slice_get g p.slot → slots ≡ listed p.list n
     → Searched g seen (led_entries p.list m p.transitive p.kind links (take p.left slots))
-        (led_entries p.list m p.transitive p.kind links (take left slots)) s counted found
+    (led_entries p.list m p.transitive p.kind links (take left slots)) s counted found
     → Searched g seen (waiting_of links g m p) (waiting_of links g m (record p { left = left })) s counted found
 search_list links g seen m p key n slots left s counted found at is h =
     subst (λ z. Searched g seen (led_entries p.list m p.transitive p.kind links (take p.left z))
-        (led_entries p.list m p.transitive p.kind links (take left z)) s counted found) (is ∙ listed_at g p key n at) h
+    (led_entries p.list m p.transitive p.kind links (take left z)) s counted found) (is ∙ listed_at g p key n at) h
 
 module _ (g : Entries StoredNode) (seen : List Seen) where
   pub old_append : (a b : List Entry) → AllOld g seen a → AllOld g seen b → AllOld g seen (a ++ b)

@@ -1,7 +1,7 @@
 -- How far the walk of the code has come.
-use Rattle.std.proofs.Common.{◌≡◌, ℕ, ◌+◌, ◌*◌, ◌-◌, ◌<◌, ◌≤◌, Bool, true, false, not, cond, List, [], ◌∷◌, ◌++◌,
-    Option, Some, None, is_some, length, slice_index_or, reverse, replicate, refl, ap, sym, ◌∙◌, subst, arith, suc,
-    zero, add-one, append_assoc, length-append}
+use Rattle.std.proofs.Common.{◌≡◌, ℕ, ◌+◌, ◌*◌, ◌-◌, ◌<◌, ◌≤◌, Bool, true, false, not, cond, List, [], ◌∷◌, ◌++◌}
+use Rattle.std.proofs.Common.{Option, Some, None, is_some, length, slice_index_or, reverse, replicate, refl, ap, sym}
+use Rattle.std.proofs.Common.{◌∙◌, subst, arith, suc, zero, add-one, append_assoc, length-append}
 use Rattle.std.proofs.lemmas.List.{reverse-append, length-reverse}
 use mathlib.Core.List.{reverse-cons}
 use Rattle.alias_base.specs.declared.ids.EvaluationOrder.{EvaluationOrder}
@@ -58,8 +58,13 @@ module _ (g₀ : Nodes) (rs₀ : List Identifier) (m : ℕ) (origin : Origin) (e
     pub sees : Sees g₀ seen (step_to g₀ m s popped).done
 
   pub walking_begins : Walking g₀ rs₀ (replicate (length g₀) nothing_seen) (s ∷ []) 0
-  walking_begins = record { stack_is = refl; popped_is = refl; nodes_are = refl; ranges_are = refl;
-      sees = sees_nothing g₀ }
+  walking_begins = record {
+    stack_is = refl;
+    popped_is = refl;
+    nodes_are = refl;
+    ranges_are = refl;
+    sees = sees_nothing g₀;
+  }
 
   module _ (g : Nodes) (rs : List Identifier) (seen : List Seen) (stack rest : List Entry) (e : Entry) (n : ℕ)
       (h : Walking g rs seen stack n) (last : stack ≡ rest ++ e ∷ []) where
@@ -77,9 +82,9 @@ module _ (g₀ : Nodes) (rs₀ : List Identifier) (m : ℕ) (origin : Origin) (e
     one_step =
         ap (step_to g₀ m s) (add-one n)
         ∙ ap (λ z. step_at covers (node_exists g₀) (next g₀ m) z done (step_to g₀ m s n).popped)
-            (h.stack_is ∙ ap reverse last ∙ newest rest e)
+        (h.stack_is ∙ ap reverse last ∙ newest rest e)
         ∙ ap (λ z. pop covers (node_exists g₀) (next g₀ m) (is_new covers (node_exists g₀) (next g₀ m) done e) e
-            (reverse rest) done z) h.popped_is
+        (reverse rest) done z) h.popped_is
 
     old_at : (o : Option ℕ) → slot_of g₀ e.id ≡ o → claimed o seen e ≡ None
         → is_new covers (node_exists g₀) (next g₀ m) done e ≡ false
@@ -97,7 +102,7 @@ module _ (g₀ : Nodes) (rs₀ : List Identifier) (m : ℕ) (origin : Origin) (e
         let same : q ≡ p = seen_slot (is_seen (slice_index_or seen q nothing_seen) e) q p c in (
           ap (λ b. cond b (not (is_covered covers done e)) false) (ap is_some (found_node g₀ e.id q f.0 f.1))
               ∙ ap not (sym (h.sees.says e q f.0 f.1)
-                  ∙ not_seen (is_seen (slice_index_or seen q nothing_seen) e) q p c),
+              ∙ not_seen (is_seen (slice_index_or seen q nothing_seen) e) q p c),
           f.0,
           subst (λ i. Found g₀ e.id i f.0) same f.1,
         )

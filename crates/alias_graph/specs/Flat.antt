@@ -1,6 +1,6 @@
 -- Nodes that have the slots of their links, as nodes with links.
-use Rattle.std.specs.Prelude.{◌≡◌, ℕ, ◌+◌, ◌*◌, ◌<◌, ◌≤◌, Bool, true, false, cond, List, [], ◌∷◌, ◌++◌, None,
-    slice_index_or, length}
+use Rattle.std.specs.Prelude.{◌≡◌, ℕ, ◌+◌, ◌*◌, ◌<◌, ◌≤◌, Bool, true, false, cond, List, [], ◌∷◌, ◌++◌, None}
+use Rattle.std.specs.Prelude.{slice_index_or, length}
 use Rattle.std.specs.Option.{option_map_or}
 use Rattle.alias_base.specs.declared.ids.IdentifierId.{IdentifierId}
 use Rattle.alias_graph.specs.declared.types.EdgeKind.{EdgeKind}
@@ -17,8 +17,14 @@ use Rattle.alias_graph.specs.Nodes.{Edge, Source, Node, Entries, Nodes, node_at,
 use Rattle.alias_graph.specs.Graph.{has_source, changed}
 
 abbrev pub no_link : StoredLink
-no_link = record { index = 0; from = record { 0 = 0 }; into = record { 0 = 0 }; kind = Capture;
-    from_hint = record { 0 = 0 }; into_hint = record { 0 = 0 } }
+no_link = record {
+  index = 0;
+  from = record { 0 = 0 };
+  into = record { 0 = 0 };
+  kind = Capture;
+  from_hint = record { 0 = 0 };
+  into_hint = record { 0 = 0 };
+}
 
 abbrev pub link_at : List StoredLink → ℕ → StoredLink
 link_at links p = slice_index_or links p no_link
@@ -110,8 +116,18 @@ stored_visited index origin e n = record (stored_marked_by e.transitive (info e.
     { last_mutated = later index n.last_mutated; mutation_reason = first_reason origin.reason n.mutation_reason }
 
 abbrev pub stored_fresh : NodeValue → StoredNode
-stored_fresh value = record { value = value; local = None; transitive = None; last_mutated = None;
-    mutation_reason = None; forward = []; created_from = []; captures = []; aliases = []; maybe_aliases = [] }
+stored_fresh value = record {
+  value = value;
+  local = None;
+  transitive = None;
+  last_mutated = None;
+  mutation_reason = None;
+  forward = [];
+  created_from = [];
+  captures = [];
+  aliases = [];
+  maybe_aliases = [];
+}
 
 abbrev pub with_forward_slot : ℕ → StoredNode → StoredNode
 with_forward_slot p n = record n { forward = n.forward ++ p ∷ [] }

@@ -13,8 +13,18 @@ use Rattle.alias_graph.specs.Nodes.{Entries, Nodes, has_node, with_node, same_id
 
 -- a node with no mark and no link
 abbrev pub fresh : NodeValue → Node
-fresh value = record { value = value; local = None; transitive = None; last_mutated = None; mutation_reason = None;
-    forward = []; created_from = []; captures = []; aliases = []; maybe_aliases = [] }
+fresh value = record {
+  value = value;
+  local = None;
+  transitive = None;
+  last_mutated = None;
+  mutation_reason = None;
+  forward = [];
+  created_from = [];
+  captures = [];
+  aliases = [];
+  maybe_aliases = [];
+}
 
 abbrev pub created : Nodes → IdentifierId → NodeValue → Nodes
 created g id value = with_node g id (fresh value)

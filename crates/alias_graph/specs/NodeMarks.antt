@@ -54,8 +54,10 @@ marked index origin g (e ∷ es) = changed (marked index origin g es) e.id (visi
 
 -- the range ends no earlier
 abbrev pub raised : EvaluationOrder → Identifier → Identifier
-raised end x = record x { mutable_range =
-    record x.mutable_range { end = record { 0 = max x.mutable_range.end.0 end.0 } } }
+raised end x = record x {
+  mutable_range =
+      record x.mutable_range { end = record { 0 = max x.mutable_range.end.0 end.0 } };
+}
 
 abbrev pub raised_at : List Identifier → ℕ → EvaluationOrder → List Identifier
 raised_at xs i end = option_map_or (λ x. slice_set xs i (raised end x)) (slice_get xs i) xs

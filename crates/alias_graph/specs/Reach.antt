@@ -1,6 +1,6 @@
 -- What holds after a walk, by legal paths.
-use Rattle.std.specs.Prelude.{◌≡◌, ℕ, ◌<◌, ◌≤◌, ◌⊎◌, Bool, true, false, cond, ◌==◌, IsTrue, List, Option, Some, None,
-    slice_get, option_map}
+use Rattle.std.specs.Prelude.{◌≡◌, ℕ, ◌<◌, ◌≤◌, ◌⊎◌, Bool, true, false, cond, ◌==◌, IsTrue, List, Option, Some, None}
+use Rattle.std.specs.Prelude.{slice_get, option_map}
 use Rattle.alias_base.specs.declared.ids.IdentifierId.{IdentifierId}
 use Rattle.alias_base.specs.declared.ids.EvaluationOrder.{EvaluationOrder}
 use Rattle.alias_hir.specs.declared.env.Identifier.{Identifier}

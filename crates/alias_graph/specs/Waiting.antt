@@ -1,6 +1,6 @@
 -- The links that wait on the stack of a walk, and the search among them for the next new entry.
-use Rattle.std.specs.Prelude.{◌≡◌, ℕ, ◌+◌, Bool, true, false, cond, List, [], ◌∷◌, ◌++◌, Option, Some, None, nat_lt,
-    length, take, slice_get, option_map, suc}
+use Rattle.std.specs.Prelude.{◌≡◌, ℕ, ◌+◌, Bool, true, false, cond, List, [], ◌∷◌, ◌++◌, Option, Some, None, nat_lt}
+use Rattle.std.specs.Prelude.{length, take, slice_get, option_map, suc}
 use Rattle.alias_base.specs.declared.ids.IdentifierId.{IdentifierId}
 use Rattle.alias_graph.specs.declared.types.MutationKind.{MutationKind}
 use Rattle.alias_graph.specs.declared.types.MutationKind.TheVariants.{Conditional}

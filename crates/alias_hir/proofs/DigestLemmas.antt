@@ -6,10 +6,10 @@ use Rattle.std.specs.Cmp.Lexicographic.{pointwise, bytes_decides}
 use Rattle.std.proofs.lemmas.Bool.{eq-eqb, eqb-true}
 use Rattle.alias_base.specs.AnswerLaws.{both_true}
 use Rattle.alias_base.specs.declared.ids.IdentifierId.{IdentifierId}
-use Rattle.alias_hir.specs.Digests.{with_text, with_help, with_label, with_labels, words_digest, report_digest,
-    digest_of_words, digest_of_report}
-use Rattle.alias_hir.specs.SameReports.{same_category, same_text, same_span, same_label, same_words, same_identity,
-    same_instance}
+use Rattle.alias_hir.specs.Digests.{with_text, with_help, with_label, with_labels, words_digest, report_digest}
+use Rattle.alias_hir.specs.Digests.{digest_of_words, digest_of_report}
+use Rattle.alias_hir.specs.SameReports.{same_category, same_text, same_span, same_label, same_words, same_identity}
+use Rattle.alias_hir.specs.SameReports.{same_instance}
 use Rattle.alias_hir.specs.declared.report.Interned.{Interned}
 use Rattle.alias_hir.specs.declared.report.Label.{Label}
 use Rattle.alias_hir.specs.declared.report.Report.{Report}
@@ -32,7 +32,7 @@ words_agree id r e i h =
     let message : e.report.message ≡ r.message = text_is _ _ m.1 in
     let help : e.report.help ≡ r.help = help_is _ _ t.1 in
     ap (λ z. with_help (with_text z e.report.message) e.report.help) number
-        ∙ ap (λ z. with_help (with_text id.0 z) e.report.help) message
+    ∙ ap (λ z. with_help (with_text id.0 z) e.report.help) message
     ∙ ap (with_help (with_text id.0 r.message)) help
 
 label_agrees : (digest : ℕ) (a b : Label) → same_label a b ≡ true → with_label digest a ≡ with_label digest b
@@ -64,4 +64,4 @@ instance_has_digest id r e h =
     let t = both_true (e.identifier.0 == id.0) _ h in
     let p = both_true (same_words e.report r) _ t.1 in
     eq-eqb _ _ (ap (λ z. with_labels z e.report.labels) (words_agree id r e t.0 p.0)
-        ∙ labels_agree (words_digest id r) e.report.labels r.labels p.1)
+    ∙ labels_agree (words_digest id r) e.report.labels r.labels p.1)

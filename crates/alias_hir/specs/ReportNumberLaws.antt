@@ -1,13 +1,13 @@
 -- What follows of interned reports: all numbers are taken where 4,294,967,295 reports are interned.
-use Rattle.std.proofs.Common.{◌≡◌, ℕ, ◌+◌, ◌≤◌, Bool, true, false, cond, if◌then◌else◌, ◌&&◌, ◌==◌, nat_lt, List, [],
-    ◌∷◌, length, refl, arith}
+use Rattle.std.proofs.Common.{◌≡◌, ℕ, ◌+◌, ◌≤◌, Bool, true, false, cond, if◌then◌else◌, ◌&&◌, ◌==◌, nat_lt, List, []}
+use Rattle.std.proofs.Common.{◌∷◌, length, refl, arith}
 use Rattle.std.specs.Prelude.{Result, Ok, Err}
 use Rattle.std.proofs.lemmas.Bool.Decides.{nat_tests}
 use Rattle.alias_base.specs.Answer.{◌>>=◌}
 use Rattle.alias_base.specs.AnswerLaws.{both_true}
 use Rattle.alias_base.specs.declared.ids.IdentifierId.{IdentifierId}
-use Rattle.alias_hir.specs.ReportNumbers.{same_words, same_identity, same_instance, number_of, numbered, report_id_of,
-    report_id_where_interned}
+use Rattle.alias_hir.specs.ReportNumbers.{same_words, same_identity, same_instance, number_of, numbered, report_id_of}
+use Rattle.alias_hir.specs.ReportNumbers.{report_id_where_interned}
 use Rattle.alias_hir.specs.declared.error.Counter.TheVariants.{Diagnostics}
 use Rattle.alias_hir.specs.declared.error.HirError.{HirError}
 use Rattle.alias_hir.specs.declared.error.HirError.TheVariants.{TooMany}
@@ -73,6 +73,6 @@ pub taken_where_full : (es : List Interned) (id : IdentifierId) (r : Report) →
     → report_id_of es id r ≡ report_id_where_interned es id r
 taken_where_full es id r h =
     by_tests _ _ _ _ (number_of (same_identity id r) es) (number_of (same_instance id r) es) (length es) refl refl refl
-        refl
+    refl
     (number_before (same_identity id r) (same_instance id r) (says_the_same id r) es)
-        (number_at_most (same_instance id r) es) h
+    (number_at_most (same_instance id r) es) h

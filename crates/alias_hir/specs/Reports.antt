@@ -31,7 +31,7 @@ identifier_span (Some i) = i.span
 abbrev pub printed_identifier : Environment → IdentifierId → List ℕ
 printed_identifier env id =
     identifier_name (slice_get env.identifiers id.0) ++ codes "$" ++ decimal id.0
-        ++ option_map_or printed_type (type_of env id) []
+    ++ option_map_or printed_type (type_of env id) []
 
 -- the first span that is there
 abbrev pub either_span : Option Span → Option Span → Option Span

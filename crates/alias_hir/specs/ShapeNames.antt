@@ -1,6 +1,6 @@
 -- Shapes found by their names.
-use Rattle.std.specs.Prelude.{◌≡◌, ℕ, true, false, cond, List, [], ◌∷◌, ◌++◌, length, Option, Some, None, find, nat_eq,
-    refl}
+use Rattle.std.specs.Prelude.{◌≡◌, ℕ, true, false, cond, List, [], ◌∷◌, ◌++◌, length, Option, Some, None, find, nat_eq}
+use Rattle.std.specs.Prelude.{refl}
 use Rattle.std.proofs.Common.{ap, sym, ◌∙◌, subst}
 use Rattle.std.specs.Option.{is_some}
 use Rattle.std.specs.Cmp.Lexicographic.{pointwise, nat_list_eq_equiv}
@@ -56,4 +56,4 @@ module _ (slots : List ℕ → Option ℕ) (shapes : List Shape) (s : Shape) (h 
       subst (AreSlots new) (sym m)
       (more_slots new (slots s.id) refl (subst (λ z. false ≡ is_some (slots z)) n i)
       (λ q. u q ∙ ap (λ z. cond (pointwise nat_eq z q) (Some slot) (slots q)) n
-          ∙ ap (λ k. cond (pointwise nat_eq s.id q) (Some k) (slots q)) l))
+      ∙ ap (λ k. cond (pointwise nat_eq s.id q) (Some k) (slots q)) l))

@@ -2,15 +2,16 @@
 use Rattle.std.proofs.Common.{ℕ, ◌≡◌, List, [], Option, Some, None, false, IsTrue, arith, refl, sym, subst, inl, inr}
 use Rattle.alias_stream.specs.Streams.{Adds, HasFailed}
 use Rattle.alias_run.specs.declared.command.Command.{Command}
-use Rattle.alias_run.specs.declared.command.Command.TheVariants.{Infer, Certify, Check, Lint, Explain, ExplainFunction,
-    Plain, Made, Help, Version}
+use Rattle.alias_run.specs.declared.command.Command.TheVariants.{Infer, Certify, Check, Lint, Explain, ExplainFunction}
+use Rattle.alias_run.specs.declared.command.Command.TheVariants.{Plain, Made, Help, Version}
 use Rattle.alias_run.specs.declared.status.Status.{Status}
-use Rattle.alias_run.specs.declared.status.Status.TheVariants.{Done, Words, NotJson, NotUnit, Unfit, BadLine, Rejected,
-    PlainRefused, Refused, NotHere, ReadFault, WriteFault, TooLong, Memory}
+use Rattle.alias_run.specs.declared.status.Status.TheVariants.{Done, Words, NotJson, NotUnit, Unfit, BadLine, Rejected}
+use Rattle.alias_run.specs.declared.status.Status.TheVariants.{PlainRefused, Refused, NotHere, ReadFault, WriteFault}
+use Rattle.alias_run.specs.declared.status.Status.TheVariants.{TooLong, Memory}
 use Rattle.alias_run.specs.declared.answer.Answer.{Answer}
 use Rattle.alias_run.specs.declared.query.Query.{Query}
-use Rattle.alias_run.specs.declared.query.Query.TheVariants.{Inference, Acceptance, Lints, Explanation,
-    FunctionExplanation, Plainness}
+use Rattle.alias_run.specs.declared.query.Query.TheVariants.{Inference, Acceptance, Lints, Explanation}
+use Rattle.alias_run.specs.declared.query.Query.TheVariants.{FunctionExplanation, Plainness}
 use Rattle.alias_run.specs.Findings.{IsFound, IsRead}
 use Rattle.alias_run.specs.Runs.{IsRun, IsHeadline, IsComplete, IsAccepting}
 use Rattle.alias_run.specs.Statuses.{status_code}
@@ -68,8 +69,8 @@ module _ (asked : Option Command) (input : List ℕ) (F : Type 0) (unfailing : F
       → Adds (Some []) (text_of asked status i) (Some bytes)
       → IsHeadline asked (Some input) (Some []) (Some bytes) status i → IsCertifying asked i (text_of asked status i)
       → (j : Answer) × IsFound asked (Some input) ⊥ status j
-          × IsHeadline asked (Some input) (Some []) (Some bytes) status j × (bytes ≡ text_of asked status j)
-          × IsCertifying asked j bytes
+      × IsHeadline asked (Some input) (Some []) (Some bytes) status j × (bytes ≡ text_of asked status j)
+      × IsCertifying asked j bytes
   whole status i f t h c = let is = some_held _ _ t in
       (i, found (Some input) F unfailing asked status i f, h, is, subst (IsCertifying asked i) (sym is) c)
 
@@ -96,24 +97,24 @@ pub replies_as : (asked : Option Command) (input bytes : List ℕ) (known held h
     (status status' : Status) (i : Answer) (text : List ℕ)
     → known ≡ Some input → held ≡ Some [] → held' ≡ Some bytes → status' ≡ status → text ≡ text_kept status bytes
     → IsRun asked known (HasFailed 0 0 false) (HasFailed 0 0 false) held held' status i
-        → IsHeadline asked known held held' status i → IsCertifying asked i (text_of asked status i)
-        → IsReply asked input status' text
+    → IsHeadline asked known held held' status i → IsCertifying asked i (text_of asked status i)
+    → IsReply asked input status' text
 replies_as asked input bytes known held held' status status' i text k h h' s t r done certifies =
     let F = HasFailed 0 0 false in
     let r1 : IsRun asked (Some input) F F held held' status i =
-        subst (λ z. IsRun asked z F F held held' status i) k r in
+    subst (λ z. IsRun asked z F F held held' status i) k r in
     let r2 : IsRun asked (Some input) F F (Some []) held' status i =
-        subst (λ z. IsRun asked (Some input) F F z held' status i) h r1 in
+    subst (λ z. IsRun asked (Some input) F F z held' status i) h r1 in
     let r3 : IsRun asked (Some input) F F (Some []) (Some bytes) status i =
-        subst (λ z. IsRun asked (Some input) F F (Some []) z status i) h' r2 in
+    subst (λ z. IsRun asked (Some input) F F (Some []) z status i) h' r2 in
     let d1 : IsHeadline asked (Some input) held held' status i =
-        subst (λ z. IsHeadline asked z held held' status i) k done in
+    subst (λ z. IsHeadline asked z held held' status i) k done in
     let d2 : IsHeadline asked (Some input) (Some []) held' status i =
-        subst (λ z. IsHeadline asked (Some input) z held' status i) h d1 in
+    subst (λ z. IsHeadline asked (Some input) z held' status i) h d1 in
     let d3 : IsHeadline asked (Some input) (Some []) (Some bytes) status i =
-        subst (λ z. IsHeadline asked (Some input) (Some []) z status i) h' d2 in
+    subst (λ z. IsHeadline asked (Some input) (Some []) z status i) h' d2 in
     let a : IsReply asked input status (text_kept status bytes) =
-        replies asked input F unfailed bytes status i r3 d3 certifies in
+    replies asked input F unfailed bytes status i r3 d3 certifies in
     let b : IsReply asked input status text = subst (λ z. IsReply asked input status z) (sym t) a in
     subst (λ z. IsReply asked input z text) (sym s) b
 
@@ -141,12 +142,13 @@ accepting_of asked known F unfailing status h = tt
 pub promises_as : (asked : Option Command) (input : List ℕ) (known : Option (List ℕ)) (status status' : Status) → known
     ≡ Some input → status' ≡ status
     → IsComplete asked known (HasFailed 0 0 false) (HasFailed 0 0 false) status
-        → IsAccepting asked known (HasFailed 0 0 false) (HasFailed 0 0 false) status → KeepsPromises asked input status'
+    → IsAccepting asked known (HasFailed 0 0 false) (HasFailed 0 0 false) status → KeepsPromises asked input status'
 promises_as asked input known status status' k s c a =
     let F = HasFailed 0 0 false in
-    subst (KeepsPromises asked input) (sym s)
-    (complete_of asked (Some input) F unfailed status (subst (λ z. IsComplete asked z F F status) k c),
-        accepting_of asked (Some input) F unfailed status (subst (λ z. IsAccepting asked z F F status) k a))
+    subst (KeepsPromises asked input) (sym s) (
+      complete_of asked (Some input) F unfailed status (subst (λ z. IsComplete asked z F F status) k c),
+      accepting_of asked (Some input) F unfailed status (subst (λ z. IsAccepting asked z F F status) k a),
+    )
 
 -- memory ran out
 memory_completes : (asked : Option Command) (known : Option (List ℕ)) → IsComplete asked known ⊥ ⊥ Memory
@@ -200,9 +202,13 @@ module _ (asked : Option Command) (input text : List ℕ) where
   unfailing_code (PlainRefused fault) a = (λ e. omega (arith, e), λ e. omega (arith, e))
   unfailing_code (Refused error) a = (λ e. omega (arith, e), λ e. omega (arith, e))
   unfailing_code NotHere a = (λ e. omega (arith, e), λ e. omega (arith, e))
-  unfailing_code ReadFault a = (λ e. never_read_fault (Some input) asked a.0 a.1,
-      λ e. never_read_fault (Some input) asked a.0 a.1)
-  unfailing_code WriteFault a = (λ e. no_write_fault (Some input) ⊥ asked a.0 a.1,
-      λ e. no_write_fault (Some input) ⊥ asked a.0 a.1)
+  unfailing_code ReadFault a = (
+    λ e. never_read_fault (Some input) asked a.0 a.1,
+    λ e. never_read_fault (Some input) asked a.0 a.1,
+  )
+  unfailing_code WriteFault a = (
+    λ e. no_write_fault (Some input) ⊥ asked a.0 a.1,
+    λ e. no_write_fault (Some input) ⊥ asked a.0 a.1,
+  )
   unfailing_code TooLong a = (λ e. omega (arith, e), λ e. omega (arith, e))
   unfailing_code Memory a = (λ e. omega (arith, e), λ e. omega (arith, e))

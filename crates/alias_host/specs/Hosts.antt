@@ -1,6 +1,6 @@
 -- What a run in a host's process comes to.
-use Rattle.std.specs.Prelude.{ℕ, ◌≡◌, ◌⊎◌, ◌==◌, ◌++◌, Bool, true, false, if◌then◌else◌, List, [], Option, None, Some,
-    length, take, drop}
+use Rattle.std.specs.Prelude.{ℕ, ◌≡◌, ◌⊎◌, ◌==◌, ◌++◌, Bool, true, false, if◌then◌else◌, List, [], Option, None, Some}
+use Rattle.std.specs.Prelude.{length, take, drop}
 use Rattle.std.specs.List.{slice_split}
 use Rattle.std.specs.Str.{IsUtf8}
 use Rattle.alias_run.specs.Commands.{command_of}
@@ -28,7 +28,7 @@ abbrev pub IsReply : Option Command → List ℕ → Status → List ℕ → Typ
 IsReply asked input Memory text = text ≡ []
 IsReply asked input status text =
     (i : Answer) × IsFound asked (Some input) ⊥ status i × IsHeadline asked (Some input) (Some []) (Some text) status i
-        × (text ≡ text_of asked status i) × IsCertifying asked i text
+    × (text ≡ text_of asked status i) × IsCertifying asked i text
 
 -- no plain unit that settles is refused, and no certificate of what is inferred is rejected, as a run keeps it whose
 -- source and sink never fail
@@ -52,5 +52,5 @@ put_front text room = take (length room) text ++ drop (length text) room
 abbrev pub IsHostRun : List ℕ → List ℕ → List ℕ → List ℕ → ℕ → ℕ → Type 0
 IsHostRun line input room room' text_length code =
     (asked : Option Command) × (status : Status) × (text : List ℕ) × IsAsked line asked
-        × IsReply asked input status text × KeepsPromises asked input status
+    × IsReply asked input status text × KeepsPromises asked input status
     × (code ≡ status_code status) × (text_length ≡ length text) × (room' ≡ put_front text room)

@@ -1,6 +1,6 @@
 -- The lints of walks and renders, without their places, are the reports that these record.
-use Rattle.std.proofs.Common.{◌≡◌, ℕ, Bool, true, false, cond, ◌||◌, List, [], ◌∷◌, ◌++◌, Option, Some, None, fold,
-    is_some, refl, ap, sym, ◌∙◌, append_assoc, append-nil}
+use Rattle.std.proofs.Common.{◌≡◌, ℕ, Bool, true, false, cond, ◌||◌, List, [], ◌∷◌, ◌++◌, Option, Some, None, fold}
+use Rattle.std.proofs.Common.{is_some, refl, ap, sym, ◌∙◌, append_assoc, append-nil}
 use Rattle.std.specs.Prelude.{Ok}
 use Rattle.alias_base.specs.declared.ids.IdentifierId.{IdentifierId}
 use Rattle.alias_hir.specs.declared.env.Environment.{Environment}
@@ -19,13 +19,14 @@ use Rattle.alias_graph.specs.declared.recorded.listing.RecordedMutation.{Recorde
 use Rattle.alias_graph.specs.declared.recorded.listing.RecordedRender.{RecordedRender}
 use Rattle.alias_graph.specs.recorded.BlockListings.{listed}
 use Rattle.alias_graph.specs.recorded.Recording.{graph_listed}
-use Rattle.alias_range_pass.specs.summary.Walking.{Walked, start_origin, expanded, mutation_start, after_mutation,
-    after_mutations, after_render, after_renders, env_reported, mutations_done, renders_done}
+use Rattle.alias_range_pass.specs.summary.Walking.{Walked, start_origin, expanded, mutation_start, after_mutation}
+use Rattle.alias_range_pass.specs.summary.Walking.{after_mutations, after_render, after_renders, env_reported}
+use Rattle.alias_range_pass.specs.summary.Walking.{mutations_done, renders_done}
 use Rattle.alias_lint.specs.declared.sites.Lint.{Lint}
 use Rattle.alias_lint.specs.LintLaws.{SameReports}
 use Rattle.alias_lint.specs.Sites.{reports_of, in_root}
-use Rattle.alias_lint.specs.WalkLints.{effect_lints, walk_reports, after_walk, mutation_lints, render_lints,
-    walked_lints, walk_lints}
+use Rattle.alias_lint.specs.WalkLints.{effect_lints, walk_reports, after_walk, mutation_lints, render_lints}
+use Rattle.alias_lint.specs.WalkLints.{walked_lints, walk_lints}
 use Rattle.alias_lint.proofs.EffectLaws.{effects_same}
 use Rattle.alias_lint.proofs.Lists.{reports_back, reports_more}
 
@@ -73,7 +74,7 @@ module _ (env : Environment) (f : HirFunction) where
       let here = walk_reports env w.0 m in
       mutations_same ms (after_mutation true w m) same
       ∙ ap (λ z. (w.1.errors ++ z) ++ reports_of rest)
-          (walk_same env w.1 same s.index (start_origin s) w.0 (expanded w.0 s))
+      (walk_same env w.1 same s.index (start_origin s) w.0 (expanded w.0 s))
       ∙ append_assoc w.1.errors here (reports_of rest)
       ∙ ap (λ z. w.1.errors ++ (z ++ reports_of rest)) (sym (reports_back (in_root f m.instruction) here))
       ∙ ap (λ z. w.1.errors ++ z) (sym (reports_more _ rest))
@@ -111,7 +112,7 @@ module _ (env : Environment) (f : HirFunction) where
       ∙ ap (λ z. walked.1.errors ++ reports_of (render_lints env f z l.renders)) (nodes_walked l.mutations w)
       ∙ ap (λ z. z ++ reports_of c) (mutations_same l.mutations w same)
       ∙ ap (λ z. ((begun.errors ++ z) ++ reports_of b) ++ reports_of c)
-          (ap (λ z. effect_reports z l.summary) interned ∙ sym (effects_same env f l h))
+      (ap (λ z. effect_reports z l.summary) interned ∙ sym (effects_same env f l h))
       ∙ ap (λ z. z ++ reports_of c) (append_assoc begun.errors (reports_of a) (reports_of b))
       ∙ append_assoc begun.errors (reports_of a ++ reports_of b) (reports_of c)
       ∙ ap (λ z. begun.errors ++ z) (sym (three_more a b c))

@@ -22,8 +22,11 @@ block_of block = (
 
 -- the block after so many others, which returns the object of the last of them
 abbrev pub last_block : ℕ → BlockId × BasicBlock
-last_block size = (record { 0 = size }, plain_block []
-    (Return (record { 0 = 4 * size + 1 }) (use_of (object_of (size - 1))) None))
+last_block size = (
+  record { 0 = size },
+  plain_block []
+      (Return (record { 0 = 4 * size + 1 }) (use_of (object_of (size - 1))) None),
+)
 
 -- so many blocks in a row, and the last one
 abbrev pub made_blocks : ℕ → List (BlockId × BasicBlock)

@@ -5,8 +5,8 @@ use Rattle.alias_hir.specs.declared.place.Effect.TheVariants.{Unknown}
 use Rattle.alias_hir.specs.declared.place.Place.{Place}
 use Rattle.alias_hir.specs.declared.value.ArrayElement.TheVariants as element
 use Rattle.alias_hir.specs.declared.value.InstructionValue.{InstructionValue}
-use Rattle.alias_hir.specs.declared.value.InstructionValue.TheVariants.{ArrayExpression, LoadLocal, ObjectExpression,
-    Primitive, PropertyLoad, PropertyStore}
+use Rattle.alias_hir.specs.declared.value.InstructionValue.TheVariants.{ArrayExpression, LoadLocal, ObjectExpression}
+use Rattle.alias_hir.specs.declared.value.InstructionValue.TheVariants.{Primitive, PropertyLoad, PropertyStore}
 use Rattle.alias_hir.specs.declared.value.PropertyLiteral.TheVariants.{String}
 use Rattle.alias_made.specs.declared.draws.BlockDraw.{BlockDraw}
 
@@ -37,5 +37,5 @@ instructions_of block d =
     instruction (4 * block + 1) (object_of block) (ObjectExpression [])
     ∷ instruction (4 * block + 2) (object_of block + 1) (value_of d.kind (use_of (object_of d.source)))
     ∷ instruction (4 * block + 3) (object_of block + 2)
-        (PropertyStore (use_of (object_of d.source)) (String (codes "a")) (use_of (object_of block + 1)))
+    (PropertyStore (use_of (object_of d.source)) (String (codes "a")) (use_of (object_of block + 1)))
     ∷ []

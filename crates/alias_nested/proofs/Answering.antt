@@ -1,6 +1,6 @@
 -- Which answers calls come to.
-use Rattle.std.specs.Prelude.{◌≡◌, ℕ, Bool, true, false, List, [], ◌∷◌, Option, Some, None, Result, Ok, Err, ⊤,
-    slice_get, refl}
+use Rattle.std.specs.Prelude.{◌≡◌, ℕ, Bool, true, false, List, [], ◌∷◌, Option, Some, None, Result, Ok, Err, ⊤}
+use Rattle.std.specs.Prelude.{slice_get, refl}
 use Rattle.std.proofs.Common.{zero, suc, ap, sym, subst, ◌∙◌}
 use Rattle.alias_base.specs.Answer.{◌>>=◌}
 use Rattle.alias_base.specs.declared.ids.FunctionId.{FunctionId}
@@ -11,17 +11,19 @@ use Rattle.alias_hir.specs.declared.env.Environment.{Environment}
 use Rattle.alias_hir.specs.declared.error.InferError.{InferError}
 use Rattle.alias_hir.specs.declared.error.InferError.TheVariants as error
 use Rattle.alias_hir.specs.declared.error.Pass.{Pass}
-use Rattle.alias_hir.specs.declared.error.Pass.TheVariants.{DeadCodeElimination,
-    RewriteInstructionKindsBasedOnReassignment, InferReactiveScopeVariables}
+use Rattle.alias_hir.specs.declared.error.Pass.TheVariants.{DeadCodeElimination}
+use Rattle.alias_hir.specs.declared.error.Pass.TheVariants.{RewriteInstructionKindsBasedOnReassignment}
+use Rattle.alias_hir.specs.declared.error.Pass.TheVariants.{InferReactiveScopeVariables}
 use Rattle.alias_hir.specs.declared.hir.HirFunction.{HirFunction}
-use Rattle.alias_nested.specs.Analysis.{Analysed, Analysis, analysis, naming, each, effects_analysed, completed,
-    completed_with, function_analysed, taken_analysed, found_analysed, slot_analysed, analysed, is_free, IsFault,
-    IsPassFault, Accounts, Leads}
-use Rattle.alias_nested.specs.Answers.{Answers, Only, Then, done, refused, Each, IsPassed, Passed, Completed,
-    CompletedWith, FunctionAnalysed, TakenAnalysed, FoundAnalysed, SlotAnalysed, AnalysedWith, Analyses, AnalysesInto,
-    AnalysesExactly, AnalysesExactlyInto}
-use Rattle.alias_nested.specs.Refusals.{Refusals, OneOfRefused, at_once, later, CompletionRefused, FunctionRefused,
-    TakenRefused, SlotRefused, AnalysisRefused, Leaves, CompletesOne, LeadsToOne, LeadsToOneWith}
+use Rattle.alias_nested.specs.Analysis.{Analysed, Analysis, analysis, naming, each, effects_analysed, completed}
+use Rattle.alias_nested.specs.Analysis.{completed_with, function_analysed, taken_analysed, found_analysed}
+use Rattle.alias_nested.specs.Analysis.{slot_analysed, analysed, is_free, IsFault, IsPassFault, Accounts, Leads}
+use Rattle.alias_nested.specs.Answers.{Answers, Only, Then, done, refused, Each, IsPassed, Passed, Completed}
+use Rattle.alias_nested.specs.Answers.{CompletedWith, FunctionAnalysed, TakenAnalysed, FoundAnalysed, SlotAnalysed}
+use Rattle.alias_nested.specs.Answers.{AnalysedWith, Analyses, AnalysesInto, AnalysesExactly, AnalysesExactlyInto}
+use Rattle.alias_nested.specs.Refusals.{Refusals, OneOfRefused, at_once, later, CompletionRefused, FunctionRefused}
+use Rattle.alias_nested.specs.Refusals.{TakenRefused, SlotRefused, AnalysisRefused, Leaves, CompletesOne, LeadsToOne}
+use Rattle.alias_nested.specs.Refusals.{LeadsToOneWith}
 use Rattle.alias_nested.specs.Created.{created_functions}
 use Rattle.alias_nested.specs.Annotating.{annotated}
 use Rattle.alias_nested.specs.Slots.{emptied}
@@ -44,24 +46,24 @@ module _ (keeps_all : Bool) (id : FunctionId) (f₀ f₁ : HirFunction) (e₀ e�
   pub second_refused : (f₂ f₃ : HirFunction) (e₂ e₃ : Environment) (summary : List AliasingEffect) (e : InferError)
       → naming id (range_pass true f₁ e₁) ≡ Ok (record { summary = summary; after = (f₂, e₂) })
       → e ≡ error.PassFault (Some id) RewriteInstructionKindsBasedOnReassignment → IsPassed keeps_all (f₂, e₂) (f₃, e₃)
-          → CompletionRefused keeps_all id (f₀, e₀) e (f₃, e₃)
+      → CompletionRefused keeps_all id (f₀, e₀) e (f₃, e₃)
   second_refused f₂ f₃ e₂ e₃ summary e h is left =
       later (f₁, e₁) first (later (record { summary = summary; after = (f₂, e₂) }) h (at_once (is, left)))
 
   pub third_refused : (f₂ f₃ f₄ : HirFunction) (e₂ e₃ e₄ : Environment) (summary : List AliasingEffect) (e : InferError)
       → naming id (range_pass true f₁ e₁) ≡ Ok (record { summary = summary; after = (f₂, e₂) })
       → IsPassed keeps_all (f₂, e₂) (f₃, e₃) → e ≡ error.PassFault (Some id) InferReactiveScopeVariables
-          → IsPassed keeps_all (f₃, e₃) (f₄, e₄) → CompletionRefused keeps_all id (f₀, e₀) e (f₄, e₄)
+      → IsPassed keeps_all (f₃, e₃) (f₄, e₄) → CompletionRefused keeps_all id (f₀, e₀) e (f₄, e₄)
   third_refused f₂ f₃ f₄ e₂ e₃ e₄ summary e h second is left =
       later (f₁, e₁) first (later (record { summary = summary; after = (f₂, e₂) }) h (later (f₃, e₃) second (is, left)))
 
   pub completes : (f₂ f₃ f₄ f₅ : HirFunction) (e₂ e₃ e₄ e₅ : Environment) (summary : List AliasingEffect)
       → naming id (range_pass true f₁ e₁) ≡ Ok (record { summary = summary; after = (f₂, e₂) })
       → IsPassed keeps_all (f₂, e₂) (f₃, e₃) → IsPassed keeps_all (f₃, e₃) (f₄, e₄) → (f₅, e₅)
-          ≡ annotated summary (f₄, e₄) → Completed keeps_all id (f₀, e₀) (Ok (f₅, e₅))
+      ≡ annotated summary (f₄, e₄) → Completed keeps_all id (f₀, e₀) (Ok (f₅, e₅))
   completes f₂ f₃ f₄ f₅ e₂ e₃ e₄ e₅ summary h second third set =
       done (f₁, e₁) first (done (record { summary = summary; after = (f₂, e₂) }) h
-          (done (f₃, e₃) second (done (f₄, e₄) third (ap Ok (sym set)))))
+      (done (f₃, e₃) second (done (f₄, e₄) third (ap Ok (sym set)))))
 
 pub first_refused : (keeps_all : Bool) (id : FunctionId) (s left : HirFunction × Environment) (e : InferError) → e
     ≡ error.PassFault (Some id) DeadCodeElimination → IsPassed keeps_all s left
@@ -83,7 +85,7 @@ module _ (keeps_all : Bool) (id : FunctionId) (f : HirFunction) (a : Analysis) w
   pub function_leads : (f₁ f₂ : HirFunction) (e₁ e₂ : Environment) (fs : List Analysed) (solved : List Solved)
       (r : Result ⊤ InferError) → effects_analysed id f a ≡ Ok (f₁, analysis e₁ fs) → Accounts fs solved
       → CompletesOne (Completed keeps_all id (f₁, e₁)) (CompletionRefused keeps_all id (f₁, e₁)) r f₂ e₂
-          → LeadsToOneWith (FunctionAnalysed keeps_all id f a) (FunctionRefused keeps_all id f a) r f₂ e₂ solved
+      → LeadsToOneWith (FunctionAnalysed keeps_all id f a) (FunctionRefused keeps_all id f a) r f₂ e₂ solved
   function_leads f₁ f₂ e₁ e₂ fs solved (Ok u) h i c = (fs, done (f₁, analysis e₁ fs) h (done (f₂, e₂) c refl), i)
   function_leads f₁ f₂ e₁ e₂ fs solved (Err e) h i c = λ free. later (f₁, analysis e₁ fs) h (c free)
 
@@ -102,9 +104,9 @@ module _ (keeps_all : Bool) (n : ℕ) (id : FunctionId) (f : HirFunction) (a : A
   pub taken_leads : (g : HirFunction) (e₁ e₂ : Environment) (fs : List Analysed) (solved : List Solved)
       (r : Result ⊤ InferError) → AnalysedWith keeps_all n f a (Ok (analysis e₁ fs))
       → LeadsToOneWith (FunctionAnalysed keeps_all id f (analysis e₁ fs))
-          (FunctionRefused keeps_all id f (analysis e₁ fs)) r g e₂ solved
+      (FunctionRefused keeps_all id f (analysis e₁ fs)) r g e₂ solved
       → LeadsToOneWith (TakenAnalysed keeps_all (AnalysedWith keeps_all n) id f a)
-          (TakenRefused keeps_all n (AnalysisRefused keeps_all n) id f a) r g e₂ solved
+      (TakenRefused keeps_all n (AnalysisRefused keeps_all n) id f a) r g e₂ solved
   taken_leads g e₁ e₂ fs solved (Ok u) h l = (l.0, done (analysis e₁ fs) h l.1, l.2)
   taken_leads g e₁ e₂ fs solved (Err e) h l = λ free. later (analysis e₁ fs) h (l free)
 
@@ -132,15 +134,22 @@ module _ (keeps_all : Bool) (n : ℕ) (id : FunctionId) (env out : Environment) 
   pub slot_leads : (g : HirFunction) (after back : Environment) (solved : List Solved) (r : Result ⊤ InferError) → back
       ≡ with_function id g after
       → LeadsToOneWith (TakenAnalysed keeps_all (AnalysedWith keeps_all n) id f (analysis out fs))
-          (TakenRefused keeps_all n (AnalysisRefused keeps_all n) id f (analysis out fs)) r g after solved
+      (TakenRefused keeps_all n (AnalysisRefused keeps_all n) id f (analysis out fs)) r g after solved
       → LeadsToOne (SlotAnalysed keeps_all (AnalysedWith keeps_all n) id (analysis env fs))
-          (SlotRefused keeps_all n (AnalysisRefused keeps_all n) id (analysis env fs)) r back solved
-  slot_leads g after back solved (Ok u) put l =
-      (l.0, found_one _ (done (g, analysis after l.0) (taken_there _ l.1) (ap (λ e. Ok (analysis e l.0)) (sym put))),
-      l.2)
+      (SlotRefused keeps_all n (AnalysisRefused keeps_all n) id (analysis env fs)) r back solved
+  slot_leads g after back solved (Ok u) put l = (
+    l.0,
+    found_one _ (done (g, analysis after l.0) (taken_there _ l.1) (ap (λ e. Ok (analysis e l.0)) (sym put))),
+    l.2,
+  )
   slot_leads g after back solved (Err e) put l =
-      λ free. record { func = f; there = at; last = (g, after); refused = refused_there e (g, after) (l free);
-      back = put }
+      λ free. record {
+        func = f;
+        there = at;
+        last = (g, after);
+        refused = refused_there e (g, after) (l free);
+        back = put;
+      }
 
 -- ---- a refusal is one of the answers
 
@@ -173,7 +182,7 @@ module _ (keeps_all : Bool) (n : ℕ) (below : HirFunction → Analysis → Refu
   slot_answers id a e left h =
       subst (λ o. FoundAnalysed keeps_all (AnalysedWith keeps_all n) id a o (Err e)) (sym h.there)
       (refused e (taken_answers id h.func (record a { env = with_function id (emptied h.func.returns) a.env }) e h.last
-          h.refused) refl)
+      h.refused) refl)
 
   one_answers : (ids : List FunctionId) (a : Analysis) (e : InferError) (left : Environment)
       → OneOfRefused (SlotRefused keeps_all n below) (SlotAnalysed keeps_all (AnalysedWith keeps_all n)) ids a e left
@@ -224,20 +233,20 @@ completed_is : (id : FunctionId) (s : HirFunction × Environment) (r : Result (H
     → IsCalm r → Completed true id s r → completed id s.0 s.1 ≡ r
 completed_is id s r calm h =
     then_is (Only (naming id (range_pass true s.0 s.1))) (Rewritten id) (naming id (range_pass true s.0 s.1))
-        (λ z. Ok (annotated z.summary z.after))
+    (λ z. Ok (annotated z.summary z.after))
     (λ q k e. e)
     (λ z q k e. passed_on id InferReactiveScopeVariables z.after (λ scopes. Only (Ok (annotated z.summary scopes))) q k
-        (passed_on id RewriteInstructionKindsBasedOnReassignment z.after (Scoped id z.summary) q k e))
+    (passed_on id RewriteInstructionKindsBasedOnReassignment z.after (Scoped id z.summary) q k e))
     r calm
     (passed_on id DeadCodeElimination s (λ dead. Then (Only (naming id (range_pass true dead.0 dead.1))) (Rewritten id))
-        r calm h)
+    r calm h)
 
 completed_with_is : (id : FunctionId) (s : HirFunction × Analysis) (r : Result (HirFunction × Analysis) InferError)
     → IsCalm r → CompletedWith true id s r → completed_with id s ≡ r
 completed_with_is id s r calm h =
     then_is (Completed true id (s.0, s.1.env)) (λ c. Only (Ok (c.0, analysis c.1 s.1.functions)))
-        (completed id s.0 s.1.env) (λ c. Ok (c.0, analysis c.1 s.1.functions)) (completed_is id (s.0, s.1.env))
-        (λ c q k e. e) r calm h
+    (completed id s.0 s.1.env) (λ c. Ok (c.0, analysis c.1 s.1.functions)) (completed_is id (s.0, s.1.env))
+    (λ c q k e. e) r calm h
 
 function_is : (id : FunctionId) (f : HirFunction) (a : Analysis) (r : Result (HirFunction × Analysis) InferError)
     → IsCalm r → FunctionAnalysed true id f a r → function_analysed id f a ≡ r
@@ -259,8 +268,8 @@ module _ (Below : HirFunction → Analysis → Answers Analysis)
   found_is id a (Some f) r calm h =
       let out : Analysis = record a { env = with_function id (emptied f.returns) a.env } in
       then_is (TakenAnalysed true Below id f out) (λ s. Only (Ok (record s.1 { env = with_function id s.0 s.1.env })))
-          (taken_analysed below id f out) (λ s. Ok (record s.1 { env = with_function id s.0 s.1.env }))
-          (taken_is id f out) (λ s q k e. e) r calm h
+      (taken_analysed below id f out) (λ s. Ok (record s.1 { env = with_function id s.0 s.1.env }))
+      (taken_is id f out) (λ s q k e. e) r calm h
 
   slot_is : (id : FunctionId) (a : Analysis) (r : Result Analysis InferError) → IsCalm r
       → SlotAnalysed true Below id a r → slot_analysed below id a ≡ r
@@ -298,9 +307,12 @@ not_fault (error.TooMany w) h i = i
 pub analyses_exactly : (keeps_all : Bool) → keeps_all ≡ true
     → (n : ℕ) (f : HirFunction) (a : Analysis) (r : Result (List Solved) InferError) (env : Environment)
     → Analyses (AnalysedWith keeps_all n f a) r env → AnalysesExactly (analysed n f a) r env
-analyses_exactly keeps_all k n f a (Ok solved) env h =
-    (h.0, analysed_is n f a (Ok (analysis env h.0)) (λ b. b)
-    (subst (λ b. AnalysedWith b n f a (Ok (analysis env h.0))) k h.1), h.2)
+analyses_exactly keeps_all k n f a (Ok solved) env h = (
+  h.0,
+  analysed_is n f a (Ok (analysis env h.0)) (λ b. b)
+      (subst (λ b. AnalysedWith b n f a (Ok (analysis env h.0))) k h.1),
+  h.2,
+)
 analyses_exactly keeps_all k n f a (Err e) env h =
     λ free. analysed_is n f a (Err e) (not_fault e free)
     (subst (λ b. AnalysedWith b n f a (Err e)) k (h (unfree e free)))
@@ -309,9 +321,12 @@ pub leads_exactly : (keeps_all : Bool) → keeps_all ≡ true
     → (n : ℕ) (f : HirFunction) (a : Analysis) (r : Result ⊤ InferError) (env : Environment) (solved : List Solved)
     → LeadsToOne (AnalysedWith keeps_all n f a) (AnalysisRefused keeps_all n f a) r env solved
     → Leads (analysed n f a) r env solved
-leads_exactly keeps_all k n f a (Ok u) env solved h =
-    (h.0, analysed_is n f a (Ok (analysis env h.0)) (λ b. b)
-    (subst (λ b. AnalysedWith b n f a (Ok (analysis env h.0))) k h.1), h.2)
+leads_exactly keeps_all k n f a (Ok u) env solved h = (
+  h.0,
+  analysed_is n f a (Ok (analysis env h.0)) (λ b. b)
+      (subst (λ b. AnalysedWith b n f a (Ok (analysis env h.0))) k h.1),
+  h.2,
+)
 leads_exactly keeps_all k n f a (Err e) env solved h =
     λ free. analysed_is n f a (Err e) (not_fault e free)
     (subst (λ b. AnalysedWith b n f a (Err e)) k (refusal_answers keeps_all n f a e env (h (unfree e free))))

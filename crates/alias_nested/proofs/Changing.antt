@@ -1,6 +1,6 @@
 -- Which functions the steps of an analysis change.
-use Rattle.std.specs.Prelude.{◌≡◌, ℕ, ◌+◌, nat_eq, Bool, true, false, List, [], ◌∷◌, ◌++◌, Option, Some, Result, Ok,
-    Err, IfOk, ⊤, length, map, option_map, slice_get, slice_set, refl}
+use Rattle.std.specs.Prelude.{◌≡◌, ℕ, ◌+◌, nat_eq, Bool, true, false, List, [], ◌∷◌, ◌++◌, Option, Some, Result, Ok}
+use Rattle.std.specs.Prelude.{Err, IfOk, ⊤, length, map, option_map, slice_get, slice_set, refl}
 use Rattle.std.specs.List.{flat_map}
 use Rattle.std.proofs.Common.{inl, inr, ⊎_elim, zero, suc, ap, sym, ◌∙◌, subst, arith, drop, ◌<◌, ◌≤◌}
 use Rattle.std.proofs.lemmas.Bool.{eqb-true}
@@ -27,12 +27,12 @@ use Rattle.alias_nesting_laws.specs.Slots.{with_function}
 use Rattle.alias_nested.specs.Analysis.{named, IsFault}
 use Rattle.alias_nested.specs.Answers.{IsPassed}
 use Rattle.alias_nested.specs.Created.{created_functions}
-use Rattle.alias_nested.specs.Order.{created_by_slot, innermost_first, below_innermost_first, slot_innermost_first,
-    numbers, functions_of, Notes, SameInSlot, SameInSlots, ChangesOnly, EndsAt, refused_function, is_nameless, Names,
-    KeepsToOrder, KeepsToOrderWith}
+use Rattle.alias_nested.specs.Order.{created_by_slot, innermost_first, below_innermost_first, slot_innermost_first}
+use Rattle.alias_nested.specs.Order.{numbers, functions_of, Notes, SameInSlot, SameInSlots, ChangesOnly, EndsAt}
+use Rattle.alias_nested.specs.Order.{refused_function, is_nameless, Names, KeepsToOrder, KeepsToOrderWith}
 use Rattle.alias_nested.specs.Annotating.{annotated}
-use Rattle.alias_nested.proofs.InOrder.{times_append, in_neither, not_one, once_below, same_creates, order_stays,
-    slot_stays}
+use Rattle.alias_nested.proofs.InOrder.{times_append, in_neither, not_one, once_below, same_creates, order_stays}
+use Rattle.alias_nested.proofs.InOrder.{slot_stays}
 use Rattle.alias_nested.proofs.Leading.{from_here, nothing_from}
 
 -- ---- slots
@@ -119,8 +119,12 @@ pub record WentOver (order left : List FunctionId) (old env : Environment) (befo
 
 pub over_nothing : (order : List FunctionId) (env : Environment) (solved : List Solved)
     → WentOver order order env env solved solved
-over_nothing order env solved = record { done = []; split = refl; changes = λ k h. refl;
-    notes = sym (append-nil (functions_of solved)) }
+over_nothing order env solved = record {
+  done = [];
+  split = refl;
+  changes = λ k h. refl;
+  notes = sym (append-nil (functions_of solved));
+}
 
 over_part : (order left : List FunctionId) (old env : Environment) (before solved : List Solved)
     → WentOver order left old env before solved → ChangesOnly order old env
@@ -142,8 +146,8 @@ regrouped done before after rest x = ap (λ ids. ids ++ rest) (sym (append_assoc
 module _ (n : ℕ) (ids : List FunctionId) (i : ℕ) (id : FunctionId) (at : slice_get ids i ≡ Some id)
     (old env : Environment)
     (once : (k : ℕ) → times (numbers (each_innermost_first n old ids)) k ≤ 1) (before solved : List Solved)
-        (w : WentOver (each_innermost_first n old ids) (each_innermost_first n old (drop i ids)) old env before
-        solved) where
+    (w : WentOver (each_innermost_first n old ids) (each_innermost_first n old (drop i ids)) old env before
+    solved) where
   abbrev own : List FunctionId
   own = slot_innermost_first n id old
 
@@ -157,11 +161,11 @@ module _ (n : ℕ) (ids : List FunctionId) (i : ℕ) (id : FunctionId) (at : sli
   own_once : (k : ℕ) → times (numbers w.done) k + times (numbers own) k ≤ 1
   own_once k =
       let a : times (numbers (each_innermost_first n old ids)) k ≡ times (numbers ((w.done ++ own) ++ rest)) k =
-          ap (λ zs. times (numbers zs) k) split_more in
+      ap (λ zs. times (numbers zs) k) split_more in
       let b : times (numbers ((w.done ++ own) ++ rest)) k ≡ times (numbers (w.done ++ own)) k + times (numbers rest) k =
-          times_append (w.done ++ own) rest k in
+      times_append (w.done ++ own) rest k in
       let c : times (numbers (w.done ++ own)) k ≡ times (numbers w.done) k + times (numbers own) k =
-          times_append w.done own k in
+      times_append w.done own k in
       let o = once k in
       omega arith
 
@@ -169,7 +173,7 @@ module _ (n : ℕ) (ids : List FunctionId) (i : ℕ) (id : FunctionId) (at : sli
   not_done k h =
       absent (is_among (numbers w.done) k)
       (λ d. let a : 1 ≤ times (numbers w.done) k = counted (numbers w.done) k d in let b : 1 ≤ times (numbers own) k =
-          counted (numbers own) k h in let o = own_once k in absurd (omega arith))
+      counted (numbers own) k h in let o = own_once k in absurd (omega arith))
 
   -- what is done changed nothing of the order of what is next
   pub next_is : slot_innermost_first n id env ≡ own
@@ -182,15 +186,15 @@ module _ (n : ℕ) (ids : List FunctionId) (i : ℕ) (id : FunctionId) (at : sli
   next_apart f there =
       let below : List FunctionId = below_innermost_first n f env in
       let is : below ++ id ∷ [] ≡ own = ap (λ o. innermost_first n env.functions (created_by_slot o) ++ id ∷ [])
-          (sym there) ∙ next_is in
+      (sym there) ∙ next_is in
       absent (is_among (numbers below) id.0)
       (λ h.
       let a : 1 ≤ times (numbers below) id.0 = counted (numbers below) id.0 h in
       let b : 1 ≤ times (numbers (id ∷ [])) id.0 = counted (numbers (id ∷ [])) id.0 (first_among id.0 []) in
       let c : times (numbers (below ++ id ∷ [])) id.0 ≡ times (numbers below) id.0 + times (numbers (id ∷ [])) id.0 =
-          times_append below (id ∷ []) id.0 in
+      times_append below (id ∷ []) id.0 in
       let d : times (numbers (below ++ id ∷ [])) id.0 ≡ times (numbers own) id.0 =
-          ap (λ zs. times (numbers zs) id.0) is in
+      ap (λ zs. times (numbers zs) id.0) is in
       let o = own_once id.0 in
       absurd (omega arith))
 
@@ -222,7 +226,7 @@ module _ (n : ℕ) (ids : List FunctionId) (i : ℕ) (id : FunctionId) (at : sli
           ∙ regrouped w.done e.before e.after rest e.id;
       changes = λ k h.
           let p = in_neither w.done (e.before ++ e.id ∷ []) k
-              (subst (λ zs. is_among (numbers zs) k ≡ false) (append_assoc w.done e.before (e.id ∷ [])) h) in
+          (subst (λ zs. is_among (numbers zs) k ≡ false) (append_assoc w.done e.before (e.id ∷ [])) h) in
           e.changes k p.1 ∙ w.changes k p.0;
     }
 
@@ -245,10 +249,10 @@ over_all order left old env before solved w =
 pub notes_all : (m n : ℕ) (f : HirFunction) (old env : Environment) (ids : List FunctionId) (i : ℕ)
     (before solved : List Solved) → m ≡ suc n → ids ≡ created_functions f → length ids ≤ i
     → WentOver (each_innermost_first n old ids) (each_innermost_first n old (drop i ids)) old env before solved
-        → Notes (below_innermost_first m f old) before solved
+    → Notes (below_innermost_first m f old) before solved
 notes_all m n f old env ids i before solved h same past w =
     let none : each_innermost_first n old (drop i ids) ≡ [] =
-        ap (each_innermost_first n old) (nothing_from ids i past) in
+    ap (each_innermost_first n old) (nothing_from ids i past) in
     let all : each_innermost_first n old ids ≡ w.done = w.split ∙ ap (λ zs. w.done ++ zs) none ∙ append-nil w.done in
     subst (λ zs. Notes zs before solved) (sym all ∙ order_is m n f old ids h same) w.notes
 
@@ -281,7 +285,7 @@ pub notes_none : (m : ℕ) (f : HirFunction) (env : Environment) (solved : List 
     → Notes (below_innermost_first m f env) solved solved
 notes_none m f env solved h = subst (λ k. Notes (below_innermost_first k f env) solved solved) (sym h)
     (sym (append-nil (functions_of solved))
-        ∙ ap (λ zs. functions_of solved ++ map Some zs) (sym (no_order env (created_functions f))))
+    ∙ ap (λ zs. functions_of solved ++ map Some zs) (sym (no_order env (created_functions f))))
 
 -- of an answer that is done
 pub where_ok : (P Q : Type 0) (r : Result ⊤ InferError) → (P → Q) → IfOk r (λ _. P) → IfOk r (λ _. Q)
@@ -348,7 +352,7 @@ module _ (n : ℕ) (id : FunctionId) (f g stand_in : HirFunction) (old out after
     (there : slice_get old.functions id.0 ≡ Some f)
     (apart : is_among (numbers (below_innermost_first n f old)) id.0 ≡ false)
     (is : out ≡ with_function id stand_in old) (count : length after.functions ≡ length out.functions)
-        (put : back ≡ with_function id g after) where
+    (put : back ≡ with_function id g after) where
   taken_at : (k : ℕ) → (k ≡ id.0 → ⊥) → slice_get out.functions k ≡ slice_get old.functions k
   taken_at k other = ap (λ (e : Environment). slice_get e.functions k) is
       ∙ set_other old.functions id.0 k stand_in other
@@ -364,11 +368,11 @@ module _ (n : ℕ) (id : FunctionId) (f g stand_in : HirFunction) (old out after
   itself_stays same =
       let in_old : id.0 < length old.functions = slice_get_within old.functions id.0 f there in
       let as_many : length out.functions ≡ length old.functions = ap (λ (e : Environment). length e.functions) is
-          ∙ length_set old.functions id.0 stand_in in
+      ∙ length_set old.functions id.0 stand_in in
       let here : slice_get (slice_set after.functions id.0 g) id.0 ≡ Some g =
-          set_within after.functions id.0 g (omega arith) in
+      set_within after.functions id.0 g (omega arith) in
       ap (λ (e : Environment). option_map but_context (slice_get e.functions id.0)) put
-          ∙ ap (option_map but_context) here
+      ∙ ap (option_map but_context) here
       ∙ ap (λ (z : HirFunction). Some (but_context z)) same ∙ ap (option_map but_context) (sym there)
 
   abbrev below : List FunctionId
@@ -414,6 +418,6 @@ module _ (n : ℕ) (id : FunctionId) (f g stand_in : HirFunction) (old out after
       changes = subst (λ zs. ChangesOnly zs old back) (sym slot_is) changed;
       ends = λ e h m.
           ⊎_elim (λ (p : EndsAt (below_innermost_first n f out) (refused_function e) out after × (g ≡ f)).
-              ended_below (refused_function e) p.0 p.1)
+          ended_below (refused_function e) p.0 p.1)
           (λ (same : refused_function e ≡ Some id). ended_here (refused_function e) same) (t.ends e h m);
     }

@@ -24,7 +24,7 @@ pub flat_times : (g : ℕ → List ℕ) (xs : List ℕ) (j : ℕ) → times (fla
 flat_times g [] j = refl
 flat_times g (x ∷ xs) j =
     let a : times (g x ++ flat_map g xs) j ≡ times (g x) j + times (flat_map g xs) j =
-        times_both (g x) (flat_map g xs) j in
+    times_both (g x) (flat_map g xs) j in
     let b : times (flat_map g xs) j ≡ total (λ y. times (g y) j) xs = flat_times g xs j in
     omega arith
 
@@ -70,12 +70,12 @@ total_lowered h [] = refl
 total_lowered h (zero ∷ xs) =
     let a : total h xs ≡ taken_times (times xs 0) (h 0) + total (λ k. h (suc k)) (lowered xs) = total_lowered h xs in
     let b : taken_times (times (zero ∷ xs) 0) (h 0) ≡ h 0 + taken_times (times xs 0) (h 0) =
-        ap (λ n. taken_times n (h 0)) (zero_first xs) in
+    ap (λ n. taken_times n (h 0)) (zero_first xs) in
     omega arith
 total_lowered h (suc k ∷ xs) =
     let a : total h xs ≡ taken_times (times xs 0) (h 0) + total (λ k. h (suc k)) (lowered xs) = total_lowered h xs in
     let b : taken_times (times (suc k ∷ xs) 0) (h 0) ≡ taken_times (times xs 0) (h 0) =
-        ap (λ n. taken_times n (h 0)) (suc_first k xs) in
+    ap (λ n. taken_times n (h 0)) (suc_first k xs) in
     omega arith
 
 pub lowered_times : (xs : List ℕ) (k : ℕ) → times (lowered xs) k ≡ times xs (suc k)
@@ -134,10 +134,10 @@ less_under (suc n) h xs ys u e =
     let a = total_lowered h xs in
     let b = total_lowered h ys in
     let c : taken_times (times xs 0) (h 0) ≤ taken_times (times ys 0) (h 0) =
-        taken_less (times xs 0) (times ys 0) (h 0) (e 0) in
+    taken_less (times xs 0) (times ys 0) (h 0) (e 0) in
     let d : total (λ k. h (suc k)) (lowered xs) ≤ total (λ k. h (suc k)) (lowered ys)
     = less_under n (λ k. h (suc k)) (lowered xs) (lowered ys) (under_lowered n xs u)
-        (λ k. let p = lowered_times xs k in let q = lowered_times ys k in let r = e (suc k) in omega arith) in
+    (λ k. let p = lowered_times xs k in let q = lowered_times ys k in let r = e (suc k) in omega arith) in
     omega arith
 
 -- a sum over numbers that are each there as often or more often is as great or greater
@@ -159,7 +159,7 @@ there_among (x ∷ xs) k h =
       | true ↦ λ e. subst (λ z. is_among (z ∷ xs) k ≡ true) (sym (eqb-true x k e)) (first_among k xs)
       | false ↦ λ e.
           let c : times (x ∷ xs) k ≡ 0 + times xs k = times_cons x xs k
-              ∙ ap (λ (b : Bool). cond b 1 0 + times xs k) e in
+          ∙ ap (λ (b : Bool). cond b 1 0 + times xs k) e in
           later_among x xs k (there_among xs k (omega arith))
     ] refl
 
@@ -195,15 +195,15 @@ listed_level n c [] j = sym (ap (λ z. 0 + z) (listed_none n c j))
 listed_level n c (x ∷ xs) j =
     let g : ℕ → List ℕ = λ k. numbers_innermost_first n c (c k) ++ k ∷ [] in
     let a : times (g x ++ flat_map g xs) j ≡ times (g x) j + times (flat_map g xs) j =
-        times_both (g x) (flat_map g xs) j in
+    times_both (g x) (flat_map g xs) j in
     let b : times (numbers_innermost_first n c (c x) ++ x ∷ []) j ≡ times (numbers_innermost_first n c (c x)) j
-        + times (x ∷ []) j = times_both (numbers_innermost_first n c (c x)) (x ∷ []) j in
+    + times (x ∷ []) j = times_both (numbers_innermost_first n c (c x)) (x ∷ []) j in
     let d : times (x ∷ []) j ≡ cond (x == j) 1 0 + 0 = times_cons x [] j in
     let e : times (x ∷ xs) j ≡ cond (x == j) 1 0 + times xs j = times_cons x xs j in
     let f : times (numbers_innermost_first n c (c x ++ flat_map c xs)) j ≡ times (numbers_innermost_first n c (c x)) j
-        + times (numbers_innermost_first n c (flat_map c xs)) j = listed_both n c (c x) (flat_map c xs) j in
+    + times (numbers_innermost_first n c (flat_map c xs)) j = listed_both n c (c x) (flat_map c xs) j in
     let rest : times (flat_map g xs) j ≡ times xs j + times (numbers_innermost_first n c (flat_map c xs)) j =
-        listed_level n c xs j in
+    listed_level n c xs j in
     omega arith
 
 -- how often a number is there doesn't hang on the order of what functions create
@@ -214,16 +214,16 @@ unfolding numbers_innermost_first
 listed_same zero c d h xs ys e j = refl
 listed_same (suc n) c d h xs ys e j =
     let a : times (numbers_innermost_first (suc n) c xs) j ≡ times xs j
-        + times (numbers_innermost_first n c (flat_map c xs)) j = listed_level n c xs j in
+    + times (numbers_innermost_first n c (flat_map c xs)) j = listed_level n c xs j in
     let b : times (numbers_innermost_first (suc n) d ys) j ≡ times ys j
-        + times (numbers_innermost_first n d (flat_map d ys)) j = listed_level n d ys j in
+    + times (numbers_innermost_first n d (flat_map d ys)) j = listed_level n d ys j in
     let f : times xs j ≡ times ys j = e j in
     let next : (k : ℕ) → times (flat_map c xs) k ≡ times (flat_map d ys) k = λ k.
     flat_times c xs k ∙ total_same (λ x. times (c x) k) (λ x. times (d x) k) (λ x. h x k) xs
-        ∙ same_total (λ x. times (d x) k) xs ys e ∙ sym (flat_times d ys k) in
+    ∙ same_total (λ x. times (d x) k) xs ys e ∙ sym (flat_times d ys k) in
     let g : times (numbers_innermost_first n c (flat_map c xs)) j
-        ≡ times (numbers_innermost_first n d (flat_map d ys)) j =
-        listed_same n c d h (flat_map c xs) (flat_map d ys) next j in
+    ≡ times (numbers_innermost_first n d (flat_map d ys)) j =
+    listed_same n c d h (flat_map c xs) (flat_map d ys) next j in
     a ∙ ap (λ z. z + times (numbers_innermost_first n c (flat_map c xs)) j) f ∙ ap (λ z. times ys j + z) g ∙ sym b
 
 -- ---- functions that create fewer
@@ -235,7 +235,7 @@ module _ (ks : List ℕ) (c d : ℕ → List ℕ) (closed : (k : ℕ) → is_amo
   total_fewer j (x ∷ xs) a =
       let p : times (c x) j ≤ times (d x) j = fewer x j (a x (first_among x xs)) in
       let q : total (λ x. times (c x) j) xs ≤ total (λ x. times (d x) j) xs =
-          total_fewer j xs (λ k h. a k (later_among x xs k h)) in
+      total_fewer j xs (λ k h. a k (later_among x xs k h)) in
       omega arith
 
   fewer_next : (xs ys : List ℕ) → ((j : ℕ) → times xs j ≤ times ys j) → Among ks ys → (j : ℕ) → times (flat_map c xs) j
@@ -243,8 +243,8 @@ module _ (ks : List ℕ) (c d : ℕ → List ℕ) (closed : (k : ℕ) → is_amo
   fewer_next xs ys e a j =
       let p : times (flat_map c xs) j ≡ total (λ x. times (c x) j) xs = flat_times c xs j in
       let q : total (λ x. times (c x) j) xs ≤ total (λ x. times (d x) j) xs =
-          total_fewer j xs (λ k h. a k (there_among ys k
-          (let n : 1 ≤ times xs k = counted xs k h in let m = e k in omega arith))) in
+      total_fewer j xs (λ k h. a k (there_among ys k
+      (let n : 1 ≤ times xs k = counted xs k h in let m = e k in omega arith))) in
       let r : total (λ x. times (d x) j) xs ≤ total (λ x. times (d x) j) ys = less_total (λ x. times (d x) j) xs ys e in
       let s : times (flat_map d ys) j ≡ total (λ x. times (d x) j) ys = flat_times d ys j in
       omega arith
@@ -255,15 +255,15 @@ module _ (ks : List ℕ) (c d : ℕ → List ℕ) (closed : (k : ℕ) → is_amo
   listed_fewer zero xs ys e a j = let z : times (numbers_innermost_first 0 c xs) j ≡ 0 = no_levels c xs j in omega arith
   listed_fewer (suc n) xs ys e a j =
       let p : times (numbers_innermost_first (suc n) c xs) j ≡ times xs j
-          + times (numbers_innermost_first n c (flat_map c xs)) j = listed_level n c xs j in
+      + times (numbers_innermost_first n c (flat_map c xs)) j = listed_level n c xs j in
       let q : times (numbers_innermost_first (suc n) d ys) j ≡ times ys j
-          + times (numbers_innermost_first n d (flat_map d ys)) j = listed_level n d ys j in
+      + times (numbers_innermost_first n d (flat_map d ys)) j = listed_level n d ys j in
       let f : times xs j ≤ times ys j = e j in
       let next : Among ks (flat_map d ys) = λ k h. let s : Source d ys k = source_of d ys k h in
-          closed s.number (a s.number s.among) k s.taken in
+      closed s.number (a s.number s.among) k s.taken in
       let g : times (numbers_innermost_first n c (flat_map c xs)) j
-          ≤ times (numbers_innermost_first n d (flat_map d ys)) j =
-          listed_fewer n (flat_map c xs) (flat_map d ys) (fewer_next xs ys e a) next j in
+      ≤ times (numbers_innermost_first n d (flat_map d ys)) j =
+      listed_fewer n (flat_map c xs) (flat_map d ys) (fewer_next xs ys e a) next j in
       omega arith
 
 -- ---- the functions below a function
@@ -279,12 +279,12 @@ tree_times zero env found level ks e j =
 tree_times (suc n) env found level ks e j =
     let p = tree_parts n env found level ks e in
     let a : times ks j ≡ times (found ++ level) j
-        + times (numbers_innermost_first n (created_at env) (next_level env level)) j =
-        tree_times n env (found ++ level) (next_level env level) ks p.1 j in
+    + times (numbers_innermost_first n (created_at env) (next_level env level)) j =
+    tree_times n env (found ++ level) (next_level env level) ks p.1 j in
     let b : times (found ++ level) j ≡ times found j + times level j = times_both found level j in
     let c : times (numbers_innermost_first (suc n) (created_at env) level) j ≡ times level j
-        + times (numbers_innermost_first n (created_at env) (next_level env level)) j =
-        listed_level n (created_at env) level j in
+    + times (numbers_innermost_first n (created_at env) (next_level env level)) j =
+    listed_level n (created_at env) level j in
     omega arith
 
 -- and of any levels below no number more often
@@ -294,22 +294,22 @@ times_in_tree zero n env found level ks e j =
     let p = ended_parts found level ks (sym (tree_end env found level) ∙ e) in
     let a : times found j ≡ times ks j = ap (λ zs. times zs j) p.1 in
     let z : times (numbers_innermost_first n (created_at env) level) j ≡ 0 =
-        subst (λ zs. times (numbers_innermost_first n (created_at env) zs) j ≡ 0) (sym p.0)
-        (listed_none n (created_at env) j) in
+    subst (λ zs. times (numbers_innermost_first n (created_at env) zs) j ≡ 0) (sym p.0)
+    (listed_none n (created_at env) j) in
     omega arith
 times_in_tree (suc m) zero env found level ks e j =
     let p = tree_parts m env found level ks e in
     let a : times (found ++ level) j + times (numbers_innermost_first 0 (created_at env) (next_level env level)) j
-        ≤ times ks j = times_in_tree m 0 env (found ++ level) (next_level env level) ks p.1 j in
+    ≤ times ks j = times_in_tree m 0 env (found ++ level) (next_level env level) ks p.1 j in
     let b : times (found ++ level) j ≡ times found j + times level j = times_both found level j in
     let z : times (numbers_innermost_first 0 (created_at env) level) j ≡ 0 = no_levels (created_at env) level j in
     omega arith
 times_in_tree (suc m) (suc n) env found level ks e j =
     let p = tree_parts m env found level ks e in
     let a : times (found ++ level) j + times (numbers_innermost_first n (created_at env) (next_level env level)) j
-        ≤ times ks j = times_in_tree m n env (found ++ level) (next_level env level) ks p.1 j in
+    ≤ times ks j = times_in_tree m n env (found ++ level) (next_level env level) ks p.1 j in
     let b : times (found ++ level) j ≡ times found j + times level j = times_both found level j in
     let c : times (numbers_innermost_first (suc n) (created_at env) level) j ≡ times level j
-        + times (numbers_innermost_first n (created_at env) (next_level env level)) j =
-        listed_level n (created_at env) level j in
+    + times (numbers_innermost_first n (created_at env) (next_level env level)) j =
+    listed_level n (created_at env) level j in
     omega arith

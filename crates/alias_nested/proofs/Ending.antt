@@ -17,11 +17,11 @@ use Rattle.alias_hir.specs.declared.error.InferError.{InferError}
 use Rattle.alias_hir.specs.declared.error.InferError.TheVariants as error
 use Rattle.alias_hir.specs.declared.hir.HirFunction.{HirFunction}
 use Rattle.alias_hir.specs.declared.report.Report.{Report}
-use Rattle.alias_nested.specs.Analysis.{Analysed, analysis, named, naming, numbered, is_free, SolvesItsFlow, Accounts,
-    effects_analysed}
+use Rattle.alias_nested.specs.Analysis.{Analysed, analysis, named, naming, numbered, is_free, SolvesItsFlow, Accounts}
+use Rattle.alias_nested.specs.Analysis.{effects_analysed}
 use Rattle.alias_nested.specs.Fitting.{FunctionKept}
-use Rattle.alias_nested.specs.Units.{RootAnalysis, validated, root_finished, root_analysed, all_analysed, handed_out,
-    unit_analysed, RootLeads}
+use Rattle.alias_nested.specs.Units.{RootAnalysis, validated, root_finished, root_analysed, all_analysed, handed_out}
+use Rattle.alias_nested.specs.Units.{unit_analysed, RootLeads}
 use Rattle.alias_nested.specs.Order.{functions_of, Notes, SameInSlots}
 use Rattle.alias_nested.proofs.Evolving.{passed_contexts}
 use Rattle.alias_nested.proofs.Keeping.{effects_keep}
@@ -42,8 +42,8 @@ pub record Ended (env : Environment) (func : HirFunction) (b : Bool) (s : Solved
 ended_at : (r : Result PassEnd InferError) (env : Environment) (func : HirFunction) (b : Bool) (s : Solved)
     (after : Environment) → pass_end env func b ≡ r
     → ◌≡◌ {A = Result Solved InferError} (r >>= (λ e. Ok e.solved)) (Ok s)
-        → ◌≡◌ {A = Result Environment InferError} (r >>= (λ e. Ok (env_after env e))) (Ok after)
-        → Ended env func b s after
+    → ◌≡◌ {A = Result Environment InferError} (r >>= (λ e. Ok (env_after env e))) (Ok after)
+    → Ended env func b s after
 ended_at (Ok e) env func b s after p h i =
     let a : e.solved ≡ s = cc in
     let c : env_after env e ≡ after = cc in
@@ -63,7 +63,7 @@ module _ (env : Environment) (func : HirFunction) (b : Bool) (s : Solved) (after
   ended_keeps h =
       subst (λ (e : Environment). FunctionKept func env func' e) x.left
       (subst (λ (f : HirFunction). FunctionKept func env f (env_after env x.end)) func_is
-          (effects_keep func env b x.end h x.is))
+      (effects_keep func env b x.end h x.is))
 
   -- what is analysed of the function
   abbrev pub begun : FunctionId → Analysed
@@ -79,23 +79,40 @@ module _ (env : Environment) (func : HirFunction) (s : Solved) (after : Environm
   pub effects_lead : (id : FunctionId) (fs : List Analysed) → effects_analysed id func (analysis env fs)
       ≡ Ok (func', analysis after (fs ++ begun env func true s after x func' made id ∷ []))
   effects_lead id fs =
-      ap (λ r. naming id r >>= (λ e. Ok (with_effects_of e.solved func,
-          analysis (env_after env e) (fs ++ record
-          { env = env; func = func; is_function_expression = true; solved = numbered id e.solved } ∷ [])))) x.is
-      ∙ ap (λ f. Ok (f, analysis (env_after env x.end)
-          (fs ++ record { env = env; func = func; is_function_expression = true; solved = numbered id x.end.solved }
-          ∷ []))) (func_is env func true s after x func' made)
-      ∙ ap (λ e. Ok (func', analysis e (fs ++ record
-          { env = env; func = func; is_function_expression = true; solved = numbered id x.end.solved } ∷ []))) x.left
-      ∙ ap (λ z. Ok (func', analysis after (fs
-          ++ record { env = env; func = func; is_function_expression = true; solved = numbered id z } ∷ []))) x.solved
+      ap (λ r. naming id r >>= (λ e. Ok (
+        with_effects_of e.solved func,
+        analysis (env_after env e) (fs ++ record
+            { env = env; func = func; is_function_expression = true; solved = numbered id e.solved } ∷ []),
+      ))) x.is
+      ∙ ap (λ f. Ok (
+        f,
+        analysis (env_after env x.end)
+            (fs ++ record { env = env; func = func; is_function_expression = true; solved = numbered id x.end.solved }
+            ∷ []),
+      )) (func_is env func true s after x func' made)
+      ∙ ap (λ e. Ok (
+        func',
+        analysis e (fs ++ record
+            { env = env; func = func; is_function_expression = true; solved = numbered id x.end.solved } ∷ []),
+      )) x.left
+      ∙ ap (λ z. Ok (
+        func',
+        analysis after (fs
+            ++ record { env = env; func = func; is_function_expression = true; solved = numbered id z } ∷ []),
+      )) x.solved
 
 -- a solution that is noted
 numbered_solves : (env : Environment) (func : HirFunction) (b : Bool) (id : FunctionId) (s : Solved)
     → IsSolved env func b s → IsSolved env func b (numbered id s)
-numbered_solves env func b id s h = record
-    { in_order = h.in_order; solution = h.solution; first = h.first; temporaries = h.temporaries; effects = h.effects;
-    terminal_effects = h.terminal_effects; joins = h.joins }
+numbered_solves env func b id s h = record {
+  in_order = h.in_order;
+  solution = h.solution;
+  first = h.first;
+  temporaries = h.temporaries;
+  effects = h.effects;
+  terminal_effects = h.terminal_effects;
+  joins = h.joins;
+}
 
 pub accounts_more : (fs : List Analysed) (before after : List Solved) (x : Analysed) → Accounts fs before → after
     ≡ before ++ x.solved ∷ [] → SolvesItsFlow x → Accounts (fs ++ x ∷ []) after
@@ -107,10 +124,14 @@ accounts_more fs before after x a more h = record {
 pub accounts_numbered : (env : Environment) (func : HirFunction) (id : FunctionId) (s : Solved) (fs : List Analysed)
     (before after : List Solved) → Accounts fs before → after ≡ before ++ numbered id s ∷ [] → IsSolved env func true s
     → Accounts (fs ++ record { env = env; func = func; is_function_expression = true; solved = numbered id s } ∷ [])
-        after
+    after
 accounts_numbered env func id s fs before after a more h =
-    accounts_more fs before after (record { env = env; func = func; is_function_expression = true;
-        solved = numbered id s }) a more (numbered_solves env func true id s h)
+    accounts_more fs before after (record {
+      env = env;
+      func = func;
+      is_function_expression = true;
+      solved = numbered id s;
+    }) a more (numbered_solves env func true id s h)
 
 pub notes_one : (id : FunctionId) (s : Solved) (before after : List Solved) → after ≡ before ++ numbered id s ∷ []
     → Notes (id ∷ []) before after
@@ -155,10 +176,12 @@ refused_at (Err z) f e h = let same : z ≡ e = cc in ap Err same
 pub effects_refused : (env : Environment) (func : HirFunction) (id : FunctionId) (fs : List Analysed) (e : InferError)
     → inferred env func true ≡ Err e → effects_analysed id func (analysis env fs) ≡ Err (named id e)
 effects_refused env func id fs e h =
-    ap (λ r. naming id r >>= (λ e. Ok (with_effects_of e.solved func,
-        analysis (env_after env e) (fs ++ record
-        { env = env; func = func; is_function_expression = true; solved = numbered id e.solved } ∷ []))))
-        (refused_at (pass_end env func true) (λ e. e.solved) e h)
+    ap (λ r. naming id r >>= (λ e. Ok (
+      with_effects_of e.solved func,
+      analysis (env_after env e) (fs ++ record
+          { env = env; func = func; is_function_expression = true; solved = numbered id e.solved } ∷ []),
+    )))
+    (refused_at (pass_end env func true) (λ e. e.solved) e h)
 
 -- ---- the root
 
@@ -169,21 +192,21 @@ module _ (env : Environment) (func : HirFunction) (s : Solved) (after : Environm
       ∷ [])
   root_begins fs =
       ap (λ r. r >>= (λ e. root_finished (with_effects_of e.solved func) (env_after env e)
-          (fs ++ record { env = env; func = func; is_function_expression = false; solved = e.solved } ∷ []))) x.is
+      (fs ++ record { env = env; func = func; is_function_expression = false; solved = e.solved } ∷ []))) x.is
       ∙ ap (λ f. root_finished f (env_after env x.end)
-          (fs ++ record { env = env; func = func; is_function_expression = false; solved = x.end.solved } ∷ []))
-          (func_is env func false s after x func' made)
+      (fs ++ record { env = env; func = func; is_function_expression = false; solved = x.end.solved } ∷ []))
+      (func_is env func false s after x func' made)
       ∙ ap (λ e. root_finished func' e (fs ++ record
-          { env = env; func = func; is_function_expression = false; solved = x.end.solved } ∷ [])) x.left
+      { env = env; func = func; is_function_expression = false; solved = x.end.solved } ∷ [])) x.left
       ∙ ap (λ z. root_finished func' after (fs
-          ++ record { env = env; func = func; is_function_expression = false; solved = z } ∷ [])) x.solved
+      ++ record { env = env; func = func; is_function_expression = false; solved = z } ∷ [])) x.solved
 
 pub root_refused : (env : Environment) (func : HirFunction) (fs : List Analysed) (e : InferError)
     → inferred env func false ≡ Err e → root_analysed func (analysis env fs) ≡ Err e
 root_refused env func fs e h =
     ap (λ r. r >>= (λ e. root_finished (with_effects_of e.solved func) (env_after env e)
-        (fs ++ record { env = env; func = func; is_function_expression = false; solved = e.solved } ∷ [])))
-        (refused_at (pass_end env func false) (λ e. e.solved) e h)
+    (fs ++ record { env = env; func = func; is_function_expression = false; solved = e.solved } ∷ [])))
+    (refused_at (pass_end env func false) (λ e. e.solved) e h)
 
 -- an error of a step of the root
 pub root_error : (stated : Result RootAnalysis InferError) (r : Result (List AliasingEffect) InferError)
@@ -203,9 +226,9 @@ pub unvalidated : (f : HirFunction) (env : Environment) (fs : List Analysed) (r 
     → root_finished f env fs ≡ Err e
 unvalidated f env fs r e h i =
     ap (λ r. r >>= (λ r. validated r.after.0 r.after.1
-        >>= (λ more. Ok (record { summary = r.summary; func = r.after.0; analysis = analysis more fs })))) h
+    >>= (λ more. Ok (record { summary = r.summary; func = r.after.0; analysis = analysis more fs })))) h
     ∙ ap (λ v. (v >>= (λ more. Ok (with_reports more (frozen_reports more r.after.0))))
-        >>= (λ more. Ok (record { summary = r.summary; func = r.after.0; analysis = analysis more fs }))) i
+    >>= (λ more. Ok (record { summary = r.summary; func = r.after.0; analysis = analysis more fs }))) i
 
 -- nothing refuses
 pub finished : (f : HirFunction) (env : Environment) (fs : List Analysed) (r : Ranged) (more last : Environment)
@@ -214,9 +237,9 @@ pub finished : (f : HirFunction) (env : Environment) (fs : List Analysed) (r : R
     → root_finished f env fs ≡ Ok (record { summary = r.summary; func = r.after.0; analysis = analysis last fs })
 finished f env fs r more last h i j =
     ap (λ r. r >>= (λ r. validated r.after.0 r.after.1
-        >>= (λ more. Ok (record { summary = r.summary; func = r.after.0; analysis = analysis more fs })))) h
+    >>= (λ more. Ok (record { summary = r.summary; func = r.after.0; analysis = analysis more fs })))) h
     ∙ ap (λ v. (v >>= (λ more. Ok (with_reports more (frozen_reports more r.after.0))))
-        >>= (λ more. Ok (record { summary = r.summary; func = r.after.0; analysis = analysis more fs }))) i
+    >>= (λ more. Ok (record { summary = r.summary; func = r.after.0; analysis = analysis more fs }))) i
     ∙ ap (λ e. Ok (record { summary = r.summary; func = r.after.0; analysis = analysis e fs })) (sym j)
 
 -- ---- the unit
@@ -229,18 +252,42 @@ unit_leads u v r same h = ap unit_analysed (sym same) ∙ ap (λ q. q >>= (λ r.
 pub unit_as : (v : HirUnit) (fs : List Analysed) (f : HirFunction) (env : Environment) (summary : List AliasingEffect)
     (solved : List Solved) (left : Environment) (reports : List Report)
     → unit_analysed v ≡ Ok (handed_out (record { summary = summary; func = f; analysis = analysis env fs }))
-        → map (λ (x : Analysed). x.solved) fs ≡ solved → left ≡ with_errors env [] → reports ≡ env.errors
-    → unit_analysed v ≡ Ok (record { functions = fs;
-        inferred = record { unit = record { function = f; env = left }; solved = solved; summary = summary;
-        reports = reports } })
+    → map (λ (x : Analysed). x.solved) fs ≡ solved → left ≡ with_errors env [] → reports ≡ env.errors
+    → unit_analysed v ≡ Ok (record {
+      functions = fs;
+      inferred = record {
+        unit = record { function = f; env = left };
+        solved = solved;
+        summary = summary;
+        reports = reports;
+      };
+    })
 unit_as v fs f env summary solved left reports h same without taken =
     h
-    ∙ ap (λ ss. Ok (record { functions = fs;
-        inferred = record { unit = record { function = f; env = with_errors env [] }; solved = ss; summary = summary;
-        reports = env.errors } })) same
-    ∙ ap (λ e. Ok (record { functions = fs;
-        inferred = record { unit = record { function = f; env = e }; solved = solved; summary = summary;
-        reports = env.errors } })) (sym without)
-    ∙ ap (λ rs. Ok (record { functions = fs;
-        inferred = record { unit = record { function = f; env = left }; solved = solved; summary = summary;
-        reports = rs } })) (sym taken)
+    ∙ ap (λ ss. Ok (record {
+      functions = fs;
+      inferred = record {
+        unit = record { function = f; env = with_errors env [] };
+        solved = ss;
+        summary = summary;
+        reports = env.errors;
+      };
+    })) same
+    ∙ ap (λ e. Ok (record {
+      functions = fs;
+      inferred = record {
+        unit = record { function = f; env = e };
+        solved = solved;
+        summary = summary;
+        reports = env.errors;
+      };
+    })) (sym without)
+    ∙ ap (λ rs. Ok (record {
+      functions = fs;
+      inferred = record {
+        unit = record { function = f; env = left };
+        solved = solved;
+        summary = summary;
+        reports = rs;
+      };
+    })) (sym taken)

@@ -1,6 +1,6 @@
 -- How the steps of an analysis change the environment, as the rules see it.
-use Rattle.std.specs.Prelude.{◌≡◌, ◌==◌, Bool, true, false, if◌then◌else◌, List, [], ◌∷◌, Option, Some, None, Ok, map,
-    slice_get, slice_set, refl}
+use Rattle.std.specs.Prelude.{◌≡◌, ◌==◌, Bool, true, false, if◌then◌else◌, List, [], ◌∷◌, Option, Some, None, Ok, map}
+use Rattle.std.specs.Prelude.{slice_get, slice_set, refl}
 use Rattle.std.specs.Option.{option_map_or}
 use Rattle.std.proofs.Common.{ap, sym, ◌∙◌}
 use Rattle.alias_base.specs.declared.ids.IdentifierId.{IdentifierId}
@@ -20,8 +20,8 @@ use Rattle.alias_rules.specs.Fitting.{function_fits}
 use Rattle.alias_tables.specs.declared.reads.ContextRead.{ContextRead}
 use Rattle.alias_tables.specs.declared.temporaries.Temporary.{Temporary}
 use Rattle.alias_nested.specs.Order.{SameInSlots}
-use Rattle.alias_tables.specs.write_back.WriteBack.{with_identifiers, read_place, with_context_read, with_read,
-    with_reads}
+use Rattle.alias_tables.specs.write_back.WriteBack.{with_identifiers, read_place, with_context_read, with_read}
+use Rattle.alias_tables.specs.write_back.WriteBack.{with_reads}
 
 -- ---- the effects pass
 
@@ -36,7 +36,7 @@ context_read_stays x (p ∷ ps) = ap (λ z. z ∷ map but_effect (map (read_plac
 
 read_contexts : (r : ContextRead) (fs : List HirFunction) (o : Option HirFunction) → slice_get fs r.function.0 ≡ o
     → map but_context (option_map_or (λ (f : HirFunction). slice_set fs r.function.0 (with_context_read r.place f)) o
-        fs) ≡ map but_context fs
+    fs) ≡ map but_context fs
 read_contexts r fs None h = refl
 read_contexts r fs (Some f) h = set_stays but_context fs r.function.0 f (with_context_read r.place f) (sym h)
     (ap (λ z. record f { context = z }) (context_read_stays r.place f.context))
@@ -55,7 +55,7 @@ pub passed_contexts : (env : Environment) (e : PassEnd) → SameInSlots env (env
 passed_contexts env e =
     let t = end_tables e in
     reads_contexts t.reads (with_identifiers t.temporaries env).functions
-        ∙ ap (map but_context) (identified t.temporaries env)
+    ∙ ap (map but_context) (identified t.temporaries env)
 
 -- what the effects pass does to the environment
 pub pass_evolves : (func : HirFunction) (env : Environment) (f : Bool) (e : PassEnd) → function_fits func env ≡ true

@@ -1,6 +1,6 @@
 -- No pass of the inference, and no validation, answers a fault of a pass of the caller.
-use Rattle.std.specs.Prelude.{◌≡◌, ℕ, ◌+◌, Bool, true, false, cond, nat_le, if◌then◌else◌, List, [], ◌∷◌, Option, Some,
-    None, Result, Ok, Err, ⊤, length, slice_get, refl}
+use Rattle.std.specs.Prelude.{◌≡◌, ℕ, ◌+◌, Bool, true, false, cond, nat_le, if◌then◌else◌, List, [], ◌∷◌, Option, Some}
+use Rattle.std.specs.Prelude.{None, Result, Ok, Err, ⊤, length, slice_get, refl}
 use Rattle.std.proofs.Common.{zero, suc, subst}
 use Rattle.alias_base.specs.Answer.{◌>>=◌}
 use Rattle.alias_base.specs.declared.ids.BlockId.{BlockId}
@@ -21,15 +21,17 @@ use Rattle.alias_hir.specs.Values.{created}
 use Rattle.alias_hir.specs.declared.env.Environment.{Environment}
 use Rattle.alias_hir.specs.Errors.{is_memory}
 use Rattle.alias_hir.specs.declared.error.InferError.{InferError}
-use Rattle.alias_hir.specs.declared.error.InferError.TheVariants.{NotSettled, Uninitialized, Reinitialized,
-    AliasBeforeCreate, IncompatibleLibrary, SpreadArgument, TooMany, Memory, PassFault, EffectsNotInferred}
+use Rattle.alias_hir.specs.declared.error.InferError.TheVariants.{NotSettled, Uninitialized, Reinitialized}
+use Rattle.alias_hir.specs.declared.error.InferError.TheVariants.{AliasBeforeCreate, IncompatibleLibrary}
+use Rattle.alias_hir.specs.declared.error.InferError.TheVariants.{SpreadArgument, TooMany, Memory, PassFault}
+use Rattle.alias_hir.specs.declared.error.InferError.TheVariants.{EffectsNotInferred}
 use Rattle.alias_hir.specs.declared.hir.BasicBlock.{BasicBlock}
 use Rattle.alias_hir.specs.declared.hir.HirFunction.{HirFunction}
 use Rattle.alias_hir.specs.declared.hir.Instruction.{Instruction}
 use Rattle.alias_hir.specs.declared.place.Place.{Place}
 use Rattle.alias_hir.specs.declared.value.InstructionValue.{InstructionValue}
-use Rattle.alias_hir.specs.declared.value.InstructionValue.TheVariants.{LoadLocal, StoreLocal, DeclareContext,
-    StoreContext}
+use Rattle.alias_hir.specs.declared.value.InstructionValue.TheVariants.{LoadLocal, StoreLocal, DeclareContext}
+use Rattle.alias_hir.specs.declared.value.InstructionValue.TheVariants.{StoreContext}
 use Rattle.alias_lattice.specs.States.{State}
 use Rattle.alias_nested.specs.Analysis.{IsFault, named}
 use Rattle.alias_range_pass.specs.Passes.{range_pass}
@@ -43,11 +45,12 @@ use Rattle.alias_tables.specs.declared.faults.Refusal.{Refusal}
 use Rattle.alias_tables.specs.declared.faults.Refusal.TheVariants as refused
 use Rattle.alias_tables.specs.Tables.{TableLists}
 use Rattle.alias_validate.specs.InstructionSteps.{plain_step}
-use Rattle.alias_validate.specs.OperandMarks.{ReassigningFunctions, Seen, first_mark, marked_operand, operand, checked,
-    other_step}
+use Rattle.alias_validate.specs.OperandMarks.{ReassigningFunctions, Seen, first_mark, marked_operand, operand, checked}
+use Rattle.alias_validate.specs.OperandMarks.{other_step}
 use Rattle.alias_validate.specs.Marking.{mark_of, is_unknown}
-use Rattle.alias_validate.specs.Reassigning.{Below, created_step, value_step, instruction_step, instruction_steps,
-    block_step, block_steps, context_reassignment, reassigned_reports, with_reassigned}
+use Rattle.alias_validate.specs.Reassigning.{Below, created_step, value_step, instruction_step, instruction_steps}
+use Rattle.alias_validate.specs.Reassigning.{block_step, block_steps, context_reassignment, reassigned_reports}
+use Rattle.alias_validate.specs.Reassigning.{with_reassigned}
 use Rattle.alias_validate.specs.Walks.{and_then, each, ended}
 use Rattle.alias_validate.specs.declared.outcome.Shared.{Shared}
 use Rattle.alias_visit.specs.Operands.{lvalue_ids}
@@ -85,7 +88,7 @@ not_inferred x = λ (h : ⊥). h
 operand_faultless : (ls : List IdentifierId) (ms : ReassigningFunctions) (o : Place) → Faultless (operand ls ms o)
 operand_faultless ls ms o =
     cond_faultless (is_unknown o.effect) (Err (EffectsNotInferred o.identifier))
-        (Ok (marked_operand ls ms o.effect (mark_of ms o.identifier))) (not_inferred o.identifier) tt
+    (Ok (marked_operand ls ms o.effect (mark_of ms o.identifier))) (not_inferred o.identifier) tt
 
 other_faultless : (env : Environment) (s : Seen) (ls : List IdentifierId) (v : InstructionValue)
     → Faultless (other_step env s ls v)
@@ -126,10 +129,10 @@ module _ (env : Environment) (below : Below)
   block_faultless : (func : HirFunction) (s : Seen) (x : BasicBlock) → Faultless (block_step env below b async func s x)
   block_faultless func s x =
       let last : Seen → Result (Seen × WalkOutcome) InferError =
-          λ t. Ok (t, ended (first_mark t.0 (terminal_places x.terminal))) in
+      λ t. Ok (t, ended (first_mark t.0 (terminal_places x.terminal))) in
       let fine : (t : Seen) → Faultless (last t) = λ t. tt in
       bind_faultless (instruction_steps env below b async func s x.instructions) (λ r. and_then last r.0 r.1)
-          (instructions_faultless func s x.instructions) (λ r. next_faultless last r.0 r.1 fine)
+      (instructions_faultless func s x.instructions) (λ r. next_faultless last r.0 r.1 fine)
 
   blocks_faultless : (func : HirFunction) (s : Seen) (xs : List (BlockId × BasicBlock))
       → Faultless (block_steps env below b async func s xs)
@@ -143,15 +146,15 @@ walk_faultless zero env b async func sh = tt
 walk_faultless (suc n) env b async func sh =
     bind_faultless (block_steps env (context_reassignment n env true) b async func ([], sh) func.body.blocks) _
     (blocks_faultless env (context_reassignment n env true) (walk_faultless n env true) b async func ([], sh)
-        func.body.blocks) (λ r. tt)
+    func.body.blocks) (λ r. tt)
 
 pub reassigned_faultless : (env : Environment) (func : HirFunction)
     → Faultless (with_reassigned env (reassigned_reports env func))
 reassigned_faultless env func =
     bind_faultless (reassigned_reports env func) _
-        (bind_faultless (context_reassignment 64 env false false func (record { context_variables = []; reports = [] }))
-        _ (walk_faultless 64 env false false func (record { context_variables = []; reports = [] })) (λ r. tt))
-        (λ r. tt)
+    (bind_faultless (context_reassignment 64 env false false func (record { context_variables = []; reports = [] }))
+    _ (walk_faultless 64 env false false func (record { context_variables = []; reports = [] })) (λ r. tt))
+    (λ r. tt)
 
 -- a refusal of what answers no fault is none
 pub no_fault_of : {A : Type 0} (r : Result A InferError) (e : InferError) → Faultless r → r ≡ Err e → IsFault e → ⊥
@@ -219,8 +222,8 @@ recorded_faultless : (func : HirFunction) → Faultless (recorded func)
 recorded_faultless func =
     bind_faultless (none_unreplaced (unreplaced func)) _ (unreplaced_faultless (unreplaced func))
     (λ u. bind_faultless (listing_or (listed func)) _ (listing_faultless (listed func))
-        (λ l. bind_faultless (positions_left l.next (length (tracked func))) _
-        (left_faultless l.next (length (tracked func))) (λ v. tt)))
+    (λ l. bind_faultless (positions_left l.next (length (tracked func))) _
+    (left_faultless l.next (length (tracked func))) (λ v. tt)))
 
 pub ranges_faultless : (b : Bool) (func : HirFunction) (env : Environment) → Faultless (range_pass b func env)
 ranges_faultless b func env = bind_faultless (recorded func) _ (recorded_faultless func) (λ l. tt)

@@ -67,9 +67,9 @@ unfolding innermost_first numbers_innermost_first
 order_numbers zero fs level = refl
 order_numbers (suc n) fs level =
     flat_numbers (λ (id : FunctionId). innermost_first n fs (created_by_slot (slice_get fs id.0)) ++ id ∷ [])
-        (λ (k : ℕ). numbers_innermost_first n (created_numbers fs) (created_numbers fs k) ++ k ∷ [])
+    (λ (k : ℕ). numbers_innermost_first n (created_numbers fs) (created_numbers fs k) ++ k ∷ [])
     (λ id. both_numbers (innermost_first n fs (created_by_slot (slice_get fs id.0))) (id ∷ [])
-        ∙ ap (λ zs. zs ++ id.0 ∷ []) (order_numbers n fs (created_by_slot (slice_get fs id.0)))) level
+    ∙ ap (λ zs. zs ++ id.0 ∷ []) (order_numbers n fs (created_by_slot (slice_get fs id.0)))) level
 
 -- ---- each function is there once
 
@@ -80,17 +80,17 @@ once_below f env fits n k =
     let p : Fitted f env = fitted f env fits in
     let tree : Closed env [] (created_in f) p.below = tree_closed env 63 [] (created_in f) p.below p.tree in
     let a : times (numbers (below_innermost_first n f env)) k
-        ≡ times (numbers_innermost_first n (created_numbers env.functions) (numbers (created_functions f))) k =
-        ap (λ zs. times zs k) (order_numbers n env.functions (created_functions f)) in
+    ≡ times (numbers_innermost_first n (created_numbers env.functions) (numbers (created_functions f))) k =
+    ap (λ zs. times zs k) (order_numbers n env.functions (created_functions f)) in
     let b : times (numbers_innermost_first n (created_numbers env.functions) (numbers (created_functions f))) k
-        ≤ times (numbers_innermost_first n (created_at env) (created_in f)) k
+    ≤ times (numbers_innermost_first n (created_at env) (created_in f)) k
     = listed_fewer p.below (created_numbers env.functions) (created_at env) (λ j h. tree.closed j h refl)
-        (λ i j h. slot_at_most env i (slice_get env.functions i) (p.rule_below ListedOnce refl i h) j)
+    (λ i j h. slot_at_most env i (slice_get env.functions i) (p.rule_below ListedOnce refl i h) j)
     n (numbers (created_functions f)) (created_in f) (created_at_most None f (p.rule ListedOnce refl)) tree.has_level
-        k in
+    k in
     let none : times [] k ≡ 0 = refl in
     let c : times [] k + times (numbers_innermost_first n (created_at env) (created_in f)) k ≤ times p.below k =
-        times_in_tree 63 n env [] (created_in f) p.below p.tree k in
+    times_in_tree 63 n env [] (created_in f) p.below p.tree k in
     let d : times p.below k ≤ 1 = once_again [] p.below k (below_distinct env f p.below p.tree) in
     omega arith
 
@@ -117,9 +117,9 @@ module _ (fs gs : List HirFunction) where
   one_stays n below id h =
       let level : List FunctionId = created_by_slot (slice_get fs id.0) in
       let creates : created_by_slot (slice_get gs id.0) ≡ level =
-          h id.0 (in_rest (innermost_first n fs level) (id ∷ []) id.0 (first_among id.0 [])) in
+      h id.0 (in_rest (innermost_first n fs level) (id ∷ []) id.0 (first_among id.0 [])) in
       ap (λ ids. innermost_first n gs ids ++ id ∷ []) creates
-          ∙ ap (λ ids. ids ++ id ∷ []) (below level (λ k i. h k (in_front (innermost_first n fs level) (id ∷ []) k i)))
+      ∙ ap (λ ids. ids ++ id ∷ []) (below level (λ k i. h k (in_front (innermost_first n fs level) (id ∷ []) k i)))
 
   each_stays : (n : ℕ) → ((level : List FunctionId) → Stays (innermost_first n fs level) → innermost_first n gs level
       ≡ innermost_first n fs level) → (level : List FunctionId) → Stays (flat_map (one n fs) level)
@@ -127,9 +127,9 @@ module _ (fs gs : List HirFunction) where
   each_stays n below [] h = refl
   each_stays n below (x ∷ xs) h =
       ap (λ ids. ids ++ flat_map (one n gs) xs)
-          (one_stays n below x (λ k i. h k (in_front (one n fs x) (flat_map (one n fs) xs) k i)))
+      (one_stays n below x (λ k i. h k (in_front (one n fs x) (flat_map (one n fs) xs) k i)))
       ∙ ap (λ ids. one n fs x ++ ids) (each_stays n below xs
-          (λ k i. h k (in_rest (one n fs x) (flat_map (one n fs) xs) k i)))
+      (λ k i. h k (in_rest (one n fs x) (flat_map (one n fs) xs) k i)))
 
   pub order_stays : (n : ℕ) (level : List FunctionId) → Stays (innermost_first n fs level) → innermost_first n gs level
       ≡ innermost_first n fs level

@@ -1,6 +1,6 @@
 -- What the steps of an analysis keep of a function and its environment.
-use Rattle.std.specs.Prelude.{◌≡◌, ℕ, Bool, true, false, if◌then◌else◌, List, [], ◌∷◌, Option, Some, None, Ok, map,
-    slice_get, refl}
+use Rattle.std.specs.Prelude.{◌≡◌, ℕ, Bool, true, false, if◌then◌else◌, List, [], ◌∷◌, Option, Some, None, Ok, map}
+use Rattle.std.specs.Prelude.{slice_get, refl}
 use Rattle.std.proofs.Common.{zero, suc, ap, sym, subst, ◌∙◌, arith}
 use Rattle.alias_base.specs.AnswerLaws.{both_true}
 use Rattle.alias_base.specs.declared.ids.FunctionId.{FunctionId}
@@ -34,14 +34,14 @@ use Rattle.alias_nesting_laws.specs.SubtreeLaws.{created_among}
 use Rattle.alias_fitting_laws.specs.pruning.BelowLaws.{created_once}
 use Rattle.alias_fitting_laws.specs.pruning.PassLaws.{pass_prunes}
 use Rattle.alias_fitting_laws.specs.pruning.Pruning.{FunctionPruned}
-use Rattle.alias_fitting_laws.specs.pruning.PruningLaws.{prunes_self, prunes_through, function_through,
-    function_evolved, fits_pruned, function_beside}
+use Rattle.alias_fitting_laws.specs.pruning.PruningLaws.{prunes_self, prunes_through, function_through}
+use Rattle.alias_fitting_laws.specs.pruning.PruningLaws.{function_evolved, fits_pruned, function_beside}
 use Rattle.alias_fitting_laws.specs.pruning.PutBackLaws.{prunes_back}
 use Rattle.alias_ranges.specs.KeptLaws.{ranged_bare, ranged_evolves}
 use Rattle.alias_range_pass.specs.Laws.{PassKeeps}
 use Rattle.alias_range_pass.specs.places.Keeping.{but_effect}
-use Rattle.alias_rules.specs.Fitting.{recorded_within_tables, effects_within_tables, holds_no_call, effects_fit,
-    function_fits}
+use Rattle.alias_rules.specs.Fitting.{recorded_within_tables, effects_within_tables, holds_no_call, effects_fit}
+use Rattle.alias_rules.specs.Fitting.{function_fits}
 use Rattle.alias_rules.specs.RecordedLaws.{fits_with_other_effects}
 use Rattle.alias_tables.specs.GrowingLaws.{grows_self}
 
@@ -121,7 +121,7 @@ summarized_effects env f summary h s =
     let a = both_true (effects_within_tables env f) (holds_no_call f.aliasing_effects) h in
     let b = both_true _ (recorded_within_tables env f.aliasing_effects) a.0 in
     together (effects_within_tables env g) (holds_no_call g.aliasing_effects)
-        (together _ (recorded_within_tables env (Some summary)) b.0 s.within) s.no_call
+    (together _ (recorded_within_tables env (Some summary)) b.0 s.within) s.no_call
 
 pub annotated_keeps : (summary : List AliasingEffect) (f : HirFunction) (env : Environment) → function_fits f env ≡ true
     → SummaryFits env summary
@@ -131,12 +131,12 @@ annotated_keeps summary f env h s =
     let after : HirFunction = summarized summary f in
     let more : Environment = (annotated summary (f, env)).1 in
     let k : EnvironmentKept env more = environment_alike env more
-        (ap (λ is. record (but_ranges_and_contexts env) { identifiers = is })
-        (resets_stay after.context env.identifiers)) (tables_of_fitting f env h) in
+    (ap (λ is. record (but_ranges_and_contexts env) { identifiers = is })
+    (resets_stay after.context env.identifiers)) (tables_of_fitting f env h) in
     let stored : function_fits g env ≡ true =
-        fits_with_other_effects f g env refl h (summarized_effects env f summary (fitted f env h).effects s) in
+    fits_with_other_effects f g env refl h (summarized_effects env f summary (fitted f env h).effects s) in
     let places : but_place_effects g ≡ but_place_effects after =
-        ap (λ ps. record (but_place_effects g) { context = ps }) (sym (contexts_stay summary f.context)) in
+    ap (λ ps. record (but_place_effects g) { context = ps }) (sym (contexts_stay summary f.context)) in
     let set : function_fits after env ≡ true = fits_with_other_places g after env places stored in
     record {
       evolves = k.evolves;
@@ -182,17 +182,17 @@ pub annotated_pruned : (keeps_all : Bool) (f₀ f₁ f₂ f₃ f₄ f₅ : HirFu
     (summary : List AliasingEffect) → IsPassed keeps_all (f₀, e₀) (f₁, e₁) → FunctionKept f₁ e₁ f₂ e₂
     → SummaryFits e₂ summary
     → IsPassed keeps_all (f₂, e₂) (f₃, e₃) → IsPassed keeps_all (f₃, e₃) (f₄, e₄) → (f₅, e₅)
-        ≡ annotated summary (f₄, e₄) → FunctionPruned f₀ e₀ f₅ e₅
+    ≡ annotated summary (f₄, e₄) → FunctionPruned f₀ e₀ f₅ e₅
 annotated_pruned keeps_all f₀ f₁ f₂ f₃ f₄ f₅ e₀ e₁ e₂ e₃ e₄ e₅ summary first ranged s second third set =
     let two : FunctionPruned f₂ e₂ f₄ e₄ =
-        more_pruned keeps_all f₂ f₃ f₄ e₂ e₃ e₄ (passed_pruned keeps_all f₂ e₂ f₃ e₃ second) third in
+    more_pruned keeps_all f₂ f₃ f₄ e₂ e₃ e₄ (passed_pruned keeps_all f₂ e₂ f₃ e₃ second) third in
     let here : SummaryFits e₄ summary = summary_kept e₂ e₄ f₂ two.prunes.effects ranged.fits summary s in
     let after : HirFunction × Environment = annotated summary (f₄, e₄) in
     let last : FunctionPruned f₄ e₄ after.0 after.1 =
-        kept_pruned f₄ e₄ after.0 after.1 (annotated_keeps summary f₄ e₄ two.fits here) in
+    kept_pruned f₄ e₄ after.0 after.1 (annotated_keeps summary f₄ e₄ two.fits here) in
     let whole : FunctionPruned f₀ e₀ after.0 after.1
     = function_through f₀ f₂ after.0 e₀ e₂ after.1 (range_pruned keeps_all f₀ f₁ f₂ e₀ e₁ e₂ first ranged)
-        (function_through f₂ f₄ after.0 e₂ e₄ after.1 two last) in
+    (function_through f₂ f₄ after.0 e₂ e₄ after.1 two last) in
     subst (λ (p : HirFunction × Environment). FunctionPruned f₀ e₀ p.0 p.1) (sym set) whole
 
 -- ---- environments over passes of the caller
@@ -220,8 +220,8 @@ not_itself env holder f id h named at =
     let p = fitted holder env h in
     let within : is_among p.below id.0 ≡ true = created_among env holder p.below p.tree id.0 named in
     absent (is_among (created_in f) id.0) (λ i.
-        created_once env holder p.below id.0 id.0 p.tree within
-        (subst (λ o. is_among (created_of o) id.0 ≡ true) (sym at) i) named)
+    created_once env holder p.below id.0 id.0 p.tree within
+    (subst (λ o. is_among (created_of o) id.0 ≡ true) (sym at) i) named)
 
 -- a function that is put back
 pub environment_back : (env : Environment) (id : FunctionId) (f g : HirFunction) (out after back : Environment)
@@ -247,13 +247,20 @@ unreported_tables : (f : HirFunction) (env : Environment) → function_fits f en
     → EnvironmentKept env (unreported env)
 unreported_tables f env h =
     let t = tables_of_fitting f env h in
-    let w : Wider env (unreported env) = record
-        { identifiers = omega arith; types = omega arith; functions = omega arith;
-        interned = grows_self env.interned } in
+    let w : Wider env (unreported env) = record {
+      identifiers = omega arith;
+      types = omega arith;
+      functions = omega arith;
+      interned = grows_self env.interned;
+    } in
     record {
       evolves = evolves_with_contexts env (unreported env) w refl;
-      tables = record { identifiers = t.identifiers; types = t.types; signatures = t.signatures;
-          reports = (both_true _ _ t.reports).1 };
+      tables = record {
+        identifiers = t.identifiers;
+        types = t.types;
+        signatures = t.signatures;
+        reports = (both_true _ _ t.reports).1;
+      };
     }
 
 -- the root after the validations, without reports

@@ -1,6 +1,6 @@
 -- What calls lead to, one after the other.
-use Rattle.std.specs.Prelude.{◌≡◌, ℕ, ◌+◌, ◌<◌, ◌≤◌, Bool, false, List, [], ◌∷◌, Some, Result, Ok, Err, ⊤, length,
-    slice_get, slice_index_or, refl}
+use Rattle.std.specs.Prelude.{◌≡◌, ℕ, ◌+◌, ◌<◌, ◌≤◌, Bool, false, List, [], ◌∷◌, Some, Result, Ok, Err, ⊤, length}
+use Rattle.std.specs.Prelude.{slice_get, slice_index_or, refl}
 use Rattle.std.proofs.Common.{zero, suc, ap, sym, subst, ◌∙◌, drop, arith}
 use Rattle.std.proofs.lemmas.List.{drop_more}
 use Rattle.std.proofs.lemmas.Option.{slice_get_within, get_or_from_slice_get}
@@ -12,8 +12,8 @@ use Rattle.alias_hir.specs.declared.error.InferError.{InferError}
 use Rattle.alias_hir.specs.declared.hir.HirFunction.{HirFunction}
 use Rattle.alias_nested.specs.Analysis.{Analysed, Analysis, analysis, Accounts}
 use Rattle.alias_nested.specs.Answers.{Answers, done, Each, SlotAnalysed, AnalysedWith}
-use Rattle.alias_nested.specs.Refusals.{Refusals, OneOfRefused, at_once, later, SlotRefused, AnalysisRefused,
-    LeadsToOne}
+use Rattle.alias_nested.specs.Refusals.{Refusals, OneOfRefused, at_once, later, SlotRefused, AnalysisRefused}
+use Rattle.alias_nested.specs.Refusals.{LeadsToOne}
 use Rattle.alias_nested.specs.Created.{created_functions}
 
 -- so far the steps lead from the analysis to this environment and these solutions, and those that are left decide
@@ -82,9 +82,9 @@ pub continues_on : (stops : FunctionId → Analysis → Refusals Environment)
     (step : FunctionId → Analysis → Answers Analysis) (all : List FunctionId) (k : ℕ) (id : FunctionId) (a : Analysis)
     (env after : Environment) (solved more : List Solved) → slice_get all k ≡ Some id
     → Continues stops step all (drop k all) a env solved
-        → ((fs : List Analysed) → Accounts fs solved
-        → LeadsToOne (step id (analysis env fs)) (stops id (analysis env fs)) (Ok tt) after more)
-        → Continues stops step all (drop (k + 1) all) a after more
+    → ((fs : List Analysed) → Accounts fs solved
+    → LeadsToOne (step id (analysis env fs)) (stops id (analysis env fs)) (Ok tt) after more)
+    → Continues stops step all (drop (k + 1) all) a after more
 continues_on stops step all k id a env after solved more at c h =
     let l = h c.0 c.1.accounts in (
       l.0,

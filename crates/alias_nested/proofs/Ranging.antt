@@ -1,6 +1,6 @@
 -- What the range pass ensures of the root is so of the unit that is handed out.
-use Rattle.std.specs.Prelude.{◌≡◌, false, List, [], ◌∷◌, ◌++◌, Option, Some, None, Result, Ok, Err, IsOkAnd, IsSomeAnd,
-    OnOk, refl}
+use Rattle.std.specs.Prelude.{◌≡◌, false, List, [], ◌∷◌, ◌++◌, Option, Some, None, Result, Ok, Err, IsOkAnd, IsSomeAnd}
+use Rattle.std.specs.Prelude.{OnOk, refl}
 use Rattle.std.specs.List.{last_or}
 use Rattle.std.proofs.Common.{sym, subst}
 use Rattle.alias_base.specs.Answer.{◌>>=◌}
@@ -17,8 +17,8 @@ use Rattle.alias_ranges.specs.heap.Reading.{HeapIsCovered}
 use Rattle.alias_ranges.specs.Ranges.{RangesCover, RangesHaveCauses, ListsFlows}
 use Rattle.alias_nested.specs.declared.infer.Inferred.{Inferred}
 use Rattle.alias_nested.specs.Analysis.{Analysed, Analysis, analysis}
-use Rattle.alias_nested.specs.Roots.{root_of, with_effects, EndsHaveCauses, RootIsCovered, RootCoversHeap,
-    RootHasCauses, RootListsFlows, RootRanged, IsRanged}
+use Rattle.alias_nested.specs.Roots.{root_of, with_effects, EndsHaveCauses, RootIsCovered, RootCoversHeap}
+use Rattle.alias_nested.specs.Roots.{RootHasCauses, RootListsFlows, RootRanged, IsRanged}
 use Rattle.alias_nested.specs.Units.{RootAnalysis, UnitAnalysis, unit_analysed}
 
 last_added : (o : Option Analysed) (xs : List Analysed) (x : Analysed) → last_or o (xs ++ x ∷ []) ≡ Some x
@@ -40,7 +40,7 @@ module _ (env : Environment) (func : HirFunction) (s : Solved) (func' : HirFunct
   root_ranged cover heap cause flows =
       let caused : RangesHaveCauses (with_effects_of s func) begun.identifiers last.identifiers =
       subst (λ ids. RangesHaveCauses (with_effects_of s func) begun.identifiers ids) (sym same)
-          (subst (λ f. RangesHaveCauses f begun.identifiers ranged.identifiers) made cause) in
+      (subst (λ f. RangesHaveCauses f begun.identifiers ranged.identifiers) made cause) in
       record {
         cover = subst (λ ids. RangesCover (with_effects_of s func) ids) (sym same)
             (subst (λ f. RangesCover f ranged.identifiers) made cover);
@@ -55,12 +55,12 @@ module _ (env : Environment) (func : HirFunction) (s : Solved) (func' : HirFunct
   pub root_is_ranged : (stated : Result RootAnalysis InferError) (g : HirFunction) (fs : List Analysed) → stated
       ≡ Ok (record { summary = summary; func = g; analysis = analysis last (fs ++ root env func s ∷ []) })
       → RangesCover func' ranged.identifiers → HeapIsCovered func' ranged.identifiers
-          → RangesHaveCauses func' begun.identifiers ranged.identifiers → ListsFlows func' summary
-          → IsOkAnd stated IsRanged
+      → RangesHaveCauses func' begun.identifiers ranged.identifiers → ListsFlows func' summary
+      → IsOkAnd stated IsRanged
   root_is_ranged stated g fs is cover heap cause flows =
       subst (λ (r : Result RootAnalysis InferError). IsOkAnd r IsRanged) (sym is)
       (subst (λ (o : Option Analysed). IsSomeAnd o (λ x. RootRanged x last.identifiers summary))
-          (sym (last_added None fs (root env func s))) (root_ranged cover heap cause flows))
+      (sym (last_added None fs (root env func s))) (root_ranged cover heap cause flows))
 
 -- after the functions below the root
 pub then_ranged : (first : Result Analysis InferError) (step : Analysis → Result RootAnalysis InferError) (a : Analysis)

@@ -1,14 +1,15 @@
 -- What the functions below a function lead to, innermost first.
-use Rattle.std.specs.Prelude.{◌≡◌, ℕ, zero, suc, Bool, true, false, List, [], ◌∷◌, ◌++◌, Option, Some, None, Result, Ok,
-    Err, ⊤, map, slice_get}
+use Rattle.std.specs.Prelude.{◌≡◌, ℕ, zero, suc, Bool, true, false, List, [], ◌∷◌, ◌++◌, Option, Some, None, Result, Ok}
+use Rattle.std.specs.Prelude.{Err, ⊤, map, slice_get}
 use Rattle.std.specs.List.{AllByRecursion}
 use Rattle.alias_base.specs.Answer.{◌>>=◌}
 use Rattle.alias_base.specs.declared.ids.FunctionId.{FunctionId}
 use Rattle.alias_hir.specs.Errors.{is_memory}
 use Rattle.alias_hir.specs.declared.env.Environment.{Environment}
 use Rattle.alias_hir.specs.declared.error.InferError.{InferError}
-use Rattle.alias_hir.specs.declared.error.InferError.TheVariants.{NotSettled, Uninitialized, Reinitialized,
-    AliasBeforeCreate, IncompatibleLibrary, SpreadArgument, PassFault, Memory}
+use Rattle.alias_hir.specs.declared.error.InferError.TheVariants.{NotSettled, Uninitialized, Reinitialized}
+use Rattle.alias_hir.specs.declared.error.InferError.TheVariants.{AliasBeforeCreate, IncompatibleLibrary}
+use Rattle.alias_hir.specs.declared.error.InferError.TheVariants.{SpreadArgument, PassFault, Memory}
 use Rattle.alias_hir.specs.declared.hir.HirFunction.{HirFunction}
 use Rattle.alias_effects.specs.declared.solved.Solved.{Solved}
 use Rattle.alias_effects.specs.Inference.{pass_end, env_after}
@@ -65,9 +66,12 @@ each step (x ∷ xs) a = step x a >>= each step xs
 abbrev pub effects_analysed : FunctionId → HirFunction → Analysis → Result (HirFunction × Analysis) InferError
 effects_analysed id f a = do
   e ← naming id (pass_end a.env f true)
-  Ok (with_effects_of e.solved f, analysis (env_after a.env e)
-      (a.functions ++ record { env = a.env; func = f; is_function_expression = true; solved = numbered id e.solved }
-      ∷ []))
+  Ok (
+    with_effects_of e.solved f,
+    analysis (env_after a.env e)
+        (a.functions ++ record { env = a.env; func = f; is_function_expression = true; solved = numbered id e.solved }
+        ∷ []),
+  )
 
 -- from the range pass on: the summary is stored
 abbrev pub completed : FunctionId → HirFunction → Environment → Result (HirFunction × Environment) InferError

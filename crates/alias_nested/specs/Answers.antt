@@ -1,21 +1,22 @@
 -- Which answers the analysis of nested functions may come to, over passes of the caller that change functions within
 -- their law.
-use Rattle.std.specs.Prelude.{◌≡◌, ℕ, zero, suc, Bool, true, false, List, [], ◌∷◌, Option, Some, None, Result, Ok, Err,
-    ⊤, slice_get}
+use Rattle.std.specs.Prelude.{◌≡◌, ℕ, zero, suc, Bool, true, false, List, [], ◌∷◌, Option, Some, None, Result, Ok, Err}
+use Rattle.std.specs.Prelude.{⊤, slice_get}
 use Rattle.alias_base.specs.declared.ids.FunctionId.{FunctionId}
 use Rattle.alias_hir.specs.Errors.{is_memory}
 use Rattle.alias_hir.specs.declared.env.Environment.{Environment}
 use Rattle.alias_hir.specs.declared.error.InferError.{InferError}
 use Rattle.alias_hir.specs.declared.error.InferError.TheVariants.{PassFault}
 use Rattle.alias_hir.specs.declared.error.Pass.{Pass}
-use Rattle.alias_hir.specs.declared.error.Pass.TheVariants.{DeadCodeElimination,
-    RewriteInstructionKindsBasedOnReassignment, InferReactiveScopeVariables}
+use Rattle.alias_hir.specs.declared.error.Pass.TheVariants.{DeadCodeElimination}
+use Rattle.alias_hir.specs.declared.error.Pass.TheVariants.{RewriteInstructionKindsBasedOnReassignment}
+use Rattle.alias_hir.specs.declared.error.Pass.TheVariants.{InferReactiveScopeVariables}
 use Rattle.alias_hir.specs.declared.hir.HirFunction.{HirFunction}
 use Rattle.alias_effects.specs.declared.solved.Solved.{Solved}
 use Rattle.alias_inner_passes.specs.Passes.{Keeps}
 use Rattle.alias_range_pass.specs.Passes.{range_pass}
-use Rattle.alias_nested.specs.Analysis.{Analysed, Analysis, analysis, naming, effects_analysed, put_back, is_free,
-    Accounts}
+use Rattle.alias_nested.specs.Analysis.{Analysed, Analysis, analysis, naming, effects_analysed, put_back, is_free}
+use Rattle.alias_nested.specs.Analysis.{Accounts}
 use Rattle.alias_nested.specs.Created.{created_functions}
 use Rattle.alias_nested.specs.Annotating.{annotated}
 use Rattle.alias_nested.specs.Slots.{emptied}

@@ -1,15 +1,16 @@
 -- The order in which the functions below a function are analysed, and how far in it an analysis comes that is refused.
-use Rattle.std.specs.Prelude.{◌≡◌, ◌⊎◌, ℕ, zero, suc, Bool, true, false, List, [], ◌∷◌, ◌++◌, Option, Some, None,
-    Result, Ok, Err, ⊤, map, option_map, slice_get}
+use Rattle.std.specs.Prelude.{◌≡◌, ◌⊎◌, ℕ, zero, suc, Bool, true, false, List, [], ◌∷◌, ◌++◌, Option, Some, None}
+use Rattle.std.specs.Prelude.{Result, Ok, Err, ⊤, map, option_map, slice_get}
 use Rattle.std.specs.List.{flat_map}
 use Rattle.alias_base.specs.declared.ids.FunctionId.{FunctionId}
 use Rattle.alias_effects.specs.declared.solved.Solved.{Solved}
 use Rattle.alias_rules.specs.function_rules.Rules.{is_among}
 use Rattle.alias_hir.specs.declared.env.Environment.{Environment}
 use Rattle.alias_hir.specs.declared.error.InferError.{InferError}
-use Rattle.alias_hir.specs.declared.error.InferError.TheVariants.{NotSettled, Uninitialized, Reinitialized,
-    AliasBeforeCreate, IncompatibleLibrary, SpreadArgument, UnreplacedApply, EffectsNotInferred, PassFault, TooMany,
-    Memory}
+use Rattle.alias_hir.specs.declared.error.InferError.TheVariants.{NotSettled, Uninitialized, Reinitialized}
+use Rattle.alias_hir.specs.declared.error.InferError.TheVariants.{AliasBeforeCreate, IncompatibleLibrary}
+use Rattle.alias_hir.specs.declared.error.InferError.TheVariants.{SpreadArgument, UnreplacedApply, EffectsNotInferred}
+use Rattle.alias_hir.specs.declared.error.InferError.TheVariants.{PassFault, TooMany, Memory}
 use Rattle.alias_hir.specs.declared.hir.HirFunction.{HirFunction}
 use Rattle.alias_range_pass.specs.places.Keeping.{but_context}
 use Rattle.alias_nested.specs.Created.{created_functions}

@@ -8,8 +8,9 @@ use Rattle.alias_hir.specs.Errors.{is_memory}
 use Rattle.alias_hir.specs.declared.env.Environment.{Environment}
 use Rattle.alias_hir.specs.declared.error.InferError.{InferError}
 use Rattle.alias_hir.specs.declared.error.Pass.{Pass}
-use Rattle.alias_hir.specs.declared.error.Pass.TheVariants.{DeadCodeElimination,
-    RewriteInstructionKindsBasedOnReassignment, InferReactiveScopeVariables}
+use Rattle.alias_hir.specs.declared.error.Pass.TheVariants.{DeadCodeElimination}
+use Rattle.alias_hir.specs.declared.error.Pass.TheVariants.{RewriteInstructionKindsBasedOnReassignment}
+use Rattle.alias_hir.specs.declared.error.Pass.TheVariants.{InferReactiveScopeVariables}
 use Rattle.alias_hir.specs.declared.hir.HirFunction.{HirFunction}
 use Rattle.alias_range_pass.specs.Passes.{range_pass}
 use Rattle.alias_nested.specs.Analysis.{Analysed, Analysis, analysis, naming, effects_analysed, Accounts}
@@ -62,7 +63,7 @@ CompletionRefused keeps_all id s =
     ThroughPass keeps_all id DeadCodeElimination s (λ dead.
     Through (naming id (range_pass true dead.0 dead.1)) dead (λ r.
     ThroughPass keeps_all id RewriteInstructionKindsBasedOnReassignment r.after
-        (Fails keeps_all id InferReactiveScopeVariables)))
+    (Fails keeps_all id InferReactiveScopeVariables)))
 
 -- a nested function, once those below it are analysed: first the effects pass
 abbrev pub FunctionRefused : Bool → FunctionId → HirFunction → Analysis → Refusals (HirFunction × Environment)

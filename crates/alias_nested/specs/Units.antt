@@ -15,8 +15,8 @@ use Rattle.alias_validate.specs.Freezing.{frozen_reports}
 use Rattle.alias_validate.specs.Reassigning.{reassigned_reports, with_reassigned}
 use Rattle.alias_validate.specs.Reports.{with_reports, with_errors}
 use Rattle.alias_nested.specs.declared.infer.Inferred.{Inferred}
-use Rattle.alias_nested.specs.Analysis.{Analysed, Analysis, analysis, most_levels, analysed, is_free, Accounts,
-    SolvesItsFlow}
+use Rattle.alias_nested.specs.Analysis.{Analysed, Analysis, analysis, most_levels, analysed, is_free, Accounts}
+use Rattle.alias_nested.specs.Analysis.{SolvesItsFlow}
 
 -- the root with all that was analysed, and its summary
 pub record RootAnalysis : Type 0 where

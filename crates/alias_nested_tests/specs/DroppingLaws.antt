@@ -40,8 +40,8 @@ fewer l rest others k h = absent (is_among (numbers l ++ others) k)
     more i =
         append_cases (numbers l) others k (is_among (numbers (l ++ rest) ++ others) k ≡ true) i
         (λ here. among_front (numbers (l ++ rest)) others k
-            (subst (λ zs. is_among zs k ≡ true) (sym (map-append (λ (i : InstructionId). i.0) l rest))
-            (among_front (numbers l) (numbers rest) k here)))
+        (subst (λ zs. is_among zs k ≡ true) (sym (map-append (λ (i : InstructionId). i.0) l rest))
+        (among_front (numbers l) (numbers rest) k here)))
         (λ behind. among_rest (numbers (l ++ rest)) others k behind)
 
 -- ---- blocks
@@ -60,7 +60,7 @@ ends_same : (l : List InstructionId) (bs : List (BlockId × BasicBlock)) (b : Bl
 ends_same l [] b = refl
 ends_same l (e ∷ es) b =
     elim (same_block b e.0) as (λ c. block_effects (if c then Some (record e.1 { instructions = l }) else value_at es b)
-        ≡ block_effects (if c then Some e.1 else value_at es b)) [
+    ≡ block_effects (if c then Some e.1 else value_at es b)) [
       | true ↦ refl
       | false ↦ refl
     ]
@@ -76,8 +76,8 @@ operands_same : (l : List InstructionId) (bs : List (BlockId × BasicBlock)) (b 
 operands_same l [] b = refl
 operands_same l (e ∷ es) b =
     elim (same_block b e.0) as (λ c. block_operands
-        (if c then Some (record e.1 { instructions = l }) else value_at es b)
-        ≡ block_operands (if c then Some e.1 else value_at es b)) [
+    (if c then Some (record e.1 { instructions = l }) else value_at es b)
+    ≡ block_operands (if c then Some e.1 else value_at es b)) [
       | true ↦ refl
       | false ↦ refl
     ]
@@ -122,7 +122,7 @@ front_keeps l f env front fits = record {
   identifiers = refl;
   present = λ k h.
       ap (λ ps. is_among (map (λ (p : Place). p.identifier.0)
-          (map param_place f.params ++ f.context ++ f.returns ∷ flat_map (instruction_places env) f.instructions ++ ps))
-          k) (places_same l f.body.blocks) ∙ h;
+      (map param_place f.params ++ f.context ++ f.returns ∷ flat_map (instruction_places env) f.instructions ++ ps))
+      k) (places_same l f.body.blocks) ∙ h;
   others = λ k h. refl;
 }

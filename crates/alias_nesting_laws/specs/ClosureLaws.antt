@@ -1,6 +1,6 @@
 -- The functions below a function are closed: what one of them creates is one of them.
-use Rattle.std.specs.Prelude.{◌≡◌, ℕ, Bool, true, false, ◌||◌, ◌==◌, nat_eq, List, [], ◌∷◌, ◌++◌, length, is_none,
-    Option, Some, None, refl, if◌then◌else◌}
+use Rattle.std.specs.Prelude.{◌≡◌, ℕ, Bool, true, false, ◌||◌, ◌==◌, nat_eq, List, [], ◌∷◌, ◌++◌, length, is_none}
+use Rattle.std.specs.Prelude.{Option, Some, None, refl, if◌then◌else◌}
 use Rattle.std.proofs.Common.{zero, suc, sym, ◌∙◌, subst, arith}
 use Rattle.std.proofs.lemmas.Bool.{eqb-true}
 use Rattle.std.proofs.lemmas.List.Folds.{list_any-append}
@@ -40,7 +40,7 @@ module _ (env : Environment) where
   among_next [] k j h g = cc
   among_next (x ∷ xs) k j h g =
       elim (nat_eq k x) as (λ b. nat_eq k x ≡ b → (b || is_among xs k) ≡ true → is_among (next_level env (x ∷ xs)) j
-          ≡ true) [
+      ≡ true) [
         | true ↦ λ e i. among_front (created_at env x) (next_level env xs) j
             (subst (λ z. is_among (created_at env z) j ≡ true) (eqb-true k x e) g)
         | false ↦ λ e i. among_rest (created_at env x) (next_level env xs) j (among_next xs k j i g)
@@ -77,8 +77,8 @@ module _ (env : Environment) where
   tree_closed zero found level ks e = ended_closed (length level == 0) found level ks refl e
   tree_closed (suc n) found level ks e =
       let c = tree_closed n (found ++ level) (next_level env level) ks
-          (taken (is_none (first_again [] (found ++ level))) (tree_from n env (found ++ level) (next_level env level))
-          ks e) in record {
+      (taken (is_none (first_again [] (found ++ level))) (tree_from n env (found ++ level) (next_level env level))
+      ks e) in record {
         has_found = λ k h. c.has_found k (among_front found level k h);
         has_level = λ k h. c.has_found k (among_rest found level k h);
         closed = λ k h g.

@@ -1,6 +1,6 @@
 -- What is asked of a function that the inference takes, part by part.
-use Rattle.std.specs.Prelude.{◌≡◌, ℕ, Bool, true, false, ◌&&◌, ◌||◌, nat_eq, List, [], ◌∷◌, Option, Some, None, Result,
-    Ok, Err, ⊤, is_ok, slice_get, refl}
+use Rattle.std.specs.Prelude.{◌≡◌, ℕ, Bool, true, false, ◌&&◌, ◌||◌, nat_eq, List, [], ◌∷◌, Option, Some, None, Result}
+use Rattle.std.specs.Prelude.{Ok, Err, ⊤, is_ok, slice_get, refl}
 use Rattle.std.specs.List.{list_all}
 use Rattle.std.specs.Option.{option_map_or}
 use Rattle.std.proofs.Common.{ap, ◌∙◌, eq-eqb}
@@ -10,17 +10,17 @@ use Rattle.alias_base.specs.AnswerLaws.{both_true, both_pass}
 use Rattle.alias_hir.specs.declared.env.Environment.{Environment}
 use Rattle.alias_hir.specs.declared.hir.HirFunction.{HirFunction}
 use Rattle.alias_rules.specs.function_rules.Rules.{is_among, tables_fit, types_fit, signatures_fit}
-use Rattle.alias_rules.specs.Fitting.{effects_fit, effects_fit_at, reports_no_invariant, family_rules, function_rules,
-    function_fits_with, function_fits}
-use Rattle.alias_rules.specs.Functions.{rule_holds, at_function, each_function, FamilyRule, Tables, Types, Signatures,
-    Apart, Each, family_holds}
+use Rattle.alias_rules.specs.Fitting.{effects_fit, effects_fit_at, reports_no_invariant, family_rules, function_rules}
+use Rattle.alias_rules.specs.Fitting.{function_fits_with, function_fits}
+use Rattle.alias_rules.specs.Functions.{rule_holds, at_function, each_function, FamilyRule, Tables, Types, Signatures}
+use Rattle.alias_rules.specs.Functions.{Apart, Each, family_holds}
 use Rattle.alias_rules.specs.Nesting.{tree_below}
 use Rattle.alias_rules.specs.RuleLaws.{fitting_tree, fitting_rules, passes_at}
 use Rattle.alias_rules.specs.Sharing.{identifiers_apart}
 use Rattle.alias_rules.specs.declared.rules.Rule.{Rule}
 use Rattle.alias_nesting_laws.specs.ClosureLaws.{left_true, right_true}
-use Rattle.alias_rules.specs.declared.rules.Rule.TheVariants.{Numbers, Entry, Successors, Listed, ListedOnce, Handlers,
-    Phis, Orders, Distinct, Calls, ContextValues}
+use Rattle.alias_rules.specs.declared.rules.Rule.TheVariants.{Numbers, Entry, Successors, Listed, ListedOnce, Handlers}
+use Rattle.alias_rules.specs.declared.rules.Rule.TheVariants.{Phis, Orders, Distinct, Calls, ContextValues}
 
 -- ---- steps and lists
 
@@ -191,9 +191,9 @@ module _ (func : HirFunction) (env : Environment) (f : Fitted func env) where
   fits_of_parts =
       let with_them : function_fits_with env func f.below ≡ true =
       together (is_ok (function_rules env func f.below) && effects_fit env func
-          && list_all (effects_fit_at env) f.below) (reports_no_invariant env)
+      && list_all (effects_fit_at env) f.below) (reports_no_invariant env)
       (together (is_ok (function_rules env func f.below) && effects_fit env func)
-          (list_all (effects_fit_at env) f.below)
+      (list_all (effects_fit_at env) f.below)
       (together (is_ok (function_rules env func f.below)) (effects_fit env func) (ap is_ok rules_of) f.effects)
-          (true_each (effects_fit_at env) f.below f.effects_below)) f.reports in
+      (true_each (effects_fit_at env) f.below f.effects_below)) f.reports in
       ap (λ (o : Option (List ℕ)). option_map_or (function_fits_with env func) o false) f.tree ∙ with_them

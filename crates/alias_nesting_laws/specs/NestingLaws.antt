@@ -16,8 +16,8 @@ use Rattle.alias_nesting_laws.specs.PartLaws.{part_among}
 use Rattle.alias_nesting_laws.specs.RootLaws.{rule_of_root}
 use Rattle.alias_nesting_laws.specs.SeparateLaws.{still_apart}
 use Rattle.alias_nesting_laws.specs.Slots.{with_function}
-use Rattle.alias_nesting_laws.specs.StandInLaws.{standing, rule_same, at_same, creates_same, effects_kept,
-    effects_at_kept}
+use Rattle.alias_nesting_laws.specs.StandInLaws.{standing, rule_same, at_same, creates_same, effects_kept}
+use Rattle.alias_nesting_laws.specs.StandInLaws.{effects_at_kept}
 use Rattle.alias_nesting_laws.specs.SubtreeLaws.{apart_from, Subtree, subtree, created_among}
 
 module _ (env : Environment) (holder f stand_in : HirFunction) (id : FunctionId) (fits : Fitted holder env)

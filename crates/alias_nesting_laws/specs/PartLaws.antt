@@ -1,6 +1,6 @@
 -- Lists with some of their numbers left out.
-use Rattle.std.specs.Prelude.{◌≡◌, ℕ, Bool, true, false, ◌||◌, nat_eq, List, [], ◌∷◌, ◌++◌, Option, Some, None, refl,
-    if◌then◌else◌}
+use Rattle.std.specs.Prelude.{◌≡◌, ℕ, Bool, true, false, ◌||◌, nat_eq, List, [], ◌∷◌, ◌++◌, Option, Some, None, refl}
+use Rattle.std.specs.Prelude.{if◌then◌else◌}
 use Rattle.std.specs.List.{flat_map}
 use Rattle.std.proofs.Common.{ap, sym, ◌∙◌, subst}
 use Rattle.std.proofs.lemmas.Bool.{eqb-true}
@@ -102,9 +102,9 @@ part_distinct seen seen2 (left_out {x} {xs} {ys} p) a h =
 part_distinct seen seen2 (kept {x} {xs} {ys} p) a h =
     let b = not_again (is_among seen x) x (first_again (x ∷ seen) ys) h in
     ap (λ (c : Bool). if c then Some x else first_again (x ∷ seen2) xs)
-        (absent (is_among seen2 x) (λ i. not_both (is_among seen x) (a x i) b.0))
+    (absent (is_among seen2 x) (λ i. not_both (is_among seen x) (a x i) b.0))
     ∙ part_distinct (x ∷ seen) (x ∷ seen2) p
-        (λ k i. or_either (nat_eq k x) (is_among seen2 k) (is_among seen k) i (a k)) b.1
+    (λ k i. or_either (nat_eq k x) (is_among seen2 k) (is_among seen k) i (a k)) b.1
 
 -- what was seen isn't there again
 seen_apart : (seen ys : List ℕ) (k : ℕ) → is_among seen k ≡ true → first_again seen ys ≡ None → is_among ys k ≡ false
@@ -112,8 +112,8 @@ seen_apart seen [] k i h = refl
 seen_apart seen (y ∷ ys) k i h =
     let b = not_again (is_among seen y) y (first_again (y ∷ seen) ys) h in
     absent (is_among (y ∷ ys) k) (λ j. among_cases y ys k ⊥ j
-        (λ e. not_both (is_among seen y) (subst (λ z. is_among seen z ≡ true) e i) b.0)
-        (λ l. not_both (is_among ys k) l (seen_apart (y ∷ seen) ys k (later_among y seen k i) b.1)))
+    (λ e. not_both (is_among seen y) (subst (λ z. is_among seen z ≡ true) e i) b.0)
+    (λ l. not_both (is_among ys k) l (seen_apart (y ∷ seen) ys k (later_among y seen k i) b.1)))
 
 -- what is in the first of two lists that share no number isn't in the second
 pub front_apart : (seen xs ys : List ℕ) (k : ℕ) → first_again seen (xs ++ ys) ≡ None → is_among xs k ≡ true
@@ -123,6 +123,6 @@ front_apart seen (x ∷ xs) ys k h i =
     let b = not_again (is_among seen x) x (first_again (x ∷ seen) (xs ++ ys)) h in
     among_cases x xs k (is_among ys k ≡ false) i
     (λ e. absent (is_among ys k) (λ j. not_both (is_among (xs ++ ys) k) (part_among (part_rest xs ys) k j)
-        (seen_apart (x ∷ seen) (xs ++ ys) k (subst (λ z. is_among (x ∷ seen) z ≡ true) (sym e) (first_among x seen))
-        b.1)))
+    (seen_apart (x ∷ seen) (xs ++ ys) k (subst (λ z. is_among (x ∷ seen) z ≡ true) (sym e) (first_among x seen))
+    b.1)))
     (λ j. front_apart (x ∷ seen) xs ys k b.1 j)

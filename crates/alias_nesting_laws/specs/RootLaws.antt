@@ -1,6 +1,6 @@
 -- A nested function that keeps its rules keeps them as a function of its own: the rules name it in their faults alone.
-use Rattle.std.specs.Prelude.{◌≡◌, ℕ, Bool, true, false, ◌||◌, ◌==◌, nat_le, List, [], ◌∷◌, length, Option, Some, None,
-    Result, Ok, Err, ⊤, refl, if◌then◌else◌}
+use Rattle.std.specs.Prelude.{◌≡◌, ℕ, Bool, true, false, ◌||◌, ◌==◌, nat_le, List, [], ◌∷◌, length, Option, Some, None}
+use Rattle.std.specs.Prelude.{Result, Ok, Err, ⊤, refl, if◌then◌else◌}
 use Rattle.std.proofs.Common.{ap}
 use Rattle.alias_base.specs.Answer.{◌>>=◌, all_pass}
 use Rattle.alias_base.specs.AnswerLaws.{both_pass}
@@ -14,15 +14,16 @@ use Rattle.alias_hir.specs.declared.hir.HirFunction.{HirFunction}
 use Rattle.alias_hir.specs.declared.hir.Instruction.{Instruction}
 use Rattle.alias_hir.specs.declared.hir.Phi.{Phi}
 use Rattle.alias_hir.specs.declared.place.Place.{Place}
-use Rattle.alias_rules.specs.function_rules.Rules.{is_block, named_exists, leads_to_blocks, handler_of, missing,
-    first_missing, listed_instructions, twice, first_again, shared, handlers, has_edge, operand_fits, operands_fit,
-    order_fits, repeated, own_identifiers, at_most, argument_count}
+use Rattle.alias_rules.specs.function_rules.Rules.{is_block, named_exists, leads_to_blocks, handler_of, missing}
+use Rattle.alias_rules.specs.function_rules.Rules.{first_missing, listed_instructions, twice, first_again, shared}
+use Rattle.alias_rules.specs.function_rules.Rules.{handlers, has_edge, operand_fits, operands_fit, order_fits, repeated}
+use Rattle.alias_rules.specs.function_rules.Rules.{own_identifiers, at_most, argument_count}
 use Rattle.alias_rules.specs.declared.function_rules.fault.Holder.TheVariants as holder
 use Rattle.alias_rules.specs.declared.function_rules.fault.UnitFault.{UnitFault}
 use Rattle.alias_rules.specs.Functions.{rule_holds}
 use Rattle.alias_rules.specs.declared.rules.Rule.{Rule}
-use Rattle.alias_rules.specs.declared.rules.Rule.TheVariants.{Numbers, Entry, Successors, Listed, ListedOnce, Handlers,
-    Phis, Orders, Distinct, Calls, ContextValues}
+use Rattle.alias_rules.specs.declared.rules.Rule.TheVariants.{Numbers, Entry, Successors, Listed, ListedOnce, Handlers}
+use Rattle.alias_rules.specs.declared.rules.Rule.TheVariants.{Phis, Orders, Distinct, Calls, ContextValues}
 use Rattle.alias_nesting_laws.specs.ClosureLaws.{left_true}
 use Rattle.alias_nesting_laws.specs.FittingLaws.{then_pass}
 
@@ -81,13 +82,13 @@ module _ (k : FunctionId) where
         → leads_to_blocks None func e.0 e.1.terminal ≡ Ok tt
     leads_passes e h =
         then_passes (all_pass (named_exists (Some k) func e.0) (successors e.1.terminal))
-            (all_pass (named_exists (Some k) func e.0) (optional_block (handler_of e.1.terminal)))
+        (all_pass (named_exists (Some k) func e.0) (optional_block (handler_of e.1.terminal)))
         (all_pass (named_exists None func e.0) (successors e.1.terminal))
-            (all_pass (named_exists None func e.0) (optional_block (handler_of e.1.terminal)))
+        (all_pass (named_exists None func e.0) (optional_block (handler_of e.1.terminal)))
         (passes_on (named_exists (Some k) func e.0) (named_exists None func e.0) (named_passes e.0)
-            (successors e.1.terminal))
+        (successors e.1.terminal))
         (passes_on (named_exists (Some k) func e.0) (named_exists None func e.0) (named_passes e.0)
-            (optional_block (handler_of e.1.terminal))) h
+        (optional_block (handler_of e.1.terminal))) h
 
     operand_passes : (b : BlockId) (x : BlockId × Place) → operand_fits (Some k) func b x.0 ≡ Ok tt
         → operand_fits None func b x.0 ≡ Ok tt
@@ -117,32 +118,32 @@ module _ (k : FunctionId) where
   rule_of_root Entry env func h = passes_with (is_block func func.body.entry) _ _ h
   rule_of_root Successors env func h =
       passes_on (λ (e : BlockId × BasicBlock). leads_to_blocks (Some k) func e.0 e.1.terminal)
-          (λ (e : BlockId × BasicBlock). leads_to_blocks None func e.0 e.1.terminal) (leads_passes func)
-          func.body.blocks h
+      (λ (e : BlockId × BasicBlock). leads_to_blocks None func e.0 e.1.terminal) (leads_passes func)
+      func.body.blocks h
   rule_of_root Listed env func h = none_missing (first_missing (length func.instructions) (listed_instructions func)) h
   rule_of_root ListedOnce env func h = none_twice (first_again [] (listed_instructions func)) h
   rule_of_root Handlers env func h = none_shared (first_again [] (handlers func)) h
   rule_of_root Phis env func h =
       passes_on (λ (e : BlockId × BasicBlock). all_pass (operands_fit (Some k) func e.0) e.1.phis)
-          (λ (e : BlockId × BasicBlock). all_pass (operands_fit None func e.0) e.1.phis) (phis_pass func)
-          func.body.blocks h
+      (λ (e : BlockId × BasicBlock). all_pass (operands_fit None func e.0) e.1.phis) (phis_pass func)
+      func.body.blocks h
   rule_of_root Orders env func h =
       then_passes (all_pass (λ (i : Instruction). order_fits (Some k) i.id) func.instructions)
-          (all_pass (λ (e : BlockId × BasicBlock). order_fits (Some k) (evaluation_order e.1.terminal))
-          func.body.blocks)
+      (all_pass (λ (e : BlockId × BasicBlock). order_fits (Some k) (evaluation_order e.1.terminal))
+      func.body.blocks)
       (all_pass (λ (i : Instruction). order_fits None i.id) func.instructions)
-          (all_pass (λ (e : BlockId × BasicBlock). order_fits None (evaluation_order e.1.terminal)) func.body.blocks)
+      (all_pass (λ (e : BlockId × BasicBlock). order_fits None (evaluation_order e.1.terminal)) func.body.blocks)
       (passes_on (λ (i : Instruction). order_fits (Some k) i.id) (λ (i : Instruction). order_fits None i.id)
-          (λ i. order_passes i.id) func.instructions)
+      (λ i. order_passes i.id) func.instructions)
       (passes_on (λ (e : BlockId × BasicBlock). order_fits (Some k) (evaluation_order e.1.terminal))
-          (λ (e : BlockId × BasicBlock). order_fits None (evaluation_order e.1.terminal))
-          (λ e. order_passes (evaluation_order e.1.terminal)) func.body.blocks) h
+      (λ (e : BlockId × BasicBlock). order_fits None (evaluation_order e.1.terminal))
+      (λ e. order_passes (evaluation_order e.1.terminal)) func.body.blocks) h
   rule_of_root Distinct env func h = none_repeated (first_again [] (own_identifiers func)) h
   rule_of_root Calls env func h =
       passes_on (λ (i : Instruction). at_most (holder.Function (Some k)) 1024 (argument_count i.value))
-          (λ (i : Instruction). at_most (holder.Function None) 1024 (argument_count i.value)) call_passes
-          func.instructions h
+      (λ (i : Instruction). at_most (holder.Function None) 1024 (argument_count i.value)) call_passes
+      func.instructions h
   rule_of_root ContextValues env func h =
       weaker_with (length func.context_values == 0)
-          ((length func.context_values == 0) || (length func.context_values == length func.context)) _ _
+      ((length func.context_values == 0) || (length func.context_values == length func.context)) _ _
       (left_true (length func.context_values == 0) (length func.context_values == length func.context)) h

@@ -1,6 +1,6 @@
 -- A function that another one creates is in its slot; and lists of which one item is set.
-use Rattle.std.specs.Prelude.{◌≡◌, ℕ, ◌<◌, Bool, true, false, nat_lt, List, [], ◌∷◌, length, slice_get, slice_set,
-    Option, Some, None, Result, Ok, Err, ⊤, refl, if◌then◌else◌}
+use Rattle.std.specs.Prelude.{◌≡◌, ℕ, ◌<◌, Bool, true, false, nat_lt, List, [], ◌∷◌, length, slice_get, slice_set}
+use Rattle.std.specs.Prelude.{Option, Some, None, Result, Ok, Err, ⊤, refl, if◌then◌else◌}
 use Rattle.std.specs.List.{flat_map}
 use Rattle.std.proofs.Common.{zero, suc, ap, sym, subst, arith}
 use Rattle.std.proofs.lemmas.Bool.{ltb-true}
@@ -65,9 +65,9 @@ module _ (env : Environment) (k : ℕ) where
   number_exists None h i = cc
   number_exists (Some f) h i =
       let below : f.0 < length env.functions =
-          ltb-true f.0 (length env.functions) (where_asked (nat_lt f.0 (length env.functions)) _ (Ok tt) refl h) in
+      ltb-true f.0 (length env.functions) (where_asked (nat_lt f.0 (length env.functions)) _ (Ok tt) refl h) in
       among_cases f.0 [] k (k < length env.functions) i (λ e. subst (λ z. z < length env.functions) (sym e) below)
-          (λ no. cc)
+      (λ no. cc)
 
   instruction_creates : (i : Instruction) → instruction_fits env i ≡ Ok tt → created_fits env (created i.value) ≡ Ok tt
   instruction_creates i h = (both_pass (created_fits env (created i.value))
@@ -78,9 +78,9 @@ module _ (env : Environment) (k : ℕ) where
   numbers_exist [] h i = cc
   numbers_exist (x ∷ xs) h i =
       let b : (instruction_fits env x ≡ Ok tt) × (all_pass (instruction_fits env) xs ≡ Ok tt) =
-          both_pass (instruction_fits env x) (all_pass (instruction_fits env) xs) h in
+      both_pass (instruction_fits env x) (all_pass (instruction_fits env) xs) h in
       append_cases (number_of (created x.value)) (flat_map (λ (i : Instruction). number_of (created i.value)) xs) k
-          (k < length env.functions) i
+      (k < length env.functions) i
       (number_exists (created x.value) (instruction_creates x b.0)) (numbers_exist xs b.1)
 
   function_exists : (func : HirFunction) → numbers_fit env func ≡ Ok tt → is_among (created_in func) k ≡ true → k

@@ -1,7 +1,7 @@
 -- While a function is out of its slot, where one without a summary stands: numbers, rules and effects of other
 -- functions.
-use Rattle.std.specs.Prelude.{◌≡◌, ℕ, Bool, true, ◌&&◌, nat_lt, List, [], ◌∷◌, length, slice_get, Option, Some, None,
-    Result, ⊤, refl}
+use Rattle.std.specs.Prelude.{◌≡◌, ℕ, Bool, true, ◌&&◌, nat_lt, List, [], ◌∷◌, length, slice_get, Option, Some, None}
+use Rattle.std.specs.Prelude.{Result, ⊤, refl}
 use Rattle.std.specs.List.{list_all}
 use Rattle.std.specs.Option.{option_map_or}
 use Rattle.std.proofs.Common.{ap, ◌∙◌}
@@ -19,17 +19,18 @@ use Rattle.alias_hir.specs.declared.env.Environment.{Environment}
 use Rattle.alias_hir.specs.declared.hir.BasicBlock.{BasicBlock}
 use Rattle.alias_hir.specs.declared.hir.HirFunction.{HirFunction}
 use Rattle.alias_hir.specs.declared.hir.Instruction.{Instruction}
-use Rattle.alias_rules.specs.function_rules.Rules.{below, place_fits, created_fits, instruction_fits, block_fits,
-    numbers_fit}
+use Rattle.alias_rules.specs.function_rules.Rules.{below, place_fits, created_fits, instruction_fits, block_fits}
+use Rattle.alias_rules.specs.function_rules.Rules.{numbers_fit}
 use Rattle.alias_rules.specs.declared.function_rules.fault.Table.TheVariants.{Functions}
-use Rattle.alias_rules.specs.Fitting.{place_within_tables, error_within_tables, function_within_tables,
-    type_within_tables, named_within_tables, summary_within_tables, effect_within_tables, recorded_within_tables,
-    effects_within_tables, holds_no_call, effects_fit}
+use Rattle.alias_rules.specs.Fitting.{place_within_tables, error_within_tables, function_within_tables}
+use Rattle.alias_rules.specs.Fitting.{type_within_tables, named_within_tables, summary_within_tables}
+use Rattle.alias_rules.specs.Fitting.{effect_within_tables, recorded_within_tables, effects_within_tables}
+use Rattle.alias_rules.specs.Fitting.{holds_no_call, effects_fit}
 use Rattle.alias_rules.specs.Functions.{rule_holds, of_function, at_function}
 use Rattle.alias_rules.specs.Nesting.{created_of, created_at}
 use Rattle.alias_rules.specs.declared.rules.Rule.{Rule}
-use Rattle.alias_rules.specs.declared.rules.Rule.TheVariants.{Numbers, Entry, Successors, Listed, ListedOnce, Handlers,
-    Phis, Orders, Distinct, Calls, ContextValues}
+use Rattle.alias_rules.specs.declared.rules.Rule.TheVariants.{Numbers, Entry, Successors, Listed, ListedOnce, Handlers}
+use Rattle.alias_rules.specs.declared.rules.Rule.TheVariants.{Phis, Orders, Distinct, Calls, ContextValues}
 use Rattle.alias_nesting_laws.specs.FittingLaws.{together}
 use Rattle.alias_nesting_laws.specs.Slots.{with_function}
 use Rattle.alias_nesting_laws.specs.SlotLaws.{length_set, set_other, at_set}
@@ -76,9 +77,9 @@ module _ (env : Environment) (id : FunctionId) (stand_in : HirFunction) where
   numbers_same : (g : HirFunction) → numbers_fit standing g ≡ numbers_fit env g
   numbers_same g =
       ap (λ r. all_pass (λ p. place_fits env (param_place p)) g.params
-          >>= (λ _. all_pass (place_fits env) g.context
-          >>= (λ _. place_fits env g.returns >>= (λ _. r
-          >>= (λ _. all_pass (λ (e : BlockId × BasicBlock). block_fits env g e.1) g.body.blocks)))))
+      >>= (λ _. all_pass (place_fits env) g.context
+      >>= (λ _. place_fits env g.returns >>= (λ _. r
+      >>= (λ _. all_pass (λ (e : BlockId × BasicBlock). block_fits env g e.1) g.body.blocks)))))
       (all_same (instruction_fits standing) (instruction_fits env) instruction_same g.instructions)
 
   -- each rule is the same of one function
@@ -130,10 +131,10 @@ module _ (env : Environment) (id : FunctionId) (stand_in : HirFunction) where
     summary_kept None h = refl
     summary_kept (Some g) h =
         at_set (λ o p. list_all (named_within_tables env) (summary o) ≡ true
-            → list_all (named_within_tables standing) (summary p) ≡ true) f stand_in
+        → list_all (named_within_tables standing) (summary p) ≡ true) f stand_in
         (λ o. all_weaker (named_within_tables env) (named_within_tables standing) named_kept (summary o))
         (λ _. ap (λ (o : Option (List AliasingEffect)).
-            list_all (named_within_tables standing) (option_map_or (λ es. es) o [])) bare)
+        list_all (named_within_tables standing) (option_map_or (λ es. es) o [])) bare)
         env.functions id.0 g.0 there h
 
     effect_kept : (e : AliasingEffect) → effect_within_tables env e ≡ true → effect_within_tables standing e ≡ true
@@ -149,23 +150,23 @@ module _ (env : Environment) (id : FunctionId) (stand_in : HirFunction) where
     within_kept : (g : HirFunction) → effects_within_tables env g ≡ true → effects_within_tables standing g ≡ true
     within_kept g =
         both_weaker (list_all (λ (i : Instruction). recorded_within_tables env i.effects) g.instructions
-            && list_all (λ (e : BlockId × BasicBlock). recorded_within_tables env (terminal_effects e.1.terminal))
-            g.body.blocks) (recorded_within_tables env g.aliasing_effects)
+        && list_all (λ (e : BlockId × BasicBlock). recorded_within_tables env (terminal_effects e.1.terminal))
+        g.body.blocks) (recorded_within_tables env g.aliasing_effects)
         (list_all (λ (i : Instruction). recorded_within_tables standing i.effects) g.instructions
-            && list_all (λ (e : BlockId × BasicBlock). recorded_within_tables standing (terminal_effects e.1.terminal))
-            g.body.blocks) (recorded_within_tables standing g.aliasing_effects)
+        && list_all (λ (e : BlockId × BasicBlock). recorded_within_tables standing (terminal_effects e.1.terminal))
+        g.body.blocks) (recorded_within_tables standing g.aliasing_effects)
         (both_weaker (list_all (λ (i : Instruction). recorded_within_tables env i.effects) g.instructions)
-            (list_all (λ (e : BlockId × BasicBlock). recorded_within_tables env (terminal_effects e.1.terminal))
-            g.body.blocks)
+        (list_all (λ (e : BlockId × BasicBlock). recorded_within_tables env (terminal_effects e.1.terminal))
+        g.body.blocks)
         (list_all (λ (i : Instruction). recorded_within_tables standing i.effects) g.instructions)
-            (list_all (λ (e : BlockId × BasicBlock). recorded_within_tables standing (terminal_effects e.1.terminal))
-            g.body.blocks)
+        (list_all (λ (e : BlockId × BasicBlock). recorded_within_tables standing (terminal_effects e.1.terminal))
+        g.body.blocks)
         (all_weaker (λ (i : Instruction). recorded_within_tables env i.effects)
-            (λ (i : Instruction). recorded_within_tables standing i.effects) (λ i. recorded_kept i.effects)
-            g.instructions)
+        (λ (i : Instruction). recorded_within_tables standing i.effects) (λ i. recorded_kept i.effects)
+        g.instructions)
         (all_weaker (λ (e : BlockId × BasicBlock). recorded_within_tables env (terminal_effects e.1.terminal))
-            (λ (e : BlockId × BasicBlock). recorded_within_tables standing (terminal_effects e.1.terminal))
-            (λ e. recorded_kept (terminal_effects e.1.terminal)) g.body.blocks))
+        (λ (e : BlockId × BasicBlock). recorded_within_tables standing (terminal_effects e.1.terminal))
+        (λ e. recorded_kept (terminal_effects e.1.terminal)) g.body.blocks))
         (recorded_kept g.aliasing_effects)
 
     -- effects that fit still do

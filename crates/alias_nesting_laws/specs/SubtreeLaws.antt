@@ -1,6 +1,6 @@
 -- The functions below one that another function creates: they are a tree too, a part of those below the other one.
-use Rattle.std.specs.Prelude.{◌≡◌, ℕ, Bool, true, false, ◌==◌, List, [], ◌∷◌, ◌++◌, length, slice_get, Option, Some,
-    None, is_none, refl, if◌then◌else◌}
+use Rattle.std.specs.Prelude.{◌≡◌, ℕ, Bool, true, false, ◌==◌, List, [], ◌∷◌, ◌++◌, length, slice_get, Option, Some}
+use Rattle.std.specs.Prelude.{None, is_none, refl, if◌then◌else◌}
 use Rattle.std.proofs.Common.{zero, suc, ap, sym, ◌∙◌, subst, arith}
 use Rattle.std.proofs.lemmas.Bool.{eqb-true}
 use Rattle.std.proofs.lemmas.List.{append-nil}
@@ -11,8 +11,8 @@ use Rattle.alias_rules.specs.function_rules.Rules.{is_among, first_again}
 use Rattle.alias_rules.specs.Nesting.{created_in, created_of, created_at, next_level, ended, tree_from, tree_below}
 use Rattle.alias_nesting_laws.specs.ClosureLaws.{Among, among_front, among_neither, tree_closed}
 use Rattle.alias_nesting_laws.specs.FittingLaws.{first_among, later_among}
-use Rattle.alias_nesting_laws.specs.PartLaws.{Part, part_nothing, part_both, part_of_nothing, part_each, part_among,
-    part_at, absent, not_both, part_distinct, front_apart}
+use Rattle.alias_nesting_laws.specs.PartLaws.{Part, part_nothing, part_both, part_of_nothing, part_each, part_among}
+use Rattle.alias_nesting_laws.specs.PartLaws.{part_at, absent, not_both, part_distinct, front_apart}
 use Rattle.alias_nesting_laws.specs.StandInLaws.{standing, creates_same}
 use Rattle.alias_rules.specs.TreeLaws.{tree_step}
 
@@ -49,7 +49,7 @@ pub one_more : (n : ℕ) (env : Environment) (found level ks : List ℕ) → fir
 one_more zero env found level ks distinct h =
     let p = ended_parts found level ks (sym (tree_end env found level) ∙ h) in
     ap (tree_from 1 env found) p.0 ∙ tree_step 0 env found [] (ap (first_again []) (append-nil found) ∙ distinct)
-        ∙ tree_end env (found ++ []) [] ∙ ap (λ zs. Some zs) (append-nil found ∙ p.1)
+    ∙ tree_end env (found ++ []) [] ∙ ap (λ zs. Some zs) (append-nil found ∙ p.1)
 one_more (suc n) env found level ks distinct h =
     let p = tree_parts n env found level ks h in
     tree_step (suc n) env found level p.0 ∙ one_more n env (found ++ level) (next_level env level) ks p.0 p.1
@@ -75,9 +75,9 @@ module _ (env : Environment) (id : FunctionId) (stand_in : HirFunction) where
   next_same (x ∷ xs) h =
       let other : x ≡ id.0 → ⊥ = apart_from (x ∷ xs) x id.0 (first_among x xs) h in
       let rest : is_among xs id.0 ≡ false = absent (is_among xs id.0)
-          (λ i. not_both (is_among (x ∷ xs) id.0) (later_among x xs id.0 i) h) in
+      (λ i. not_both (is_among (x ∷ xs) id.0) (later_among x xs id.0 i) h) in
       ap (λ zs. zs ++ next_level (standing env id stand_in) xs) (creates_same env id stand_in x other)
-          ∙ ap (λ zs. created_at env x ++ zs) (next_same xs rest)
+      ∙ ap (λ zs. created_at env x ++ zs) (next_same xs rest)
 
   -- a part of a level below the function, where it is found
   subtree_from : (n : ℕ) (found level ks found2 level2 : List ℕ) → tree_from n env found level ≡ Some ks
@@ -86,24 +86,32 @@ module _ (env : Environment) (id : FunctionId) (stand_in : HirFunction) where
   subtree_from zero found level ks found2 level2 h p q there out =
       let e = ended_parts found level ks (sym (tree_end env found level) ∙ h) in
       let nothing2 : level2 ≡ [] = part_of_nothing (subst (λ zs. Part level2 zs) e.0 q) in
-      record { below = found2; tree = tree_end (standing env id stand_in) found2 level2 ∙ ap (ended found2) nothing2;
-          part = subst (λ zs. Part found2 zs) e.1 p; left_out = out }
+      record {
+        below = found2;
+        tree = tree_end (standing env id stand_in) found2 level2 ∙ ap (ended found2) nothing2;
+        part = subst (λ zs. Part found2 zs) e.1 p;
+        left_out = out;
+      }
   subtree_from (suc n) found level ks found2 level2 h p q there out =
       let e = tree_parts n env found level ks h in
       let other : is_among level id.0 ≡ false = front_apart [] found level id.0 e.0 there in
       let other2 : is_among level2 id.0 ≡ false =
-          absent (is_among level2 id.0) (λ i. not_both (is_among level id.0) (part_among q id.0 i) other) in
+      absent (is_among level2 id.0) (λ i. not_both (is_among level id.0) (part_among q id.0 i) other) in
       let distinct : first_again [] (found2 ++ level2) ≡ None = part_distinct [] [] (part_both p q) (λ k i. i) e.0 in
       let same : next_level (standing env id stand_in) level2 ≡ next_level env level2 = next_same level2 other2 in
       let next : Part (next_level (standing env id stand_in) level2) (next_level env level) =
-          subst (λ zs. Part zs (next_level env level)) (sym same) (part_each (created_at env) q) in
+      subst (λ zs. Part zs (next_level env level)) (sym same) (part_each (created_at env) q) in
       let s : Subtree n (standing env id stand_in) (found2 ++ level2) (next_level (standing env id stand_in) level2) ks
-          id.0 =
+      id.0 =
       subtree_from n (found ++ level) (next_level env level) ks (found2 ++ level2)
-          (next_level (standing env id stand_in) level2) e.1 (part_both p q) next (among_front found level id.0 there)
-          (among_neither found2 level2 id.0 out other2) in
-      record { below = s.below; tree = tree_step n (standing env id stand_in) found2 level2 distinct ∙ s.tree;
-          part = s.part; left_out = s.left_out }
+      (next_level (standing env id stand_in) level2) e.1 (part_both p q) next (among_front found level id.0 there)
+      (among_neither found2 level2 id.0 out other2) in
+      record {
+        below = s.below;
+        tree = tree_step n (standing env id stand_in) found2 level2 distinct ∙ s.tree;
+        part = s.part;
+        left_out = s.left_out;
+      }
 
   -- the functions below one that the holder creates, once it is out of its slot
   pub subtree : (holder f : HirFunction) (ks : List ℕ) → tree_below env holder ≡ Some ks
@@ -112,13 +120,17 @@ module _ (env : Environment) (id : FunctionId) (stand_in : HirFunction) where
   subtree holder f ks h i there =
       let e = tree_parts 62 env [] (created_in holder) ks h in
       let level : Part (created_in f) (next_level env (created_in holder)) =
-          subst (λ o. Part (created_of o) (next_level env (created_in holder))) there
-          (part_at (created_at env) (created_in holder) id.0 i) in
+      subst (λ o. Part (created_of o) (next_level env (created_in holder))) there
+      (part_at (created_at env) (created_in holder) id.0 i) in
       let s : Subtree 62 (standing env id stand_in) [] (created_in f) ks id.0 =
-          subtree_from 62 (created_in holder) (next_level env (created_in holder)) ks [] (created_in f) e.1
-          (part_nothing (created_in holder)) level i refl in
-      record { below = s.below; tree = one_more 62 (standing env id stand_in) [] (created_in f) s.below refl s.tree;
-          part = s.part; left_out = s.left_out }
+      subtree_from 62 (created_in holder) (next_level env (created_in holder)) ks [] (created_in f) e.1
+      (part_nothing (created_in holder)) level i refl in
+      record {
+        below = s.below;
+        tree = one_more 62 (standing env id stand_in) [] (created_in f) s.below refl s.tree;
+        part = s.part;
+        left_out = s.left_out;
+      }
 
 -- a function that another one creates is among those below that
 pub created_among : (env : Environment) (holder : HirFunction) (ks : List ℕ) → tree_below env holder ≡ Some ks

@@ -1,6 +1,6 @@
 -- A function that isn't gone through to the end ends the unit.
-use Rattle.std.proofs.Common.{◌≡◌, ℕ, ◌+◌, ◌<◌, List, [], ◌∷◌, drop, length, get_or, Some, None, ap, sym, ◌∙◌, subst,
-    refl}
+use Rattle.std.proofs.Common.{◌≡◌, ℕ, ◌+◌, ◌<◌, List, [], ◌∷◌, drop, length, get_or, Some, None, ap, sym, ◌∙◌, subst}
+use Rattle.std.proofs.Common.{refl}
 use Rattle.std.proofs.lemmas.List.{at_drop_more}
 use Rattle.std.specs.Prelude.{Option, Result, Ok, Err, IsErrAnd}
 use Rattle.std.specs.List.{AllByRecursion}
@@ -28,8 +28,8 @@ stopped_stays env k (f ∷ fs) g s = stopped_stays env (k + 1) fs g s
 pub stops_here : (env : Environment) (fs : List HirFunction) (n k : ℕ) (f : HirFunction) (t : TableLists)
     (e : StoppedIn) (q : Result TableLists StoppedIn) (all : UnitEnd)
     → k < length fs → f ≡ get_or fs k f → EndsAs
-        (end_in (Some (record { 0 = n })) (scan_function (scope_of f env) (reports_of t))) (Err e)
-        → then_nested env n (drop k fs) (AllPlain t) ≡ all
+    (end_in (Some (record { 0 = n })) (scan_function (scope_of f env) (reports_of t))) (Err e)
+    → then_nested env n (drop k fs) (AllPlain t) ≡ all
     → IsErrAnd q (λ z. z ≡ e) → EndsAs all q
 stops_here env fs n k f t e (Ok u) all there here stops left is = absurd is
 stops_here env fs n k f t e (Err z) all there here stops left is =
@@ -48,7 +48,7 @@ root_stops u t e (Ok x) same stops is = absurd is
 root_stops u t e (Err z) same stops is =
     subst (λ (y : StoppedIn). EndsAs (unit_end u) (Err y)) (sym is) (λ no.
     ap (λ (x : TableLists). then_nested u.env 0 u.env.functions
-        (end_in None (scan_function (scope_of u.function u.env) (reports_of x)))) (sym same)
+    (end_in None (scan_function (scope_of u.function u.env) (reports_of x)))) (sym same)
     ∙ ap (then_nested u.env 0 u.env.functions) (stops no)
     ∙ stopped_stays u.env 0 u.env.functions e.function e.stop)
 

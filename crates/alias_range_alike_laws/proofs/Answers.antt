@@ -1,6 +1,6 @@
 -- Steps that both answer, or are both refused for the same cause; and lists, pair by pair.
-use Rattle.std.specs.Prelude.{◌≡◌, ℕ, zero, suc, List, [], ◌∷◌, Option, Some, None, Result, Ok, Err, slice_set, length,
-    refl}
+use Rattle.std.specs.Prelude.{◌≡◌, ℕ, zero, suc, List, [], ◌∷◌, Option, Some, None, Result, Ok, Err, slice_set, length}
+use Rattle.std.specs.Prelude.{refl}
 use Rattle.std.proofs.Common.{ap, subst}
 use Rattle.std.specs.List.{flat_map}
 use Rattle.alias_base.specs.Answer.{◌>>=◌}

@@ -40,8 +40,8 @@ module _ (recording : Bool) (interned : List Interned) where
   pub reported_alike : (P : ℕ → Type 0) (xs ys : List Report) (env other : Environment)
       → AlikeEnv P recording interned env other
       → AlikeEnv P recording interned (with_reports (cond recording xs []) env)
-          (with_reports (cond recording ys []) other)
+      (with_reports (cond recording ys []) other)
   reported_alike P xs ys env other (of_env _ fs errors q same) =
       of_env (with_reports (cond recording xs []) env) fs (errors ++ cond recording ys []) q
       (λ off. ap (λ z. errors ++ z) (none_added ys off) ∙ ap (λ z. z ++ []) (same off)
-          ∙ ap (λ z. env.errors ++ z) (sym (none_added xs off)))
+      ∙ ap (λ z. env.errors ++ z) (sym (none_added xs off)))

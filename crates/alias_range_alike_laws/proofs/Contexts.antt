@@ -1,7 +1,7 @@
 -- Context places that differ in their effects alone are read alike, and are the same once an instruction sets their
 -- effects.
-use Rattle.std.specs.Prelude.{◌≡◌, ℕ, zero, suc, ◌⊎◌, List, [], ◌∷◌, Option, Some, None, map, option_map, slice_get,
-    slice_set, refl}
+use Rattle.std.specs.Prelude.{◌≡◌, ℕ, zero, suc, ◌⊎◌, List, [], ◌∷◌, Option, Some, None, map, option_map, slice_get}
+use Rattle.std.specs.Prelude.{slice_set, refl}
 use Rattle.std.proofs.Common.{ap, sym, ◌∙◌, subst, inl, inr, ⊎_elim}
 use Rattle.std.specs.Option.{option_map_or}
 use Rattle.alias_base.specs.declared.ids.FunctionId.{FunctionId}
@@ -42,7 +42,7 @@ same_ranged r ps qs ids same = sym (but_effects_ranged r qs ids) ∙ ap (λ z. a
 context_ranged : (r : MutableRange → MutableRange) (ids : List Identifier) (o p : Option HirFunction)
     → Maybe NearlyAlike o p
     → all_ranged r (option_map_or (λ (g : HirFunction). g.context) p []) ids
-        ≡ all_ranged r (option_map_or (λ (g : HirFunction). g.context) o []) ids
+    ≡ all_ranged r (option_map_or (λ (g : HirFunction). g.context) o []) ids
 context_ranged r ids o p nothing = refl
 context_ranged r ids o p (just (near f g context same effects)) = same_ranged r f.context context ids same
 
@@ -100,12 +100,15 @@ module _ (P : ℕ → Type 0) (table : Table) where
   slot_near : (n : ℕ) (xs ys : List HirFunction) (o p : Option HirFunction) → slice_get xs n ≡ o → slice_get ys n ≡ p
       → Maybe NearlyAlike o p → NearAt P xs ys
       → NearAt (λ k. P k ⊎ (k ≡ n)) (option_map_or (λ f. slice_set xs n (context_placed table f)) o xs)
-          (option_map_or (λ f. slice_set ys n (context_placed table f)) p ys)
+      (option_map_or (λ f. slice_set ys n (context_placed table f)) p ys)
   slot_near n xs ys o p at_x at_y nothing q =
       let none_there : SameContextAt xs ys n = ap (option_map (λ (f : HirFunction). f.context)) at_y
-          ∙ sym (ap (option_map (λ (f : HirFunction). f.context)) at_x) in
-      record { near = q.near; same = λ k. ⊎_elim (q.same k)
-          (λ (is : k ≡ n). subst (SameContextAt xs ys) (sym is) none_there) }
+      ∙ sym (ap (option_map (λ (f : HirFunction). f.context)) at_x) in
+      record {
+        near = q.near;
+        same = λ k. ⊎_elim (q.same k)
+            (λ (is : k ≡ n). subst (SameContextAt xs ys) (sym is) none_there);
+      }
   slot_near n xs ys o p at_x at_y (just {a = f} {b = g} a) q =
       let new : HirFunction = context_placed table f in
       let other : HirFunction = context_placed table g in
@@ -123,9 +126,14 @@ module _ (P : ℕ → Type 0) (table : Table) where
   -- the function that is created has the same context places
   pub created_near : (o : Option FunctionId) (xs ys : List HirFunction) → NearAt P xs ys
       → NearAt (λ k. P k ⊎ (o ≡ Some (record { 0 = k }))) (created_placed table o xs) (created_placed table o ys)
-  created_near None xs ys q = record { near = q.near;
-      same = λ k. ⊎_elim (q.same k) (λ (no : None ≡ Some (record { 0 = k })). cc) }
+  created_near None xs ys q = record {
+    near = q.near;
+    same = λ k. ⊎_elim (q.same k) (λ (no : None ≡ Some (record { 0 = k })). cc);
+  }
   created_near (Some g) xs ys q =
       let r = slot_near g.0 xs ys (slice_get xs g.0) (slice_get ys g.0) refl refl (paired_get g.0 xs ys q.near) q in
-      record { near = r.near; same = λ k. ⊎_elim (λ h. r.same k (inl h))
-          (λ (is : Some g ≡ Some (record { 0 = k })). r.same k (inr (created_at g k is))) }
+      record {
+        near = r.near;
+        same = λ k. ⊎_elim (λ h. r.same k (inl h))
+            (λ (is : Some g ≡ Some (record { 0 = k })). r.same k (inr (created_at g k is)));
+      }

@@ -1,6 +1,6 @@
 -- Functions that carry alike get the same effects of places and the same ranges.
-use Rattle.std.specs.Prelude.{◌≡◌, ℕ, zero, suc, ◌+◌, ◌<◌, ◌≤◌, ◌⊎◌, Bool, List, [], ◌∷◌, Option, Some, None,
-    option_map, length, slice_get, refl}
+use Rattle.std.specs.Prelude.{◌≡◌, ℕ, zero, suc, ◌+◌, ◌<◌, ◌≤◌, ◌⊎◌, Bool, List, [], ◌∷◌, Option, Some, None}
+use Rattle.std.specs.Prelude.{option_map, length, slice_get, refl}
 use Rattle.std.proofs.Common.{ap, sym, ◌∙◌, subst, inl, inr, ⊎_elim, arith, eq-or-lt_of_le}
 use Rattle.std.proofs.lemmas.Option.{slice_get_within}
 use Rattle.indexmap.specs.IndexMap.{set_value_at}
@@ -17,15 +17,16 @@ use Rattle.alias_hir.specs.declared.hir.Instruction.{Instruction}
 use Rattle.alias_hir.specs.declared.report.Interned.{Interned}
 use Rattle.alias_hir.specs.declared.terminal.Terminal.{Terminal}
 use Rattle.alias_hir.specs.declared.terminal.Terminal.TheVariants as terminal
-use Rattle.alias_range_pass.specs.places.Blocks.{terminal_placed, ends_placed, order_or, order_of_first, first_order,
-    Placed, with_blocks, ends_at_slot, with_instructions, block_instructions, placed_at, block_placed, blocks_placed,
-    function_placed}
+use Rattle.alias_range_pass.specs.places.Blocks.{terminal_placed, ends_placed, order_or, order_of_first, first_order}
+use Rattle.alias_range_pass.specs.places.Blocks.{Placed, with_blocks, ends_at_slot, with_instructions}
+use Rattle.alias_range_pass.specs.places.Blocks.{block_instructions, placed_at, block_placed, blocks_placed}
+use Rattle.alias_range_pass.specs.places.Blocks.{function_placed}
 use Rattle.alias_range_pass.specs.places.Instructions.{instructions_placed, with_identifiers}
 use Rattle.alias_range_pass.specs.places.Ranges.{phis_merged}
 use Rattle.alias_certificate_laws.specs.accepting.Alike.{Paired, none, more, Maybe, nothing, just, AlikeEffects}
 use Rattle.alias_certificate_laws.proofs.accepting.Likeness.{paired_get}
-use Rattle.alias_range_alike_laws.specs.Ranging.{CarryAlike, carried, EndAlike, stays, ended, CarriesAlike, Sets,
-    SetsContext}
+use Rattle.alias_range_alike_laws.specs.Ranging.{CarryAlike, carried, EndAlike, stays, ended, CarriesAlike, Sets}
+use Rattle.alias_range_alike_laws.specs.Ranging.{SetsContext}
 use Rattle.alias_range_alike_laws.proofs.Answers.{same_length}
 use Rattle.alias_range_alike_laws.proofs.Around.{AlikeEnv, of_env, around, weaken}
 use Rattle.alias_range_alike_laws.proofs.Blocks.{with_parts}
@@ -83,7 +84,7 @@ block_order : (xs ys : List Instruction) → Paired CarryAlike xs ys → (x y : 
 block_order xs ys q x y (stays b block) = first_same xs ys q block.instructions (evaluation_order block.terminal)
 block_order xs ys q x y (ended b block effects h) =
     first_same xs ys q block.instructions (evaluation_order (with_terminal_effects block.terminal effects))
-        ∙ ap (λ t. order_of_first xs block.instructions t) (order_same block.terminal effects)
+    ∙ ap (λ t. order_of_first xs block.instructions t) (order_same block.terminal effects)
 
 -- ---- the ends of a block
 
@@ -94,7 +95,7 @@ placed_end name b ids t x y (ended _ block effects h) =
     let new : BasicBlock = ends_placed b ids t block in
     let r = terminal_alike b block.terminal effects h in
     subst (λ (u : Terminal). EndAlike (name, new) (name, record new { terminal = u })) (sym r.is)
-        (ended name new effects r.carries)
+    (ended name new effects r.carries)
 
 ends_set : (xs ys : List (BlockId × BasicBlock)) (k : ℕ) (v w : BasicBlock)
     → ((name : BlockId) → EndAlike (name, v) (name, w)) → Paired EndAlike xs ys
@@ -118,9 +119,10 @@ weaken_placing P Q recording interned h s t q =
 
 -- the ends of the block in slot k, where this is the order
 abbrev by_order : Bool → ℕ → EvaluationOrder → BasicBlock → HirFunction → Environment → Placed
-by_order b k t block f env =
-    (with_blocks (set_value_at f.body.blocks k (ends_placed b (phis_merged t block.phis env.identifiers) t block)) f,
-        with_identifiers (phis_merged t block.phis env.identifiers) env)
+by_order b k t block f env = (
+  with_blocks (set_value_at f.body.blocks k (ends_placed b (phis_merged t block.phis env.identifiers) t block)) f,
+  with_identifiers (phis_merged t block.phis env.identifiers) env,
+)
 
 phis_same : (x y : BlockId × BasicBlock) → EndAlike x y → y.1.phis ≡ x.1.phis
 phis_same x y (stays b block) = refl
@@ -137,15 +139,17 @@ module _ (P : ℕ → Type 0) (recording : Bool) (interned : List Interned) (b :
   order_alike k t x y f g env other e (of_form _ is bs carry ends) (of_env _ fs errors q same) =
       let there : Environment = around env fs interned errors in
       let ids : List Identifier = phis_merged t x.1.phis env.identifiers in
-      subst (λ phis. AlikePlacing P recording interned (by_order b k t x.1 f env)
-          (with_blocks (set_value_at bs k (ends_placed b (phis_merged t phis env.identifiers) t y.1))
-          (with_parts f is bs), with_identifiers (phis_merged t phis env.identifiers) there))
+      subst (λ phis. AlikePlacing P recording interned (by_order b k t x.1 f env) (
+        with_blocks (set_value_at bs k (ends_placed b (phis_merged t phis env.identifiers) t y.1))
+            (with_parts f is bs),
+        with_identifiers (phis_merged t phis env.identifiers) there,
+      ))
       (sym (phis_same x y e))
       (record {
         function = of_form (with_blocks (set_value_at f.body.blocks k (ends_placed b ids t x.1)) f) is
             (set_value_at bs k (ends_placed b ids t y.1)) carry
             (ends_set f.body.blocks bs k (ends_placed b ids t x.1) (ends_placed b ids t y.1)
-                (λ name. placed_end name b ids t x y e) ends);
+            (λ name. placed_end name b ids t x y e) ends);
         env = of_env (with_identifiers ids env) fs errors q same;
       })
 
@@ -158,8 +162,8 @@ module _ (P : ℕ → Type 0) (recording : Bool) (interned : List Interned) (b :
       → AlikePlacing P recording interned (ends_at_slot b k x.1 f env) (ends_at_slot b k y.1 g other)
   ends_alike k x y f g env other e a q =
       subst (λ (t : EvaluationOrder). AlikePlacing P recording interned (ends_at_slot b k x.1 f env)
-          (by_order b k t y.1 g other)) (sym (same_order f g x y a e))
-          (order_alike k (first_order f.instructions x.1) x y f g env other e a q)
+      (by_order b k t y.1 g other)) (sym (same_order f g x y a e))
+      (order_alike k (first_order f.instructions x.1) x y f g env other e a q)
 
   state_alike : (s t : Placed) → AlikePlacing P recording interned s t
       → AlikeState P recording interned (s.0.instructions, s.1) (t.0.instructions, t.1)
@@ -175,7 +179,7 @@ module _ (P : ℕ → Type 0) (recording : Bool) (interned : List Interned) (b :
       (block_instructions ids t)
   listed_alike ids s t q =
       with_alike s.0 t.0 (instructions_placed ids (s.0.instructions, s.1))
-          (instructions_placed ids (t.0.instructions, t.1)) (λ k. P k ⊎ OneSets s.0.instructions ids k) q.function
+      (instructions_placed ids (t.0.instructions, t.1)) (λ k. P k ⊎ OneSets s.0.instructions ids k) q.function
       (instructions_alike recording interned P ids (s.0.instructions, s.1) (t.0.instructions, t.1) (state_alike s t q))
 
 -- an instruction of the block that is found creates the k-th function, and carries an effect at least
@@ -193,23 +197,23 @@ module _ (recording : Bool) (interned : List Interned) (b : Bool) where
   found_alike : (P : ℕ → Type 0) (k : ℕ) (o p : Option (BlockId × BasicBlock)) (s t : Placed) → Maybe EndAlike o p
       → AlikePlacing P recording interned s t
       → AlikePlacing (λ j. P j ⊎ BlockSets s.0.instructions o j) recording interned
-          (placed_at b k (option_map block_of o) s) (placed_at b k (option_map block_of p) t)
+      (placed_at b k (option_map block_of o) s) (placed_at b k (option_map block_of p) t)
   found_alike P k o p s t nothing q = weaken_placing (λ j. P j ⊎ BlockSets s.0.instructions None j) P recording interned
       (λ j. ⊎_elim (λ h. h) (λ (h : BlockSets s.0.instructions None j). let no : None ≡ Some h.0 = h.1 in cc)) s t q
   found_alike P k o p s t (just {a = x} {b = y} e) q =
       let s1 : Placed = ends_at_slot b k x.1 s.0 s.1 in
       let t1 : Placed = ends_at_slot b k y.1 t.0 t.1 in
       let r = listed_alike P recording interned b x.1.instructions s1 t1
-          (ends_alike P recording interned b k x y s.0 t.0 s.1 t.1 e q.function q.env) in
+      (ends_alike P recording interned b k x y s.0 t.0 s.1 t.1 e q.function q.env) in
       let Q : ℕ → Type 0 = λ j. P j ⊎ BlockSets s.0.instructions (Some x) j in
       let its : (j : ℕ) → BlockSets s.0.instructions (Some x) j → OneSets s.0.instructions x.1.instructions j =
-          λ j h. let is : Some x ≡ Some h.0 = h.1 in let same : x ≡ h.0 = cc in
-          subst (λ (z : BlockId × BasicBlock). OneSets s.0.instructions z.1.instructions j) (sym same) h.2 in
+      λ j h. let is : Some x ≡ Some h.0 = h.1 in let same : x ≡ h.0 = cc in
+      subst (λ (z : BlockId × BasicBlock). OneSets s.0.instructions z.1.instructions j) (sym same) h.2 in
       subst (λ ids. AlikePlacing Q recording interned (block_instructions x.1.instructions s1)
-          (block_instructions ids t1)) (sym (ids_same x y e))
+      (block_instructions ids t1)) (sym (ids_same x y e))
       (weaken_placing Q (λ j. P j ⊎ OneSets s.0.instructions x.1.instructions j) recording interned
-          (λ j. ⊎_elim (λ h. inl h) (λ h. inr (its j h))) (block_instructions x.1.instructions s1)
-          (block_instructions x.1.instructions t1) r)
+      (λ j. ⊎_elim (λ h. inl h) (λ h. inr (its j h))) (block_instructions x.1.instructions s1)
+      (block_instructions x.1.instructions t1) r)
 
   block_alike : (P : ℕ → Type 0) (k : ℕ) (s t : Placed) → AlikePlacing P recording interned s t
       → AlikePlacing (λ j. P j ⊎ BlockSets s.0.instructions (slice_get s.0.body.blocks k) j) recording interned
@@ -233,10 +237,13 @@ kept_in is js [] k slot j x w same at up h = let no : None ≡ Some h.0 = h.1 in
 kept_in is js (e ∷ bs) zero zero j x w same at up h =
     let found : Some e ≡ Some h.0 = h.1 in
     let one : e ≡ h.0 = cc in
-    let is_x : e.1 ≡ x = cc in
-    ((e.0, w), refl, kept_block is js h.0 (e.0, w) j
-        (same ∙ ap (λ (z : BasicBlock). z.instructions) (sym is_x)
-        ∙ ap (λ (z : BlockId × BasicBlock). z.1.instructions) one) up h.2)
+    let is_x : e.1 ≡ x = cc in (
+      (e.0, w),
+      refl,
+      kept_block is js h.0 (e.0, w) j
+          (same ∙ ap (λ (z : BasicBlock). z.instructions) (sym is_x)
+          ∙ ap (λ (z : BlockId × BasicBlock). z.1.instructions) one) up h.2,
+    )
 kept_in is js (e ∷ bs) zero (suc slot) j x w same at up h = (h.0, h.1, kept_block is js h.0 h.0 j refl up h.2)
 kept_in is js (e ∷ bs) (suc k) zero j x w same at up h = (h.0, h.1, kept_block is js h.0 h.0 j refl up h.2)
 kept_in is js (e ∷ bs) (suc k) (suc slot) j x w same at up h = kept_in is js bs k slot j x w same at up h
@@ -249,7 +256,7 @@ kept_by b k slot j None s at h = h
 kept_by b k slot j (Some x) s at h =
     let s1 : Placed = ends_at_slot b k x s.0 s.1 in
     kept_in s.0.instructions (placed_at b k (Some x) s).0.instructions s.0.body.blocks k slot j x
-        (ends_placed b s1.1.identifiers (first_order s.0.instructions x) x) refl at
+    (ends_placed b s1.1.identifiers (first_order s.0.instructions x) x) refl at
     (λ m z. sets_stay x.instructions (s.0.instructions, s1.1) m j z) h
 
 kept : (b : Bool) (k slot j : ℕ) (s : Placed) → BlockSets s.0.instructions (slice_get s.0.body.blocks slot) j
@@ -271,9 +278,13 @@ next_sets b k n j s h =
     let low : k ≤ h.slot = h.from in
     let high : h.slot < k + suc n = h.below in
     ⊎_elim (λ (is : k ≡ h.slot). inl (subst (λ z. BlockSets s.0.instructions (slice_get s.0.body.blocks z) j) (sym is)
-        h.sets))
-    (λ (lt : k < h.slot). inr (record { slot = h.slot; from = omega arith; below = omega arith;
-        sets = kept b k h.slot j s h.sets })) (eq-or-lt_of_le low)
+    h.sets))
+    (λ (lt : k < h.slot). inr (record {
+      slot = h.slot;
+      from = omega arith;
+      below = omega arith;
+      sets = kept b k h.slot j s h.sets;
+    })) (eq-or-lt_of_le low)
 
 module _ (recording : Bool) (interned : List Interned) (b : Bool) where
   blocks_alike : (P : ℕ → Type 0) (n k : ℕ) (s t : Placed) → AlikePlacing P recording interned s t
@@ -281,16 +292,16 @@ module _ (recording : Bool) (interned : List Interned) (b : Bool) where
   blocks_alike P zero k s t q =
       weaken_placing (λ j. P j ⊎ SlotSets s.0 k zero j) P recording interned
       (λ j. ⊎_elim (λ h. h) (λ (h : SlotSets s.0 k zero j). let low : k ≤ h.slot = h.from in let high : h.slot < k
-          + zero = h.below in let no : ⊥ = omega arith in absurd no)) s t q
+      + zero = h.below in let no : ⊥ = omega arith in absurd no)) s t q
   blocks_alike P (suc n) k s t q =
       let P1 : ℕ → Type 0 = λ j. P j ⊎ BlockSets s.0.instructions (slice_get s.0.body.blocks k) j in
       let s1 : Placed = block_placed b k s in
       let t1 : Placed = block_placed b k t in
       weaken_placing (λ j. P j ⊎ SlotSets s.0 k (suc n) j) (λ j. P1 j ⊎ SlotSets s1.0 (k + 1) n j) recording interned
       (λ j. ⊎_elim (λ h. inl (inl h)) (λ (h : SlotSets s.0 k (suc n) j).
-          ⊎_elim (λ a. inl (inr a)) (λ c. inr c) (next_sets b k n j s h)))
+      ⊎_elim (λ a. inl (inr a)) (λ c. inr c) (next_sets b k n j s h)))
       (blocks_placed b n (k + 1) s1) (blocks_placed b n (k + 1) t1)
-          (blocks_alike P1 n (k + 1) s1 t1 (block_alike recording interned b P k s t q))
+      (blocks_alike P1 n (k + 1) s1 t1 (block_alike recording interned b P k s t q))
 
   same_count : (f g : HirFunction) → AlikeForm f g → length g.body.blocks ≡ length f.body.blocks
   same_count f g (of_form _ is bs carry ends) = same_length f.body.blocks bs ends
@@ -300,12 +311,16 @@ module _ (recording : Bool) (interned : List Interned) (b : Bool) where
       (function_placed b t)
   function_alike P s t q =
       subst (λ n. AlikePlacing (λ j. P j ⊎ SlotSets s.0 0 (length s.0.body.blocks) j) recording interned
-          (function_placed b s) (blocks_placed b n 0 t)) (sym (same_count s.0 t.0 q.function))
-          (blocks_alike P (length s.0.body.blocks) 0 s t q)
+      (function_placed b s) (blocks_placed b n 0 t)) (sym (same_count s.0 t.0 q.function))
+      (blocks_alike P (length s.0.body.blocks) 0 s t q)
 
 -- an instruction of a block that sets a context does so in its slot
 pub slot_sets : (f : HirFunction) (j : ℕ) → SetsContext f j → SlotSets f 0 (length f.body.blocks) j
 slot_sets f j h =
     let within : h.slot < length f.body.blocks = slice_get_within f.body.blocks h.slot h.block h.block_there in
-    record { slot = h.slot; from = omega arith; below = omega arith;
-        sets = (h.block, h.block_there, (h.id, h.listed, h.sets)) }
+    record {
+      slot = h.slot;
+      from = omega arith;
+      below = omega arith;
+      sets = (h.block, h.block_there, (h.id, h.listed, h.sets));
+    }

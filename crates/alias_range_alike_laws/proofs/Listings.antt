@@ -1,7 +1,7 @@
 -- What effects that are alike record: the same events at the same positions, and mutations, renders and summaries that
 -- are alike.
-use Rattle.std.specs.Prelude.{ℕ, ◌++◌, Bool, true, false, List, [], ◌∷◌, Option, None, Result, Ok, if◌then◌else◌,
-    slice_get}
+use Rattle.std.specs.Prelude.{ℕ, ◌++◌, Bool, true, false, List, [], ◌∷◌, Option, None, Result, Ok, if◌then◌else◌}
+use Rattle.std.specs.Prelude.{slice_get}
 use Rattle.alias_base.specs.declared.ids.EvaluationOrder.{EvaluationOrder}
 use Rattle.alias_base.specs.declared.ids.InstructionId.{InstructionId}
 use Rattle.alias_hir.specs.declared.effect.AliasingEffect.{AliasingEffect}
@@ -21,12 +21,15 @@ use Rattle.alias_graph.specs.declared.recorded.listing.Listing.{Listing}
 use Rattle.alias_graph.specs.declared.recorded.listing.RecordedMutation.{RecordedMutation}
 use Rattle.alias_graph.specs.declared.recorded.listing.RecordedRender.{RecordedRender}
 use Rattle.alias_graph.specs.recorded.IdSets.{has_made}
-use Rattle.alias_graph.specs.recorded.Listings.{position_after, with_event, made, made_once, positioned, linked,
-    mutated, summarized, rendered, effect_listed, effects_in, recorded_in, instruction_listed}
-use Rattle.alias_certificate_laws.specs.accepting.Alike.{Paired, none, more, Maybe, nothing, just, moved, Alike, apply,
-    create_from, immutable_capture, assign, alias, capture, maybe_alias, create, freeze, impure, mutate_frozen,
-    mutate_global, render, mutate, mutate_conditionally, mutate_transitive, mutate_transitive_conditionally,
-    create_function, AlikeEffects}
+use Rattle.alias_graph.specs.recorded.Listings.{position_after, with_event, made, made_once, positioned, linked}
+use Rattle.alias_graph.specs.recorded.Listings.{mutated, summarized, rendered, effect_listed, effects_in, recorded_in}
+use Rattle.alias_graph.specs.recorded.Listings.{instruction_listed}
+use Rattle.alias_certificate_laws.specs.accepting.Alike.{Paired, none, more, Maybe, nothing, just, moved, Alike, apply}
+use Rattle.alias_certificate_laws.specs.accepting.Alike.{create_from, immutable_capture, assign, alias, capture}
+use Rattle.alias_certificate_laws.specs.accepting.Alike.{maybe_alias, create, freeze, impure, mutate_frozen}
+use Rattle.alias_certificate_laws.specs.accepting.Alike.{mutate_global, render, mutate, mutate_conditionally}
+use Rattle.alias_certificate_laws.specs.accepting.Alike.{mutate_transitive, mutate_transitive_conditionally}
+use Rattle.alias_certificate_laws.specs.accepting.Alike.{create_function, AlikeEffects}
 use Rattle.alias_certificate_laws.proofs.accepting.Likeness.{paired_append, paired_get}
 use Rattle.alias_range_alike_laws.specs.Ranging.{CarryAlike, carried}
 use Rattle.alias_range_alike_laws.proofs.Answers.{Both, answered, both_after, each_alike}
@@ -66,15 +69,15 @@ made_once_alike x l m (listing _ ms rs es a b c) =
     let other : Listing = record l { mutations = ms; renders = rs; summary = es } in
     let q : AlikeListing l other = listing l ms rs es a b c in
     chosen_alike (has_made l.events x.identifier) l other (made Object x l) (made Object x other) q
-        (event_alike (event.Make x.identifier Object) l other q)
+    (event_alike (event.Make x.identifier Object) l other q)
 
 pub positioned_alike : (e : ℕ → GraphEvent) (l m : Listing) → AlikeListing l m
     → BothListed (positioned e l) (positioned e m)
 positioned_alike e l m (listing _ ms rs es a b c) =
     let other : Listing = record l { mutations = ms; renders = rs; summary = es } in
     both_after AlikeListing (position_after l.next)
-        (λ after. Ok (record l { next = after; events = l.events ++ e l.next ∷ [] }))
-        (λ after. Ok (record other { next = after; events = l.events ++ e l.next ∷ [] }))
+    (λ after. Ok (record l { next = after; events = l.events ++ e l.next ∷ [] }))
+    (λ after. Ok (record other { next = after; events = l.events ++ e l.next ∷ [] }))
     (λ after. answered (listing (record l { next = after; events = l.events ++ e l.next ∷ [] }) ms rs es a b c))
 
 pub linked_alike : (kind : EdgeKind) (a x : Place) (l m : Listing) → AlikeListing l m
@@ -90,17 +93,30 @@ mutated_alike : (i : InstructionId) (o : EvaluationOrder) (x p : Place) (transit
     (reason other_reason : Option MutationReason) (l m : Listing) → AlikeListing l m
     → BothListed (mutated i o x transitive kind reason l) (mutated i o (moved x p) transitive kind other_reason m)
 mutated_alike i o x p transitive kind reason other_reason l m (listing _ ms rs es a b c) =
-    let new : RecordedMutation = record { index = l.next; instruction = i; order = o; place = x;
-        transitive = transitive; kind = kind; reason = reason } in
-    let other_new : RecordedMutation = record
-        { index = l.next; instruction = i; order = o; place = moved x p; transitive = transitive; kind = kind;
-        reason = other_reason } in
+    let new : RecordedMutation = record {
+      index = l.next;
+      instruction = i;
+      order = o;
+      place = x;
+      transitive = transitive;
+      kind = kind;
+      reason = reason;
+    } in
+    let other_new : RecordedMutation = record {
+      index = l.next;
+      instruction = i;
+      order = o;
+      place = moved x p;
+      transitive = transitive;
+      kind = kind;
+      reason = other_reason;
+    } in
     let other : Listing = record l { mutations = ms; renders = rs; summary = es } in
     both_after AlikeListing (position_after l.next)
-        (λ after. Ok (record l { next = after; mutations = l.mutations ++ new ∷ [] }))
-        (λ after. Ok (record other { next = after; mutations = ms ++ other_new ∷ [] }))
+    (λ after. Ok (record l { next = after; mutations = l.mutations ++ new ∷ [] }))
+    (λ after. Ok (record other { next = after; mutations = ms ++ other_new ∷ [] }))
     (λ after. answered (listing (record l { next = after; mutations = l.mutations ++ new ∷ [] }) (ms ++ other_new ∷ [])
-        rs es (paired_append a (more (of_mutation new p other_reason) none)) b c))
+    rs es (paired_append a (more (of_mutation new p other_reason) none)) b c))
 
 rendered_alike : (i : InstructionId) (x p : Place) (l m : Listing) → AlikeListing l m
     → BothListed (rendered i x l) (rendered i (moved x p) m)
@@ -109,12 +125,21 @@ rendered_alike i x p l m (listing _ ms rs es a b c) =
     let other_new : RecordedRender = record { index = l.next; instruction = i; place = moved x p } in
     let other : Listing = record l { mutations = ms; renders = rs; summary = es } in
     both_after AlikeListing (position_after l.next)
-    (λ after. Ok (record l { next = after; renders = l.renders ++ new ∷ [];
-        summary = l.summary ++ effect.Render x ∷ [] }))
-    (λ after. Ok (record other { next = after; renders = rs ++ other_new ∷ [];
-        summary = es ++ effect.Render (moved x p) ∷ [] }))
-    (λ after. answered (listing (record l { next = after; renders = l.renders ++ new ∷ [];
-        summary = l.summary ++ effect.Render x ∷ [] }) ms (rs ++ other_new ∷ []) (es ++ effect.Render (moved x p) ∷ [])
+    (λ after. Ok (record l {
+      next = after;
+      renders = l.renders ++ new ∷ [];
+      summary = l.summary ++ effect.Render x ∷ [];
+    }))
+    (λ after. Ok (record other {
+      next = after;
+      renders = rs ++ other_new ∷ [];
+      summary = es ++ effect.Render (moved x p) ∷ [];
+    }))
+    (λ after. answered (listing (record l {
+      next = after;
+      renders = l.renders ++ new ∷ [];
+      summary = l.summary ++ effect.Render x ∷ [];
+    }) ms (rs ++ other_new ∷ []) (es ++ effect.Render (moved x p) ∷ [])
     a (paired_append b (more (of_render new p) none)) (paired_append c (more (render x p) none))))
 
 pub effect_alike : (i : InstructionId) (o : EvaluationOrder) (e f : AliasingEffect) (l m : Listing) → Alike e f

@@ -1,7 +1,7 @@
 -- Graphs that are alike: they differ in the spans of marks and in reasons of mutations alone, and walks go the same
 -- ways.
-use Rattle.std.specs.Prelude.{◌≡◌, ℕ, ◌+◌, ◌*◌, Bool, true, false, cond, List, [], ◌∷◌, Option, Some, None, is_some,
-    refl}
+use Rattle.std.specs.Prelude.{◌≡◌, ℕ, ◌+◌, ◌*◌, Bool, true, false, cond, List, [], ◌∷◌, Option, Some, None, is_some}
+use Rattle.std.specs.Prelude.{refl}
 use Rattle.std.proofs.Common.{ap, ◌∙◌}
 use Rattle.alias_base.specs.declared.ids.IdentifierId.{IdentifierId}
 use Rattle.alias_hir.specs.declared.effect.MutationReason.{MutationReason}

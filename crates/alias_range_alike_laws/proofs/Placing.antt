@@ -1,6 +1,6 @@
 -- Instructions that carry alike set the same effects of places and the same ranges.
-use Rattle.std.specs.Prelude.{◌≡◌, ℕ, zero, suc, ◌⊎◌, ◌==◌, Bool, false, List, [], ◌∷◌, Option, Some, None,
-    if◌then◌else◌, length, slice_get, slice_set, refl}
+use Rattle.std.specs.Prelude.{◌≡◌, ℕ, zero, suc, ◌⊎◌, ◌==◌, Bool, false, List, [], ◌∷◌, Option, Some, None}
+use Rattle.std.specs.Prelude.{if◌then◌else◌, length, slice_get, slice_set, refl}
 use Rattle.std.proofs.Common.{ap, sym, ◌∙◌, subst, subst₂, inl, inr, ⊎_elim, arith, ne_eqb}
 use Rattle.alias_base.specs.declared.ids.EvaluationOrder.{EvaluationOrder}
 use Rattle.alias_base.specs.declared.ids.FunctionId.{FunctionId}
@@ -14,14 +14,17 @@ use Rattle.alias_hir.specs.declared.report.Interned.{Interned}
 use Rattle.alias_hir.specs.declared.value.InstructionValue.{InstructionValue}
 use Rattle.alias_hir.specs.declared.value.InstructionValue.TheVariants as value
 use Rattle.alias_graph.specs.Walks.{IsOneOf}
-use Rattle.alias_range_pass.specs.places.Instructions.{value_placed, places_placed, created_placed, surroundings,
-    surrounded, env_assigned, placed_by, instruction_placed, placed_in, instruction_at, instructions_placed}
+use Rattle.alias_range_pass.specs.places.Instructions.{value_placed, places_placed, created_placed, surroundings}
+use Rattle.alias_range_pass.specs.places.Instructions.{surrounded, env_assigned, placed_by, instruction_placed}
+use Rattle.alias_range_pass.specs.places.Instructions.{placed_in, instruction_at, instructions_placed}
 use Rattle.alias_range_pass.specs.places.Ranges.{started, assigned, value_stored}
 use Rattle.alias_range_pass.specs.places.Tables.{Table, effect_tabled, effects_tabled, recorded, table_of}
-use Rattle.alias_certificate_laws.specs.accepting.Alike.{Paired, none, more, Maybe, nothing, just, Alike, apply,
-    create_from, immutable_capture, assign, alias, capture, maybe_alias, create, freeze, impure, mutate_frozen,
-    mutate_global, render, mutate, mutate_conditionally, mutate_transitive, mutate_transitive_conditionally,
-    create_function, AlikeEffects}
+use Rattle.alias_certificate_laws.specs.accepting.Alike.{Paired, none, more, Maybe, nothing, just, Alike, apply}
+use Rattle.alias_certificate_laws.specs.accepting.Alike.{create_from, immutable_capture, assign, alias, capture}
+use Rattle.alias_certificate_laws.specs.accepting.Alike.{maybe_alias, create, freeze, impure, mutate_frozen}
+use Rattle.alias_certificate_laws.specs.accepting.Alike.{mutate_global, render, mutate, mutate_conditionally}
+use Rattle.alias_certificate_laws.specs.accepting.Alike.{mutate_transitive, mutate_transitive_conditionally}
+use Rattle.alias_certificate_laws.specs.accepting.Alike.{create_function, AlikeEffects}
 use Rattle.alias_certificate_laws.proofs.accepting.Likeness.{paired_get}
 use Rattle.alias_range_alike_laws.specs.Ranging.{CarryAlike, carried, Sets}
 use Rattle.alias_range_alike_laws.proofs.Answers.{paired_set}
@@ -56,7 +59,7 @@ effects_tabled_same : (ids : List Identifier) (t : EvaluationOrder) (es fs : Lis
 effects_tabled_same ids t es fs table none = refl
 effects_tabled_same ids t es fs table (more {a = e} {b = f} {xs = us} {ys = vs} q qs) =
     ap (λ z. effects_tabled ids t vs z) (tabled_same ids t e f table q)
-        ∙ effects_tabled_same ids t us vs (effect_tabled ids t e table) qs
+    ∙ effects_tabled_same ids t us vs (effect_tabled ids t e table) qs
 
 recorded_tabled_same : (ids : List Identifier) (t : EvaluationOrder) (o p : Option (List AliasingEffect))
     → Maybe AlikeEffects o p → effects_tabled ids t (recorded p) [] ≡ effects_tabled ids t (recorded o) []
@@ -80,20 +83,20 @@ module _ (P : ℕ → Type 0) (recording : Bool) (interned : List Interned) wher
   surroundings_alike : (table : Table) (t : EvaluationOrder) (v : InstructionValue) (env other : Environment)
       → AlikeEnv P recording interned env other
       → AlikeEnv (λ k. P k ⊎ (created v ≡ Some (record { 0 = k }))) recording interned (surroundings table t v env)
-          (surroundings table t v other)
+      (surroundings table t v other)
   surroundings_alike table t v env other (of_env _ fs errors q same) =
       let Q : ℕ → Type 0 = λ k. P k ⊎ (created v ≡ Some (record { 0 = k })) in
       let there : Environment = around env fs interned errors in
       subst (λ (ids : List Identifier). AlikeEnv Q recording interned (surroundings table t v env)
-          (record there { identifiers = value_stored t v ids; functions = created_placed table (created v) fs }))
+      (record there { identifiers = value_stored t v ids; functions = created_placed table (created v) fs }))
       (sym (operands_ranged (started t) env fs interned errors env.identifiers q.near v))
       (of_env (surroundings table t v env) (created_placed table (created v) fs) errors
-          (created_near P table (created v) env.functions fs q) same)
+      (created_near P table (created v) env.functions fs q) same)
 
   surrounded_alike : (es fs : Option (List AliasingEffect)) (table : Table) (t : EvaluationOrder) (v : InstructionValue)
       (env other : Environment) → Maybe AlikeEffects es fs → AlikeEnv P recording interned env other
       → AlikeEnv (λ k. P k ⊎ IsSet es (created v) k) recording interned (surrounded es table t v env)
-          (surrounded fs table t v other)
+      (surrounded fs table t v other)
   surrounded_alike es fs table t v env other nothing q =
       weaken recording interned (λ k. P k ⊎ IsSet None (created v) k) P
       (λ k. ⊎_elim (λ h. h) (λ (s : IsSet None (created v) k). let no : None ≡ Some (s.0 ∷ s.1) = s.2 in cc)) env other
@@ -105,9 +108,9 @@ module _ (P : ℕ → Type 0) (recording : Bool) (interned : List Interned) wher
   surrounded_alike es fs table t v env other (just (more {a = e} {b = f} {xs = us} {ys = vs} p ps)) q =
       let Q : ℕ → Type 0 = λ k. P k ⊎ IsSet (Some (e ∷ us)) (created v) k in
       subst₂ (λ (x y : Environment). AlikeEnv Q recording interned x y) (sym (carried_is e us table t v env))
-          (sym (carried_is f vs table t v other))
+      (sym (carried_is f vs table t v other))
       (weaken recording interned Q (λ k. P k ⊎ (created v ≡ Some (record { 0 = k })))
-          (λ k. ⊎_elim (λ h. inl h) (λ (s : IsSet (Some (e ∷ us)) (created v) k). inr s.3))
+      (λ k. ⊎_elim (λ h. inl h) (λ (s : IsSet (Some (e ∷ us)) (created v) k). inr s.3))
       (surroundings table t v env) (surroundings table t v other) (surroundings_alike table t v env other q))
 
   assigned_alike : (i : Instruction) (effects : Option (List AliasingEffect)) (env other : Environment)
@@ -123,10 +126,10 @@ module _ (P : ℕ → Type 0) (recording : Bool) (interned : List Interned) wher
   table_same : (i : Instruction) (effects : Option (List AliasingEffect)) (env other : Environment)
       → Maybe AlikeEffects i.effects effects → AlikeEnv P recording interned env other
       → table_of (assigned (record i { effects = effects }) other.identifiers) (record i { effects = effects })
-          ≡ table_of (assigned i env.identifiers) i
+      ≡ table_of (assigned i env.identifiers) i
   table_same i effects env other a q =
       ap (λ (ids : List Identifier). table_of (assigned i ids) (record i { effects = effects }))
-          (same_identifiers env other q) ∙ recorded_tabled_same (assigned i env.identifiers) i.id i.effects effects a
+      (same_identifiers env other q) ∙ recorded_tabled_same (assigned i env.identifiers) i.id i.effects effects a
 
 -- what an instruction leaves
 pub record AlikePlaced (P : ℕ → Type 0) (recording : Bool) (interned : List Interned)
@@ -138,13 +141,13 @@ placed_alike : (P : ℕ → Type 0) (recording : Bool) (interned : List Interned
     (effects : Option (List AliasingEffect)) (env other : Environment) → Maybe AlikeEffects i.effects effects
     → AlikeEnv P recording interned env other
     → AlikePlaced (λ k. P k ⊎ IsSet i.effects (created i.value) k) recording interned (instruction_placed i env)
-        (instruction_placed (record i { effects = effects }) other)
+    (instruction_placed (record i { effects = effects }) other)
 placed_alike P recording interned i effects env other a q =
     let j : Instruction = record i { effects = effects } in
     let Q : ℕ → Type 0 = λ k. P k ⊎ IsSet i.effects (created i.value) k in
     let table : Table = table_of (assigned i env.identifiers) i in
     subst (λ (z : Table). AlikePlaced Q recording interned (instruction_placed i env)
-        (placed_by z j (env_assigned j other))) (sym (table_same P recording interned i effects env other a q))
+    (placed_by z j (env_assigned j other))) (sym (table_same P recording interned i effects env other a q))
     (record {
       instruction = carried (places_placed table i) effects a;
       env = surrounded_alike P recording interned i.effects effects table i.id i.value (env_assigned i env)
@@ -170,7 +173,7 @@ is_set i k s =
     let there : Some i ≡ Some s.instruction = s.there in
     let same : i ≡ s.instruction = cc in
     subst (λ (z : Instruction). IsSet z.effects (created z.value) k) (sym same)
-        (s.first, s.others, s.carries, s.creates)
+    (s.first, s.others, s.carries, s.creates)
 
 module _ (recording : Bool) (interned : List Interned) where
   in_alike : (P : ℕ → Type 0) (xs ys : List Instruction) (env other : Environment) (id : InstructionId)
@@ -178,8 +181,12 @@ module _ (recording : Bool) (interned : List Interned) where
       → Maybe CarryAlike o p
       → AlikeState (λ k. P k ⊎ Sets o k) recording interned (placed_in xs env id o) (placed_in ys other id p)
   in_alike P xs ys env other id o p a q nothing =
-      record { instructions = a; env = weaken recording interned (λ k. P k ⊎ Sets None k) P
-      (λ k. ⊎_elim (λ h. h) (λ (s : Sets None k). let no : None ≡ Some s.instruction = s.there in cc)) env other q }
+      record {
+        instructions = a;
+        env = weaken recording interned (λ k. P k ⊎ Sets None k) P
+            (λ k. ⊎_elim (λ h. h) (λ (s : Sets None k). let no : None ≡ Some s.instruction = s.there in cc)) env other
+            q;
+      }
   in_alike P xs ys env other id o p a q (just (carried i effects c)) =
       let r = placed_alike P recording interned i effects env other c q in
       let j : Instruction = record i { effects = effects } in
@@ -207,8 +214,14 @@ created_stays table v = refl
 one_stays : (table : Table) (i : Instruction) (k : ℕ) → Sets (Some i) k → Sets (Some (places_placed table i)) k
 one_stays table i k s =
     let r = is_set i k s in
-    record { instruction = places_placed table i; there = refl; creates = created_stays table i.value ∙ r.3;
-        first = r.0; others = r.1; carries = r.2 }
+    record {
+      instruction = places_placed table i;
+      there = refl;
+      creates = created_stays table i.value ∙ r.3;
+      first = r.0;
+      others = r.1;
+      carries = r.2;
+    }
 
 sets_in : (xs : List Instruction) (n m k : ℕ) (i : Instruction) (table : Table) → slice_get xs n ≡ Some i
     → Sets (slice_get xs m) k → Sets (slice_get (slice_set xs n (places_placed table i)) m) k
@@ -258,5 +271,5 @@ module _ (recording : Bool) (interned : List Interned) where
       let r = instructions_alike P1 ids s1 t1 (at_alike recording interned P s t id q) in
       weaken_state (λ k. P k ⊎ OneSets s.0 (id ∷ ids) k) (λ k. P1 k ⊎ OneSets s1.0 ids k) recording interned
       (λ k. ⊎_elim (λ h. inl (inl h)) (λ (h : OneSets s.0 (id ∷ ids) k).
-          ⊎_elim (λ a. inl (inr a)) (λ b. inr b) (one_sets s id ids k h)))
+      ⊎_elim (λ a. inl (inr a)) (λ b. inr b) (one_sets s id ids k h)))
       (instructions_placed ids s1) (instructions_placed ids t1) r

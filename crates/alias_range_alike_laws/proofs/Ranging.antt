@@ -19,15 +19,15 @@ use Rattle.alias_range_pass.specs.summary.Summaries.{summarized}
 use Rattle.alias_range_pass.specs.summary.Walking.{Walked, mutations_done, renders_done}
 use Rattle.alias_range_pass.specs.Passes.{records, Ranged, ranged_after, range_pass}
 use Rattle.alias_range_pass.specs.Refusals.{recorded}
-use Rattle.alias_certificate_laws.specs.accepting.Alike.{Paired, none, more, AlikeEffects, AlikeFunction, seen,
-    Elsewhere}
-use Rattle.alias_range_alike_laws.specs.Ranging.{CarryAlike, EndAlike, CarriesAlike, NearlyAlike, near, Nearby, nearby,
-    SameContextAt, RangesAlike, RangesNearby}
+use Rattle.alias_certificate_laws.specs.accepting.Alike.{Paired, none, more, AlikeEffects, AlikeFunction, seen}
+use Rattle.alias_certificate_laws.specs.accepting.Alike.{Elsewhere}
+use Rattle.alias_range_alike_laws.specs.Ranging.{CarryAlike, EndAlike, CarriesAlike, NearlyAlike, near, Nearby, nearby}
+use Rattle.alias_range_alike_laws.specs.Ranging.{SameContextAt, RangesAlike, RangesNearby}
 use Rattle.alias_range_alike_laws.proofs.Answers.{Both, answered, both_then, Beside, beside}
 use Rattle.alias_range_alike_laws.proofs.Around.{NearAt, AlikeEnv, of_env}
 use Rattle.alias_range_alike_laws.proofs.Blocks.{with_parts}
-use Rattle.alias_range_alike_laws.proofs.Functions.{AlikeForm, of_form, carries_alike, parts_are, AlikePlacing,
-    weaken_placing, SlotSets, function_alike, slot_sets}
+use Rattle.alias_range_alike_laws.proofs.Functions.{AlikeForm, of_form, carries_alike, parts_are, AlikePlacing}
+use Rattle.alias_range_alike_laws.proofs.Functions.{weaken_placing, SlotSets, function_alike, slot_sets}
 use Rattle.alias_range_alike_laws.proofs.Listings.{AlikeListing, listing}
 use Rattle.alias_range_alike_laws.proofs.Nodes.{AlikeNodes}
 use Rattle.alias_range_alike_laws.proofs.Recording.{recordings_alike}
@@ -77,14 +77,14 @@ module _ (P : ℕ → Type 0) (recording : Bool) (interned : List Interned) (b :
   after_alike l m w v env other a q r = record {
     summary =
         subst (λ (next : ℕ). AlikeEffects (summarized w.0 l.next f env l.summary)
-            (summarized v.0 next g other m.summary)) (sym (same_next l m a))
+        (summarized v.0 next g other m.summary)) (sym (same_next l m a))
         (summaries_alike w.0 v.0 l.next env other l.summary m.summary q.nodes (begins_alike l m a) r);
     after =
         weaken_placing Q (λ k. P k ⊎ SlotSets (function_captured w.0 f) 0 (length f.body.blocks) k) recording interned
-            (λ k. ⊎_elim (λ h. inl h) (λ h. inr (captured_slots w.0 k h)))
+        (λ k. ⊎_elim (λ h. inl h) (λ h. inr (captured_slots w.0 k h)))
         (function_placed b (function_captured w.0 f, env)) (function_placed b (function_captured v.0 g, other))
         (function_alike recording interned b P (function_captured w.0 f, env) (function_captured v.0 g, other)
-            (record { function = captured_alike w.0 v.0 q.nodes; env = r }));
+        (record { function = captured_alike w.0 v.0 q.nodes; env = r }));
   }
 
   -- with the flag whether errors are recorded
@@ -99,14 +99,14 @@ module _ (P : ℕ → Type 0) (recording : Bool) (interned : List Interned) (b :
       let v : Walked = mutations_done recording m other in
       let walked = mutations_done_alike P recording interned l m env other a q in
       after_alike l m w v (renders_done recording l w) (renders_done recording m v) a walked
-          (renders_done_alike P interned recording l m w v a walked)
+      (renders_done_alike P interned recording l m w v a walked)
 
   pub pass_alike : (env other : Environment) → AlikeEnv P recording interned env other
       → Both (AlikeRanged Q recording interned) (recorded f >>= (λ l. Ok (ranged_by f env l)))
       (recorded g >>= (λ l. Ok (ranged_by g other l)))
   pass_alike env other q =
       both_then AlikeListing (AlikeRanged Q recording interned) (recorded f) (recorded g) (λ l. Ok (ranged_by f env l))
-          (λ l. Ok (ranged_by g other l)) (recordings_alike f is bs carry ends)
+      (λ l. Ok (ranged_by g other l)) (recordings_alike f is bs carry ends)
       (λ l m a. answered (ranged_alike l m env other a q))
 
 -- ---- nearby
@@ -155,8 +155,8 @@ module _ (env : Environment) (o : Nearby env) (f : HirFunction) (b : Bool) (r : 
   by_parts is bs carry ends answers =
       given (with_parts f is bs)
       (beside (AlikeRanged Known (records b env) o.interned) (range_pass b f env)
-          (range_pass b (with_parts f is bs) (nearby env o)) r
-          (pass_alike Kept (records b env) o.interned b f is bs carry ends env (nearby env o) begins) answers)
+      (range_pass b (with_parts f is bs) (nearby env o)) r
+      (pass_alike Kept (records b env) o.interned b f is bs carry ends env (nearby env o) begins) answers)
 
   pub ranges_nearby : (g : HirFunction) → CarriesAlike f g → range_pass b f env ≡ Ok r → RangesNearby env o f g b r
   ranges_nearby g c answers = subst (λ (h : HirFunction). RangesNearby env o f h b r) (parts_are f g c)
@@ -194,17 +194,23 @@ all_wholly fs gs (more {a = f} {b = g} {xs = us} {ys = vs} q qs) h =
 pub ranges_elsewhere : (env : Environment) (o : Elsewhere env) (f g : HirFunction) (b : Bool) (r : Ranged)
     → CarriesAlike f g → range_pass b f env ≡ Ok r → RangesAlike env o g b r
 ranges_elsewhere env o f g b r c answers =
-    let n : Nearby env = record { functions = o.functions; interned = o.interned;
-        near = all_nearly env.functions o.functions o.alike } in
+    let n : Nearby env = record {
+      functions = o.functions;
+      interned = o.interned;
+      near = all_nearly env.functions o.functions o.alike;
+    } in
     let q = ranges_nearby env n f b r g c answers in
     record {
       other = q.other;
       is = q.is;
       summary = q.summary;
       function = q.function;
-      away = record { functions = q.away.functions; interned = q.away.interned;
-          alike = all_wholly r.after.1.functions q.away.functions q.away.near
-          (λ k. q.kept k (all_same env.functions o.functions k o.alike)) };
+      away = record {
+        functions = q.away.functions;
+        interned = q.away.interned;
+        alike = all_wholly r.after.1.functions q.away.functions q.away.near
+            (λ k. q.kept k (all_same env.functions o.functions k o.alike));
+      };
       environment = q.environment;
       errors = q.errors;
     }

@@ -1,7 +1,7 @@
 -- What functions that carry alike record, where no Apply is left and there are positions enough; or they are refused
 -- for the same cause.
-use Rattle.std.specs.Prelude.{◌≡◌, ℕ, ◌||◌, false, List, [], ◌∷◌, Option, Some, Result, Ok, if◌then◌else◌, slice_get,
-    length, refl}
+use Rattle.std.specs.Prelude.{◌≡◌, ℕ, ◌||◌, false, List, [], ◌∷◌, Option, Some, Result, Ok, if◌then◌else◌, slice_get}
+use Rattle.std.specs.Prelude.{length, refl}
 use Rattle.std.proofs.Common.{ap, sym, ◌∙◌, subst}
 use Rattle.std.specs.List.{list_any}
 use Rattle.std.specs.Option.{option_map_or}
@@ -19,12 +19,14 @@ use Rattle.alias_rules.specs.Fitting.{is_apply}
 use Rattle.alias_graph.specs.declared.recorded.listing.Listing.{Listing}
 use Rattle.alias_graph.specs.recorded.BlockListings.{listed}
 use Rattle.alias_range_pass.specs.summary.Summaries.{tracked}
-use Rattle.alias_range_pass.specs.Refusals.{has_apply, carries_apply, first_apply, or_else, first_apply_of, unreplaced,
-    none_unreplaced, listing_or, positions_left, recorded}
-use Rattle.alias_certificate_laws.specs.accepting.Alike.{Paired, none, more, Maybe, nothing, just, Alike, apply,
-    create_from, immutable_capture, assign, alias, capture, maybe_alias, create, freeze, impure, mutate_frozen,
-    mutate_global, render, mutate, mutate_conditionally, mutate_transitive, mutate_transitive_conditionally,
-    create_function, AlikeEffects}
+use Rattle.alias_range_pass.specs.Refusals.{has_apply, carries_apply, first_apply, or_else, first_apply_of, unreplaced}
+use Rattle.alias_range_pass.specs.Refusals.{none_unreplaced, listing_or, positions_left, recorded}
+use Rattle.alias_certificate_laws.specs.accepting.Alike.{Paired, none, more, Maybe, nothing, just, Alike, apply}
+use Rattle.alias_certificate_laws.specs.accepting.Alike.{create_from, immutable_capture, assign, alias, capture}
+use Rattle.alias_certificate_laws.specs.accepting.Alike.{maybe_alias, create, freeze, impure, mutate_frozen}
+use Rattle.alias_certificate_laws.specs.accepting.Alike.{mutate_global, render, mutate, mutate_conditionally}
+use Rattle.alias_certificate_laws.specs.accepting.Alike.{mutate_transitive, mutate_transitive_conditionally}
+use Rattle.alias_certificate_laws.specs.accepting.Alike.{create_function, AlikeEffects}
 use Rattle.alias_certificate_laws.proofs.accepting.Likeness.{paired_get}
 use Rattle.alias_range_alike_laws.specs.Ranging.{CarryAlike, carried, EndAlike, stays, ended}
 use Rattle.alias_range_alike_laws.proofs.Answers.{Both, answered, refused, both_then, both_after}
@@ -101,7 +103,7 @@ left_alike : (n : ℕ) (l m : Listing) → AlikeListing l m
 left_alike n l m (listing _ ms rs es a b c) =
     let other : Listing = record l { mutations = ms; renders = rs; summary = es } in
     both_after AlikeListing (positions_left l.next n) (λ _. Ok l) (λ _. Ok other)
-        (λ _. answered (listing l ms rs es a b c))
+    (λ _. answered (listing l ms rs es a b c))
 
 module _ (f : HirFunction) (is : List Instruction) (bs : List (BlockId × BasicBlock))
     (carry : Paired CarryAlike f.instructions is) (ends : Paired EndAlike f.body.blocks bs) where
@@ -116,14 +118,14 @@ module _ (f : HirFunction) (is : List Instruction) (bs : List (BlockId × BasicB
   rest_alike : Both AlikeListing (rest f (unreplaced f)) (rest g (unreplaced f))
   rest_alike =
       both_after AlikeListing (none_unreplaced (unreplaced f))
-          (λ _. listing_or (listed f) >>= (λ l. positions_left l.next (length (tracked f)) >>= (λ _. Ok l)))
-          (λ _. listing_or (listed g) >>= (λ l. positions_left l.next (length (tracked f)) >>= (λ _. Ok l)))
+      (λ _. listing_or (listed f) >>= (λ l. positions_left l.next (length (tracked f)) >>= (λ _. Ok l)))
+      (λ _. listing_or (listed g) >>= (λ l. positions_left l.next (length (tracked f)) >>= (λ _. Ok l)))
       (λ _.
       both_then AlikeListing AlikeListing (listing_or (listed f)) (listing_or (listed g))
-          (λ l. positions_left l.next (length (tracked f)) >>= (λ _. Ok l))
-          (λ l. positions_left l.next (length (tracked f)) >>= (λ _. Ok l))
+      (λ l. positions_left l.next (length (tracked f)) >>= (λ _. Ok l))
+      (λ l. positions_left l.next (length (tracked f)) >>= (λ _. Ok l))
       (listed_or (listed f) (listed g) (listed_alike f is bs carry ends))
-          (λ l m q. left_alike (length (tracked f)) l m q))
+      (λ l m q. left_alike (length (tracked f)) l m q))
 
   pub recordings_alike : Both AlikeListing (recorded f) (recorded g)
   recordings_alike = subst (λ o. Both AlikeListing (recorded f) (rest g o))

@@ -1,7 +1,8 @@
 -- The range pass over an environment whose identifiers have other spans: the same function and summary, and the same
 -- environment but for these.
-use Rattle.std.specs.Prelude.{◌≡◌, ℕ, zero, suc, ◌+◌, ◌==◌, ◌++◌, Bool, true, false, cond, List, [], ◌∷◌, Option, Some,
-    None, Ok, ◌||◌, if◌then◌else◌, map, is_some, option_map, length, slice_get, slice_set, refl}
+use Rattle.std.specs.Prelude.{◌≡◌, ℕ, zero, suc, ◌+◌, ◌==◌, ◌++◌, Bool, true, false, cond, List, [], ◌∷◌, Option, Some}
+use Rattle.std.specs.Prelude.{None, Ok, ◌||◌, if◌then◌else◌, map, is_some, option_map, length, slice_get, slice_set}
+use Rattle.std.specs.Prelude.{refl}
 use Rattle.std.proofs.Common.{ap, sym, ◌∙◌, subst}
 use Rattle.indexmap.specs.IndexMap.{set_value_at}
 use Rattle.alias_base.specs.declared.ids.BlockId.{BlockId}
@@ -31,24 +32,28 @@ use Rattle.alias_graph.specs.declared.recorded.listing.Listing.{Listing}
 use Rattle.alias_graph.specs.declared.recorded.listing.RecordedMutation.{RecordedMutation}
 use Rattle.alias_graph.specs.declared.recorded.listing.RecordedRender.{RecordedRender}
 use Rattle.alias_graph.specs.recorded.Recording.{graph_listed}
-use Rattle.alias_range_pass.specs.places.Blocks.{terminal_placed, first_order, Placed, with_blocks, ends_at_slot,
-    with_instructions, block_instructions, placed_at, block_placed, blocks_placed, function_placed, phi_placed}
-use Rattle.alias_range_pass.specs.places.Instructions.{places_placed, with_identifiers, surroundings, surrounded,
-    env_assigned, placed_by, instruction_placed, placed_in, instruction_at, instructions_placed}
+use Rattle.alias_range_pass.specs.places.Blocks.{terminal_placed, first_order, Placed, with_blocks, ends_at_slot}
+use Rattle.alias_range_pass.specs.places.Blocks.{with_instructions, block_instructions, placed_at, block_placed}
+use Rattle.alias_range_pass.specs.places.Blocks.{blocks_placed, function_placed, phi_placed}
+use Rattle.alias_range_pass.specs.places.Instructions.{places_placed, with_identifiers, surroundings, surrounded}
+use Rattle.alias_range_pass.specs.places.Instructions.{env_assigned, placed_by, instruction_placed, placed_in}
+use Rattle.alias_range_pass.specs.places.Instructions.{instruction_at, instructions_placed}
 use Rattle.alias_range_pass.specs.places.Ranges.{started, all_ranged, assigned, value_stored, phis_merged}
 use Rattle.alias_range_pass.specs.places.Tables.{Table, table_of}
 use Rattle.alias_range_pass.specs.declared.summary.start.WalkStart.{WalkStart}
 use Rattle.alias_range_pass.specs.summary.Flows.{flows_listed}
 use Rattle.alias_range_pass.specs.summary.MarkedPlaces.{marks_of_all, function_captured}
 use Rattle.alias_range_pass.specs.summary.Summaries.{context_and_params, tracked, summarized}
-use Rattle.alias_range_pass.specs.summary.Walking.{start_origin, expanded, nodes_after, env_after, mutation_start,
-    Walked, after_mutation, after_mutations, after_render, after_renders, env_reported, mutations_done, renders_done}
+use Rattle.alias_range_pass.specs.summary.Walking.{start_origin, expanded, nodes_after, env_after, mutation_start}
+use Rattle.alias_range_pass.specs.summary.Walking.{Walked, after_mutation, after_mutations, after_render, after_renders}
+use Rattle.alias_range_pass.specs.summary.Walking.{env_reported, mutations_done, renders_done}
 use Rattle.alias_range_pass.specs.Passes.{records, Ranged, ranged, range_pass}
 use Rattle.alias_range_pass.specs.Refusals.{recorded}
 use Rattle.alias_range_alike_laws.specs.Spans.{RangesReadNoSpan}
 use Rattle.alias_range_alike_laws.proofs.Answers.{Both, answered, both_after, beside}
-use Rattle.alias_range_alike_laws.proofs.Spans.{Spans, all_ranged_spans, assigned_spans, stored_spans, merged_spans,
-    raised_spans, phis_same, table_spans, spanned, operands_spans, returns_spans}
+use Rattle.alias_range_alike_laws.proofs.Spans.{Spans, all_ranged_spans, assigned_spans, stored_spans, merged_spans}
+use Rattle.alias_range_alike_laws.proofs.Spans.{raised_spans, phis_same, table_spans, spanned, operands_spans}
+use Rattle.alias_range_alike_laws.proofs.Spans.{returns_spans}
 
 -- the environment with identifiers of other spans
 pub data EnvSpans : Environment → Environment → Type 0 where
@@ -80,7 +85,7 @@ reports_same : (env : Environment) (ids : List Identifier) (index : ℕ) (o : Or
 reports_same env ids index o g [] = refl
 reports_same env ids index o g (e ∷ es) =
     ap (λ z. z ++ reported_at (spanned env ids) (node_at (marked index o g es) e.id))
-        (reports_same env ids index o g es)
+    (reports_same env ids index o g es)
     ∙ ap (λ z. reports_after env index o g es ++ z) (reported_same env ids (node_at (marked index o g es) e.id))
 
 renders_same : (env : Environment) (ids : List Identifier) (g : Nodes) (xs : List IdentifierId)
@@ -100,21 +105,21 @@ reported_spans xs ys env other is (of_spans _ ids q) =
 walked_spans : (recording : Bool) (s : WalkStart) (g : Nodes) (es : List Entry) (env other : Environment)
     → EnvSpans env other
     → EnvSpans (walked recording s.index (start_origin s) s.end g es env)
-        (walked recording s.index (start_origin s) s.end g es other)
+    (walked recording s.index (start_origin s) s.end g es other)
 walked_spans recording s g es env other (of_spans _ ids q) =
     let raised : Environment = spanned env (ranges_after s.end env.identifiers es) in
     let others : Environment = spanned env (ranges_after s.end ids es) in
     reported_spans (cond recording (reports_after env s.index (start_origin s) g es) [])
-        (cond recording (reports_after (spanned env ids) s.index (start_origin s) g es) []) raised others
+    (cond recording (reports_after (spanned env ids) s.index (start_origin s) g es) []) raised others
     (ap (λ z. cond recording z []) (reports_same env ids s.index (start_origin s) g es))
-        (of_spans raised (ranges_after s.end ids es) (raised_spans s.end es env.identifiers ids q))
+    (of_spans raised (ranges_after s.end ids es) (raised_spans s.end es env.identifiers ids q))
 
 mutation_spans : (recording : Bool) (m : RecordedMutation) (w v : Walked) → Besides w v
     → Besides (after_mutation recording w m) (after_mutation recording v m)
 mutation_spans recording m w v (of_same g env other q) =
     of_same (nodes_after (mutation_start m) g) (env_after recording (mutation_start m) g env)
-        (env_after recording (mutation_start m) g other)
-        (walked_spans recording (mutation_start m) g (expanded g (mutation_start m)) env other q)
+    (env_after recording (mutation_start m) g other)
+    (walked_spans recording (mutation_start m) g (expanded g (mutation_start m)) env other q)
 
 mutations_spans : (recording : Bool) (ms : List RecordedMutation) (w v : Walked) → Besides w v
     → Besides (after_mutations recording ms w) (after_mutations recording ms v)
@@ -137,7 +142,7 @@ render_spans : (g : Nodes) (r : RecordedRender) (env other : Environment) → En
     → EnvSpans (after_render g env r) (after_render g other r)
 render_spans g r env other (of_spans _ ids q) =
     reported_spans (render_reports env g (rendered g r.index r.place.identifier).done)
-        (render_reports (spanned env ids) g (rendered g r.index r.place.identifier).done) env (spanned env ids)
+    (render_reports (spanned env ids) g (rendered g r.index r.place.identifier).done) env (spanned env ids)
     (renders_same env ids g (rendered g r.index r.place.identifier).done) (of_spans env ids q)
 
 all_renders_spans : (g : Nodes) (rs : List RecordedRender) (env other : Environment) → EnvSpans env other
@@ -157,7 +162,7 @@ summary_same : (g : Nodes) (next : ℕ) (f : HirFunction) (env other : Environme
     → EnvSpans env other → summarized g next f other begin ≡ summarized g next f env begin
 summary_same g next f env other begin (of_spans _ ids q) =
     ap (λ (e : AliasingEffect). ((begin ++ marks_of_all g (context_and_params f)) ++ e ∷ [])
-        ++ flows_listed g next f.returns (tracked f) (tracked f)) (returns_spans env ids f q)
+    ++ flows_listed g next f.returns (tracked f) (tracked f)) (returns_spans env ids f q)
 
 -- ---- an instruction
 
@@ -165,13 +170,13 @@ surroundings_spans : (table : Table) (t : EvaluationOrder) (v : InstructionValue
     → EnvSpans env other → EnvSpans (surroundings table t v env) (surroundings table t v other)
 surroundings_spans table t v env other (of_spans _ ids q) =
     let ranges : List Place → List Identifier → List Identifier =
-        λ ps xs. value_stored t v (all_ranged (started t) ps xs) in
+    λ ps xs. value_stored t v (all_ranged (started t) ps xs) in
     let new : Environment = surroundings table t v env in
     subst (λ (ps : List Place). EnvSpans new (spanned new (ranges ps ids))) (sym (operands_spans env ids v))
     (of_spans new (ranges (operands_of env v) ids)
     (stored_spans t v (all_ranged (started t) (operands_of env v) env.identifiers)
-        (all_ranged (started t) (operands_of env v) ids)
-        (all_ranged_spans (started t) (operands_of env v) env.identifiers ids q)))
+    (all_ranged (started t) (operands_of env v) ids)
+    (all_ranged_spans (started t) (operands_of env v) env.identifiers ids q)))
 
 chosen_spans : (b : Bool) (env other new new_other : Environment) → EnvSpans env other → EnvSpans new new_other
     → EnvSpans (if b then env else new) (if b then other else new_other)
@@ -193,11 +198,11 @@ placed_spans i env other (of_spans _ ids q) =
     let table : Table = table_of (assigned i env.identifiers) i in
     let there : Environment = spanned env (assigned i ids) in
     subst (λ (z : Table). Besides (instruction_placed i env) (placed_by z i there))
-        (sym (table_spans i (assigned i env.identifiers) (assigned i ids) begun))
+    (sym (table_spans i (assigned i env.identifiers) (assigned i ids) begun))
     (of_same (places_placed table i) (surrounded i.effects table i.id i.value (env_assigned i env))
-        (surrounded i.effects table i.id i.value there)
+    (surrounded i.effects table i.id i.value there)
     (surrounded_spans i.effects table i.id i.value (env_assigned i env) there
-        (of_spans (env_assigned i env) (assigned i ids) begun)))
+    (of_spans (env_assigned i env) (assigned i ids) begun)))
 
 set_spans : (xs : List Instruction) (n : ℕ) (s t : Instruction × Environment) → Besides s t
     → Besides (slice_set xs n s.0, s.1) (slice_set xs n t.0, t.1)
@@ -229,11 +234,11 @@ ends_spans b k block f env other (of_spans _ ids q) =
     let ys : List Identifier = phis_merged t block.phis ids in
     let begun : Spans xs ys = merged_spans t block.phis env.identifiers ids q in
     let with_phis : List Phi → HirFunction =
-        λ phis. with_blocks (set_value_at f.body.blocks k
-        (record block { phis = phis; terminal = terminal_placed b block.terminal })) f in
+    λ phis. with_blocks (set_value_at f.body.blocks k
+    (record block { phis = phis; terminal = terminal_placed b block.terminal })) f in
     beside_by (with_phis (map (phi_placed xs t) block.phis)) (with_phis (map (phi_placed ys t) block.phis))
-        (with_identifiers xs env) (with_identifiers ys (spanned env ids))
-        (ap with_phis (phis_same xs ys begun t block.phis))
+    (with_identifiers xs env) (with_identifiers ys (spanned env ids))
+    (ap with_phis (phis_same xs ys begun t block.phis))
     (of_spans (with_identifiers xs env) ys begun)
 
 with_spans : (f : HirFunction) (s t : List Instruction × Environment) → Besides s t
@@ -272,10 +277,14 @@ record RangedSpans (r s : Ranged) : Type 0 where
 
 walked_ranged : (recording b : Bool) (f : HirFunction) (l : Listing) (w v : Walked) → Besides w v
     → RangedSpans
-    (record { summary = summarized w.0 l.next f (renders_done recording l w) l.summary;
-        after = function_placed b (function_captured w.0 f, renders_done recording l w) })
-    (record { summary = summarized v.0 l.next f (renders_done recording l v) l.summary;
-        after = function_placed b (function_captured v.0 f, renders_done recording l v) })
+    (record {
+      summary = summarized w.0 l.next f (renders_done recording l w) l.summary;
+      after = function_placed b (function_captured w.0 f, renders_done recording l w);
+    })
+    (record {
+      summary = summarized v.0 l.next f (renders_done recording l v) l.summary;
+      after = function_placed b (function_captured v.0 f, renders_done recording l v);
+    })
 walked_ranged recording b f l w v (of_same g env other q) =
     let last : Environment = renders_done recording l (g, env) in
     let last_other : Environment = renders_done recording l (g, other) in
@@ -290,8 +299,8 @@ spanned_ranged : (b : Bool) (f : HirFunction) (l : Listing) (env : Environment) 
     → Spans env.identifiers ids → RangedSpans (ranged b f env l) (ranged b f (spanned env ids) l)
 spanned_ranged b f l env ids q =
     walked_ranged (records b env) b f l (mutations_done (records b env) l env)
-        (mutations_done (records b env) l (spanned env ids))
-        (done_spans (records b env) l env (spanned env ids) (of_spans env ids q))
+    (mutations_done (records b env) l (spanned env ids))
+    (done_spans (records b env) l env (spanned env ids) (of_spans env ids q))
 
 pass_spans : (b : Bool) (f : HirFunction) (env : Environment) (ids : List Identifier) → Spans env.identifiers ids
     → Both RangedSpans (range_pass b f env) (range_pass b f (spanned env ids))
@@ -313,9 +322,9 @@ left s t (of_same f env other q) = env_left f env other q
 pub reads_no_span : RangesReadNoSpan
 reads_no_span env is f b r q answers =
     let s = beside RangedSpans (range_pass b f env) (range_pass b f (spanned env is)) r (pass_spans b f env is q)
-        answers in
+    answers in
     let k = left r.after s.other.after s.alike.after in
     let same : s.other ≡ record r { after = (r.after.0, spanned r.after.1 k.identifiers) } =
-        ap (λ (z : List AliasingEffect). record s.other { summary = z }) s.alike.summary
-        ∙ ap (λ (z : Placed). record r { after = z }) k.is in
+    ap (λ (z : List AliasingEffect). record s.other { summary = z }) s.alike.summary
+    ∙ ap (λ (z : Placed). record r { after = z }) k.is in
     (k.identifiers, k.spans, s.is ∙ ap (λ (z : Ranged). Ok z) same)

@@ -1,6 +1,6 @@
 -- What is read of identifiers is the same where their spans are others: ends of ranges and types.
-use Rattle.std.specs.Prelude.{◌≡◌, ℕ, false, List, [], ◌∷◌, Option, Some, None, if◌then◌else◌, nat_lt, map, slice_get,
-    slice_set, refl}
+use Rattle.std.specs.Prelude.{◌≡◌, ℕ, false, List, [], ◌∷◌, Option, Some, None, if◌then◌else◌, nat_lt, map, slice_get}
+use Rattle.std.specs.Prelude.{slice_set, refl}
 use Rattle.std.proofs.Common.{ap, ◌∙◌}
 use Rattle.std.specs.Option.{option_map_or}
 use Rattle.alias_base.specs.declared.ids.EvaluationOrder.{EvaluationOrder}
@@ -27,10 +27,10 @@ use Rattle.alias_graph.specs.NodeMarks.{raised, ranges_after, range_visited}
 use Rattle.alias_graph.specs.Reach.{end_of}
 use Rattle.alias_graph.specs.declared.types.Entry.{Entry}
 use Rattle.alias_range_pass.specs.places.Blocks.{operand_with, phi_placed, with_effect}
-use Rattle.alias_range_pass.specs.places.Ranges.{with_range, ranged, all_ranged, assigned, begun, stored, merged,
-    value_stored, phis_merged}
-use Rattle.alias_range_pass.specs.places.Tables.{Table, set_effect, source_effect, flow_tabled, effect_tabled,
-    effects_tabled, recorded, table_of}
+use Rattle.alias_range_pass.specs.places.Ranges.{with_range, ranged, all_ranged, assigned, begun, stored, merged}
+use Rattle.alias_range_pass.specs.places.Ranges.{value_stored, phis_merged}
+use Rattle.alias_range_pass.specs.places.Tables.{Table, set_effect, source_effect, flow_tabled, effect_tabled}
+use Rattle.alias_range_pass.specs.places.Tables.{effects_tabled, recorded, table_of}
 use Rattle.alias_range_pass.specs.summary.Summaries.{returns_created}
 use Rattle.alias_certificate_laws.specs.accepting.Alike.{Paired, Maybe, nothing, just}
 use Rattle.alias_certificate_laws.proofs.accepting.Likeness.{paired_get}
@@ -171,7 +171,7 @@ pub returns_spans : (env : Environment) (ids : List Identifier) (f : HirFunction
     → returns_created (spanned env ids) f ≡ returns_created env f
 returns_spans env ids f q =
     ap (λ (o : Option Ty). effect.Create f.returns
-        (if option_map_or is_primitive_type o false then Primitive
-        else (if option_map_or is_jsx_type o false then Frozen else Mutable)) KnownReturnSignature)
+    (if option_map_or is_primitive_type o false then Primitive
+    else (if option_map_or is_jsx_type o false then Frozen else Mutable)) KnownReturnSignature)
     (same_type env ids (slice_get env.identifiers f.returns.identifier.0) (slice_get ids f.returns.identifier.0)
-        (paired_get f.returns.identifier.0 env.identifiers ids q))
+    (paired_get f.returns.identifier.0 env.identifiers ids q))

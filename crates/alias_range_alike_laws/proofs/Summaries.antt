@@ -1,6 +1,6 @@
 -- Summaries over graphs that are alike are alike, and the same places are captured.
-use Rattle.std.specs.Prelude.{◌≡◌, ℕ, ◌+◌, ◌==◌, ◌&&◌, ◌++◌, Bool, not, List, [], ◌∷◌, Option, if◌then◌else◌,
-    option_map, map, refl}
+use Rattle.std.specs.Prelude.{◌≡◌, ℕ, ◌+◌, ◌==◌, ◌&&◌, ◌++◌, Bool, not, List, [], ◌∷◌, Option, if◌then◌else◌}
+use Rattle.std.specs.Prelude.{option_map, map, refl}
 use Rattle.std.proofs.Common.{ap, sym, ◌∙◌, subst}
 use Rattle.std.specs.List.{flat_map}
 use Rattle.alias_base.specs.declared.ids.IdentifierId.{IdentifierId}
@@ -18,13 +18,15 @@ use Rattle.alias_graph.specs.declared.types.MutationKind.TheVariants.{Conditiona
 use Rattle.alias_graph.specs.Flat.{marks_of}
 use Rattle.alias_graph.specs.Nodes.{Node, Nodes, node_at}
 use Rattle.alias_range_pass.specs.summary.Flows.{flow_start, ends_at, is_last, flow_effect, flows_into, flows_listed}
-use Rattle.alias_range_pass.specs.summary.MarkedPlaces.{marks_at, at_mark, local_effect, local_effects,
-    transitive_effect, transitive_effects, node_effects, mark_effects, marks_of_all, is_marked_node, captured,
-    param_captured, function_captured}
+use Rattle.alias_range_pass.specs.summary.MarkedPlaces.{marks_at, at_mark, local_effect, local_effects}
+use Rattle.alias_range_pass.specs.summary.MarkedPlaces.{transitive_effect, transitive_effects, node_effects}
+use Rattle.alias_range_pass.specs.summary.MarkedPlaces.{mark_effects, marks_of_all, is_marked_node, captured}
+use Rattle.alias_range_pass.specs.summary.MarkedPlaces.{param_captured, function_captured}
 use Rattle.alias_range_pass.specs.summary.Summaries.{context_and_params, tracked, returns_created, summarized}
 use Rattle.alias_range_pass.specs.summary.Walking.{nodes_after}
-use Rattle.alias_certificate_laws.specs.accepting.Alike.{none, more, Maybe, nothing, just, Alike, mutate,
-    mutate_conditionally, mutate_transitive, mutate_transitive_conditionally, AlikeEffects}
+use Rattle.alias_certificate_laws.specs.accepting.Alike.{none, more, Maybe, nothing, just, Alike, mutate}
+use Rattle.alias_certificate_laws.specs.accepting.Alike.{mutate_conditionally, mutate_transitive}
+use Rattle.alias_certificate_laws.specs.accepting.Alike.{mutate_transitive_conditionally, AlikeEffects}
 use Rattle.alias_certificate_laws.proofs.accepting.Likeness.{alike_self, paired_self, paired_append}
 use Rattle.alias_range_alike_laws.proofs.Answers.{flat_alike}
 use Rattle.alias_range_alike_laws.proofs.Nodes.{AlikeInfo, of_info, AlikeNode, of_node, AlikeNodes, node_alike}
@@ -87,8 +89,8 @@ last_same g h index q = λ i x. ends_same index (marks_at g x.identifier) (marks
 abbrev flows_by : (Place → Bool) → Place → List Place → Place → List AliasingEffect
 flows_by last returns places into =
     flat_map (λ (from : Place). if not (from.identifier.0 == into.identifier.0)
-        && (not (from.identifier.0 == returns.identifier.0) && last from) then flow_effect returns from into ∷ []
-        else []) places
+    && (not (from.identifier.0 == returns.identifier.0) && last from) then flow_effect returns from into ∷ []
+    else []) places
 
 into_same : (g h : Nodes) (index : ℕ) (returns into : Place) (places : List Place) → AlikeNodes g h
     → flows_into h index returns places into ≡ flows_into g index returns places into
@@ -102,7 +104,7 @@ flows_same g h index returns places (into ∷ intos) q =
     let g' : Nodes = nodes_after (flow_start index into) g in
     let h' : Nodes = nodes_after (flow_start index into) h in
     let r : AlikeNodes g' h' = nodes_after_alike (flow_start index into) (flow_start index into) g h
-        (start_self (flow_start index into)) q in
+    (start_self (flow_start index into)) q in
     ap (λ z. z ++ flows_listed h' (index + 1) returns places intos) (into_same g' h' index returns into places r)
     ∙ ap (λ z. flows_into g' index returns places into ++ z) (flows_same g' h' (index + 1) returns places intos r)
 
@@ -116,10 +118,10 @@ pub summary_alike : (g h : Nodes) (next : ℕ) (f : HirFunction) (env : Environm
     → AlikeEffects (summarized g next f env begin) (summarized h next f env other)
 summary_alike g h next f env begin other q a =
     paired_append (paired_append (paired_append a (all_marks_alike g h (context_and_params f) q))
-        (more (alike_self (returns_created env f)) none))
+    (more (alike_self (returns_created env f)) none))
     (effects_same (flows_listed g next f.returns (tracked f) (tracked f))
-        (flows_listed h next f.returns (tracked f) (tracked f))
-        (flows_same g h next f.returns (tracked f) (tracked f) q))
+    (flows_listed h next f.returns (tracked f) (tracked f))
+    (flows_same g h next f.returns (tracked f) (tracked f) q))
 
 -- ---- what is captured
 
@@ -145,6 +147,6 @@ module _ (g h : Nodes) (q : AlikeNodes g h) where
   pub function_same : (f : HirFunction) → function_captured h f ≡ function_captured g f
   function_same f =
       ap (λ (c : ParamPattern → ParamPattern).
-          record f { params = map c f.params; context = map (captured h) f.context }) params_same
+      record f { params = map c f.params; context = map (captured h) f.context }) params_same
       ∙ ap (λ (c : Place → Place). record f { params = map (param_captured g) f.params; context = map c f.context })
-          captured_same
+      captured_same

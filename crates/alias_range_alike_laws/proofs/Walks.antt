@@ -20,9 +20,10 @@ use Rattle.alias_graph.specs.declared.recorded.listing.RecordedMutation.{Recorde
 use Rattle.alias_graph.specs.declared.recorded.listing.RecordedRender.{RecordedRender}
 use Rattle.alias_graph.specs.recorded.Recording.{graph_listed}
 use Rattle.alias_range_pass.specs.declared.summary.start.WalkStart.{WalkStart}
-use Rattle.alias_range_pass.specs.summary.Walking.{start_entry, start_origin, expanded, nodes_after, env_after,
-    mutation_start, Walked, after_mutation, after_mutations, after_render, after_renders, env_reported, mutations_done,
-    renders_done}
+use Rattle.alias_range_pass.specs.summary.Walking.{start_entry, start_origin, expanded, nodes_after, env_after}
+use Rattle.alias_range_pass.specs.summary.Walking.{mutation_start, Walked, after_mutation, after_mutations}
+use Rattle.alias_range_pass.specs.summary.Walking.{after_render, after_renders, env_reported, mutations_done}
+use Rattle.alias_range_pass.specs.summary.Walking.{renders_done}
 use Rattle.alias_certificate_laws.specs.accepting.Alike.{Paired, none, more, moved}
 use Rattle.alias_range_alike_laws.proofs.Around.{AlikeEnv, of_env, reported_alike}
 use Rattle.alias_range_alike_laws.proofs.Listings.{AlikeMutation, of_mutation, AlikeRender, AlikeListing, listing}
@@ -65,12 +66,12 @@ module _ (P : ℕ → Type 0) (recording : Bool) (interned : List Interned) wher
       → AlikeEnv P recording interned (walked recording index o end g es env) (walked recording index p end h es other)
   walked_alike index o p end g h es env other q =
       reported_alike recording interned P (reports_after env index o g es) (reports_after other index p h es)
-          (with_ranges end es env) (with_ranges end es other) (ranges_alike end es env other q)
+      (with_ranges end es env) (with_ranges end es other) (ranges_alike end es env other q)
 
   env_by : (s t : WalkStart) (g h : Nodes) (es : List Entry) (env other : Environment) → AlikeStart s t
       → AlikeEnv P recording interned env other
       → AlikeEnv P recording interned (walked recording s.index (start_origin s) s.end g es env)
-          (walked recording t.index (start_origin t) t.end h es other)
+      (walked recording t.index (start_origin t) t.end h es other)
   env_by s t g h es env other (of_start _ p reason) q =
       walked_alike s.index (start_origin s) (start_origin (record s { place = moved s.place p; reason = reason })) s.end
       g h es env other q
@@ -80,8 +81,8 @@ module _ (P : ℕ → Type 0) (recording : Bool) (interned : List Interned) wher
       → AlikeEnv P recording interned (env_after recording s g env) (env_after recording t h other)
   env_after_alike s t g h env other a q r =
       subst (λ (es : List Entry). AlikeEnv P recording interned (env_after recording s g env)
-          (walked recording t.index (start_origin t) t.end h es other)) (sym (expanded_same s t g h a q))
-          (env_by s t g h (expanded g s) env other a r)
+      (walked recording t.index (start_origin t) t.end h es other)) (sym (expanded_same s t g h a q))
+      (env_by s t g h (expanded g s) env other a r)
 
   -- ---- mutations
 
@@ -111,10 +112,12 @@ module _ (P : ℕ → Type 0) (recording : Bool) (interned : List Interned) wher
       → AlikeWalked (mutations_done recording l env) (mutations_done recording m other)
   mutations_done_alike l m env other (listing _ ms rs es a b c) q =
       mutations_alike l.mutations ms (graph_listed l, env_reported recording l env)
-          (graph_listed l, with_reports (cond recording (effect_reports other.interned es) []) other) a
-      (record { nodes = nodes_self (graph_listed l);
-          env = reported_alike recording interned P (effect_reports env.interned l.summary)
-          (effect_reports other.interned es) env other q })
+      (graph_listed l, with_reports (cond recording (effect_reports other.interned es) []) other) a
+      (record {
+        nodes = nodes_self (graph_listed l);
+        env = reported_alike recording interned P (effect_reports env.interned l.summary)
+            (effect_reports other.interned es) env other q;
+      })
 
 -- ---- renders
 
@@ -131,7 +134,7 @@ module _ (P : ℕ → Type 0) (interned : List Interned) where
   renders_alike rs ss g h env other (more {a = r} {b = s} {xs = us} {ys = vs} a as_) q =
       renders_alike us vs g h (after_render g env r) (after_render h other s) as_
       (added_alike (render_reports env g (rendered g r.index r.place.identifier).done)
-          (render_reports other h (rendered h s.index s.place.identifier).done) env other q)
+      (render_reports other h (rendered h s.index s.place.identifier).done) env other q)
 
   pub renders_done_alike : (recording : Bool) (l m : Listing) (w v : Walked) → AlikeListing l m
       → AlikeWalked P recording interned w v

@@ -1,6 +1,6 @@
 -- What the parts of the pass keep, the whole pass keeps.
-use Rattle.std.proofs.Common.{◌≡◌, ◌++◌, ⊎_elim, Bool, true, false, if◌then◌else◌, List, [], ◌∷◌, map, refl, ap, sym,
-    ◌∙◌, subst, arith, append_assoc, append-nil}
+use Rattle.std.proofs.Common.{◌≡◌, ◌++◌, ⊎_elim, Bool, true, false, if◌then◌else◌, List, [], ◌∷◌, map, refl, ap, sym}
+use Rattle.std.proofs.Common.{◌∙◌, subst, arith, append_assoc, append-nil}
 use Rattle.alias_hir.specs.declared.env.Environment.{Environment}
 use Rattle.alias_hir.specs.declared.env.Identifier.{Identifier}
 use Rattle.alias_hir.specs.declared.hir.HirFunction.{HirFunction}
@@ -14,8 +14,8 @@ use Rattle.alias_graph.specs.Reach.{but_end}
 use Rattle.alias_graph.specs.Renders.{Grown}
 use Rattle.alias_range_pass.specs.places.Keeping.{but_range, but_effect, but_context, but_effects, EnvKept}
 use Rattle.alias_range_pass.specs.summary.Keeping.{but_walks, WalksKeep}
-use Rattle.alias_range_pass.specs.summary.MarkedPlaces.{is_marked, captured, param_captured, function_captured,
-    IsSameOrCaptured}
+use Rattle.alias_range_pass.specs.summary.MarkedPlaces.{is_marked, captured, param_captured, function_captured}
+use Rattle.alias_range_pass.specs.summary.MarkedPlaces.{IsSameOrCaptured}
 use Rattle.alias_range_pass.specs.Laws.{but_inferred, PassKeeps, but_param, but_places}
 
 -- ---- the environment
@@ -44,8 +44,11 @@ but_walked : (env : Environment) → without (but_walks env) ≡ but_inferred en
 but_walked env = ap (λ z. record (but_inferred env) { identifiers = z }) (but_ends env.identifiers)
 
 pub walks_keep : (old new : Environment) → WalksKeep old new → PassKeeps old new
-walks_keep old new k = record { rest = sym (but_walked new) ∙ ap without k.rest ∙ but_walked old; ends = k.ends;
-    errors = k.errors }
+walks_keep old new k = record {
+  rest = sym (but_walked new) ∙ ap without k.rest ∙ but_walked old;
+  ends = k.ends;
+  errors = k.errors;
+}
 
 abbrev unreported : Environment → Environment
 unreported e = record e { errors = [] }
@@ -54,8 +57,11 @@ abbrev errors_of : Environment → List Report
 errors_of e = e.errors
 
 places_keep : (old new : Environment) → EnvKept old new → PassKeeps old new
-places_keep old new k = record { rest = ap unreported k.rest; ends = k.ends;
-    errors = ([], ap errors_of k.rest ∙ sym (append-nil old.errors)) }
+places_keep old new k = record {
+  rest = ap unreported k.rest;
+  ends = k.ends;
+  errors = ([], ap errors_of k.rest ∙ sym (append-nil old.errors));
+}
 
 -- after the walks and a summary, and after all
 pub summary_keeps : (a b c : Environment) → WalksKeep a b → c ≡ b → PassKeeps a c
@@ -88,7 +94,7 @@ params_stay g (p ∷ ps) = ap (λ z. z ∷ map but_param (map (param_captured g)
 captured_same : (g : Nodes) (f : HirFunction) → but_places (function_captured g f) ≡ but_places f
 captured_same g f =
     ap (λ z. record (but_places f) { params = z; context = map but_effect (map (captured g) f.context) })
-        (params_stay g f.params)
+    (params_stay g f.params)
     ∙ ap (λ z. record (but_places f) { context = z }) (places_stay g f.context)
 
 captured_stays : (g : Nodes) (f h : HirFunction) → h ≡ function_captured g f → but_places h ≡ but_places f

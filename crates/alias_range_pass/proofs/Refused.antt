@@ -1,6 +1,6 @@
 -- What is recorded, where the pass goes on and where it is refused.
-use Rattle.std.proofs.Common.{◌≡◌, ℕ, ◌+◌, ◌≤◌, Bool, true, false, if◌then◌else◌, nat_le, List, [], ◌∷◌, Option, None,
-    length, refl, ap, sym, ◌∙◌, subst, arith}
+use Rattle.std.proofs.Common.{◌≡◌, ℕ, ◌+◌, ◌≤◌, Bool, true, false, if◌then◌else◌, nat_le, List, [], ◌∷◌, Option, None}
+use Rattle.std.proofs.Common.{length, refl, ap, sym, ◌∙◌, subst, arith}
 use Rattle.std.specs.Prelude.{Result, Ok, Err, ⊤}
 use Rattle.std.proofs.lemmas.Bool.Decides.{nat_tests}
 use Rattle.alias_base.specs.Answer.{◌>>=◌}
@@ -59,7 +59,7 @@ pub record IsRecorded (f : HirFunction) (l : Listing) : Type 0 where
 pub recorded_is : (f : HirFunction) (l : Listing) → recorded f ≡ Ok l → IsRecorded f l
 recorded_is f l h =
     let rest : Listing → Result Listing InferError = λ m. positions_left m.next (length (tracked f))
-        >>= (λ left. Ok m) in
+    >>= (λ left. Ok m) in
     let u = went_on (none_unreplaced (unreplaced f)) (λ replaced. listing_or (listed f) >>= rest) l h in
     let v = went_on (listing_or (listed f)) rest l u.2 in
     let w = went_on (positions_left v.0.next (length (tracked f))) (λ left. Ok v.0) l v.2 in

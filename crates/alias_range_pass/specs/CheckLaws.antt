@@ -1,6 +1,6 @@
 -- The range pass takes each function that the inference takes.
-use Rattle.std.proofs.Common.{◌≡◌, ◌≢◌, ℕ, ◌<◌, ◌==◌, ◌||◌, Bool, true, false, if◌then◌else◌, nat_lt, List, [], ◌∷◌,
-    ◌++◌, Option, Some, None, length, map, refl, arith}
+use Rattle.std.proofs.Common.{◌≡◌, ◌≢◌, ℕ, ◌<◌, ◌==◌, ◌||◌, Bool, true, false, if◌then◌else◌, nat_lt, List, [], ◌∷◌}
+use Rattle.std.proofs.Common.{◌++◌, Option, Some, None, length, map, refl, arith}
 use Rattle.std.specs.Prelude.{Result, Ok, Err, ⊤, is_ok}
 use Rattle.std.specs.List.{list_all}
 use Rattle.std.proofs.lemmas.Bool.Decides.{nat_tests}
@@ -22,18 +22,19 @@ use Rattle.alias_hir.specs.Parts.{param_place}
 use Rattle.alias_rules.specs.declared.function_rules.fault.Table.TheVariants.{Identifiers}
 use Rattle.alias_rules.specs.declared.function_rules.fault.UnitFault.{UnitFault}
 use Rattle.alias_rules.specs.declared.function_rules.fault.UnitFault.TheVariants.{IdOutOfRange, OrderOutOfRange}
-use Rattle.alias_rules.specs.function_rules.Rules.{place_fits, phi_fits, block_fits, instruction_fits, numbers_fit,
-    order_fits, orders_fit, tables_fit, types_fit}
-use Rattle.alias_rules.specs.declared.rules.Rule.TheVariants.{Numbers, Entry, Successors, ListedOnce, Handlers, Phis,
-    Orders}
+use Rattle.alias_rules.specs.function_rules.Rules.{place_fits, phi_fits, block_fits, instruction_fits, numbers_fit}
+use Rattle.alias_rules.specs.function_rules.Rules.{order_fits, orders_fit, tables_fit, types_fit}
+use Rattle.alias_rules.specs.declared.rules.Rule.TheVariants.{Numbers, Entry, Successors, ListedOnce, Handlers, Phis}
+use Rattle.alias_rules.specs.declared.rules.Rule.TheVariants.{Orders}
 use Rattle.alias_rules.specs.Functions.{each_function}
-use Rattle.alias_rules.specs.Fitting.{place_within_tables, error_within_tables, function_within_tables,
-    type_within_tables, named_within_tables, summary_within_tables, effect_within_tables, recorded_within_tables,
-    effects_within_tables, holds_no_call, effects_fit, effects_fit_at, reports_no_invariant, function_rules,
-    function_fits}
+use Rattle.alias_rules.specs.Fitting.{place_within_tables, error_within_tables, function_within_tables}
+use Rattle.alias_rules.specs.Fitting.{type_within_tables, named_within_tables, summary_within_tables}
+use Rattle.alias_rules.specs.Fitting.{effect_within_tables, recorded_within_tables, effects_within_tables}
+use Rattle.alias_rules.specs.Fitting.{holds_no_call, effects_fit, effects_fit_at, reports_no_invariant, function_rules}
+use Rattle.alias_rules.specs.Fitting.{function_fits}
 use Rattle.alias_rules.specs.RuleLaws.{fitting_tree, fitting_rules}
-use Rattle.alias_graph.specs.recorded.Fitting.{AllOf, EffectFits, EffectsFit, OrderHasNext, InstructionFits, PhiFits,
-    BlockFits, EventFits, FunctionFits}
+use Rattle.alias_graph.specs.recorded.Fitting.{AllOf, EffectFits, EffectsFit, OrderHasNext, InstructionFits, PhiFits}
+use Rattle.alias_graph.specs.recorded.Fitting.{BlockFits, EventFits, FunctionFits}
 use Rattle.alias_graph.proofs.FitLaws.{all_append}
 use Rattle.alias_graph.specs.recorded.BlockListings.{object_of}
 
@@ -84,7 +85,7 @@ module _ (env : Environment) where
       let typed = (both_true _ (error_within_tables env (error_of e)) named).0 in
       let created = (both_true _ (type_within_tables env (signature_of e)) typed).0 in
       makes_in e (both_true (list_all (place_within_tables env) (effect_places e))
-          (function_within_tables env (function_of e)) created).0
+      (function_within_tables env (function_of e)) created).0
 
   effects_in : (es : List AliasingEffect) → list_all (effect_within_tables env) es ≡ true → AllOf (EffectFits count) es
   effects_in [] h = tt
@@ -141,7 +142,7 @@ module _ (env : Environment) where
       let within = (both_true (effects_within_tables env f) (holds_no_call f.aliasing_effects) effects).0 in
       let listed = (both_true _ (recorded_within_tables env f.aliasing_effects) within).0 in
       let recorded = (both_true (list_all (λ (i : Instruction). recorded_within_tables env i.effects) f.instructions) _
-          listed).0 in
+      listed).0 in
       record {
         first_events = all_append (EventFits count)
             (map (λ p. object_of (param_place p)) f.params ++ map object_of f.context) (object_of f.returns ∷ [])

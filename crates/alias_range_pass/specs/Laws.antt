@@ -22,8 +22,11 @@ Causes g ms is old new = (k : ℕ) → (end_at new k ≡ end_at old k)
 
 -- all of the environment but reports, ranges and the effects of context places
 abbrev pub but_inferred : Environment → Environment
-but_inferred env = record env { identifiers = map but_range env.identifiers; functions = map but_context env.functions;
-    errors = [] }
+but_inferred env = record env {
+  identifiers = map but_range env.identifiers;
+  functions = map but_context env.functions;
+  errors = [];
+}
 
 -- nothing but ranges, effects of context places and reports changes, no end falls, and no report goes
 pub record PassKeeps (old new : Environment) : Type 0 where

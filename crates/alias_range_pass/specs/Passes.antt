@@ -32,8 +32,8 @@ ranged_after is_function_expression f l w env = record {
 abbrev pub ranged : Bool → HirFunction → Environment → Listing → Ranged
 ranged is_function_expression f env l =
     ranged_after is_function_expression f l (mutations_done (records is_function_expression env) l env)
-        (renders_done (records is_function_expression env) l
-        (mutations_done (records is_function_expression env) l env))
+    (renders_done (records is_function_expression env) l
+    (mutations_done (records is_function_expression env) l env))
 
 -- the range pass
 abbrev pub range_pass : Bool → HirFunction → Environment → Result Ranged InferError

@@ -26,7 +26,7 @@ use Rattle.alias_ranges.specs.Ranges.{RangesHaveCauses}
 pub answered_fits : (b : Bool) (f g : HirFunction) (env more : Environment) (summary : List AliasingEffect)
     → range_pass b f env ≡ Ok (record { summary = summary; after = (g, more) })
     → function_fits f env ≡ true → but_place_effects g ≡ but_place_effects f → PassKeeps env more → function_fits g more
-        ≡ true
+    ≡ true
 answered_fits b f g env more summary is h still kept =
     ranged_fits f g env more h still kept (root_reports b f env (record { summary = summary; after = (g, more) }) is h)
 
@@ -41,7 +41,7 @@ of_recorded b f env r is P h =
 pub answered_causes : (b : Bool) (f : HirFunction) (env : Environment) (r : Ranged) (old new : List Identifier)
     → range_pass b f env ≡ Ok r
     → ((l : Listing) → recorded f ≡ Ok l → Causes (graph_listed l) l.mutations f.instructions old new)
-        → RangesHaveCauses f old new
+    → RangesHaveCauses f old new
 answered_causes b f env r old new is h =
     of_recorded b f env r is (λ l. Causes (graph_listed l) l.mutations f.instructions old new) h
 

@@ -3,8 +3,8 @@ use Rattle.std.specs.Prelude.{◌≡◌, true, List, [], ◌∷◌, length, map,
 use Rattle.std.proofs.Common.{ap, sym, subst, ◌∙◌, arith}
 use Rattle.std.proofs.lemmas.List.{length-map}
 use Rattle.alias_base.specs.AnswerLaws.{both_true}
-use Rattle.alias_fitting_laws.specs.bare.Bare.{bare, but_place_effects, without_range, but_ranges_and_contexts,
-    TablesFit}
+use Rattle.alias_fitting_laws.specs.bare.Bare.{bare, but_place_effects, without_range, but_ranges_and_contexts}
+use Rattle.alias_fitting_laws.specs.bare.Bare.{TablesFit}
 use Rattle.alias_fitting_laws.specs.bare.BareLaws.{bare_of_places, fits_with_other_places}
 use Rattle.alias_fitting_laws.specs.bare.EvolvedLaws.{Evolves, fits_evolved}
 use Rattle.alias_fitting_laws.specs.bare.RangedLaws.{evolves_with_contexts, tables_alike_fit}
@@ -48,10 +48,10 @@ module _ (env more : Environment) (kept : PassKeeps env more) where
   pub unreported_alike : but_ranges_and_contexts (unreported more) ≡ but_ranges_and_contexts (unreported env)
   unreported_alike =
       ap (λ is. record (but_ranges_and_contexts (unreported more)) { identifiers = is })
-          (sym (without_twice more.identifiers))
+      (sym (without_twice more.identifiers))
       ∙ ap (λ (e : Environment). record e { identifiers = without_ranges e.identifiers }) kept.rest
       ∙ ap (λ is. record (but_ranges_and_contexts (unreported env)) { identifiers = is })
-          (without_twice env.identifiers)
+      (without_twice env.identifiers)
 
   grown : Grows env.interned more.interned
   grown = subst (Grows env.interned) (sym interned_same) (grows_self env.interned)
@@ -59,10 +59,10 @@ module _ (env more : Environment) (kept : PassKeeps env more) where
   wider : Wider env more
   wider =
       let i : length more.identifiers ≡ length env.identifiers = sym (length-map more.identifiers without_range)
-          ∙ ap length identifiers_alike ∙ length-map env.identifiers without_range in
+      ∙ ap length identifiers_alike ∙ length-map env.identifiers without_range in
       let t : length more.types ≡ length env.types = ap (λ (e : Environment). length e.types) kept.rest in
       let f : length more.functions ≡ length env.functions = sym (length-map more.functions but_context)
-          ∙ ap length contexts_alike ∙ length-map env.functions but_context in
+      ∙ ap length contexts_alike ∙ length-map env.functions but_context in
       record { identifiers = omega arith; types = omega arith; functions = omega arith; interned = grown }
 
   -- the rules see no change of the environment
@@ -73,10 +73,14 @@ module _ (env more : Environment) (kept : PassKeeps env more) where
   ranged_tables : TablesFit env → reports_no_invariant more ≡ true → TablesFit more
   ranged_tables t reports =
       let before : TablesFit (unreported env) =
-          record { identifiers = t.identifiers; types = t.types; signatures = t.signatures;
-          reports = (both_true _ _ t.reports).1 } in
+      record {
+        identifiers = t.identifiers;
+        types = t.types;
+        signatures = t.signatures;
+        reports = (both_true _ _ t.reports).1;
+      } in
       let after : TablesFit (unreported more) =
-          tables_alike_fit (unreported env) (unreported more) unreported_alike before in
+      tables_alike_fit (unreported env) (unreported more) unreported_alike before in
       record { identifiers = after.identifiers; types = after.types; signatures = after.signatures; reports = reports }
 
   abbrev reported : List Report → List Interned → Environment
@@ -102,7 +106,7 @@ pub ranged_fits : (f g : HirFunction) (env more : Environment) → function_fits
 ranged_fits f g env more h still kept reports =
     let t : TablesFit more = ranged_tables env more kept (tables_of f env h) reports in
     fits_with_other_places f g more (sym still)
-        (fits_evolved env more (ranged_evolves env more kept) t.identifiers t.types t.signatures t.reports f h)
+    (fits_evolved env more (ranged_evolves env more kept) t.identifiers t.types t.signatures t.reports f h)
 
 -- the same where the reports stay
 pub silent_fits : (f g : HirFunction) (env more : Environment) → function_fits f env ≡ true → but_place_effects g

@@ -21,7 +21,7 @@ RangesCover f ids = IsOkAnd (recorded f) (λ l. Covers (graph_listed l) l.mutati
 abbrev pub MarksAreDefinite : Bool → HirFunction → Environment → Type 0
 MarksAreDefinite is_function_expression f env =
     IsOkAnd (recorded f) (λ l. SeesDefinite (graph_listed l) l.mutations
-        (mutations_done (records is_function_expression env) l env).0)
+    (mutations_done (records is_function_expression env) l env).0)
 
 -- each range end is that of before, or one past a recorded mutation that a legal path joins to the identifier, or one
 -- past an instruction that assigns or stores it

@@ -25,4 +25,4 @@ pub given_found : {A : Type 0} (f : Reads A) (default : A) (p q key : List ℕ) 
     → (r : Result A ValueFault) → Gives is_memory (f q e) r → Gives is_memory (given_or f default p key d) r
 given_found {A} f default p q key here d e g r a =
     subst (λ (x : Result A ValueFault). Gives is_memory x r)
-        (ap (λ (x : List ℕ). f x e) here ∙ ap (λ (o : Option Data). if_given f default (at_key p key) o) g) a
+    (ap (λ (x : List ℕ). f x e) here ∙ ap (λ (o : Option Data). if_given f default (at_key p key) o) g) a

@@ -6,8 +6,8 @@ use Rattle.std.specs.declared.cmp.Ordering.{Ordering}
 use Rattle.std.specs.declared.cmp.Ordering.TheVariants.{Less, Equal, Greater}
 use Rattle.std.specs.Cmp.Lexicographic.{slice_cmp}
 use Rattle.alias_base.specs.Answer.{◌>>=◌, Gives}
-use Rattle.serde_json.specs.Data.{Data, null, boolean, number, string, array, object, Members, no_members, member,
-    depth, members_depth}
+use Rattle.serde_json.specs.Data.{Data, null, boolean, number, string, array, object, Members, no_members, member}
+use Rattle.serde_json.specs.Data.{depth, members_depth}
 use Rattle.serde_json.specs.Find.{get, get_member}
 use Rattle.alias_hir.specs.declared.types.Ty.{Ty}
 use Rattle.alias_json.specs.Pointer.{at_key}
@@ -34,7 +34,7 @@ return_type_in-get_member : (q : List ℕ) (ms : Members) → return_type_in q m
 return_type_in-get_member q no_members = refl
 return_type_in-get_member q (member k d ms) =
     by_order (slice_cmp nat_cmp (codes "return_type") k) q d (return_type_in q ms) (get_member (codes "return_type") ms)
-        (return_type_in-get_member q ms)
+    (return_type_in-get_member q ms)
 
 -- a type, by what is required at the key `return_type`
 pub type_at_required : (p : List ℕ) (d : Data) → type_at p d
@@ -78,13 +78,13 @@ module _ (p q : List ℕ) (here : q ≡ at_key p (codes "return_type")) (d : Dat
       type_at_required p d
       ∙ ap (λ (r : Result ⊤ ValueFault). r >>= (λ _. type_with (required type_at p (codes "return_type") d) p d)) o
       ∙ ap (λ (r : Result TypeKind ValueFault). r
-          >>= (λ (x : TypeKind). type_of_kind x (required type_at p (codes "return_type") d) p d)) k
+      >>= (λ (x : TypeKind). type_of_kind x (required type_at p (codes "return_type") d) p d)) k
       ∙ ap (λ (x : TypeKind). type_of_kind x (required type_at p (codes "return_type") d) p d) is
       ∙ ap (λ (r : Result (Option (List ℕ)) ValueFault). r
-          >>= (λ (i : Option (List ℕ)). required type_at p (codes "return_type") d
-          >>= (λ (t : Ty). function_type_of i t p d))) s
+      >>= (λ (i : Option (List ℕ)). required type_at p (codes "return_type") d
+      >>= (λ (t : Ty). function_type_of i t p d))) s
       ∙ ap (λ (x : List ℕ). if_there type_at x (get (codes "return_type") d)
-          >>= (λ (t : Ty). function_type_of shape_id t p d)) (sym here)
+      >>= (λ (t : Ty). function_type_of shape_id t p d)) (sym here)
       ∙ ap (λ (f : Option Data). if_there type_at q f >>= (λ (t : Ty). function_type_of shape_id t p d)) (sym g)
 
   pub type_missing : None ≡ get (codes "return_type") d → (r : Result Ty ValueFault)
@@ -95,12 +95,12 @@ module _ (p q : List ℕ) (here : q ≡ at_key p (codes "return_type")) (d : Dat
       → IsErrAnd r (λ z. z ≡ f) → Gives {A = Ty} is_memory (type_at q e) (Err f) → Gives is_memory (type_at p d) r
   type_fault e g f r is_fault a =
       gives_same (type_at p d) r f is_fault (λ m. type_read (Some e) g
-          ∙ ap (λ (x : Result Ty ValueFault). x >>= (λ (t : Ty). function_type_of shape_id t p d)) (a m))
+      ∙ ap (λ (x : Result Ty ValueFault). x >>= (λ (t : Ty). function_type_of shape_id t p d)) (a m))
 
   pub type_found : (e : Data) → Some e ≡ get (codes "return_type") d → (t : Ty) → type_at q e ≡ Ok t
       → (r : Result Ty ValueFault) → Gives is_memory (function_type_of shape_id t p d) r
       → Gives is_memory (type_at p d) r
   type_found e g t is_t r a =
       subst (λ (x : Result Ty ValueFault). Gives is_memory x r)
-          (sym (type_read (Some e) g ∙ ap (λ (x : Result Ty ValueFault). x
-          >>= (λ (y : Ty). function_type_of shape_id y p d)) is_t)) a
+      (sym (type_read (Some e) g ∙ ap (λ (x : Result Ty ValueFault). x
+      >>= (λ (y : Ty). function_type_of shape_id y p d)) is_t)) a

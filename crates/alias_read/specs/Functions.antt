@@ -77,6 +77,15 @@ function_at p d = do
   instructions ← list_of instruction_at p (codes "instructions") d
   blocks ← required (entries_at block_at) p (codes "blocks") d
   _ ← function_keys p d
-  Ok (record { fn_type = fn_type; params = params; context = context; context_values = []; returns = returns;
-      body = record { entry = entry; blocks = blocks }; instructions = instructions; is_async = is_async; span = span;
-      aliasing_effects = None })
+  Ok (record {
+    fn_type = fn_type;
+    params = params;
+    context = context;
+    context_values = [];
+    returns = returns;
+    body = record { entry = entry; blocks = blocks };
+    instructions = instructions;
+    is_async = is_async;
+    span = span;
+    aliasing_effects = None;
+  })

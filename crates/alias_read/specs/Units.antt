@@ -1,6 +1,6 @@
 -- The unit that JSON data spell, and the one that a text spells.
-use Rattle.std.specs.Prelude.{◌≡◌, ℕ, ◌==◌, List, [], ◌∷◌, length, Some, Result, Ok, Err, ⊤, codes, if◌then◌else◌,
-    IsUtf8}
+use Rattle.std.specs.Prelude.{◌≡◌, ℕ, ◌==◌, List, [], ◌∷◌, length, Some, Result, Ok, Err, ⊤, codes, if◌then◌else◌}
+use Rattle.std.specs.Prelude.{IsUtf8}
 use Rattle.alias_base.specs.Answer.{◌>>=◌}
 use Rattle.serde_json.specs.Data.{Data}
 use Rattle.serde_json.specs.Read.{read}
@@ -71,8 +71,15 @@ environment_at p d = do
   shapes ← given_or shapes_at [] p (codes "shapes") d
   identifiers ← list_of identifier_at p (codes "identifiers") d
   functions ← list_of function_at p (codes "functions") d
-  Ok (record { identifiers = identifiers; types = types; functions = functions; shapes = shapes; errors = [];
-      interned = []; config = config })
+  Ok (record {
+    identifiers = identifiers;
+    types = types;
+    functions = functions;
+    shapes = shapes;
+    errors = [];
+    interned = [];
+    config = config;
+  })
 
 abbrev pub with_context_values : HirFunction → List ContextValue → HirFunction
 with_context_values root values = record root { context_values = values }

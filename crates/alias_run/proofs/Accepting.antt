@@ -26,10 +26,10 @@ use Rattle.alias_run.specs.declared.command.Command.TheVariants.{Check, Certify}
 use Rattle.alias_run.specs.declared.outcome.Outcome.{Outcome}
 use Rattle.alias_run.specs.declared.query.Query.TheVariants.{Acceptance}
 use Rattle.alias_run.specs.declared.status.Status.{Status}
-use Rattle.alias_run.specs.declared.status.Status.TheVariants.{Done, NotJson, NotUnit, Unfit, BadLine, Rejected,
-    ReadFault, TooLong, Memory}
-use Rattle.alias_run.specs.Findings.{greatest_input, parts_of, Infers, IsAccepted, IsChecked, IsJudged, IsRead, IsFound,
-    EndsAccepted}
+use Rattle.alias_run.specs.declared.status.Status.TheVariants.{Done, NotJson, NotUnit, Unfit, BadLine, Rejected}
+use Rattle.alias_run.specs.declared.status.Status.TheVariants.{ReadFault, TooLong, Memory}
+use Rattle.alias_run.specs.Findings.{greatest_input, parts_of, Infers, IsAccepted, IsChecked, IsJudged, IsRead, IsFound}
+use Rattle.alias_run.specs.Findings.{EndsAccepted}
 use Rattle.alias_run.specs.Runs.{IsRun, IsAccepting}
 use Rattle.alias_run.specs.Texts.{text_of, IsCertificateOf, IsCertifying}
 use Rattle.alias_run.proofs.Refusing.{one_some, one_unit, run_ends}
@@ -56,9 +56,9 @@ module _ (u : HirUnit) (i : UnitInference) (rules : rules_hold u ≡ Ok tt) (inf
       ≡ Err e → e ≡ fault.TooMany Diagnostics
   rejected_full c e is h =
       full_alone (unit_checked own.functions u) e
-          (certificates_are_accepted u (record { functions = infers.0; inferred = i }) rules infers.1)
+      (certificates_are_accepted u (record { functions = infers.0; inferred = i }) rules infers.1)
       (subst (λ (d : Certificate). unit_checked d.functions u ≡ Err e)
-          (one_certificate (certificate_of_text text) c own is reads_as) h)
+      (one_certificate (certificate_of_text text) c own is reads_as) h)
 
   pub accepted_ends : (status : Status) (a : Answer) → IsAccepted text u status a → EndsAccepted status
   accepted_ends (BadLine number) a h = let no : Ok own ≡ Err (text_fault.BadLine number) = sym reads_as ∙ h.0 in
@@ -74,7 +74,7 @@ module _ (bytes : List ℕ) (failed : Type 0) (no_read_fails : failed → ⊥) (
     (u : HirUnit)
     (is : UnitReading (parts_of Acceptance bytes).0 u) (rules : rules_hold u ≡ Ok tt)
     (ends : (status : Status) (a : Answer) → IsAccepted (parts_of Acceptance bytes).1 u status a
-        → EndsAccepted status) where
+    → EndsAccepted status) where
   checked_accepted : (v : HirUnit) (status : Status) (a : Answer) → v ≡ u
       → IsChecked Acceptance (parts_of Acceptance bytes).1 v status a → EndsAccepted status
   checked_accepted v (Unfit broken) a same h = let no : Ok tt ≡ Err broken = sym rules ∙ sym (ap rules_hold same)
@@ -89,7 +89,7 @@ module _ (bytes : List ℕ) (failed : Type 0) (no_read_fails : failed → ⊥) (
   judged_accepted (NotUnit pointer rule) a h =
       let r = h.0 in
       let no : Ok u ≡ Err (value.Refused pointer rule) = sym is.2 ∙ ap unit_of (one_some _ is.0 r.0 is.1.tree r.1.tree)
-          ∙ r.2 in absurd (cc)
+      ∙ r.2 in absurd (cc)
   judged_accepted Memory a h = tt
   judged_accepted status a h = checked_accepted h.0 status a (one_unit (parts_of Acceptance bytes).0 h.0 u h.1 is) h.2
 
@@ -111,22 +111,22 @@ certified_ends : (known : Option (List ℕ)) (failed : Type 0) (bytes : List ℕ
     ≡ Some bytes → length bytes ≤ greatest_input
     → UnitReading (parts_of Acceptance bytes).0 u → rules_hold u ≡ Ok tt → Infers u i
     → IsCertificateOf i (parts_of Acceptance bytes).1 → (failed → ⊥) → (status : Status) (a : Answer)
-        → IsRead Acceptance known failed status a → EndsAccepted status
+    → IsRead Acceptance known failed status a → EndsAccepted status
 certified_ends known failed bytes u i whole short is rules infers reads_as reads status a h =
     read_accepted bytes failed reads short u is rules
-        (accepted_ends u i rules infers (parts_of Acceptance bytes).1 reads_as) status a
+    (accepted_ends u i rules infers (parts_of Acceptance bytes).1 reads_as) status a
     (subst (λ k. IsRead Acceptance k failed status a) whole h)
 
 -- each run accepts such a certificate
 pub run_is_accepting : (asked : Option Command) (known : Option (List ℕ)) (read_failed write_failed : Type 0)
     (held held' : Option (List ℕ)) (status : Status) (a : Answer)
     → IsRun asked known read_failed write_failed held held' status a
-        → IsAccepting asked known read_failed write_failed status
+    → IsAccepting asked known read_failed write_failed status
 unfolding IsAccepting IsFound
 run_is_accepting (Some Check) known read_failed write_failed held held' status a r =
     λ bytes u i whole short is rules infers reads_as reads writes.
     run_ends EndsAccepted tt (Some Check) known read_failed write_failed held held'
-        (certified_ends known read_failed bytes u i whole short is rules infers reads_as reads) writes status a r
+    (certified_ends known read_failed bytes u i whole short is rules infers reads_as reads) writes status a r
 run_is_accepting asked known read_failed write_failed held held' status a r = tt
 
 -- ---- what is written

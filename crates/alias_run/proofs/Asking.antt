@@ -12,8 +12,8 @@ use Rattle.alias_hir.specs.declared.error.Counter.{Counter}
 use Rattle.alias_hir.specs.declared.error.InferError.{InferError}
 use Rattle.alias_hir.specs.declared.error.InferError.TheVariants as infer
 use Rattle.alias_explain.specs.Explanations.{explained, function_of, is_want_of_memory}
-use Rattle.alias_explain.specs.Functions.{numbered, if_here, with_found, each_explained, explained_there,
-    function_explained, IsExplanationOf}
+use Rattle.alias_explain.specs.Functions.{numbered, if_here, with_found, each_explained, explained_there}
+use Rattle.alias_explain.specs.Functions.{function_explained, IsExplanationOf}
 use Rattle.alias_explain.specs.declared.function.IdentifierExplanation.{IdentifierExplanation}
 use Rattle.alias_explain.specs.declared.explain.ExplainFault.{ExplainFault}
 use Rattle.alias_explain.specs.declared.explain.ExplainFault.TheVariants as explain
@@ -47,8 +47,12 @@ pub inferred_askable : (u v : HirUnit) (i : UnitInference) → v ≡ u → rules
 inferred_askable u v i same rules h fits =
     let a : UnitAnalysis = record { functions = h.0; inferred = i } in
     let r = subst (λ z. rules_hold z ≡ Ok tt) same rules in
-    record { fits = fits; lints = unit_lints u a r h.1; numbered = never_too_many u a r h.1;
-        caused = each_has_cause u a r h.1 }
+    record {
+      fits = fits;
+      lints = unit_lints u a r h.1;
+      numbered = never_too_many u a r h.1;
+      caused = each_has_cause u a r h.1;
+    }
 
 -- ---- lints
 
@@ -102,7 +106,7 @@ all_caused f i (x ∷ xs) caused h = (caused f x.identifier x.explanation h.0, a
 pub function_done : (f : Option FunctionId) (i : UnitInference) (xs : List IdentifierExplanation) (o : Outcome) → o
     ≡ record { status = Done; answer = FunctionExplained xs } → EachHasCause i
     → Gives is_want_of_memory (function_explained i.unit f) (Ok xs) → AllByRecursion (IsExplanationOf i.unit f) xs
-        → IsFunctionExplainedOf f i o.status o.answer
+    → IsFunctionExplainedOf f i o.status o.answer
 function_done f i xs o is caused h alone =
     subst (λ (z : Outcome). IsFunctionExplainedOf f i z.status z.answer) (sym is) (h, all_caused f i xs caused alone)
 
@@ -111,8 +115,8 @@ module _ (u : HirUnit) (f : Option FunctionId)
   next_numbered : (n : ℕ) (ns : List ℕ) (found : List IdentifierExplanation) (which : Counter)
       (r : Result Explanation ExplainFault) → explained u f (numbered n) ≡ r
       → ((more : List IdentifierExplanation) → each_explained u f more ns ≡ Err (explain.TooMany which) → ⊥)
-          → (if_here r >>= (λ e. each_explained u f (with_found found (numbered n) e) ns)) ≡ Err (explain.TooMany which)
-          → ⊥
+      → (if_here r >>= (λ e. each_explained u f (with_found found (numbered n) e) ns)) ≡ Err (explain.TooMany which)
+      → ⊥
   next_numbered n ns found which (Ok e) is rest h = rest (with_found found (numbered n) (Some e)) h
   next_numbered n ns found which (Err explain.NotHere) is rest h = rest found h
   next_numbered n ns found which (Err (explain.TooMany other)) is rest h = never (numbered n) other is

@@ -1,6 +1,6 @@
 -- A refusal of the inference has its cause in the unit, and what `plain` says of a unit holds of its inference.
-use Rattle.std.proofs.Common.{◌≡◌, ◌≢◌, ◌∙◌, ℕ, ◌<◌, ◌≤◌, ⊎_elim, inl, inr, List, [], length, Option, Some, refl, sym,
-    ap, subst, arith}
+use Rattle.std.proofs.Common.{◌≡◌, ◌≢◌, ◌∙◌, ℕ, ◌<◌, ◌≤◌, ⊎_elim, inl, inr, List, [], length, Option, Some, refl, sym}
+use Rattle.std.proofs.Common.{ap, subst, arith}
 use Rattle.std.specs.Prelude.{true, false, Result, Ok, Err}
 use Rattle.alias_base.specs.Answer.{Gives}
 use Rattle.alias_base.specs.declared.ids.FunctionId.{FunctionId}
@@ -24,8 +24,8 @@ use Rattle.alias_plain.specs.declared.laws.answer.Plainness.{Plainness as PlainA
 use Rattle.alias_plain.specs.declared.laws.answer.Plainness.TheVariants as plain
 use Rattle.alias_plainness.specs.Plainness.{IsPlainUnit}
 use Rattle.alias_unit_completeness.specs.Complete.{unit_caused}
-use Rattle.alias_unit_completeness.specs.Refusals.{IsCaused, IsForwardUnit, IsTooMany, IsTooManyOrUnsettled,
-    blames_no_plain}
+use Rattle.alias_unit_completeness.specs.Refusals.{IsCaused, IsForwardUnit, IsTooMany, IsTooManyOrUnsettled}
+use Rattle.alias_unit_completeness.specs.Refusals.{blames_no_plain}
 use Rattle.alias_run.specs.declared.answer.Answer.{Answer}
 use Rattle.alias_run.specs.declared.answer.Answer.TheVariants.{Nothing, Decided}
 use Rattle.alias_run.specs.declared.command.Command.{Command}
@@ -33,10 +33,10 @@ use Rattle.alias_run.specs.declared.command.Command.TheVariants.{Infer, Certify,
 use Rattle.alias_run.specs.declared.outcome.Outcome.{Outcome}
 use Rattle.alias_run.specs.declared.query.Query.TheVariants.{Inference}
 use Rattle.alias_run.specs.declared.status.Status.{Status}
-use Rattle.alias_run.specs.declared.status.Status.TheVariants.{Done, NotJson, NotUnit, Unfit, Refused, ReadFault,
-    WriteFault, TooLong, Memory}
-use Rattle.alias_run.specs.Findings.{greatest_input, IsInferred, EndsUnblamed, EndsInferred, Settles, EndsWherePlain,
-    IsDecided, IsChecked, IsJudged, IsRead, IsFound}
+use Rattle.alias_run.specs.declared.status.Status.TheVariants.{Done, NotJson, NotUnit, Unfit, Refused, ReadFault}
+use Rattle.alias_run.specs.declared.status.Status.TheVariants.{WriteFault, TooLong, Memory}
+use Rattle.alias_run.specs.Findings.{greatest_input, IsInferred, EndsUnblamed, EndsInferred, Settles, EndsWherePlain}
+use Rattle.alias_run.specs.Findings.{IsDecided, IsChecked, IsJudged, IsRead, IsFound}
 use Rattle.alias_run.specs.Runs.{IsRun, IsComplete}
 use Rattle.alias_run.specs.Statuses.{infer_status, plain_status}
 use Rattle.alias_run.proofs.Running.{ended_as}
@@ -171,7 +171,7 @@ pub run_ends : (Ends : Status → Type 0) → Ends Memory
     (held held' : Option (List ℕ)) → ((status : Status) (a : Answer) → IsFound asked known read_failed status a
     → Ends status)
     → (write_failed → ⊥) → (status : Status) (a : Answer)
-        → IsRun asked known read_failed write_failed held held' status a → Ends status
+    → IsRun asked known read_failed write_failed held held' status a → Ends status
 run_ends Ends memory asked known read_failed write_failed held held' ends writes WriteFault a r = absurd (writes r.0)
 run_ends Ends memory asked known read_failed write_failed held held' ends writes Memory a r = memory
 run_ends Ends memory asked known read_failed write_failed held held' ends writes status a r = ends status a r.0
@@ -183,7 +183,7 @@ found_ends : (known : Option (List ℕ)) (failed : Type 0) (bytes : List ℕ) (u
     → (status : Status) (a : Answer) → IsRead Inference known failed status a → EndsUnblamed status
 found_ends known failed bytes u whole short is rules plain settles reads status a h =
     read_ends bytes failed reads short u is rules (unblamed u plain settles) status a
-        (subst (λ k. IsRead Inference k failed status a) whole h)
+    (subst (λ k. IsRead Inference k failed status a) whole h)
 
 -- each run is complete
 pub run_is_complete : (asked : Option Command) (known : Option (List ℕ)) (read_failed write_failed : Type 0)
@@ -194,12 +194,12 @@ unfolding IsComplete IsFound
 run_is_complete (Some Infer) known read_failed write_failed held held' status a r =
     λ bytes u whole short is rules plain settles reads writes.
     run_ends EndsUnblamed tt (Some Infer) known read_failed write_failed held held'
-        (found_ends known read_failed bytes u whole short is rules plain settles reads) writes status a r
+    (found_ends known read_failed bytes u whole short is rules plain settles reads) writes status a r
 run_is_complete (Some Certify) known read_failed write_failed held held' status a r =
     λ bytes u whole short is rules plain settles reads writes.
     run_ends EndsUnblamed tt (Some Certify) known read_failed write_failed held held'
-        (found_ends known read_failed bytes u whole short is rules plain settles reads) writes status a r
+    (found_ends known read_failed bytes u whole short is rules plain settles reads) writes status a r
 run_is_complete (Some (Made seed size)) known read_failed write_failed held held' status a r = λ writes.
     run_ends EndsInferred tt (Some (Made seed size)) known read_failed write_failed held held' (λ s b found. found.2)
-        writes status a r
+    writes status a r
 run_is_complete asked known read_failed write_failed held held' status a r = tt

@@ -1,6 +1,6 @@
 -- From what a layer finds to what the run comes to.
-use Rattle.std.proofs.Common.{◌≡◌, false, ℕ, ◌≤◌, ⊎_elim, inl, inr, List, [], length, take, Option, Some, None, refl,
-    sym, ◌∙◌, ap, subst}
+use Rattle.std.proofs.Common.{◌≡◌, false, ℕ, ◌≤◌, ⊎_elim, inl, inr, List, [], length, take, Option, Some, None, refl}
+use Rattle.std.proofs.Common.{sym, ◌∙◌, ap, subst}
 use Rattle.std.specs.Prelude.{Result, Ok, Err, ⊤}
 use Rattle.std.proofs.lemmas.List.{append-nil}
 use Rattle.std.proofs.Math.Seq.{take-length}
@@ -19,26 +19,28 @@ use Rattle.alias_read.specs.Units.{UnitReading, ReadsUnit}
 use Rattle.alias_read.specs.declared.fault.TextFault.{TextFault}
 use Rattle.alias_read.specs.declared.fault.TextFault.TheVariants as text
 use Rattle.alias_run.specs.declared.command.Command.{Command}
-use Rattle.alias_run.specs.declared.command.Command.TheVariants.{Infer, Certify, Check, Lint, Explain, ExplainFunction,
-    Plain, Made, Help, Version}
+use Rattle.alias_run.specs.declared.command.Command.TheVariants.{Infer, Certify, Check, Lint, Explain, ExplainFunction}
+use Rattle.alias_run.specs.declared.command.Command.TheVariants.{Plain, Made, Help, Version}
 use Rattle.alias_run.specs.declared.status.Status.{Status}
-use Rattle.alias_run.specs.declared.status.Status.TheVariants.{Done, Words, NotJson, NotUnit, Unfit, BadLine, Rejected,
-    PlainRefused, Refused, NotHere, ReadFault, WriteFault, TooLong, Memory}
+use Rattle.alias_run.specs.declared.status.Status.TheVariants.{Done, Words, NotJson, NotUnit, Unfit, BadLine, Rejected}
+use Rattle.alias_run.specs.declared.status.Status.TheVariants.{PlainRefused, Refused, NotHere, ReadFault, WriteFault}
+use Rattle.alias_run.specs.declared.status.Status.TheVariants.{TooLong, Memory}
 use Rattle.alias_text.specs.declared.detail.Detail.{Detail}
 use Rattle.alias_text.specs.declared.detail.Detail.TheVariants as detail
 use Rattle.alias_run.specs.declared.answer.Answer.{Answer}
-use Rattle.alias_run.specs.declared.answer.Answer.TheVariants.{Nothing, Inferred, Accepted, Linted, Explained,
-    FunctionExplained, Decided}
+use Rattle.alias_run.specs.declared.answer.Answer.TheVariants.{Nothing, Inferred, Accepted, Linted, Explained}
+use Rattle.alias_run.specs.declared.answer.Answer.TheVariants.{FunctionExplained, Decided}
 use Rattle.alias_run.specs.declared.query.Query.{Query}
-use Rattle.alias_run.specs.declared.query.Query.TheVariants.{Inference, Acceptance, Lints, Explanation,
-    FunctionExplanation, Plainness}
+use Rattle.alias_run.specs.declared.query.Query.TheVariants.{Inference, Acceptance, Lints, Explanation}
+use Rattle.alias_run.specs.declared.query.Query.TheVariants.{FunctionExplanation, Plainness}
 use Rattle.alias_run.specs.declared.outcome.Outcome.{Outcome}
 use Rattle.alias_rules.specs.Functions.{rules_hold, checks}
 use Rattle.alias_rules.specs.function_rules.Fault.{is_memory}
 use Rattle.alias_rules.specs.declared.function_rules.fault.UnitFault.{UnitFault}
 use Rattle.alias_rules.specs.declared.function_rules.fault.UnitFault.TheVariants as unit
-use Rattle.alias_run.specs.Findings.{parts_of, EndsInferred, IsAccepted, IsAcceptedOf, Infers, IsOfInference,
-    IsInferred, IsChecked, IsAnswered, IsFit, IsJudged, IsRead, IsFound, Leaves, greatest_input}
+use Rattle.alias_run.specs.Findings.{parts_of, EndsInferred, IsAccepted, IsAcceptedOf, Infers, IsOfInference}
+use Rattle.alias_run.specs.Findings.{IsInferred, IsChecked, IsAnswered, IsFit, IsJudged, IsRead, IsFound, Leaves}
+use Rattle.alias_run.specs.Findings.{greatest_input}
 use Rattle.alias_run.specs.Inferences.{solved_tell}
 use Rattle.alias_inferred_laws.proofs.inferred.Carrying.{solutions_carried}
 use Rattle.alias_run.specs.Runs.{IsRun, IsInferredOf, IsAnsweredOf, IsUnitOf, ArePartsOf, IsDone, IsHeadline}
@@ -249,7 +251,7 @@ module _ (asked : Option Command) (known : Option (List ℕ)) (read_failed write
       → IsRun asked known read_failed write_failed held held o.status o.answer
   ran_out found o is f =
       subst (λ (z : Outcome). IsRun asked known read_failed write_failed held held z.status z.answer) (sym is)
-          ((found.status, found.answer, f, 0, adds_nothing held), refl)
+      ((found.status, found.answer, f, 0, adds_nothing held), refl)
 
   stopped : (found : Outcome) (n : ℕ) (stop : SinkStop) → IsFound asked known read_failed found.status found.answer
       → Adds held (take n (text_of asked found.status found.answer)) held' → (stop ≡ sink.Failed → write_failed)
@@ -261,11 +263,11 @@ module _ (asked : Option Command) (known : Option (List ℕ)) (read_failed write
   pub broke_off : (found : Outcome) (n : ℕ) (stop : SinkStop) (status : Status) (o : Outcome) → o ≡ ended_as status
       → status ≡ write_status stop
       → IsFound asked known read_failed found.status found.answer
-          → Adds held (take n (text_of asked found.status found.answer)) held' → (stop ≡ sink.Failed → write_failed)
+      → Adds held (take n (text_of asked found.status found.answer)) held' → (stop ≡ sink.Failed → write_failed)
       → IsRun asked known read_failed write_failed held held' o.status o.answer
   broke_off found n stop status o is s f a w =
       subst (λ (z : Outcome). IsRun asked known read_failed write_failed held held' z.status z.answer)
-          (sym (is ∙ ap ended_as s)) (stopped found n stop f a w)
+      (sym (is ∙ ap ended_as s)) (stopped found n stop f a w)
 
 -- what is found, before anything is written
 module _ (known : Option (List ℕ)) (read_failed : Type 0) where
@@ -314,9 +316,10 @@ module _ (known : Option (List ℕ)) (read_failed write_failed : Type 0) (held h
       → Adds held (text_of asked status i) held' → IsRun asked known read_failed write_failed held held' status i
   ran asked WriteFault i f a = absurd (no_write_fault known read_failed asked i f)
   ran asked Memory i f a =
-      let text = text_of asked Memory i in
-      ((Memory, i, f, length text, subst (λ t. Adds held t held') (sym (take-length text)) a),
-          memory_alone known read_failed asked i f)
+      let text = text_of asked Memory i in (
+        (Memory, i, f, length text, subst (λ t. Adds held t held') (sym (take-length text)) a),
+        memory_alone known read_failed asked i f,
+      )
   ran asked status i f a = (f, a)
 
   done_read : (printed : Detail) (a : Answer) → IsRead Inference known read_failed Done a
@@ -329,9 +332,17 @@ module _ (known : Option (List ℕ)) (read_failed write_failed : Type 0) (held h
   done_read printed (Decided p) f t = f.3.2.1
   done_read printed (Inferred x) f t =
       let j = f.3 in
-      let k = j.2.1 in
-      (j.0, k.0, known_unit known f.0 j.0 f.1 j.1, j.2.0, k.1, k.2, solved_tell k.0 k.2,
-          solutions_carried j.0 (record { functions = k.0; inferred = x }) j.2.0 k.1, t)
+      let k = j.2.1 in (
+        j.0,
+        k.0,
+        known_unit known f.0 j.0 f.1 j.1,
+        j.2.0,
+        k.1,
+        k.2,
+        solved_tell k.0 k.2,
+        solutions_carried j.0 (record { functions = k.0; inferred = x }) j.2.0 k.1,
+        t,
+      )
 
   done_made : (made : HirUnit) (a : Answer) → IsFit made Done a → Adds held (answer_text detail.Counts Done a) held'
       → IsInferredOf (λ u. u ≡ made) detail.Counts held held' a
@@ -341,9 +352,17 @@ module _ (known : Option (List ℕ)) (read_failed write_failed : Type 0) (held h
   done_made made (Explained e) f t = f.1
   done_made made (FunctionExplained xs) f t = f.1
   done_made made (Decided p) f t = f.1
-  done_made made (Inferred x) f t = let k = f.1 in
-      (made, k.0, refl, f.0, k.1, k.2, solved_tell k.0 k.2,
-      solutions_carried made (record { functions = k.0; inferred = x }) f.0 k.1, t)
+  done_made made (Inferred x) f t = let k = f.1 in (
+    made,
+    k.0,
+    refl,
+    f.0,
+    k.1,
+    k.2,
+    solved_tell k.0 k.2,
+    solutions_carried made (record { functions = k.0; inferred = x }) f.0 k.1,
+    t,
+  )
 
   done_asked : (q : Query) (a : Answer) → IsRead q known read_failed Done a
       → Adds held (answer_text detail.Infer Done a) held' → IsAnsweredOf q known held held' a

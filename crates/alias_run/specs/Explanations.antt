@@ -1,8 +1,9 @@
 -- What is told a person of a status.
 use Rattle.std.specs.Prelude.{ℕ, List, [], codes}
 use Rattle.alias_run.specs.declared.status.Status.{Status}
-use Rattle.alias_run.specs.declared.status.Status.TheVariants.{Done, Words, NotJson, NotUnit, Unfit, BadLine, Rejected,
-    PlainRefused, Refused, NotHere, ReadFault, WriteFault, TooLong, Memory}
+use Rattle.alias_run.specs.declared.status.Status.TheVariants.{Done, Words, NotJson, NotUnit, Unfit, BadLine, Rejected}
+use Rattle.alias_run.specs.declared.status.Status.TheVariants.{PlainRefused, Refused, NotHere, ReadFault, WriteFault}
+use Rattle.alias_run.specs.declared.status.Status.TheVariants.{TooLong, Memory}
 
 -- what is wrong, and what to look at
 abbrev pub explanation : Status → List ℕ

@@ -11,17 +11,18 @@ use Rattle.alias_read.specs.Units.{UnitReading, ReadsUnit}
 use Rattle.alias_read.specs.declared.fault.TextFault.TheVariants as text
 use Rattle.alias_stream.specs.Streams.{IsAllOf, IsAtEnd, IfKnown}
 use Rattle.alias_run.specs.declared.command.Command.{Command}
-use Rattle.alias_run.specs.declared.command.Command.TheVariants.{Infer, Certify, Check, Lint, Explain, ExplainFunction,
-    Plain, Made, Help, Version}
+use Rattle.alias_run.specs.declared.command.Command.TheVariants.{Infer, Certify, Check, Lint, Explain, ExplainFunction}
+use Rattle.alias_run.specs.declared.command.Command.TheVariants.{Plain, Made, Help, Version}
 use Rattle.alias_run.specs.declared.query.Query.{Query}
-use Rattle.alias_run.specs.declared.query.Query.TheVariants.{Inference, Acceptance, Lints, Explanation,
-    FunctionExplanation, Plainness}
+use Rattle.alias_run.specs.declared.query.Query.TheVariants.{Inference, Acceptance, Lints, Explanation}
+use Rattle.alias_run.specs.declared.query.Query.TheVariants.{FunctionExplanation, Plainness}
 use Rattle.alias_run.specs.declared.status.Status.{Status}
-use Rattle.alias_run.specs.declared.status.Status.TheVariants.{Done, Words, NotJson, NotUnit, Unfit, BadLine, Rejected,
-    PlainRefused, Refused, NotHere, ReadFault, WriteFault, TooLong, Memory}
+use Rattle.alias_run.specs.declared.status.Status.TheVariants.{Done, Words, NotJson, NotUnit, Unfit, BadLine, Rejected}
+use Rattle.alias_run.specs.declared.status.Status.TheVariants.{PlainRefused, Refused, NotHere, ReadFault, WriteFault}
+use Rattle.alias_run.specs.declared.status.Status.TheVariants.{TooLong, Memory}
 use Rattle.alias_run.specs.declared.answer.Answer.{Answer}
-use Rattle.alias_run.specs.declared.answer.Answer.TheVariants.{Nothing, Inferred, Accepted, Linted, Explained,
-    FunctionExplained, Decided}
+use Rattle.alias_run.specs.declared.answer.Answer.TheVariants.{Nothing, Inferred, Accepted, Linted, Explained}
+use Rattle.alias_run.specs.declared.answer.Answer.TheVariants.{FunctionExplained, Decided}
 use Rattle.alias_cert.specs.Units.{unit_checked, Accepts}
 use Rattle.alias_cert_text.specs.Certificates.{certificate_of_text}
 use Rattle.alias_cert_text.specs.Input.{input_parts}

@@ -9,8 +9,8 @@ use Rattle.alias_read.specs.Units.{UnitReading}
 use Rattle.alias_text.specs.declared.detail.Detail.{Detail}
 use Rattle.alias_text.specs.declared.detail.Detail.TheVariants as detail
 use Rattle.alias_run.specs.declared.command.Command.{Command}
-use Rattle.alias_run.specs.declared.command.Command.TheVariants.{Infer, Certify, Check, Lint, Explain, ExplainFunction,
-    Plain, Made, Help, Version}
+use Rattle.alias_run.specs.declared.command.Command.TheVariants.{Infer, Certify, Check, Lint, Explain, ExplainFunction}
+use Rattle.alias_run.specs.declared.command.Command.TheVariants.{Plain, Made, Help, Version}
 use Rattle.alias_run.specs.declared.status.Status.{Status}
 use Rattle.alias_run.specs.declared.status.Status.TheVariants.{Done, WriteFault, Memory}
 use Rattle.alias_run.specs.declared.answer.Answer.{Answer}
@@ -20,11 +20,11 @@ use Rattle.alias_nested.specs.Units.{unit_analysed}
 use Rattle.alias_nested.specs.declared.infer.Inferred.{Inferred as UnitInference}
 use Rattle.alias_inferred_laws.specs.inferred.Solutions.{SolutionsAreCarried}
 use Rattle.alias_run.specs.declared.query.Query.{Query}
-use Rattle.alias_run.specs.declared.query.Query.TheVariants.{Acceptance, Lints, Explanation, FunctionExplanation,
-    Plainness}
+use Rattle.alias_run.specs.declared.query.Query.TheVariants.{Acceptance, Lints, Explanation, FunctionExplanation}
+use Rattle.alias_run.specs.declared.query.Query.TheVariants.{Plainness}
 use Rattle.alias_plainness.specs.Plainness.{IsPlainUnit}
-use Rattle.alias_run.specs.Findings.{greatest_input, parts_of, EndsUnblamed, EndsAccepted, EndsInferred, Settles,
-    IsFound, Infers, IsAnswered}
+use Rattle.alias_run.specs.Findings.{greatest_input, parts_of, EndsUnblamed, EndsAccepted, EndsInferred, Settles}
+use Rattle.alias_run.specs.Findings.{IsFound, Infers, IsAnswered}
 use Rattle.alias_run.specs.Inferences.{TellsItsWrites}
 use Rattle.alias_run.specs.Texts.{text_of, answer_text, inferred_text, help_text, version_text, IsCertificateOf}
 
@@ -50,8 +50,8 @@ module _ (asked : Option Command) (known : Option (List ℕ)) (read_failed write
 abbrev pub IsInferredOf : (HirUnit → Type 0) → Detail → Option (List ℕ) → Option (List ℕ) → Answer → Type 0
 IsInferredOf IsInput printed held held' (Inferred i) =
     (u : HirUnit) × (fs : List Analysed) × IsInput u × (rules_hold u ≡ Ok tt)
-        × (unit_analysed u ≡ Ok (record { functions = fs; inferred = i })) × AllByRecursion SolvesItsFlow fs
-        × AllByRecursion TellsItsWrites fs
+    × (unit_analysed u ≡ Ok (record { functions = fs; inferred = i })) × AllByRecursion SolvesItsFlow fs
+    × AllByRecursion TellsItsWrites fs
     × SolutionsAreCarried (record { functions = fs; inferred = i }) × Adds held (inferred_text printed i) held'
 IsInferredOf IsInput printed held held' a = ⊥
 
@@ -70,7 +70,7 @@ ArePartsOf q known u certificate = IfKnown known
 abbrev pub IsAnsweredOf : Query → Option (List ℕ) → Option (List ℕ) → Option (List ℕ) → Answer → Type 0
 IsAnsweredOf q known held held' a =
     (u : HirUnit) × (certificate : List ℕ) × ArePartsOf q known u certificate × (rules_hold u ≡ Ok tt)
-        × IsAnswered q certificate u Done a × Adds held (answer_text detail.Infer Done a) held'
+    × IsAnswered q certificate u Done a × Adds held (answer_text detail.Infer Done a) held'
 
 -- What status Done means, by the command: the unit that was read was inferred, or the one that was made; or the sink
 -- got what the program tells of itself.
@@ -99,8 +99,8 @@ IsHeadline asked known held held' status a = Unit {0}
 abbrev pub EndsOfPlain : Option (List ℕ) → Type 0 → Type 0 → Status → Type 0
 EndsOfPlain known read_failed write_failed status =
     (bytes : List ℕ) (u : HirUnit) → known ≡ Some bytes → length bytes ≤ greatest_input → UnitReading bytes u
-        → rules_hold u ≡ Ok tt → IsPlainUnit u → Settles u → (read_failed → ⊥) → (write_failed → ⊥)
-        → EndsUnblamed status
+    → rules_hold u ≡ Ok tt → IsPlainUnit u → Settles u → (read_failed → ⊥) → (write_failed → ⊥)
+    → EndsUnblamed status
 
 -- So it is of `infer` and `certify`; and a made unit is inferred, or memory runs out, while the sink doesn't fail.
 unfoldable pub IsComplete : Option Command → Option (List ℕ) → Type 0 → Type 0 → Status → Type 0
@@ -116,9 +116,9 @@ IsComplete asked known read_failed write_failed status = Unit {0}
 abbrev pub EndsOfCertified : Option (List ℕ) → Type 0 → Type 0 → Status → Type 0
 EndsOfCertified known read_failed write_failed status =
     (bytes : List ℕ) (u : HirUnit) (i : UnitInference) → known ≡ Some bytes → length bytes ≤ greatest_input
-        → UnitReading (parts_of Acceptance bytes).0 u
+    → UnitReading (parts_of Acceptance bytes).0 u
     → rules_hold u ≡ Ok tt → Infers u i → IsCertificateOf i (parts_of Acceptance bytes).1 → (read_failed → ⊥)
-        → (write_failed → ⊥) → EndsAccepted status
+    → (write_failed → ⊥) → EndsAccepted status
 
 -- so it is of `check`
 unfoldable pub IsAccepting : Option Command → Option (List ℕ) → Type 0 → Type 0 → Status → Type 0

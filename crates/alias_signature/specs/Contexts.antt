@@ -35,10 +35,10 @@ load_context_effects l place = CreateFrom place l ∷ []
 abbrev pub declare_context_effects : Environment → Accesses → Place → LValue → List AliasingEffect
 declare_context_effects env hoisted l variable =
     binding_effect (not (is_hoisting variable.kind) && is_hoisted_at env hoisted variable.place.identifier)
-        variable.place ∷ created l Primitive ∷ []
+    variable.place ∷ created l Primitive ∷ []
 
 -- the variable is written, or made, and takes the value in; the result is the value
 abbrev pub store_context_effects : Environment → Accesses → Place → LValue → Place → List AliasingEffect
 store_context_effects env hoisted l variable v =
     binding_effect (is_reassigning variable.kind || is_hoisted_at env hoisted variable.place.identifier) variable.place
-        ∷ Capture v variable.place ∷ Assign v l ∷ []
+    ∷ Capture v variable.place ∷ Assign v l ∷ []

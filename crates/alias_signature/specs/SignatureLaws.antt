@@ -1,20 +1,20 @@
 -- The effects of a signature speak of the places of its instruction and of the function that it creates alone, and name
 -- what its kind names.
-use Rattle.std.specs.Prelude.{◌≡◌, refl, ◌⊎◌, ℕ, Bool, true, false, not, ◌&&◌, ◌||◌, List, [], ◌∷◌, ◌++◌, Option, None,
-    Some, map, if◌then◌else◌}
+use Rattle.std.specs.Prelude.{◌≡◌, refl, ◌⊎◌, ℕ, Bool, true, false, not, ◌&&◌, ◌||◌, List, [], ◌∷◌, ◌++◌, Option, None}
+use Rattle.std.specs.Prelude.{Some, map, if◌then◌else◌}
 use Rattle.std.proofs.Common.{inl, inr}
 use Rattle.std.specs.List.{AllByRecursion, flat_map}
 use Rattle.alias_base.specs.declared.ids.FunctionId.{FunctionId}
 use Rattle.alias_base.specs.declared.ids.TypeId.{TypeId}
 use Rattle.alias_facts.specs.Hoisted.{is_hoisting}
 use Rattle.alias_hir.specs.Effects.{effect_places, error_of, function_of, signature_of as type_of_call}
-use Rattle.alias_hir.specs.Parts.{optional_place, arg_places, apply_arg_places, element_places, property_places,
-    item_places, places_in_pattern, tag_places, attribute_places}
+use Rattle.alias_hir.specs.Parts.{optional_place, arg_places, apply_arg_places, element_places, property_places}
+use Rattle.alias_hir.specs.Parts.{item_places, places_in_pattern, tag_places, attribute_places}
 use Rattle.alias_hir.specs.Types.{is_primitive_at, is_builtin_collection_at, returns_jsx_at}
 use Rattle.alias_hir.specs.Values.{places_of, created as created_function}
 use Rattle.alias_hir.specs.declared.effect.AliasingEffect.{AliasingEffect}
-use Rattle.alias_hir.specs.declared.effect.AliasingEffect.TheVariants.{CreateFrom, Capture, Alias, Render,
-    MutateTransitiveConditionally, Assign}
+use Rattle.alias_hir.specs.declared.effect.AliasingEffect.TheVariants.{CreateFrom, Capture, Alias, Render}
+use Rattle.alias_hir.specs.declared.effect.AliasingEffect.TheVariants.{MutateTransitiveConditionally, Assign}
 use Rattle.alias_hir.specs.declared.effect.ValueKind.TheVariants as kind
 use Rattle.alias_hir.specs.declared.env.Environment.{Environment}
 use Rattle.alias_hir.specs.declared.hir.Instruction.{Instruction}
@@ -121,8 +121,10 @@ module _ (P : Place → Type 0) (Q : Option ReportId → Type 0) (none : Q None)
 
   object_speaks : (l : Place) → P l → (xs : List ObjectPropertyOrSpread)
       → AllByRecursion P (flat_map property_places xs) → AllByRecursion S (object_expression_effects l xs)
-  object_speaks l p xs h = (((p, tt), (none, nothing)),
-      each_part P S property_places (property_effects l) (property_speaks l p) xs h)
+  object_speaks l p xs h = (
+    ((p, tt), (none, nothing)),
+    each_part P S property_places (property_effects l) (property_speaks l p) xs h,
+  )
 
   iteration_speaks : (b : Bool) (p : Place) → P p
       → AllByRecursion S (if b then [] else MutateTransitiveConditionally p ∷ [])
@@ -134,8 +136,8 @@ module _ (P : Place → Type 0) (Q : Option ReportId → Type 0) (none : Q None)
   element_speaks env l p (element.Place x) h = (((h.0, (p, tt)), (none, nothing)), tt)
   element_speaks env l p (element.Spread s) h =
       both S (iteration_effects env s.place) (Capture s.place l ∷ [])
-          (iteration_speaks (is_builtin_collection_at env s.place.identifier) s.place h.0)
-          (((h.0, (p, tt)), (none, nothing)), tt)
+      (iteration_speaks (is_builtin_collection_at env s.place.identifier) s.place h.0)
+      (((h.0, (p, tt)), (none, nothing)), tt)
   element_speaks env l p element.Hole h = tt
 
   iterator_speaks : (b : Bool) (l c : Place) → P l → P c
@@ -153,9 +155,13 @@ module _ (P : Place → Type 0) (Q : Option ReportId → Type 0) (none : Q None)
       (span : Option Span) → P receiver → P function → AllByRecursion P (flat_map arg_places args) → P l
       → N (None, type_id_of env function.identifier)
       → AllByRecursion S (call_effects env receiver function b args l span)
-  call_speaks env receiver function b args l span r f h p n =
-      (((r, (f, both P (flat_map apply_arg_places (map argument args)) (l ∷ []) (args_speak args h) (p, tt))),
-          (none, n)), tt)
+  call_speaks env receiver function b args l span r f h p n = (
+    (
+      (r, (f, both P (flat_map apply_arg_places (map argument args)) (l ∷ []) (args_speak args h) (p, tt))),
+      (none, n),
+    ),
+    tt,
+  )
 
   captured_speaks : (e : Effect) (x : Place) → P x → AllByRecursion P (captured_by e x)
   captured_speaks operand.Capture x h = (h, tt)
@@ -179,8 +185,10 @@ module _ (P : Place → Type 0) (Q : Option ReportId → Type 0) (none : Q None)
   operands_speak : (l : Place) → P l → (xs : List Place) → AllByRecursion P xs
       → AllByRecursion S (flat_map (jsx_operand_effects l) xs)
   operands_speak l p [] h = tt
-  operands_speak l p (x ∷ xs) h = (((h.0, tt), (none, nothing)),
-      (((h.0, (p, tt)), (none, nothing)), operands_speak l p xs h.1))
+  operands_speak l p (x ∷ xs) h = (
+    ((h.0, tt), (none, nothing)),
+    (((h.0, (p, tt)), (none, nothing)), operands_speak l p xs h.1),
+  )
 
   jsx_speaks : (l : Place) → P l → (xs : List Place) → AllByRecursion P xs → AllByRecursion S (jsx_effects l xs)
   jsx_speaks l p xs h = (((p, tt), (none, nothing)), operands_speak l p xs h)
@@ -201,7 +209,7 @@ module _ (P : Place → Type 0) (Q : Option ReportId → Type 0) (none : Q None)
       let each : (x : Place) → P x → S (Render x) = λ x h. ((h, tt), (none, nothing)) in
       both S (map Render (tag_places tag) ++ map Render children) (flat_map (attribute_effects env) props)
       (both S (map Render (tag_places tag)) (map Render children) (each_one P S (λ x. Render x) each (tag_places tag) t)
-          (each_one P S (λ x. Render x) each children c))
+      (each_one P S (λ x. Render x) each children c))
       (each_part P S attribute_places (attribute_effects env) (attribute_speaks env) props a)
 
   target_speaks : (b : Bool) (v p : Place) → P v → P p → S (if b then created p kind.Primitive else CreateFrom v p)
@@ -219,9 +227,11 @@ module _ (P : Place → Type 0) (Q : Option ReportId → Type 0) (none : Q None)
 
   target_property_speaks : (env : Environment) (spreads : List ℕ) (v : Place) → P v → (x : ObjectPropertyOrSpread)
       → AllByRecursion P (property_places x) → AllByRecursion S (target_property_effects env spreads v x)
-  target_property_speaks env spreads v h (property.Property x) k =
-      (target_speaks (is_primitive_at env x.place.identifier) v x.place h
-      (rest P (optional_place x.computed) (x.place ∷ []) k).0, tt)
+  target_property_speaks env spreads v h (property.Property x) k = (
+    target_speaks (is_primitive_at env x.place.identifier) v x.place h
+        (rest P (optional_place x.computed) (x.place ∷ []) k).0,
+    tt,
+  )
   target_property_speaks env spreads v h (property.Spread s) k = rest_speaks spreads v s.place h k.0
 
   pattern_speaks : (env : Environment) (spreads : List ℕ) (v : Place) → P v → (x : Pattern)
@@ -254,9 +264,11 @@ module _ (P : Place → Type 0) (Q : Option ReportId → Type 0) (none : Q None)
   pub signature_speaks : (k : Known) (l : Place) (span : Option Span) (v : InstructionValue) → P l
       → AllByRecursion P (places_of v) → AllByRecursion P (created_places k.env (created_function v)) → Q k.error
       → N (names_by_kind k.env v) → AllByRecursion S (signature_of_value k l span v)
-  signature_speaks k l span (value.ArrayExpression elements) p ps cs q n =
-      (((p, tt), (none, nothing)), each_part P S element_places (element_effects k.env l) (element_speaks k.env l p)
-      elements ps)
+  signature_speaks k l span (value.ArrayExpression elements) p ps cs q n = (
+    ((p, tt), (none, nothing)),
+    each_part P S element_places (element_effects k.env l) (element_speaks k.env l p)
+        elements ps,
+  )
   signature_speaks k l span (value.ObjectExpression properties) p ps cs q n = object_speaks l p properties ps
   signature_speaks k l span (value.Await v) p ps cs q n =
       (((p, tt), (none, nothing)), (((ps.0, tt), (none, nothing)), (((ps.0, (p, tt)), (none, nothing)), tt)))
@@ -280,9 +292,11 @@ module _ (P : Place → Type 0) (Q : Option ReportId → Type 0) (none : Q None)
       (((ps.0, tt), (none, nothing)), (((ps.1.1.0, (ps.0, tt)), (none, nothing)), (((p, tt), (none, nothing)), tt)))
   signature_speaks k l span (value.FunctionExpression lowered) p ps cs q n = function_speaks k.env l lowered.func p cs n
   signature_speaks k l span (value.ObjectMethod lowered) p ps cs q n = function_speaks k.env l lowered.func p cs n
-  signature_speaks k l span (value.GetIterator collection) p ps cs q n =
-      (((p, tt), (none, nothing)), iterator_speaks (is_builtin_collection_at k.env collection.identifier) l collection p
-      ps.0)
+  signature_speaks k l span (value.GetIterator collection) p ps cs q n = (
+    ((p, tt), (none, nothing)),
+    iterator_speaks (is_builtin_collection_at k.env collection.identifier) l collection p
+        ps.0,
+  )
   signature_speaks k l span (value.IteratorNext iterator collection) p ps cs q n =
       (((ps.0, tt), (none, nothing)), (((ps.1.0, (p, tt)), (none, nothing)), tt))
   signature_speaks k l span (value.NextPropertyOf v) p ps cs q n = (((p, tt), (none, nothing)), tt)
@@ -290,9 +304,9 @@ module _ (P : Place → Type 0) (Q : Option ReportId → Type 0) (none : Q None)
       let operands = tag_places tag ++ flat_map attribute_places props in
       let h = front P operands children ps in
       both S (jsx_effects l (operands ++ children)) (render_effects k.env tag props children)
-          (jsx_speaks l p (operands ++ children) ps)
+      (jsx_speaks l p (operands ++ children) ps)
       (renders_speak k.env tag props children (front P (tag_places tag) (flat_map attribute_places props) h)
-          (rest P (tag_places tag) (flat_map attribute_places props) h) (rest P operands children ps))
+      (rest P (tag_places tag) (flat_map attribute_places props) h) (rest P operands children ps))
   signature_speaks k l span (value.JsxFragment children) p ps cs q n = jsx_speaks l p children ps
   signature_speaks k l span (value.DeclareLocal variable) p ps cs q n =
       (((ps.0, tt), (none, nothing)), (((p, tt), (none, nothing)), tt))
@@ -300,14 +314,18 @@ module _ (P : Place → Type 0) (Q : Option ReportId → Type 0) (none : Q None)
       let h = (rest P (places_in_pattern variables.pattern) (v ∷ []) ps).0 in
       both S (pattern_effects k.env k.facts.spreads v variables.pattern) (Assign v l ∷ [])
       (pattern_speaks k.env k.facts.spreads v h variables.pattern
-          (front P (places_in_pattern variables.pattern) (v ∷ []) ps)) (((h, (p, tt)), (none, nothing)), tt)
+      (front P (places_in_pattern variables.pattern) (v ∷ []) ps)) (((h, (p, tt)), (none, nothing)), tt)
   signature_speaks k l span (value.LoadContext place) p ps cs q n = (((ps.0, (p, tt)), (none, nothing)), tt)
-  signature_speaks k l span (value.DeclareContext variable) p ps cs q n =
-      (binding_speaks (not (is_hoisting variable.kind) && is_hoisted_at k.env k.facts.hoisted variable.place.identifier)
-      variable.place ps.0, (((p, tt), (none, nothing)), tt))
-  signature_speaks k l span (value.StoreContext variable v) p ps cs q n =
-      (binding_speaks (is_reassigning variable.kind || is_hoisted_at k.env k.facts.hoisted variable.place.identifier)
-          variable.place ps.0, (((ps.1.0, (ps.0, tt)), (none, nothing)), (((ps.1.0, (p, tt)), (none, nothing)), tt)))
+  signature_speaks k l span (value.DeclareContext variable) p ps cs q n = (
+    binding_speaks (not (is_hoisting variable.kind) && is_hoisted_at k.env k.facts.hoisted variable.place.identifier)
+        variable.place ps.0,
+    (((p, tt), (none, nothing)), tt),
+  )
+  signature_speaks k l span (value.StoreContext variable v) p ps cs q n = (
+    binding_speaks (is_reassigning variable.kind || is_hoisted_at k.env k.facts.hoisted variable.place.identifier)
+        variable.place ps.0,
+    (((ps.1.0, (ps.0, tt)), (none, nothing)), (((ps.1.0, (p, tt)), (none, nothing)), tt)),
+  )
   signature_speaks k l span (value.LoadLocal place) p ps cs q n = (((ps.0, (p, tt)), (none, nothing)), tt)
   signature_speaks k l span (value.StoreLocal variable v) p ps cs q n =
       (((ps.1.0, (ps.0, tt)), (none, nothing)), (((ps.1.0, (p, tt)), (none, nothing)), tt))
@@ -351,7 +369,7 @@ places_spoken_of env i = i.lvalue ∷ (places_of i.value ++ created_places env (
 abbrev pub SpeaksOf : Known → Instruction → AliasingEffect → Type 0
 SpeaksOf k i =
     Speaks (IsOneOf (places_spoken_of k.env i)) (λ (error : Option ReportId). (error ≡ None) ⊎ (error ≡ k.error))
-        (λ (n : Named). (n ≡ (None, None)) ⊎ (n ≡ names_by_kind k.env i.value))
+    (λ (n : Named). (n ≡ (None, None)) ⊎ (n ≡ names_by_kind k.env i.value))
 
 in_front : {X : Type 0} (xs ys : List X) (x : X) → IsOneOf xs x → IsOneOf (xs ++ ys) x
 in_front [] ys x h = absurd h
@@ -371,8 +389,8 @@ signature_speaks_of k i =
     let ps = places_of i.value in
     let cs = created_places k.env (created_function i.value) in
     signature_speaks (IsOneOf (places_spoken_of k.env i))
-        (λ (error : Option ReportId). (error ≡ None) ⊎ (error ≡ k.error)) (inl refl)
-        (λ (n : Named). (n ≡ (None, None)) ⊎ (n ≡ names_by_kind k.env i.value)) (inl refl)
+    (λ (error : Option ReportId). (error ≡ None) ⊎ (error ≡ k.error)) (inl refl)
+    (λ (n : Named). (n ≡ (None, None)) ⊎ (n ≡ names_by_kind k.env i.value)) (inl refl)
     k i.lvalue i.span i.value (inl refl)
     (each_is ps (places_spoken_of k.env i) (λ x h. inr (in_front ps cs x h)))
     (each_is cs (places_spoken_of k.env i) (λ x h. inr (in_rest ps cs x h)))

@@ -23,7 +23,7 @@ module _ (c : StepContext) where
   abbrev pub iterate_operand : Operand → StepProgress → Step StepProgress
   iterate_operand o s =
       if o.is_spread && not (is_builtin_collection_at c.env o.place.identifier)
-          then intern_and_apply_simple c (effect.MutateTransitiveConditionally o.place) s
+      then intern_and_apply_simple c (effect.MutateTransitiveConditionally o.place) s
       else gives s
 
   -- an operand may be put into another, and a spread into itself

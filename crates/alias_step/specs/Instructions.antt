@@ -44,7 +44,7 @@ written_by e = None
 abbrev pub is_frozen_context : List Place → State → Place → Bool
 is_frozen_context context u v =
     list_any (λ (p : Place). same_place p v) context && is_some (sites_of u v.identifier)
-        && is_frozen (lookup u v.identifier).kind
+    && is_frozen (lookup u v.identifier).kind
 
 -- the report is interned, and the effect is recorded as it is
 abbrev pub record_mutate_frozen : Report → Place → StepProgress → Step StepProgress
@@ -113,7 +113,7 @@ abbrev pub apply_signature_with : Environment → FunctionFacts → Instruction 
     → Step StepProgress
 apply_signature_with env facts i error s =
     apply_instruction (context_with env facts) (created i.value) (signature_of (known env facts error) i)
-        i.lvalue.identifier s
+    i.lvalue.identifier s
 
 abbrev pub apply_signature : Environment → FunctionFacts → Instruction → StepProgress → Step StepProgress
 apply_signature env facts i s = do

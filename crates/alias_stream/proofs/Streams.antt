@@ -1,6 +1,6 @@
 -- Pieces that are taken and added one after the other.
-use Rattle.std.proofs.Common.{ℕ, ◌≡◌, ◌+◌, ◌-◌, ◌<◌, ◌≤◌, Bool, List, [], ◌∷◌, ◌++◌, Option, None, Some, length, take,
-    drop, refl, sym, ◌∙◌, ap, subst, inl, inr, append_assoc, arith, length-append}
+use Rattle.std.proofs.Common.{ℕ, ◌≡◌, ◌+◌, ◌-◌, ◌<◌, ◌≤◌, Bool, List, [], ◌∷◌, ◌++◌, Option, None, Some, length, take}
+use Rattle.std.proofs.Common.{drop, refl, sym, ◌∙◌, ap, subst, inl, inr, append_assoc, arith, length-append}
 use Rattle.std.proofs.Math.Seq.{take-add, take-append_seam}
 use Rattle.std.proofs.lemmas.List.{append-nil, take_rest}
 use Rattle.std.proofs.lemmas.List.Folds.{drop_split}
@@ -70,6 +70,6 @@ pub takes-copy : (bytes : List ℕ) (at n : ℕ) (copy back : List ℕ) → leng
     ≡ take (at + n - at) (drop at bytes) → drop at bytes ≡ take n (copy ++ back) ++ drop (at + n) bytes
 takes-copy bytes at n copy back h e =
     let f : take n (copy ++ back) ≡ copy =
-        subst (λ (k : ℕ). take k (copy ++ back) ≡ copy) h (take-append_seam copy back) in
+    subst (λ (k : ℕ). take k (copy ++ back) ≡ copy) h (take-append_seam copy back) in
     let le : at ≤ at + n = omega arith in
     rw f (rw e (drop_split bytes at (at + n) le))

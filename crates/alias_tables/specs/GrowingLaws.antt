@@ -1,6 +1,6 @@
 -- Tables grow at their ends, and what was found or added in them is found again.
-use Rattle.std.specs.Prelude.{◌≡◌, Bool, true, false, List, [], ◌∷◌, ◌++◌, length, Option, Some, None, Ok, Err, refl,
-    if◌then◌else◌}
+use Rattle.std.specs.Prelude.{◌≡◌, Bool, true, false, List, [], ◌∷◌, ◌++◌, length, Option, Some, None, Ok, Err, refl}
+use Rattle.std.specs.Prelude.{if◌then◌else◌}
 use Rattle.std.proofs.Common.{ap, sym, ◌∙◌, subst, append_assoc, append-nil}
 use Rattle.alias_base.specs.Indexes.{first_new, first_still}
 use Rattle.alias_hir.specs.declared.error.Counter.TheVariants.{Identifiers}
@@ -16,12 +16,13 @@ use Rattle.alias_tables.specs.declared.faults.Refusal.TheVariants.{TooMany}
 use Rattle.alias_tables.specs.declared.temp_key.TempKey.{TempKey}
 use Rattle.alias_tables.specs.declared.temporaries.Temporary.{Temporary}
 use Rattle.alias_tables.specs.Steps.{gives, refuses, ◌>>=◌, each, if_some, collect}
-use Rattle.alias_tables.specs.ReplayLaws.{Replays, tables_are, first_is, not_given, replays_gives as any_gives,
-    replays_refuses as any_refuses, replays_then as any_then, replays_if as any_if, replays_each as any_each}
+use Rattle.alias_tables.specs.ReplayLaws.{Replays, tables_are, first_is, not_given, replays_gives as any_gives}
+use Rattle.alias_tables.specs.ReplayLaws.{replays_refuses as any_refuses, replays_then as any_then}
+use Rattle.alias_tables.specs.ReplayLaws.{replays_if as any_if, replays_each as any_each}
 use Rattle.alias_tables.specs.InternedEffects.{same_key, keys_are_told_apart, first_like}
 use Rattle.alias_tables.specs.Temporaries.{same_temp, temps_are_told_apart, key_in, temp_like, temporary_of}
-use Rattle.alias_tables.specs.Tables.{TableLists, Step, intern, intern_by, intern_after, has_room, new_place, temporary,
-    temporary_after}
+use Rattle.alias_tables.specs.Tables.{TableLists, Step, intern, intern_by, intern_after, has_room, new_place, temporary}
+use Rattle.alias_tables.specs.Tables.{temporary_after}
 
 -- the second list is the first, with more behind its end
 pub record Grows {A : Type 0} (xs ys : List A) : Type 0 where
@@ -48,8 +49,12 @@ pub record Extends (t u : TableLists) : Type 0 where
   pub reads : Grows t.reads u.reads
 
 pub extends_self : (t : TableLists) → Extends t t
-extends_self t = record { first = grows_self t.first; temporaries = grows_self t.temporaries;
-    reports = grows_self t.reports; reads = grows_self t.reads }
+extends_self t = record {
+  first = grows_self t.first;
+  temporaries = grows_self t.temporaries;
+  reports = grows_self t.reports;
+  reads = grows_self t.reads;
+}
 
 pub extends_through : (t u v : TableLists) → Extends t u → Extends u v → Extends t v
 extends_through t u v a b = record {
@@ -117,8 +122,12 @@ abbrev with_effect : TableLists → AliasingEffect → TableLists
 with_effect t e = record t { first = t.first ++ e ∷ [] }
 
 effect_added : (t : TableLists) (e : AliasingEffect) → Extends t (with_effect t e)
-effect_added t e = record { first = grows_by t.first (e ∷ []); temporaries = grows_self t.temporaries;
-    reports = grows_self t.reports; reads = grows_self t.reads }
+effect_added t e = record {
+  first = grows_by t.first (e ∷ []);
+  temporaries = grows_self t.temporaries;
+  reports = grows_self t.reports;
+  reads = grows_self t.reads;
+}
 
 still_there : (k : EffectKey) (u v : TableLists) (e : AliasingEffect) → first_like k u.first ≡ Some e → Extends u v
     → first_like k v.first ≡ Some e
@@ -135,14 +144,14 @@ interned_again : (k : EffectKey) (o : Option AliasingEffect) (e : AliasingEffect
 interned_again k None e t u v y is none h x =
     let tables : with_effect t e ≡ u = tables_are e y (with_effect t e) u h in
     let there : first_like k u.first ≡ Some e = ap (λ (w : TableLists). first_like k w.first) (sym tables)
-        ∙ first_new same_key key_of keys_are_told_apart k t.first e is none in
+    ∙ first_new same_key key_of keys_are_told_apart k t.first e is none in
     ap (λ o. intern_after o e v) (still_there k u v e there x)
-        ∙ ap (λ z. Ok (z, v)) (error_kept e ∙ first_is e y (with_effect t e) u h)
+    ∙ ap (λ z. Ok (z, v)) (error_kept e ∙ first_is e y (with_effect t e) u h)
 interned_again k (Some z) e t u v y is found h x =
     let tables : t ≡ u = tables_are (with_error_of z e) y t u h in
     let there : first_like k u.first ≡ Some z = ap (λ (w : TableLists). first_like k w.first) (sym tables) ∙ found in
     ap (λ o. intern_after o e v) (still_there k u v z there x)
-        ∙ ap (λ w. Ok (w, v)) (first_is (with_error_of z e) y t u h)
+    ∙ ap (λ w. Ok (w, v)) (first_is (with_error_of z e) y t u h)
 
 again_intern_by : (o : Option EffectKey) (e : AliasingEffect) → key_of e ≡ o → Again (intern_by o e)
 again_intern_by None e is = again_gives e
@@ -161,8 +170,12 @@ abbrev with_temporary : TableLists → Temporary → TableLists
 with_temporary t x = record t { temporaries = t.temporaries ++ x ∷ [] }
 
 temporary_added : (t : TableLists) (x : Temporary) → Extends t (with_temporary t x)
-temporary_added t x = record { first = grows_self t.first; temporaries = grows_by t.temporaries (x ∷ []);
-    reports = grows_self t.reports; reads = grows_self t.reads }
+temporary_added t x = record {
+  first = grows_self t.first;
+  temporaries = grows_by t.temporaries (x ∷ []);
+  reports = grows_self t.reports;
+  reads = grows_self t.reads;
+}
 
 still_temporary : (k : TempKey) (u v : TableLists) (x : Temporary) → temp_like k u.temporaries ≡ Some x → Extends u v
     → temp_like k v.temporaries ≡ Some x
@@ -197,10 +210,10 @@ module _ (env : Environment) (key : TempKey) (span : Option Span) where
           let x = temporary_of key (place_in t) in
           let tables : with_temporary t x ≡ u = tables_are (place_in t) y (with_temporary t x) u h in
           let there : temp_like key u.temporaries ≡ Some x =
-              ap (λ (w : TableLists). temp_like key w.temporaries) (sym tables)
-              ∙ first_new same_temp key_in temps_are_told_apart key t.temporaries x refl none in
+          ap (λ (w : TableLists). temp_like key w.temporaries) (sym tables)
+          ∙ first_new same_temp key_in temps_are_told_apart key t.temporaries x refl none in
           ap (λ o. temporary_after o env key span v) (still_temporary key u v x there e)
-              ∙ ap (λ p. Ok (p, v)) (first_is (place_in t) y (with_temporary t x) u h)
+          ∙ ap (λ p. Ok (p, v)) (first_is (place_in t) y (with_temporary t x) u h)
       new_again false none h = not_given _ y u h
 
       temporary_again : (o : Option Temporary) → temp_like key t.temporaries ≡ o → temporary_after o env key span t
@@ -209,9 +222,9 @@ module _ (env : Environment) (key : TempKey) (span : Option Span) where
       temporary_again (Some x) found h =
           let tables : t ≡ u = tables_are x.place y t u h in
           let there : temp_like key u.temporaries ≡ Some x =
-              ap (λ (w : TableLists). temp_like key w.temporaries) (sym tables) ∙ found in
+          ap (λ (w : TableLists). temp_like key w.temporaries) (sym tables) ∙ found in
           ap (λ o. temporary_after o env key span v) (still_temporary key u v x there e)
-              ∙ ap (λ p. Ok (p, v)) (first_is x.place y t u h)
+          ∙ ap (λ p. Ok (p, v)) (first_is x.place y t u h)
 
   -- a temporary is found again by its key
   pub again_temporary : Again (temporary env key span)

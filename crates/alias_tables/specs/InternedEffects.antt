@@ -1,6 +1,6 @@
 -- The interned effect of each key.
-use Rattle.std.specs.Prelude.{◌≡◌, ℕ, Bool, List, [], ◌∷◌, ◌++◌, Option, None, Some, cond, true, false, option_map,
-    position, refl}
+use Rattle.std.specs.Prelude.{◌≡◌, ℕ, Bool, List, [], ◌∷◌, ◌++◌, Option, None, Some, cond, true, false, option_map}
+use Rattle.std.specs.Prelude.{position, refl}
 use Rattle.std.specs.declared.cmp.Ordering.{Ordering}
 use Rattle.std.specs.Cmp.{IsEquivalence}
 use Rattle.std.specs.Ordering.{eq_by_cmp}
@@ -49,8 +49,8 @@ pub same_if : (k : EffectKey) (es : List AliasingEffect) (e : AliasingEffect) (a
 same_if k [] e all = refl
 same_if k (x ∷ es) e all =
     elim (has_key same_key key_of k x) as (λ b.
-        if_new (cond b (Some 0) (option_map (λ n. suc n) (slot_like k es))) e all
-        ≡ if_new (cond b (Some x) (first_like k es)) e all) [
+    if_new (cond b (Some 0) (option_map (λ n. suc n) (slot_like k es))) e all
+    ≡ if_new (cond b (Some x) (first_like k es)) e all) [
       | true ↦ refl
       | false ↦ mapped_if (slot_like k es) e all ∙ same_if k es e all
     ]

@@ -1,6 +1,6 @@
 -- The keys of items, in the order of the items, as an index of their slots.
-use Rattle.std.specs.Prelude.{◌≡◌, ℕ, ◌+◌, ◌<◌, ◌≤◌, Bool, true, false, not, cond, ◌||◌, nat_lt, List, [], ◌∷◌, ◌++◌,
-    map, length, Option, Some, None, option_map, position, refl, if◌then◌else◌}
+use Rattle.std.specs.Prelude.{◌≡◌, ℕ, ◌+◌, ◌<◌, ◌≤◌, Bool, true, false, not, cond, ◌||◌, nat_lt, List, [], ◌∷◌, ◌++◌}
+use Rattle.std.specs.Prelude.{map, length, Option, Some, None, option_map, position, refl, if◌then◌else◌}
 use Rattle.std.specs.List.{list_any, position_or_len}
 use Rattle.std.proofs.Common.{ap, sym, ◌∙◌, suc, arith, lt-ltb, le-ltb}
 use Rattle.std.proofs.lemmas.Grind.{common_steps}
@@ -38,7 +38,7 @@ past m n =
     ap (λ k. cond (nat_lt k (suc n)) (Some k) None) (one_more m)
     ∙ ap (λ b. cond b (Some (suc m)) None) (lt_suc m n)
     ∙ elim (nat_lt m n) as (λ b. cond b (Some (suc m)) None ≡ option_map (λ k. suc k) (cond b (Some m) None))
-        [ true ↦ refl | false ↦ refl ]
+    [ true ↦ refl | false ↦ refl ]
 
 -- the first place that passes is the first, or one after the first place in the rest
 position_cons : {K : Type 0} (p : K → Bool) (x : K) (xs : List K) → position p (x ∷ xs)
@@ -46,7 +46,7 @@ position_cons : {K : Type 0} (p : K → Bool) (x : K) (xs : List K) → position
 position_cons p x xs =
     let m = position_or_len p xs in
     elim (p x) as (λ b. cond (nat_lt (cond (not b) (1 + m) 0) (suc (length xs))) (Some (cond (not b) (1 + m) 0)) None
-        ≡ cond b (Some 0) (option_map (λ n. suc n) (position p xs))) [
+    ≡ cond b (Some 0) (option_map (λ n. suc n) (position p xs))) [
       | true ↦ ap (λ b. cond b (Some 0) None) (lt_zero (length xs))
       | false ↦ past m (length xs)
     ]
@@ -79,7 +79,7 @@ module _ {K V : Type 0} (eq same : K → K → Bool) (key_of : V → Option K) (
       position_cons (eq k) l keys
       ∙ ap (λ b. cond b (Some 0) (option_map (λ n. suc n) (position (eq k) keys))) (same_here k l (key_of e) first)
       ∙ ap (λ o. cond (is_key same key_of (key_of e) k) (Some 0) (option_map (λ n. suc n) o))
-          (slot_is k keys items rest)
+      (slot_is k keys items rest)
 
   -- a key that no item has is none of the keys
   none_is : (k : K) (keys : List K) (items : List V) → AreKeys key_of keys items → slot_of same key_of k items ≡ None
@@ -91,7 +91,7 @@ module _ {K V : Type 0} (eq same : K → K → Bool) (key_of : V → Option K) (
       let rest : AreKeys key_of keys items = cc in
       ap (λ b. b || list_any (eq k) keys) (same_here k l (key_of e) first)
       ∙ none_later (is_key same key_of (key_of e) k) (list_any (eq k) keys) (slot_of same key_of k items) n
-          (none_is k keys items rest)
+      (none_is k keys items rest)
 
   -- so it goes last
   pub new_is_last : (k : K) (keys : List K) (items : List V) → AreKeys key_of keys items → slot_of same key_of k items
@@ -109,7 +109,7 @@ module _ {K V : Type 0} (eq same : K → K → Bool) (key_of : V → Option K) (
       let rest : AreKeys key_of keys items = cc in
       ap (λ b. b || list_any (eq k) keys) (same_here k l (key_of e) first)
       ∙ some_later (is_key same key_of (key_of e) k) (list_any (eq k) keys) (slot_of same key_of k items) n s
-          (λ m i. some_is k keys items m rest i)
+      (λ m i. some_is k keys items m rest i)
 
   -- so nothing comes
   pub old_stays : (k : K) (keys : List K) (items : List V) (n : ℕ) → AreKeys key_of keys items

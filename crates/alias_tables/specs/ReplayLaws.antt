@@ -45,7 +45,7 @@ module _ {T : Type 0} {extends : T → T → Type 0} (reflexive : (t : T) → ex
     again = λ t w v y e h.
         let s = split g (f t) y w e in
         ap (λ r. and_then r g) (hf.again t s.1 v s.0 s.2 (transitive s.1 w v ((hg s.0).grows s.1 w y s.3) h))
-            ∙ (hg s.0).again s.1 w v y s.3 h;
+        ∙ (hg s.0).again s.1 w v y s.3 h;
   }
 
   pub replays_if : {A : Type 0} (b : Bool) (f g : T → Result (A × T) C) → Replays extends f → Replays extends g

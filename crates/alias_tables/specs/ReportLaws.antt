@@ -1,6 +1,6 @@
 -- Reports and read-only places are found again.
-use Rattle.std.specs.Prelude.{◌≡◌, ℕ, ◌+◌, ◌<◌, Bool, true, false, cond, ◌&&◌, ◌||◌, ◌==◌, nat_lt, List, [], ◌∷◌, ◌++◌,
-    length, Option, Some, None, Ok, Err, refl, if◌then◌else◌}
+use Rattle.std.specs.Prelude.{◌≡◌, ℕ, ◌+◌, ◌<◌, Bool, true, false, cond, ◌&&◌, ◌||◌, ◌==◌, nat_lt, List, [], ◌∷◌, ◌++◌}
+use Rattle.std.specs.Prelude.{length, Option, Some, None, Ok, Err, refl, if◌then◌else◌}
 use Rattle.std.proofs.Common.{ap, sym, ◌∙◌, subst, append_assoc, eq-eqb, arith}
 use Rattle.std.proofs.lemmas.Bool.Decides.{nat_tests}
 use Rattle.std.specs.List.{list_any}
@@ -10,13 +10,13 @@ use Rattle.alias_base.specs.declared.ids.IdentifierId.{IdentifierId}
 use Rattle.alias_hir.specs.declared.error.Counter.TheVariants.{Diagnostics}
 use Rattle.alias_hir.specs.declared.report.ReportId.{ReportId}
 use Rattle.alias_hir.specs.declared.report.ErrorCategory.{ErrorCategory}
-use Rattle.alias_hir.specs.declared.report.ErrorCategory.TheVariants.{Invariant, Todo, Immutability, Globals, Purity,
-    IncompatibleLibrary}
+use Rattle.alias_hir.specs.declared.report.ErrorCategory.TheVariants.{Invariant, Todo, Immutability, Globals, Purity}
+use Rattle.alias_hir.specs.declared.report.ErrorCategory.TheVariants.{IncompatibleLibrary}
 use Rattle.alias_hir.specs.declared.report.Interned.{Interned}
 use Rattle.alias_hir.specs.declared.report.Label.{Label}
 use Rattle.alias_hir.specs.declared.report.Report.{Report}
-use Rattle.alias_hir.specs.ReportNumbers.{same_category, same_text, same_span, same_label, same_words, same_report,
-    same_identity, same_instance, number_of, interned, with_interned}
+use Rattle.alias_hir.specs.ReportNumbers.{same_category, same_text, same_span, same_label, same_words, same_report}
+use Rattle.alias_hir.specs.ReportNumbers.{same_identity, same_instance, number_of, interned, with_interned}
 use Rattle.alias_tables.specs.declared.reads.ContextRead.{ContextRead}
 use Rattle.alias_tables.specs.declared.faults.Refusal.TheVariants.{TooMany}
 use Rattle.alias_tables.specs.Reads.{same_read, is_noted}
@@ -56,14 +56,14 @@ label_itself : (l : Label) → same_label l l ≡ true
 label_itself l =
     and_true (same_span l.span l.span) (option_eq same_text l.text l.text)
     (and_true (l.span.start == l.span.start) (l.span.end == l.span.end) (same_itself l.span.start)
-        (same_itself l.span.end))
+    (same_itself l.span.end))
     (option_itself l.text)
 
 pub words_itself : (r : Report) → same_words r r ≡ true
 words_itself r =
     and_true (same_category r.category r.category && same_text r.message r.message) (option_eq same_text r.help r.help)
     (and_true (same_category r.category r.category) (same_text r.message r.message) (category_itself r.category)
-        (text_itself r.message))
+    (text_itself r.message))
     (option_itself r.help)
 
 report_itself : (r : Report) → same_report r r ≡ true
@@ -97,7 +97,7 @@ module _ (f : Interned → Bool) where
   number_still [] more h = cc
   number_still (y ∷ l) more h =
       elim (f y) as (λ b. (b || list_any f l) ≡ true → cond b 0 (number_of f (l ++ more) + 1)
-          ≡ cond b 0 (number_of f l + 1)) [
+      ≡ cond b 0 (number_of f l + 1)) [
         | true ↦ λ g. refl
         | false ↦ λ g. ap (λ n. n + 1) (number_still l more g)
       ] h
@@ -206,8 +206,12 @@ module _ (id : IdentifierId) (r : Report) where
   few i j = nat_lt i 4294967295 && nat_lt j 4294967295
 
   added : (t : TableLists) → Extends t (with_reports t (with_interned t.reports id r))
-  added t = record { first = grows_self t.first; temporaries = grows_self t.temporaries;
-      reports = grows_by_report t.reports; reads = grows_self t.reads }
+  added t = record {
+    first = grows_self t.first;
+    temporaries = grows_self t.temporaries;
+    reports = grows_by_report t.reports;
+    reads = grows_self t.reads;
+  }
 
   module _ (t u : TableLists) (y : ReportId) where
     abbrev d : ReportId
@@ -227,13 +231,13 @@ module _ (id : IdentifierId) (r : Report) where
     report_again true v enough h x =
         let tables : kept ≡ u = tables_are d y kept u h in
         let s : Stays t.reports v.reports = stays t.reports v.reports
-            (subst (λ (w : TableLists). Grows w.reports v.reports) (sym tables) x.reports) in
+        (subst (λ (w : TableLists). Grows w.reports v.reports) (sym tables) x.reports) in
         ap (λ i. answer_if (few i (number_of inst v.reports)) i (number_of inst v.reports)
-            (with_interned v.reports id r) v) s.identity
+        (with_interned v.reports id r) v) s.identity
         ∙ ap (λ j. answer_if (few (number_of ident t.reports) j) (number_of ident t.reports) j
-            (with_interned v.reports id r) v) s.instance
+        (with_interned v.reports id r) v) s.instance
         ∙ ap (λ b. answer_if b (number_of ident t.reports) (number_of inst t.reports) (with_interned v.reports id r) v)
-            enough
+        enough
         ∙ ap (λ b. Ok (d, with_reports v (kept_if b v.reports))) (not_next inst v.reports s.there)
         ∙ ap (λ z. Ok (z, v)) (first_is d y kept u h)
     report_again false v enough h x = not_given _ y u h
@@ -275,13 +279,17 @@ module _ (r : ContextRead) where
   then_noted false l h = noted_last l
 
   read_added : (t : TableLists) → Extends t (note_read r t)
-  read_added t = record { first = grows_self t.first; temporaries = grows_self t.temporaries;
-      reports = grows_self t.reports; reads = reads_grow (is_noted r t.reads) t.reads }
+  read_added t = record {
+    first = grows_self t.first;
+    temporaries = grows_self t.temporaries;
+    reports = grows_self t.reports;
+    reads = reads_grow (is_noted r t.reads) t.reads;
+  }
 
   read_there : (t u v : TableLists) → note_read r t ≡ u → Extends u v → is_noted r v.reads ≡ true
   read_there t u v e x =
       let there : is_noted r u.reads ≡ true = ap (λ (w : TableLists). is_noted r w.reads) (sym e)
-          ∙ then_noted (is_noted r t.reads) t.reads refl in
+      ∙ then_noted (is_noted r t.reads) t.reads refl in
       ap (is_noted r) (sym x.reads.is) ∙ noted_still u.reads x.reads.more there
 
   -- a read-only place is noted once
@@ -290,6 +298,6 @@ module _ (r : ContextRead) where
     grows = λ t u y h. subst (Extends t) (tables_are a y (note_read r t) u h) (read_added t);
     again = λ t u v y h x.
         ap (λ b. Ok (a, record v { reads = reads_if b v.reads }))
-            (read_there t u v (tables_are a y (note_read r t) u h) x)
+        (read_there t u v (tables_are a y (note_read r t) u h) x)
         ∙ ap (λ z. Ok (z, v)) (first_is a y (note_read r t) u h);
   }

@@ -1,6 +1,6 @@
 -- The tables, and what is found and added in them.
-use Rattle.std.specs.Prelude.{◌≡◌, ℕ, ◌+◌, Bool, false, ◌&&◌, nat_lt, List, [], ◌∷◌, ◌++◌, length, Option, Some, None,
-    Result, Ok, Err, ⊤, if◌then◌else◌}
+use Rattle.std.specs.Prelude.{◌≡◌, ℕ, ◌+◌, Bool, false, ◌&&◌, nat_lt, List, [], ◌∷◌, ◌++◌, length, Option, Some, None}
+use Rattle.std.specs.Prelude.{Result, Ok, Err, ⊤, if◌then◌else◌}
 use Rattle.alias_base.specs.declared.ids.IdentifierId.{IdentifierId}
 use Rattle.alias_hir.specs.declared.error.Counter.TheVariants.{Diagnostics, Identifiers}
 use Rattle.alias_hir.specs.declared.place.Effect.TheVariants.{Unknown}
@@ -75,7 +75,7 @@ temporary_after (Some temporary) env key span t = Ok (temporary.place, t)
 temporary_after None env key span t =
     if has_room (length env.identifiers) (length env.types) (length t.temporaries)
     then (let p = new_place (length env.identifiers) (length t.temporaries) span in
-        Ok (p, record t { temporaries = t.temporaries ++ temporary_of key p ∷ [] }))
+    Ok (p, record t { temporaries = t.temporaries ++ temporary_of key p ∷ [] }))
     else Err (TooMany Identifiers)
 
 -- the place of the key's temporary: a new identifier with this span, where there is none

@@ -1,6 +1,6 @@
 -- What is printed of an inference fits.
-use Rattle.std.proofs.Common.{◌≡◌, ◌≤◌, ◌<◌, ◌+◌, ℕ, zero, suc, List, [], ◌∷◌, ◌++◌, ◌∙◌, Some, length, take, get_or,
-    refl, ap, sym, subst, add-one, append-nil, append_assoc, arith}
+use Rattle.std.proofs.Common.{◌≡◌, ◌≤◌, ◌<◌, ◌+◌, ℕ, zero, suc, List, [], ◌∷◌, ◌++◌, ◌∙◌, Some, length, take, get_or}
+use Rattle.std.proofs.Common.{refl, ap, sym, subst, add-one, append-nil, append_assoc, arith}
 use Rattle.std.specs.List.{AllByRecursion, flat_map}
 use Rattle.std.proofs.Math.Dec.{T}
 use Rattle.std.proofs.lemmas.List.{take_all}
@@ -64,7 +64,7 @@ pub text_more : {A : Type 0} (f : A → List ℕ) (xs : List A) (i : ℕ) (x : A
     → more ≡ before ++ flat_map f (take (i + 1) xs)
 text_more f xs i x out more before w e so now =
     now ∙ ap (λ t. t ++ f x) so ∙ append_assoc before (flat_map f (take i xs)) (f x)
-        ∙ ap (λ t. before ++ t) (sym (text_upto f xs i x w e))
+    ∙ ap (λ t. before ++ t) (sym (text_upto f xs i x w e))
     ∙ ap (λ n. before ++ flat_map f (take n xs)) (sym (add-one i))
 
 -- what is so of each so far is so of all in the end

@@ -15,7 +15,7 @@ module _ {K X : Type 0} (R : K → K → Ordering) where
     pub still_all : (P : K × X → Type 0) (after : Option K) (t : List (K × X)) (e : K × X) → next_entry R after t
         ≡ Some e → T (is_sorted R t) → P e
         → (AllByRecursion P (left_after R after t) → AllByRecursion P t) → AllByRecursion P (left_after R (Some e.0) t)
-            → AllByRecursion P t
+        → AllByRecursion P t
     still_all P after t e h s p i l = i (subst (AllByRecursion P) (sym (left-some R o after t e h s)) (p, l))
 
     -- what is left completes the text, also once the next entry is appended

@@ -7,9 +7,11 @@ use Rattle.alias_base.specs.declared.ids.FunctionId.{FunctionId}
 use Rattle.alias_base.specs.declared.ids.InstructionId.{InstructionId}
 use Rattle.alias_hir.specs.Terminals.{terminal_effects}
 use Rattle.alias_hir.specs.declared.effect.AliasingEffect.{AliasingEffect}
-use Rattle.alias_hir.specs.declared.effect.AliasingEffect.TheVariants.{Apply, CreateFrom, ImmutableCapture, Assign,
-    Alias, Capture, MaybeAlias, Create, Freeze, Impure, MutateFrozen, MutateGlobal, Render, Mutate, MutateConditionally,
-    MutateTransitive, MutateTransitiveConditionally, CreateFunction}
+use Rattle.alias_hir.specs.declared.effect.AliasingEffect.TheVariants.{Apply, CreateFrom, ImmutableCapture, Assign}
+use Rattle.alias_hir.specs.declared.effect.AliasingEffect.TheVariants.{Alias, Capture, MaybeAlias, Create, Freeze}
+use Rattle.alias_hir.specs.declared.effect.AliasingEffect.TheVariants.{Impure, MutateFrozen, MutateGlobal, Render}
+use Rattle.alias_hir.specs.declared.effect.AliasingEffect.TheVariants.{Mutate, MutateConditionally, MutateTransitive}
+use Rattle.alias_hir.specs.declared.effect.AliasingEffect.TheVariants.{MutateTransitiveConditionally, CreateFunction}
 use Rattle.alias_hir.specs.declared.report.ReportId.{ReportId}
 use Rattle.alias_hir.specs.declared.effect.MutationReason.{MutationReason}
 use Rattle.alias_hir.specs.declared.effect.MutationReason.TheVariants.{AssignCurrentProperty}

@@ -5,8 +5,8 @@ use Rattle.std.specs.Fmt.{decimal}
 use Rattle.json.specs.Print.{quoted}
 use Rattle.alias_hir.specs.declared.place.Span.{Span}
 use Rattle.alias_hir.specs.declared.report.ErrorCategory.{ErrorCategory}
-use Rattle.alias_hir.specs.declared.report.ErrorCategory.TheVariants.{Invariant, Todo, Immutability, Globals, Purity,
-    IncompatibleLibrary}
+use Rattle.alias_hir.specs.declared.report.ErrorCategory.TheVariants.{Invariant, Todo, Immutability, Globals, Purity}
+use Rattle.alias_hir.specs.declared.report.ErrorCategory.TheVariants.{IncompatibleLibrary}
 use Rattle.alias_hir.specs.declared.report.Label.{Label}
 use Rattle.alias_hir.specs.declared.report.Report.{Report}
 

@@ -6,10 +6,10 @@ use Rattle.alias_base.specs.declared.ids.FunctionId.{FunctionId}
 use Rattle.alias_hir.specs.declared.error.InferError.{InferError}
 use Rattle.alias_hir.specs.declared.hir.HirFunction.{HirFunction}
 use Rattle.alias_nesting_laws.specs.Slots.{with_function}
-use Rattle.alias_nested.specs.Analysis.{named, naming, Analysis, each, function_analysed, taken_analysed, put_back,
-    found_analysed, slot_analysed, analysed}
-use Rattle.alias_nested.specs.Answers.{Answers, Only, Then, done, refused, Each, FunctionAnalysed, TakenAnalysed,
-    FoundAnalysed, SlotAnalysed, AnalysedWith}
+use Rattle.alias_nested.specs.Analysis.{named, naming, Analysis, each, function_analysed, taken_analysed, put_back}
+use Rattle.alias_nested.specs.Analysis.{found_analysed, slot_analysed, analysed}
+use Rattle.alias_nested.specs.Answers.{Answers, Only, Then, done, refused, Each, FunctionAnalysed, TakenAnalysed}
+use Rattle.alias_nested.specs.Answers.{FoundAnalysed, SlotAnalysed, AnalysedWith}
 use Rattle.alias_nested.specs.Created.{created_functions}
 use Rattle.alias_nested.specs.Slots.{emptied}
 
@@ -105,9 +105,9 @@ module _ (b : Bool) (below other : HirFunction → Analysis → Answers Analysis
   found_on id a (Some f) r k =
       let out : Analysis = record a { env = with_function id (emptied f.returns) a.env } in
       then_on (TakenAnalysed b below id f out) (Taken (FunctionAnalysed b) other id f out)
-          (λ s. Only (Ok (put_back id s))) (λ s. Only (Ok (put_back id s)))
+      (λ s. Only (Ok (put_back id s))) (λ s. Only (Ok (put_back id s)))
       (λ q t. then_on (below f out) (other f out) (FunctionAnalysed b id f) (FunctionAnalysed b id f) (h f out)
-          (λ x p l. l) q t) (λ x p l. l) r k
+      (λ x p l. l) q t) (λ x p l. l) r k
 
 -- over passes that change functions within their law
 pub below_with : (b : Bool) (n : ℕ) (f : HirFunction) (a : Analysis) (r : Result Analysis InferError)
@@ -117,7 +117,7 @@ below_with b zero f a r h = h
 below_with b (suc n) f a r h =
     each_on (SlotAnalysed b (AnalysedWith b n)) (InSlot (FunctionAnalysed b) (Below (FunctionAnalysed b) n))
     (λ id c q k. found_on b (AnalysedWith b n) (Below (FunctionAnalysed b) n) (below_with b n) id c
-        (slice_get c.env.functions id.0) q k) (created_functions f) a r h
+    (slice_get c.env.functions id.0) q k) (created_functions f) a r h
 
 -- ---- where they keep all
 
@@ -148,9 +148,9 @@ module _ (below : HirFunction → Analysis → Result Analysis InferError)
   found_bound id a (Some f) r q =
       let out : Analysis = record a { env = with_function id (emptied f.returns) a.env } in
       bound (taken_analysed below id f out) (λ s. Ok (put_back id s)) (Taken AsStated other id f out)
-          (λ s. Only (Ok (put_back id s)))
+      (λ s. Only (Ok (put_back id s)))
       (λ p t. bound (below f out) (function_analysed id f) (other f out) (AsStated id f) (h f out) (λ x l k. k) p t)
-          (λ x l k. k) r q
+      (λ x l k. k) r q
 
 pub below_stated : (n : ℕ) (f : HirFunction) (a : Analysis) (r : Result Analysis InferError) → analysed n f a ≡ r
     → Below AsStated n f a r
@@ -158,5 +158,5 @@ unfolding analysed Below
 below_stated zero f a r q = q
 below_stated (suc n) f a r q =
     each_bound (slot_analysed (analysed n)) (InSlot AsStated (Below AsStated n))
-        (λ id c p k. found_bound (analysed n) (Below AsStated n) (below_stated n) id c (slice_get c.env.functions id.0)
-        p k) (created_functions f) a r q
+    (λ id c p k. found_bound (analysed n) (Below AsStated n) (below_stated n) id c (slice_get c.env.functions id.0)
+    p k) (created_functions f) a r q

@@ -1,7 +1,7 @@
 -- What the functions of a unit that is well formed begin with, and that tables which are kept agree with those of the
 -- unit.
-use Rattle.std.specs.Prelude.{◌≡◌, ℕ, ◌<◌, true, List, [], ◌∷◌, Option, Some, None, Ok, option_map, nat_lt, length,
-    slice_get, refl}
+use Rattle.std.specs.Prelude.{◌≡◌, ℕ, ◌<◌, true, List, [], ◌∷◌, Option, Some, None, Ok, option_map, nat_lt, length}
+use Rattle.std.specs.Prelude.{slice_get, refl}
 use Rattle.std.proofs.Common.{ap, sym, ◌∙◌, ltb-true}
 use Rattle.std.specs.List.{AllByRecursion}
 use Rattle.std.specs.Option.{option_map_or}
@@ -12,8 +12,8 @@ use Rattle.alias_base.specs.declared.ids.DeclarationId.{DeclarationId}
 use Rattle.alias_base.specs.declared.ids.FunctionId.{FunctionId}
 use Rattle.alias_base.specs.declared.ids.TypeId.{TypeId}
 use Rattle.alias_step_laws.specs.blocks.ContextLaws.{numbers_of}
-use Rattle.alias_rules.specs.function_rules.Rules.{place_fits, created_fits, identifier_fits, instruction_fits,
-    phi_fits, block_fits, numbers_fit, tables_fit, is_block}
+use Rattle.alias_rules.specs.function_rules.Rules.{place_fits, created_fits, identifier_fits, instruction_fits}
+use Rattle.alias_rules.specs.function_rules.Rules.{phi_fits, block_fits, numbers_fit, tables_fit, is_block}
 use Rattle.alias_hir.specs.Terminals.{terminal_places}
 use Rattle.alias_hir.specs.Types.{type_at}
 use Rattle.alias_hir.specs.Values.{places_of, created}
@@ -63,8 +63,11 @@ module _ (env : Environment) where
     instruction_in x h =
         let a = both_pass (place_fits env x.lvalue) _ h in
         let b = both_pass (created_fits env (created x.value)) (all_pass (place_fits env) (places_of x.value)) a.1 in
-        record { lvalue = place_in x.lvalue a.0; places = places_in (places_of x.value) b.1;
-            contexts = contexts_in (created x.value) }
+        record {
+          lvalue = place_in x.lvalue a.0;
+          places = places_in (places_of x.value) b.1;
+          contexts = contexts_in (created x.value);
+        }
 
     ends_in : (g : HirFunction) (bs : List (BlockId × BasicBlock))
         → all_pass (λ (e : BlockId × BasicBlock). block_fits env g e.1) bs ≡ Ok tt
@@ -79,9 +82,11 @@ module _ (env : Environment) where
     pub all_inside : (g : HirFunction) → numbers_fit env g ≡ Ok tt → AllInside env g
     all_inside g h =
         let n = numbers_of env g h in
-        record { instructions = λ i x e. instruction_in x
-            (passes_at (instruction_fits env) g.instructions i.0 x n.instructions e);
-            ends = ends_in g g.body.blocks n.blocks }
+        record {
+          instructions = λ i x e. instruction_in x
+              (passes_at (instruction_fits env) g.instructions i.0 x n.instructions e);
+          ends = ends_in g g.body.blocks n.blocks;
+        }
 
 -- ---- tables that are kept
 

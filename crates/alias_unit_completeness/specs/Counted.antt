@@ -1,6 +1,6 @@
 -- What the effects of a function record is refused for want of positions alone, and never for lack of memory.
-use Rattle.std.specs.Prelude.{ℕ, ◌+◌, Bool, true, false, List, [], ◌∷◌, Option, Some, None, Result, Ok, Err, ⊤,
-    if◌then◌else◌, nat_lt, slice_get}
+use Rattle.std.specs.Prelude.{ℕ, ◌+◌, Bool, true, false, List, [], ◌∷◌, Option, Some, None, Result, Ok, Err, ⊤}
+use Rattle.std.specs.Prelude.{if◌then◌else◌, nat_lt, slice_get}
 use Rattle.alias_base.specs.Answer.{◌>>=◌}
 use Rattle.alias_base.specs.declared.ids.BlockId.{BlockId}
 use Rattle.alias_base.specs.declared.ids.EvaluationOrder.{EvaluationOrder}
@@ -19,11 +19,12 @@ use Rattle.alias_hir.specs.declared.place.Place.{Place}
 use Rattle.alias_hir.specs.declared.terminal.Terminal.{Terminal}
 use Rattle.alias_hir.specs.declared.terminal.Terminal.TheVariants as terminal
 use Rattle.alias_graph.specs.declared.types.NodeValue.TheVariants.{Phi as PhiNode}
-use Rattle.alias_graph.specs.recorded.BlockListings.{operand_listed, phi_listed, returns_listed, alias_listed,
-    aliases_in, with_pending, end_listed, block_listed, blocks_listed, first_listing, listed}
+use Rattle.alias_graph.specs.recorded.BlockListings.{operand_listed, phi_listed, returns_listed, alias_listed}
+use Rattle.alias_graph.specs.recorded.BlockListings.{aliases_in, with_pending, end_listed, block_listed, blocks_listed}
+use Rattle.alias_graph.specs.recorded.BlockListings.{first_listing, listed}
 use Rattle.alias_graph.specs.recorded.Each.{each}
-use Rattle.alias_graph.specs.recorded.Listings.{position_after, made, made_once, effect_listed, effects_in, recorded_in,
-    instruction_listed}
+use Rattle.alias_graph.specs.recorded.Listings.{position_after, made, made_once, effect_listed, effects_in, recorded_in}
+use Rattle.alias_graph.specs.recorded.Listings.{instruction_listed}
 use Rattle.alias_graph.specs.declared.recorded.listing.Listing.{Listing}
 
 -- where it is refused, a counter is at its last value
@@ -107,10 +108,10 @@ end_counted returns k t l = counted_then (returns_listed returns t (with_pending
 block_counted : (f : HirFunction) (k : ℕ) (b : BasicBlock) (l : Listing) → IsCounted (block_listed f k b l)
 block_counted f k b l =
     counted_then (each (phi_listed f.body.blocks k) b.phis l) _
-        (counted_each (phi_listed f.body.blocks k) (phi_counted f.body.blocks k) b.phis l) (λ p.
+    (counted_each (phi_listed f.body.blocks k) (phi_counted f.body.blocks k) b.phis l) (λ p.
     counted_then (each (instruction_listed f.instructions) b.instructions p) (end_listed f.returns k b.terminal)
     (counted_each (instruction_listed f.instructions) (λ i m. recorded_counted i (slice_get f.instructions i.0) m)
-        b.instructions p) (end_counted f.returns k b.terminal))
+    b.instructions p) (end_counted f.returns k b.terminal))
 
 blocks_counted : (f : HirFunction) (k : ℕ) (bs : List (BlockId × BasicBlock)) (l : Listing)
     → IsCounted (blocks_listed f k bs l)

@@ -1,14 +1,14 @@
 -- At each moment of the analysis of a unit all functions of the table are callable.
-use Rattle.std.specs.Prelude.{◌≡◌, ℕ, ◌<◌, ◌≤◌, Bool, true, false, if◌then◌else◌, List, [], ◌∷◌, Option, Some, None,
-    Result, Ok, Err, ⊤, is_none, nat_lt, length, map, slice_get, slice_set, refl}
+use Rattle.std.specs.Prelude.{◌≡◌, ℕ, ◌<◌, ◌≤◌, Bool, true, false, if◌then◌else◌, List, [], ◌∷◌, Option, Some, None}
+use Rattle.std.specs.Prelude.{Result, Ok, Err, ⊤, is_none, nat_lt, length, map, slice_get, slice_set, refl}
 use Rattle.std.proofs.Common.{zero, suc, ap, sym, ◌∙◌, subst, arith}
 use Rattle.std.proofs.Common.{ltb-true}
 use Rattle.std.specs.List.{AllByRecursion, list_all}
 use Rattle.alias_base.specs.Answer.{◌>>=◌, all_pass}
 use Rattle.alias_base.specs.AnswerLaws.{both_true, both_pass}
 use Rattle.alias_base.specs.declared.ids.FunctionId.{FunctionId}
-use Rattle.alias_rules.specs.function_rules.Rules.{first_again, own_identifiers, repeated, place_fits, numbers_fit,
-    function_is_uninferred}
+use Rattle.alias_rules.specs.function_rules.Rules.{first_again, own_identifiers, repeated, place_fits, numbers_fit}
+use Rattle.alias_rules.specs.function_rules.Rules.{function_is_uninferred}
 use Rattle.alias_rules.specs.declared.function_rules.fault.UnitFault.{UnitFault}
 use Rattle.alias_hir.specs.Parts.{param_place}
 use Rattle.alias_hir.specs.declared.effect.AliasingEffect.{AliasingEffect}
@@ -37,19 +37,20 @@ use Rattle.alias_range_pass.specs.summary.Walking.{mutations_done}
 use Rattle.alias_range_pass.specs.Passes.{Ranged, range_pass}
 use Rattle.alias_ranges.specs.laws.AnswerLaws.{pass_is}
 use Rattle.alias_nesting_laws.specs.Slots.{with_function}
-use Rattle.alias_nested.specs.Analysis.{naming, Analysed, Analysis, analysis, each, effects_analysed, completed,
-    completed_with, function_analysed, taken_analysed, found_analysed, slot_analysed, analysed}
+use Rattle.alias_nested.specs.Analysis.{naming, Analysed, Analysis, analysis, each, effects_analysed, completed}
+use Rattle.alias_nested.specs.Analysis.{completed_with, function_analysed, taken_analysed, found_analysed}
+use Rattle.alias_nested.specs.Analysis.{slot_analysed, analysed}
 use Rattle.alias_nested.specs.Created.{created_functions}
 use Rattle.alias_nested.specs.Annotating.{context_annotated, summarized, reset_at, reset, annotated}
 use Rattle.alias_nested.specs.Slots.{emptied}
 use Rattle.alias_completeness.specs.Calling.{AreCallable}
 use Rattle.alias_completeness.specs.Going.{all_both}
 use Rattle.alias_completeness.specs.Summarizing.{IsSummary}
-use Rattle.alias_completeness.specs.summaries.Faces.{HasPlaces, HasFace, HaveFaces, faces_callable, same_ids, SameOwn,
-    same_own_then, places_alike, faces_alike, Stays, stays_then, mutations_stay, PlacedStays, function_stays,
-    captured_own}
-use Rattle.alias_completeness.specs.summaries.KeptTables.{bound_to, TablesKept, tables_self, tables_then, tables_alike,
-    tables_more}
+use Rattle.alias_completeness.specs.summaries.Faces.{HasPlaces, HasFace, HaveFaces, faces_callable, same_ids, SameOwn}
+use Rattle.alias_completeness.specs.summaries.Faces.{same_own_then, places_alike, faces_alike, Stays, stays_then}
+use Rattle.alias_completeness.specs.summaries.Faces.{mutations_stay, PlacedStays, function_stays, captured_own}
+use Rattle.alias_completeness.specs.summaries.KeptTables.{bound_to, TablesKept, tables_self, tables_then, tables_alike}
+use Rattle.alias_completeness.specs.summaries.KeptTables.{tables_more}
 use Rattle.alias_completeness.specs.summaries.SummaryOrder.{summary_in_order}
 
 -- ---- answers
@@ -84,10 +85,18 @@ identifiers_kept (t ∷ ts) env = tables_then env (with_identifier t.place.span 
 pub pass_stays : (env : Environment) (e : PassEnd) → Stays env (env_after env e)
 pass_stays env e =
     let k : TablesKept env (with_identifiers (end_tables e).temporaries env) =
-        identifiers_kept (end_tables e).temporaries env in
-    record { functions = passed_contexts env e;
-        tables = record { identifiers = k.identifiers; longer = k.longer; types = k.types; more_types = k.more_types;
-        shapes = k.shapes; config = k.config } }
+    identifiers_kept (end_tables e).temporaries env in
+    record {
+      functions = passed_contexts env e;
+      tables = record {
+        identifiers = k.identifiers;
+        longer = k.longer;
+        types = k.types;
+        more_types = k.more_types;
+        shapes = k.shapes;
+        config = k.config;
+      };
+    }
 
 -- ---- from the range pass on
 
@@ -113,13 +122,16 @@ pub annotated_finished : (env : Environment) (f : HirFunction) (summary : List A
     → Finished env f (annotated summary s)
 annotated_finished env f summary s own stays places order =
     let g : HirFunction = summarized summary s.0 in
-    let same : SameOwn s.0 g = record { params = refl;
-        context = same_ids (context_annotated summary) (λ p. refl) s.0.context; returns = refl } in
+    let same : SameOwn s.0 g = record {
+      params = refl;
+      context = same_ids (context_annotated summary) (λ p. refl) s.0.context;
+      returns = refl;
+    } in
     let all : SameOwn f g = same_own_then f s.0 g own same in
     let reset_kept : TablesKept s.1 (annotated summary s).1 =
-        tables_alike s.1 (annotated summary s).1 (all_reset g.context s.1.identifiers) refl refl refl in
+    tables_alike s.1 (annotated summary s).1 (all_reset g.context s.1.identifiers) refl refl refl in
     let after : Stays env (annotated summary s).1 =
-        stays_then env s.1 (annotated summary s).1 stays (record { functions = refl; tables = reset_kept }) in
+    stays_then env s.1 (annotated summary s).1 stays (record { functions = refl; tables = reset_kept }) in
     record {
       own = all;
       face = record {
@@ -147,9 +159,9 @@ ranges_done f env r places h =
     let begun : Placed = (function_captured w.0 f, w.1) in
     let placed : PlacedStays begun (function_placed true begun) = function_stays true begun in
     let own : SameOwn f (function_placed true begun).0 =
-        same_own_then f begun.0 (function_placed true begun).0 (captured_own w.0 f) placed.own in
+    same_own_then f begun.0 (function_placed true begun).0 (captured_own w.0 f) placed.own in
     let stays : Stays env (function_placed true begun).1 =
-        stays_then env w.1 (function_placed true begun).1 (mutations_stay l env) placed.env in
+    stays_then env w.1 (function_placed true begun).1 (mutations_stay l env) placed.env in
     record {
       own = subst (λ (z : Ranged). SameOwn f z.after.0) p.2 own;
       stays = subst (λ (z : Ranged). Stays env z.after.1) p.2 stays;
@@ -165,8 +177,8 @@ pub completed_finished : (id : FunctionId) (f : HirFunction) (env : Environment)
     → OnAnswer (Finished env f) (completed id f env)
 completed_finished id f env places =
     answer_then (λ r. range_pass true f env ≡ Ok r) (Finished env f) (naming id (range_pass true f env)) _
-        (answer_naming (λ r. range_pass true f env ≡ Ok r) id (range_pass true f env)
-        (answer_is (λ r. range_pass true f env ≡ Ok r) (range_pass true f env) (λ r e. e)))
+    (answer_naming (λ r. range_pass true f env ≡ Ok r) id (range_pass true f env)
+    (answer_is (λ r. range_pass true f env ≡ Ok r) (range_pass true f env) (λ r e. e)))
     (λ r e. ranged_finished f env r places e)
 
 -- ---- the analysis
@@ -186,8 +198,10 @@ record Went (a b : Analysis) : Type 0 where
   identifiers : length a.env.identifiers ≤ length b.env.identifiers
 
 went_then : (a b : Analysis) → Went a b → (c : Analysis) → Went b c → Went a c
-went_then a b g c h = record { holds = h.holds;
-    identifiers = let p = g.identifiers in let q = h.identifiers in omega arith }
+went_then a b g c h = record {
+  holds = h.holds;
+  identifiers = let p = g.identifiers in let q = h.identifiers in omega arith;
+}
 
 -- the function that is out of its slot
 record Taken (a : Analysis) (s : HirFunction × Analysis) : Type 0 where
@@ -202,8 +216,11 @@ stays_went : (a : Analysis) (env : Environment) (fs : List Analysed) → Holds a
     → AllByRecursion BeganCallable fs → Went a (analysis env fs)
 stays_went a env fs h s m =
     record {
-      holds = record { faces = faces_alike (length a.env.identifiers) (length env.identifiers) a.env.functions
-          env.functions s.functions s.tables.longer h.faces; moments = m };
+      holds = record {
+        faces = faces_alike (length a.env.identifiers) (length env.identifiers) a.env.functions
+            env.functions s.functions s.tables.longer h.faces;
+        moments = m;
+      };
       identifiers = s.tables.longer;
     }
 
@@ -211,8 +228,8 @@ effects_taken : (id : FunctionId) (f : HirFunction) (a : Analysis) → HasPlaces
     → OnAnswer (Taken a) (effects_analysed id f a)
 effects_taken id f a places h =
     answer_then (λ (e : PassEnd). Unit {0}) (Taken a) (naming id (pass_end a.env f true)) _
-        (answer_naming (λ (e : PassEnd). Unit {0}) id (pass_end a.env f true)
-        (answer_is (λ (e : PassEnd). Unit {0}) (pass_end a.env f true) (λ e i. tt)))
+    (answer_naming (λ (e : PassEnd). Unit {0}) id (pass_end a.env f true)
+    (answer_is (λ (e : PassEnd). Unit {0}) (pass_end a.env f true) (λ e i. tt)))
     (λ e u.
     let stays : Stays a.env (env_after a.env e) = pass_stays a.env e in
     record {
@@ -227,10 +244,13 @@ completed_done : (id : FunctionId) (a : Analysis) (s : HirFunction × Analysis) 
     → OnAnswer (Done a) (completed_with id s)
 completed_done id a s h =
     answer_then (Finished s.1.env s.0) (Done a) (completed id s.0 s.1.env) _
-        (completed_finished id s.0 s.1.env h.places)
-    (λ c d. record { face = d.face; went =
-        went_then a s.1 h.went (analysis c.1 s.1.functions)
-        (stays_went s.1 c.1 s.1.functions h.went.holds d.stays h.went.holds.moments) })
+    (completed_finished id s.0 s.1.env h.places)
+    (λ c d. record {
+      face = d.face;
+      went =
+          went_then a s.1 h.went (analysis c.1 s.1.functions)
+          (stays_went s.1 c.1 s.1.functions h.went.holds d.stays h.went.holds.moments);
+    })
 
 function_done : (id : FunctionId) (f : HirFunction) (a : Analysis) → HasPlaces (length a.env.identifiers) f → Holds a
     → OnAnswer (Done a) (function_analysed id f a)
@@ -251,8 +271,8 @@ each_went : {X : Type 0} (step : X → Analysis → Result Analysis InferError)
 each_went step h [] a n = went_self a n
 each_went step h (x ∷ xs) a n =
     answer_then (Went a) (Went a) (step x a) (each step xs) (h x a n)
-        (λ b w. on_answer (Went b) (Went a) (each step xs b) (λ c v. went_then a b w c v)
-        (each_went step h xs b w.holds))
+    (λ b w. on_answer (Went b) (Went a) (each step xs b) (λ c v. went_then a b w c v)
+    (each_went step h xs b w.holds))
 
 pub set_face : (n : ℕ) (fs : List HirFunction) (k : ℕ) (f : HirFunction) → HasFace n f → HaveFaces n fs
     → HaveFaces n (slice_set fs k f)
@@ -273,8 +293,10 @@ no_summary r es (Some x) h e = cc
 
 -- what stands in for a function that is out
 pub stand_in : (n : ℕ) (f : HirFunction) → HasFace n f → HasFace n (emptied f.returns)
-stand_in n f h = record { places = record { distinct = refl; within = h.places.within };
-    summary = λ es e. no_summary f.returns.identifier.0 es None refl e }
+stand_in n f h = record {
+  places = record { distinct = refl; within = h.places.within };
+  summary = λ es e. no_summary f.returns.identifier.0 es None refl e;
+}
 
 module _ (below : HirFunction → Analysis → Result Analysis InferError)
     (goes : (f : HirFunction) (a : Analysis) → Holds a → OnAnswer (Went a) (below f a)) where
@@ -283,9 +305,9 @@ module _ (below : HirFunction → Analysis → Result Analysis InferError)
   taken_done id f a places h =
       answer_then (Went a) (Done a) (below f a) (function_analysed id f) (goes f a h)
       (λ b w. on_answer (Done b) (Done a) (function_analysed id f b)
-          (λ s d. record { face = d.face; went = went_then a b w s.1 d.went })
+      (λ s d. record { face = d.face; went = went_then a b w s.1 d.went })
       (function_done id f b (places_alike (length a.env.identifiers) (length b.env.identifiers) f f
-          (record { params = refl; context = refl; returns = refl }) w.identifiers places) w.holds))
+      (record { params = refl; context = refl; returns = refl }) w.identifiers places) w.holds))
 
   found_went : (id : FunctionId) (a : Analysis) (o : Option HirFunction) → slice_get a.env.functions id.0 ≡ o → Holds a
       → OnAnswer (Went a) (found_analysed below id a o)
@@ -294,12 +316,20 @@ module _ (below : HirFunction → Analysis → Result Analysis InferError)
       let n = length a.env.identifiers in
       let face : HasFace n f = found_face n a.env.functions id.0 f e h.faces in
       let out : Analysis = record a { env = with_function id (emptied f.returns) a.env } in
-      let held : Holds out = record { faces =
-          set_face n a.env.functions id.0 (emptied f.returns) (stand_in n f face) h.faces; moments = h.moments } in
+      let held : Holds out = record {
+        faces =
+            set_face n a.env.functions id.0 (emptied f.returns) (stand_in n f face) h.faces;
+        moments = h.moments;
+      } in
       answer_then (Done out) (Went a) (taken_analysed below id f out) _ (taken_done id f out face.places held)
-      (λ s d. record { holds = record { faces =
-          set_face (length s.1.env.identifiers) s.1.env.functions id.0 s.0 d.face d.went.holds.faces;
-          moments = d.went.holds.moments }; identifiers = d.went.identifiers })
+      (λ s d. record {
+        holds = record {
+          faces =
+              set_face (length s.1.env.identifiers) s.1.env.functions id.0 s.0 d.face d.went.holds.faces;
+          moments = d.went.holds.moments;
+        };
+        identifiers = d.went.identifiers;
+      })
 
   slot_went : (id : FunctionId) (a : Analysis) → Holds a → OnAnswer (Went a) (slot_analysed below id a)
   slot_went id a h = found_went id a (slice_get a.env.functions id.0) refl h
@@ -331,8 +361,8 @@ returns_within env f h =
     let a = both_pass (all_pass (λ p. place_fits env (param_place p)) f.params) _ h in
     let b = both_pass (all_pass (place_fits env) f.context) _ a.1 in
     ltb-true f.returns.identifier.0 (length env.identifiers)
-        (asked (nat_lt f.returns.identifier.0 (length env.identifiers)) _
-        (both_pass (place_fits env f.returns) _ b.1).0)
+    (asked (nat_lt f.returns.identifier.0 (length env.identifiers)) _
+    (both_pass (place_fits env f.returns) _ b.1).0)
 
 is_nothing : {X : Type 0} (o : Option X) → is_none o ≡ true → o ≡ None
 is_nothing None h = refl
@@ -359,7 +389,7 @@ module _ (u : HirUnit) (rules : rules_hold u ≡ Ok tt) where
   nested_face k f e =
       let p = parts_of_rules u rules in
       let uninferred : list_all function_is_uninferred u.env.functions ≡ true =
-          (both_true _ (list_all function_is_uninferred u.env.functions) p.environment).1 in
+      (both_true _ (list_all function_is_uninferred u.env.functions) p.environment).1 in
       record {
         places = record {
           distinct = not_again (Some (record { 0 = k })) (first_again [] (own_identifiers f))

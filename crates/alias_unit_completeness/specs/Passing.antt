@@ -1,6 +1,6 @@
 -- Why the effects pass of a function is refused.
-use Rattle.std.specs.Prelude.{◌≡◌, ℕ, Bool, true, false, Option, Some, None, Result, Err, is_some, length, replicate,
-    slice_get, refl}
+use Rattle.std.specs.Prelude.{◌≡◌, ℕ, Bool, true, false, Option, Some, None, Result, Err, is_some, length, replicate}
+use Rattle.std.specs.Prelude.{slice_get, refl}
 use Rattle.std.proofs.Common.{ap, sym, ◌∙◌, subst}
 use Rattle.std.proofs.lemmas.List.{length-replicate}
 use Rattle.alias_base.specs.Find.{value_at}
@@ -96,9 +96,9 @@ never_ends_so env func b entry forward n e =
     let c = context_of env func b in
     let none = replicate (length func.body.blocks) None in
     let laws : FlowLaws StateProper Extends (numbered c) none =
-        pass_laws c entry none (length-replicate (length func.body.blocks) None) in
+    pass_laws c entry none (length-replicate (length func.body.blocks) None) in
     forward_settles state_laws laws forward (tables_of env) n
-        (solution_work_list state_laws laws (tables_of env) ∙ ap (as_work_list_end state_below) e)
+    (solution_work_list state_laws laws (tables_of env) ∙ ap (as_work_list_end state_below) e)
 
 settled_case : (env : Environment) (func : HirFunction) (r : Ended) → ((n : ℕ) → r ≡ end.NotSettled n → ⊥)
     → (e : InferError) → answer_of env func r ≡ Err e → IsUnsettled e → ⊥

@@ -14,25 +14,26 @@ use Rattle.alias_hir.specs.declared.env.IdentifierName.{IdentifierName}
 use Rattle.alias_hir.specs.declared.error.InferError.{InferError}
 use Rattle.alias_hir.specs.declared.error.InferError.TheVariants.{PassFault}
 use Rattle.alias_hir.specs.declared.error.Pass.{Pass}
-use Rattle.alias_hir.specs.declared.error.Pass.TheVariants.{DeadCodeElimination,
-    RewriteInstructionKindsBasedOnReassignment, InferReactiveScopeVariables}
+use Rattle.alias_hir.specs.declared.error.Pass.TheVariants.{DeadCodeElimination}
+use Rattle.alias_hir.specs.declared.error.Pass.TheVariants.{RewriteInstructionKindsBasedOnReassignment}
+use Rattle.alias_hir.specs.declared.error.Pass.TheVariants.{InferReactiveScopeVariables}
 use Rattle.alias_hir.specs.declared.hir.HirFunction.{HirFunction}
 use Rattle.alias_hir.specs.declared.hir.ParamPattern.{ParamPattern}
 use Rattle.alias_hir.specs.declared.place.Place.{Place}
 use Rattle.alias_inner_passes.specs.Passes.{declaration_name_and_type, Keeps}
 use Rattle.alias_range_pass.specs.Passes.{Ranged, range_pass}
 use Rattle.alias_range_pass.specs.places.Keeping.{but_context}
-use Rattle.alias_nested.specs.Analysis.{named, naming, Analysis, analysis, effects_analysed, completed, completed_with,
-    function_analysed}
+use Rattle.alias_nested.specs.Analysis.{named, naming, Analysis, analysis, effects_analysed, completed, completed_with}
+use Rattle.alias_nested.specs.Analysis.{function_analysed}
 use Rattle.alias_nested.specs.Answers.{Only, Passed, Completed, CompletedWith, FunctionAnalysed}
 use Rattle.alias_nested.specs.Annotating.{annotated}
 use Rattle.alias_completeness.specs.Summarizing.{IsSummary}
 use Rattle.alias_completeness.specs.summaries.Faces.{HasPlaces, SameOwn, same_own_then, places_alike, Stays, stays_then}
 use Rattle.alias_completeness.specs.summaries.KeptTables.{bound_to, tables_alike}
-use Rattle.alias_unit_completeness.specs.Answering.{Meets, AllMeet, meets_then, meets_naming, only_meets, then_meets,
-    AsStated}
-use Rattle.alias_unit_completeness.specs.Moments.{pass_stays, Finished, annotated_finished, RangesDone, ranges_done,
-    ranged_finished}
+use Rattle.alias_unit_completeness.specs.Answering.{Meets, AllMeet, meets_then, meets_naming, only_meets, then_meets}
+use Rattle.alias_unit_completeness.specs.Answering.{AsStated}
+use Rattle.alias_unit_completeness.specs.Moments.{pass_stays, Finished, annotated_finished, RangesDone, ranges_done}
+use Rattle.alias_unit_completeness.specs.Moments.{ranged_finished}
 use Rattle.alias_unit_completeness.specs.Walking.{Turned}
 
 -- a function's own places stay, and its environment
@@ -60,7 +61,7 @@ bound_so (i ∷ is) (j ∷ js) e =
     let one : declaration_name_and_type j ≡ declaration_name_and_type i = cc in
     let rest : map declaration_name_and_type js ≡ map declaration_name_and_type is = cc in
     ap (λ (d : DeclarationId × (Option IdentifierName × TypeId)). without_name d ∷ map bound_to js) one
-        ∙ ap (λ (ds : List (DeclarationId × TypeId)). bound_to i ∷ ds) (bound_so is js rest)
+    ∙ ap (λ (ds : List (DeclarationId × TypeId)). bound_to i ∷ ds) (bound_so is js rest)
 
 pass_keeps : (old new : HirFunction × Environment) → Keeps old.0 old.1 new.0 new.1 → Kept old.0 old.1 new
 pass_keeps old new k = record {
@@ -98,8 +99,8 @@ module _ (E : InferError → Type 0) where
       → Meets E (λ (s : HirFunction × Analysis). Kept g a.env (s.0, s.1.env)) (effects_analysed id g a)
   effects_turn id g a caused =
       meets_then E (λ (e : PassEnd). Unit {0}) (λ (s : HirFunction × Analysis). Kept g a.env (s.0, s.1.env))
-          (naming id (pass_end a.env g true)) _
-          (meets_naming E (λ (e : PassEnd). Unit {0}) id (pass_end a.env g true) (λ e q. tt) caused)
+      (naming id (pass_end a.env g true)) _
+      (meets_naming E (λ (e : PassEnd). Unit {0}) id (pass_end a.env g true) (λ e q. tt) caused)
       (λ e u. record { own = record { params = refl; context = refl; returns = refl }; stays = pass_stays a.env e })
 
   module _ (id : FunctionId) (ranges : (f : HirFunction) (env : Environment) (e : InferError) → range_pass true f env
@@ -119,35 +120,38 @@ module _ (E : InferError → Type 0) where
         → HasPlaces (length env.identifiers) f → AllMeet E (Finished env f) (Completed b id (f, env))
     completed_by_passes faults b f env places =
         then_meets E (Kept f env) (Finished env f) (Passed b id DeadCodeElimination (f, env)) _
-            (passed_keeps id faults b DeadCodeElimination (f, env)) (λ dead d.
+        (passed_keeps id faults b DeadCodeElimination (f, env)) (λ dead d.
         then_meets E (λ (r : Ranged). range_pass true dead.0 dead.1 ≡ Ok r) (Finished env f)
-            (Only (naming id (range_pass true dead.0 dead.1))) _
+        (Only (naming id (range_pass true dead.0 dead.1))) _
         (only_meets E (λ (r : Ranged). range_pass true dead.0 dead.1 ≡ Ok r) (naming id (range_pass true dead.0 dead.1))
-            (range_is dead.0 dead.1)) (λ r q.
+        (range_is dead.0 dead.1)) (λ r q.
         let there : HasPlaces (length dead.1.identifiers) dead.0 =
-            places_alike (length env.identifiers) (length dead.1.identifiers) f dead.0 d.own d.stays.tables.longer
-            places in
+        places_alike (length env.identifiers) (length dead.1.identifiers) f dead.0 d.own d.stays.tables.longer
+        places in
         let ranged : RangesDone dead.1 dead.0 r = ranges_done dead.0 dead.1 r there q in
         let order : IsSummary f.returns.identifier.0 r.summary =
-            subst (λ (p : Place). IsSummary p.identifier.0 r.summary) d.own.returns ranged.order in
+        subst (λ (p : Place). IsSummary p.identifier.0 r.summary) d.own.returns ranged.order in
         let after : Kept f env r.after = kept_then f dead.0 env dead.1 r.after d.own d.stays
-            (record { own = ranged.own; stays = ranged.stays }) in
+        (record { own = ranged.own; stays = ranged.stays }) in
         then_meets E (Kept r.after.0 r.after.1) (Finished env f)
-            (Passed b id RewriteInstructionKindsBasedOnReassignment r.after) _
-            (passed_keeps id faults b RewriteInstructionKindsBasedOnReassignment r.after) (λ kinds k.
+        (Passed b id RewriteInstructionKindsBasedOnReassignment r.after) _
+        (passed_keeps id faults b RewriteInstructionKindsBasedOnReassignment r.after) (λ kinds k.
         let second : Kept f env kinds = kept_then f r.after.0 env r.after.1 kinds after.own after.stays k in
         then_meets E (Kept kinds.0 kinds.1) (Finished env f) (Passed b id InferReactiveScopeVariables kinds) _
-            (passed_keeps id faults b InferReactiveScopeVariables kinds) (λ scopes s.
+        (passed_keeps id faults b InferReactiveScopeVariables kinds) (λ scopes s.
         let third : Kept f env scopes = kept_then f kinds.0 env kinds.1 scopes second.own second.stays s in
         only_meets E (Finished env f) (Ok (annotated r.summary scopes))
-            (annotated_finished env f r.summary scopes third.own third.stays places order)))))
+        (annotated_finished env f r.summary scopes third.own third.stays places order)))))
 
     module _ (g : HirFunction) (a : Analysis) (places : HasPlaces (length a.env.identifiers) g)
         (caused : (e : InferError) → pass_end a.env g true ≡ Err e → E (named id e)) where
       finished_turned : (s : HirFunction × Analysis) → Kept g a.env (s.0, s.1.env) → (c : HirFunction × Environment)
           → Finished s.1.env s.0 c → Turned g a (c.0, analysis c.1 s.1.functions)
-      finished_turned s k c d = record { own = same_own_then g s.0 c.0 k.own d.own; face = d.face;
-          stays = stays_then a.env s.1.env c.1 k.stays d.stays }
+      finished_turned s k c d = record {
+        own = same_own_then g s.0 c.0 k.own d.own;
+        face = d.face;
+        stays = stays_then a.env s.1.env c.1 k.stays d.stays;
+      }
 
       still_there : (s : HirFunction × Analysis) → Kept g a.env (s.0, s.1.env)
           → HasPlaces (length s.1.env.identifiers) s.0
@@ -159,17 +163,17 @@ module _ (E : InferError → Type 0) where
       turns_stated =
           only_meets E (Turned g a) (function_analysed id g a)
           (meets_then E (λ (s : HirFunction × Analysis). Kept g a.env (s.0, s.1.env)) (Turned g a)
-              (effects_analysed id g a) (completed_with id) (effects_turn id g a caused) (λ s k.
+          (effects_analysed id g a) (completed_with id) (effects_turn id g a caused) (λ s k.
           meets_then E (Finished s.1.env s.0) (Turned g a) (completed id s.0 s.1.env) _
-              (completed_turns s.0 s.1.env (still_there s k)) (finished_turned s k)))
+          (completed_turns s.0 s.1.env (still_there s k)) (finished_turned s k)))
 
       -- where they change functions within their law
       pub turns_by_passes : HasFaults E id → (b : Bool) → AllMeet E (Turned g a) (FunctionAnalysed b id g a)
       turns_by_passes faults b =
           then_meets E (λ (s : HirFunction × Analysis). Kept g a.env (s.0, s.1.env)) (Turned g a)
-              (Only (effects_analysed id g a)) (CompletedWith b id)
+          (Only (effects_analysed id g a)) (CompletedWith b id)
           (only_meets E (λ (s : HirFunction × Analysis). Kept g a.env (s.0, s.1.env)) (effects_analysed id g a)
-              (effects_turn id g a caused)) (λ s k.
+          (effects_turn id g a caused)) (λ s k.
           then_meets E (Finished s.1.env s.0) (Turned g a) (Completed b id (s.0, s.1.env)) _
-              (completed_by_passes faults b s.0 s.1.env (still_there s k)) (λ c d.
+          (completed_by_passes faults b s.0 s.1.env (still_there s k)) (λ c d.
           only_meets E (Turned g a) (Ok (c.0, analysis c.1 s.1.functions)) (finished_turned s k c d)))

@@ -20,8 +20,8 @@ use Rattle.alias_hir.specs.declared.place.Place.{Place}
 use Rattle.alias_validate.specs.Levels.{function_within, created_within, is_within}
 use Rattle.alias_validate.specs.InstructionSteps.{found}
 use Rattle.alias_validate.specs.OperandMarks.{first_mark, Seen}
-use Rattle.alias_validate.specs.Reassigning.{Below, created_step, value_step, instruction_step, block_step, block_steps,
-    context_reassignment, reassignment_reports, reassigned_within}
+use Rattle.alias_validate.specs.Reassigning.{Below, created_step, value_step, instruction_step, block_step, block_steps}
+use Rattle.alias_validate.specs.Reassigning.{context_reassignment, reassignment_reports, reassigned_within}
 use Rattle.alias_validate.specs.Walks.{and_then, each, ended, place_of}
 use Rattle.alias_validate.specs.declared.outcome.WalkOutcome.{WalkOutcome}
 use Rattle.alias_validate.specs.declared.outcome.WalkOutcome.TheVariants.{Continue, End}
@@ -61,8 +61,8 @@ module _ (env : Environment) (b c : Below) (within : HirFunction → Bool)
   created_same async lvalue s None h = refl
   created_same async lvalue s (Some f) h =
       ap (λ (z : Result (Shared × Option Place) InferError). z
-          >>= (λ r. Ok (found env (async || f.is_async) lvalue s.0 r.0 (option_or r.1 (first_mark s.0 f.context)))))
-          (same f h (async || f.is_async) s.1)
+      >>= (λ r. Ok (found env (async || f.is_async) lvalue s.0 r.0 (option_or r.1 (first_mark s.0 f.context)))))
+      (same f h (async || f.is_async) s.1)
 
   module _ (is_function_expression async : Bool) where
     value_same : (s : Seen) (i : Instruction) (f : Option FunctionId) → created_within within env f ≡ true
@@ -80,18 +80,18 @@ module _ (env : Environment) (b c : Below) (within : HirFunction → Bool)
     blocks_same : (func : HirFunction) → list_all (λ (i : Instruction). created_within within env (created i.value))
         func.instructions ≡ true → (s : Seen) (bs : List (BlockId × BasicBlock))
         → block_steps env b is_function_expression async func s bs
-            ≡ block_steps env c is_function_expression async func s bs
+        ≡ block_steps env c is_function_expression async func s bs
     blocks_same func h s bs =
         each_same (λ t (e : BlockId × BasicBlock). block_step env b is_function_expression async func t e.1)
-            (λ t (e : BlockId × BasicBlock). block_step env c is_function_expression async func t e.1)
+        (λ t (e : BlockId × BasicBlock). block_step env c is_function_expression async func t e.1)
         (λ t e. ap (λ (z : Result (Seen × WalkOutcome) InferError). z
-            >>= (λ r. and_then (λ u. Ok (u, ended (first_mark u.0 (terminal_places e.1.terminal)))) r.0 r.1))
+        >>= (λ r. and_then (λ u. Ok (u, ended (first_mark u.0 (terminal_places e.1.terminal)))) r.0 r.1))
         (each_same (λ u (i : InstructionId). instruction_step env b is_function_expression async u
-            (slice_get func.instructions i.0)) (λ u (i : InstructionId).
-            instruction_step env c is_function_expression async u (slice_get func.instructions i.0))
+        (slice_get func.instructions i.0)) (λ u (i : InstructionId).
+        instruction_step env c is_function_expression async u (slice_get func.instructions i.0))
         (λ u i. step_same u (slice_get func.instructions i.0)
-            (λ x at. all_at (λ (j : Instruction). created_within within env (created j.value)) func.instructions i.0 x h
-            at)) t e.1.instructions)) s bs
+        (λ x at. all_at (λ (j : Instruction). created_within within env (created j.value)) func.instructions i.0 x h
+        at)) t e.1.instructions)) s bs
 
 none_within : (env : Environment) (func : HirFunction) → is_within zero env func ≡ false
 unfolding is_within
@@ -118,11 +118,11 @@ levels_enough zero k env func h is_function_expression async sh = let no : false
 levels_enough (suc n) k env func h is_function_expression async sh =
     let shift : suc n + k ≡ suc (n + k) = omega arith in
     ap (λ (z : ℕ). context_reassignment z env is_function_expression async func sh) shift
-        ∙ one_walked (n + k) env is_function_expression async func sh
+    ∙ one_walked (n + k) env is_function_expression async func sh
     ∙ ap (λ (z : Result (Seen × WalkOutcome) InferError). z >>= (λ r. Ok (r.0.1, place_of r.1)))
     (blocks_same env (context_reassignment (n + k) env true) (context_reassignment n env true) (is_within n env)
-        (λ f g async₁ sh₁. levels_enough n k env f g true async₁ sh₁) is_function_expression async func
-        (sym (more_within n env func) ∙ h) ([], sh) func.body.blocks)
+    (λ f g async₁ sh₁. levels_enough n k env f g true async₁ sh₁) is_function_expression async func
+    (sym (more_within n env func) ∙ h) ([], sh) func.body.blocks)
     ∙ sym (one_walked n env is_function_expression async func sh)
 
 pub reports_enough : (n k : ℕ) (env : Environment) (func : HirFunction) → is_within n env func ≡ true

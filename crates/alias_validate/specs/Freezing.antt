@@ -1,6 +1,6 @@
 -- Functions that write locals, and where they are frozen.
-use Rattle.std.specs.Prelude.{Bool, true, false, cond, not, ◌&&◌, List, [], ◌∷◌, ◌++◌, Option, None, Some, fold,
-    slice_get, option_map, option_to_list, flat_map, is_some}
+use Rattle.std.specs.Prelude.{Bool, true, false, cond, not, ◌&&◌, List, [], ◌∷◌, ◌++◌, Option, None, Some, fold}
+use Rattle.std.specs.Prelude.{slice_get, option_map, option_to_list, flat_map, is_some}
 use Rattle.std.specs.Option.{option_map_or}
 use Rattle.alias_base.specs.declared.ids.BlockId.{BlockId}
 use Rattle.alias_base.specs.declared.ids.IdentifierId.{IdentifierId}
@@ -8,8 +8,8 @@ use Rattle.alias_base.specs.declared.ids.InstructionId.{InstructionId}
 use Rattle.alias_hir.specs.Terminals.{terminal_places}
 use Rattle.alias_hir.specs.Types.{is_ref_or_ref_like_mutable_type, type_of}
 use Rattle.alias_hir.specs.declared.effect.AliasingEffect.{AliasingEffect}
-use Rattle.alias_hir.specs.declared.effect.AliasingEffect.TheVariants.{Mutate, MutateConditionally, MutateTransitive,
-    MutateTransitiveConditionally}
+use Rattle.alias_hir.specs.declared.effect.AliasingEffect.TheVariants.{Mutate, MutateConditionally, MutateTransitive}
+use Rattle.alias_hir.specs.declared.effect.AliasingEffect.TheVariants.{MutateTransitiveConditionally}
 use Rattle.alias_hir.specs.declared.env.Environment.{Environment}
 use Rattle.alias_hir.specs.declared.hir.BasicBlock.{BasicBlock}
 use Rattle.alias_hir.specs.declared.hir.HirFunction.{HirFunction}
@@ -97,8 +97,10 @@ Seen = ContextMutations × List Report
 
 abbrev pub instruction_seen : Environment → Seen → Option Instruction → Seen
 instruction_seen env s None = s
-instruction_seen env s (Some i) = (marks_after env i.lvalue.identifier i.value s.0,
-    s.1 ++ value_reports env s.0 i.value)
+instruction_seen env s (Some i) = (
+  marks_after env i.lvalue.identifier i.value s.0,
+  s.1 ++ value_reports env s.0 i.value,
+)
 
 -- the instructions, by their numbers
 abbrev pub instructions_seen : Environment → HirFunction → Seen → List InstructionId → Seen

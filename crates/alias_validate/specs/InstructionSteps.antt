@@ -6,8 +6,8 @@ use Rattle.alias_hir.specs.declared.error.InferError.{InferError}
 use Rattle.alias_hir.specs.declared.place.Place.{Place}
 use Rattle.alias_hir.specs.declared.report.Report.{Report}
 use Rattle.alias_hir.specs.declared.value.InstructionValue.{InstructionValue}
-use Rattle.alias_hir.specs.declared.value.InstructionValue.TheVariants.{DeclareContext, LoadLocal, StoreContext,
-    StoreLocal}
+use Rattle.alias_hir.specs.declared.value.InstructionValue.TheVariants.{DeclareContext, LoadLocal, StoreContext}
+use Rattle.alias_hir.specs.declared.value.InstructionValue.TheVariants.{StoreLocal}
 use Rattle.alias_validate.specs.Marking.{mark_of, marked, loaded, stored}
 use Rattle.alias_validate.specs.OperandMarks.{ReassigningFunctions, Seen, seen, other_step}
 use Rattle.alias_validate.specs.Reports.{async_report}

@@ -1,6 +1,6 @@
 -- Locals that are reassigned after rendering.
-use Rattle.std.specs.Prelude.{Bool, true, false, ◌||◌, ℕ, List, [], ◌++◌, Option, None, Some, Result, Ok, slice_get,
-    option_map, option_to_list}
+use Rattle.std.specs.Prelude.{Bool, true, false, ◌||◌, ℕ, List, [], ◌++◌, Option, None, Some, Result, Ok, slice_get}
+use Rattle.std.specs.Prelude.{option_map, option_to_list}
 use Rattle.std.proofs.Common.{zero, suc}
 use Rattle.std.specs.Option.{option_or}
 use Rattle.alias_base.specs.Answer.{◌>>=◌}

@@ -36,7 +36,7 @@ abbrev pub async_report : Environment → Place → Report
 async_report env x =
     immutability (codes "Cannot reassign variable in async function")
     (codes
-        "Reassigning a variable in an async function can cause inconsistent behavior on subsequent renders. Consider using state instead")
+    "Reassigning a variable in an async function can cause inconsistent behavior on subsequent renders. Consider using state instead")
     (label x.span (codes "Cannot reassign " ++ variable_or env x.identifier (codes "variable")))
 
 -- the report where a place is reassigned once rendering is over
@@ -45,7 +45,7 @@ reassigned_report env x =
     let v = variable_or env x.identifier (codes "variable") in
     immutability (codes "Cannot reassign variable after render completes")
     (codes "Reassigning " ++ v ++ codes
-        " after render has completed can cause inconsistent behavior on subsequent renders. Consider using state instead")
+    " after render has completed can cause inconsistent behavior on subsequent renders. Consider using state instead")
     (label x.span (codes "Cannot reassign " ++ v ++ codes " after render completes"))
 
 -- the operand, then what it mutates
@@ -53,16 +53,16 @@ abbrev pub frozen_labels : Environment → Place → ContextMutation → List La
 frozen_labels env operand m =
     let v = variable_or env m.identifier (codes "a local variable") in
     label operand.span (codes "This function may (indirectly) reassign or modify " ++ v ++ codes " after render")
-        ++ label m.span (codes "This modifies " ++ v)
+    ++ label m.span (codes "This modifies " ++ v)
 
 -- the report where a function is frozen that mutates an identifier
 abbrev pub frozen_report : Environment → Place → ContextMutation → Report
 frozen_report env operand m =
     immutability (codes "Cannot modify local variables after render completes")
     (codes "This argument is a function which may reassign or mutate "
-        ++ variable_or env m.identifier (codes "a local variable")
-        ++ codes
-        " after render, which can cause inconsistent behavior on subsequent renders. Consider using state instead")
+    ++ variable_or env m.identifier (codes "a local variable")
+    ++ codes
+    " after render, which can cause inconsistent behavior on subsequent renders. Consider using state instead")
     (frozen_labels env operand m)
 
 -- the tables with reports recorded after those that are there

@@ -21,8 +21,8 @@ use Rattle.alias_step.specs.Instructions.{begun, apply_signature}
 use Rattle.alias_step.specs.block.Blocks.{infer_phis, infer_block}
 use Rattle.alias_step.specs.block.Contexts.{BlockContext}
 use Rattle.alias_walks.specs.Applying.{To}
-use Rattle.alias_walks.specs.Blocking.{InstructionKnown, signature_applied, BlockLaw, AreKnown, are_known, Returned,
-    Out, block_inferred}
+use Rattle.alias_walks.specs.Blocking.{InstructionKnown, signature_applied, BlockLaw, AreKnown, are_known, Returned}
+use Rattle.alias_walks.specs.Blocking.{Out, block_inferred}
 use Rattle.alias_walks.specs.OfProgress.{ProgressLaw, law_of, any_named}
 use Rattle.alias_walks.specs.Words.{all_of, Leads}
 
@@ -52,8 +52,11 @@ block_law_of env B = record {
 
 module _ (env : Environment) (L : ProgressLaw env) where
   any_instruction : (facts : FunctionFacts) (i : Instruction) → InstructionKnown (law_of env L) facts i
-  any_instruction facts i = record { lvalue = λ t k. tt; creation = tt;
-      effects = λ error t k h. any_named (signature_of (known env facts error) i) }
+  any_instruction facts i = record {
+    lvalue = λ t k. tt;
+    creation = tt;
+    effects = λ error t k h. any_named (signature_of (known env facts error) i);
+  }
 
   pub instruction_leads : (facts : FunctionFacts) (i : Instruction) (s : StepProgress) (t : TableLists)
       → L.Here (begun s) → To (law_of env L) (apply_signature env facts i s) t

@@ -1,7 +1,7 @@
 -- Over passes of the caller that change functions, no Apply comes to an instruction of a nested function, and so the
 -- range pass finds none left.
-use Rattle.std.specs.Prelude.{◌≡◌, ◌≢◌, ℕ, Bool, true, false, List, [], ◌∷◌, Option, Some, None, Result, Ok, Err, ⊤,
-    Contains, is_none, slice_get, refl}
+use Rattle.std.specs.Prelude.{◌≡◌, ◌≢◌, ℕ, Bool, true, false, List, [], ◌∷◌, Option, Some, None, Result, Ok, Err, ⊤}
+use Rattle.std.specs.Prelude.{Contains, is_none, slice_get, refl}
 use Rattle.std.specs.List.{AllByRecursion, list_any, list_all}
 use Rattle.std.proofs.Common.{zero, suc, sym, ◌∙◌, subst}
 use Rattle.std.proofs.lemmas.List.Folds.{Any-from_list_any, list_any-from_Any}
@@ -14,8 +14,9 @@ use Rattle.alias_hir.specs.declared.env.Unit.{Unit as HirUnit}
 use Rattle.alias_hir.specs.declared.error.InferError.{InferError}
 use Rattle.alias_hir.specs.declared.error.InferError.TheVariants.{UnreplacedApply}
 use Rattle.alias_hir.specs.declared.error.Pass.{Pass}
-use Rattle.alias_hir.specs.declared.error.Pass.TheVariants.{DeadCodeElimination,
-    RewriteInstructionKindsBasedOnReassignment, InferReactiveScopeVariables}
+use Rattle.alias_hir.specs.declared.error.Pass.TheVariants.{DeadCodeElimination}
+use Rattle.alias_hir.specs.declared.error.Pass.TheVariants.{RewriteInstructionKindsBasedOnReassignment}
+use Rattle.alias_hir.specs.declared.error.Pass.TheVariants.{InferReactiveScopeVariables}
 use Rattle.alias_hir.specs.declared.hir.HirFunction.{HirFunction}
 use Rattle.alias_hir.specs.declared.hir.Instruction.{Instruction}
 use Rattle.alias_hir.specs.declared.report.Report.{Report}
@@ -33,16 +34,17 @@ use Rattle.alias_nesting_laws.specs.Slots.{with_function}
 use Rattle.alias_nested.proofs.Answering.{refusal_answers}
 use Rattle.alias_nested.proofs.Evolving.{passed_contexts}
 use Rattle.alias_nested.specs.Analysis.{Analysed, Analysis, analysis, most_levels, naming, effects_analysed, put_back}
-use Rattle.alias_nested.specs.Answers.{Answers, Only, Then, done, refused, Each, Passed, Completed, CompletedWith,
-    FunctionAnalysed, TakenAnalysed, FoundAnalysed, SlotAnalysed, AnalysedWith, Analyses, AnalysesInto}
+use Rattle.alias_nested.specs.Answers.{Answers, Only, Then, done, refused, Each, Passed, Completed, CompletedWith}
+use Rattle.alias_nested.specs.Answers.{FunctionAnalysed, TakenAnalysed, FoundAnalysed, SlotAnalysed, AnalysedWith}
+use Rattle.alias_nested.specs.Answers.{Analyses, AnalysesInto}
 use Rattle.alias_nested.specs.Created.{created_functions}
 use Rattle.alias_nested.specs.Refusals.{AnalysisRefused}
 use Rattle.alias_nested.specs.Annotating.{annotated}
 use Rattle.alias_nested.specs.Slots.{emptied}
 use Rattle.alias_answer_laws.specs.answers.Applies.{InstructionsLackApply, NestedLackApply, Leads}
 use Rattle.alias_answer_laws.specs.answers.Avoiding.{is_unreplaced, avoids_then, avoids_naming, named_alike}
-use Rattle.alias_answer_laws.specs.answers.FunctionLaws.{set_all, got_all, instructions_without_apply, BothLackApply,
-    RangesPlain, ranges_plain}
+use Rattle.alias_answer_laws.specs.answers.FunctionLaws.{set_all, got_all, instructions_without_apply, BothLackApply}
+use Rattle.alias_answer_laws.specs.answers.FunctionLaws.{RangesPlain, ranges_plain}
 use Rattle.alias_answer_laws.specs.answers.PassLaws.{EndsPlain, pass_plain}
 use Rattle.alias_answer_laws.specs.answers.UnitLaws.{lacks_alike}
 
@@ -92,15 +94,19 @@ instructions_still : (is js : List Instruction)
     → ((k : ℕ) → NoneAdded (instruction_effects (slice_get is k)) (instruction_effects (slice_get js k)))
     → AllByRecursion LacksApply is → AllByRecursion LacksApply js
 instructions_still is [] h n = tt
-instructions_still [] (j ∷ js) h n = (carries_still None j.effects (h zero) refl,
-    instructions_still [] js (λ k. h (suc k)) tt)
+instructions_still [] (j ∷ js) h n = (
+  carries_still None j.effects (h zero) refl,
+  instructions_still [] js (λ k. h (suc k)) tt,
+)
 instructions_still (i ∷ is) (j ∷ js) h n =
     (carries_still i.effects j.effects (h zero) n.0, instructions_still is js (λ k. h (suc k)) n.1)
 
 pass_lacks : (old new : HirFunction × Environment) → Keeps old.0 old.1 new.0 new.1 → BothLackApply old
     → BothLackApply new
-pass_lacks old new k h = (instructions_still old.0.instructions new.0.instructions k.added.effects h.0,
-    subst (AllByRecursion InstructionsLackApply) (sym k.tables.functions) h.1)
+pass_lacks old new k h = (
+  instructions_still old.0.instructions new.0.instructions k.added.effects h.0,
+  subst (AllByRecursion InstructionsLackApply) (sym k.tables.functions) h.1,
+)
 
 passed_leads : (keeps_all : Bool) (id : FunctionId) (pass : Pass) (old : HirFunction × Environment) → BothLackApply old
     → AllLead BothLackApply (Passed keeps_all id pass old)
@@ -121,10 +127,12 @@ effects_lead : (id : FunctionId) (f : HirFunction) (a : Analysis) → Instructio
     → Leads Taken (effects_analysed id f a)
 effects_lead id f a h n =
     avoids_then is_unreplaced EndsPlain Taken (naming id (pass_end a.env f true)) _
-        (avoids_naming is_unreplaced EndsPlain id (pass_end a.env f true) (λ e. (named_alike id e).0)
-        (pass_plain a.env f true))
-    (λ e p. (instructions_without_apply e.solved f p h,
-        lacks_alike a.env.functions (env_after a.env e).functions (passed_contexts a.env e) n))
+    (avoids_naming is_unreplaced EndsPlain id (pass_end a.env f true) (λ e. (named_alike id e).0)
+    (pass_plain a.env f true))
+    (λ e p. (
+      instructions_without_apply e.solved f p h,
+      lacks_alike a.env.functions (env_after a.env e).functions (passed_contexts a.env e) n,
+    ))
 
 ranges_lead : (id : FunctionId) (s : HirFunction × Environment) → BothLackApply s
     → Leads RangesPlain (naming id (range_pass true s.0 s.1))
@@ -136,22 +144,22 @@ module _ (keeps_all : Bool) where
       → AllLead BothLackApply (Completed keeps_all id s)
   completed_leads id s h =
       then_leads BothLackApply BothLackApply (Passed keeps_all id DeadCodeElimination s) _
-          (passed_leads keeps_all id DeadCodeElimination s h) (λ dead d.
+      (passed_leads keeps_all id DeadCodeElimination s h) (λ dead d.
       then_leads RangesPlain BothLackApply (Only (naming id (range_pass true dead.0 dead.1))) _
-          (only_leads RangesPlain (naming id (range_pass true dead.0 dead.1)) (ranges_lead id dead d)) (λ r q.
+      (only_leads RangesPlain (naming id (range_pass true dead.0 dead.1)) (ranges_lead id dead d)) (λ r q.
       then_leads BothLackApply BothLackApply (Passed keeps_all id RewriteInstructionKindsBasedOnReassignment r.after) _
-          (passed_leads keeps_all id RewriteInstructionKindsBasedOnReassignment r.after q) (λ kinds k.
+      (passed_leads keeps_all id RewriteInstructionKindsBasedOnReassignment r.after q) (λ kinds k.
       then_leads BothLackApply BothLackApply (Passed keeps_all id InferReactiveScopeVariables kinds) _
-          (passed_leads keeps_all id InferReactiveScopeVariables kinds k)
-          (λ scopes l. only_leads BothLackApply (Ok (annotated r.summary scopes)) l))))
+      (passed_leads keeps_all id InferReactiveScopeVariables kinds k)
+      (λ scopes l. only_leads BothLackApply (Ok (annotated r.summary scopes)) l))))
 
   function_leads : (id : FunctionId) (f : HirFunction) (a : Analysis) → InstructionsLackApply f → Nested a
       → AllLead Taken (FunctionAnalysed keeps_all id f a)
   function_leads id f a h n =
       then_leads Taken Taken (Only (effects_analysed id f a)) (CompletedWith keeps_all id)
-          (only_leads Taken (effects_analysed id f a) (effects_lead id f a h n)) (λ s p.
+      (only_leads Taken (effects_analysed id f a) (effects_lead id f a h n)) (λ s p.
       then_leads BothLackApply Taken (Completed keeps_all id (s.0, s.1.env)) _ (completed_leads id (s.0, s.1.env) p)
-          (λ c q. only_leads Taken (Ok (c.0, analysis c.1 s.1.functions)) q))
+      (λ c q. only_leads Taken (Ok (c.0, analysis c.1 s.1.functions)) q))
 
   module _ (below : HirFunction → Analysis → Answers Analysis)
       (lead : (f : HirFunction) (a : Analysis) → Nested a → AllLead Nested (below f a)) where
@@ -167,17 +175,17 @@ module _ (keeps_all : Bool) where
         let out : Analysis = record a { env = with_function id (emptied f.returns) a.env } in
         then_leads Taken Nested (TakenAnalysed keeps_all below id f out) _
         (taken_leads id f out (got_all InstructionsLackApply a.env.functions id.0 f e n)
-            (set_all InstructionsLackApply a.env.functions id.0 (emptied f.returns) tt n))
+        (set_all InstructionsLackApply a.env.functions id.0 (emptied f.returns) tt n))
         (λ s p. only_leads Nested (Ok (put_back id s))
-            (set_all InstructionsLackApply s.1.env.functions id.0 s.0 p.0 p.1))
+        (set_all InstructionsLackApply s.1.env.functions id.0 s.0 p.0 p.1))
 
   analysed_leads : (n : ℕ) (f : HirFunction) (a : Analysis) → Nested a → AllLead Nested (AnalysedWith keeps_all n f a)
   unfolding AnalysedWith
   analysed_leads zero f a h = only_leads Nested (Ok a) h
   analysed_leads (suc n) f a h =
       each_leads Nested (SlotAnalysed keeps_all (AnalysedWith keeps_all n))
-          (λ id b m. found_leads (AnalysedWith keeps_all n) (analysed_leads n) id b (slice_get b.env.functions id.0)
-          refl m) (created_functions f) a h
+      (λ id b m. found_leads (AnalysedWith keeps_all n) (analysed_leads n) id b (slice_get b.env.functions id.0)
+      refl m) (created_functions f) a h
 
 -- ---- the analysis of nested functions
 
@@ -237,9 +245,11 @@ functions_without : (fs : List HirFunction) → list_all function_is_uninferred 
     → AllByRecursion InstructionsLackApply fs
 functions_without [] h = tt
 functions_without (f ∷ fs) h =
-    let b = both_true (function_is_uninferred f) _ h in
-    (instructions_without f.instructions (both_true _ (list_all instruction_is_uninferred f.instructions)
-        (both_true _ _ b.0).0).1, functions_without fs b.1)
+    let b = both_true (function_is_uninferred f) _ h in (
+      instructions_without f.instructions (both_true _ (list_all instruction_is_uninferred f.instructions)
+          (both_true _ _ b.0).0).1,
+      functions_without fs b.1,
+    )
 
 -- which a unit is that is well formed
 pub uninferred_without : (u : HirUnit) → rules_hold u ≡ Ok tt → NestedLackApply u.env

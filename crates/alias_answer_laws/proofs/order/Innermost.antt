@@ -12,8 +12,8 @@ use Rattle.alias_rules.specs.TreeLaws.{times_both, counted}
 use Rattle.alias_nesting_laws.specs.SubtreeLaws.{tree_parts, tree_end, ended_parts}
 use Rattle.alias_nested.specs.Created.{created_functions}
 use Rattle.alias_nested.specs.Order.{numbers}
-use Rattle.alias_nested.proofs.Counting.{flat_times, total_same, same_total, there_among, numbers_innermost_first,
-    listed_level}
+use Rattle.alias_nested.proofs.Counting.{flat_times, total_same, same_total, there_among, numbers_innermost_first}
+use Rattle.alias_nested.proofs.Counting.{listed_level}
 use Rattle.alias_nested.proofs.InOrder.{created_numbers, order_numbers}
 use Rattle.alias_answer_laws.specs.order.Order.{nested_innermost_first}
 use Rattle.alias_answer_laws.proofs.order.Unit.{unit_below, unit_tree, slots_as_often, root_as_often}
@@ -39,7 +39,7 @@ place_in (a ∷ ps) qs (x ∷ xs) ys k h =
     ⊎_elim
     (λ (f : First ps xs k). inl (record { rest = f.rest; here = ap (λ z. z ∷ ps) same ∙ ap (λ zs. x ∷ zs) f.here }))
     (λ (s : Second ps qs xs k ys). inr (record
-        { before = s.before; all = ap (λ z. z ∷ xs) (sym same) ∙ ap (λ zs. a ∷ zs) s.all; here = s.here }))
+    { before = s.before; all = ap (λ z. z ∷ xs) (sym same) ∙ ap (λ zs. a ∷ zs) s.all; here = s.here }))
     (place_in ps qs xs ys k rest)
 
 -- ---- levels that end
@@ -56,7 +56,7 @@ ends_same zero c d h xs ys e ends = λ j. e j ∙ ends j
 ends_same (suc n) c d h xs ys e ends =
     ends_same n c d h (flat_map c xs) (flat_map d ys)
     (λ k. flat_times c xs k ∙ total_same (λ x. times (c x) k) (λ x. times (d x) k) (λ x. h x k) xs
-        ∙ same_total (λ x. times (d x) k) xs ys e ∙ sym (flat_times d ys k)) ends
+    ∙ same_total (λ x. times (d x) k) xs ys e ∙ sym (flat_times d ys k)) ends
 
 flat_two : (c : ℕ → List ℕ) (xs ys : List ℕ) (j : ℕ) → times (flat_map c (xs ++ ys)) j ≡ times (flat_map c xs) j
     + times (flat_map c ys) j
@@ -71,10 +71,10 @@ ends_first (suc n) c xs ys zs t ends =
     ends_first n c (flat_map c xs) (flat_map c ys) (flat_map c zs)
     (λ j.
     let both : times (flat_map c (xs ++ ys)) j ≡ times (flat_map c xs) j + times (flat_map c ys) j =
-        flat_two c xs ys j in
+    flat_two c xs ys j in
     let all : times (flat_map c zs) j ≡ times (flat_map c (xs ++ ys)) j = flat_times c zs j
-        ∙ same_total (λ x. times (c x) j) zs (xs ++ ys) (λ k. t k ∙ sym (times_both xs ys k))
-        ∙ sym (flat_times c (xs ++ ys) j) in
+    ∙ same_total (λ x. times (c x) j) zs (xs ++ ys) (λ k. t k ∙ sym (times_both xs ys k))
+    ∙ sym (flat_times c (xs ++ ys) j) in
     all ∙ both) ends
 
 -- a level is in the order, where it ends
@@ -116,7 +116,7 @@ before_one c x ps p creates xs ys k j e h =
     ⊎_elim
     (λ (f : First ps xs k). p xs f.rest k j f.here h)
     (λ (s : Second ps (x ∷ []) xs k ys). front ps s.before xs j s.all
-        (creates j (subst (λ z. 1 ≤ times (c z) j) (only_there x k s.before ys s.here) h)))
+    (creates j (subst (λ z. 1 ≤ times (c z) j) (only_there x k s.before ys s.here) h)))
     (place_in ps (x ∷ []) xs ys k e)
 
 before_nothing : (c : ℕ → List ℕ) → Before c []
@@ -129,15 +129,15 @@ before_each : (n : ℕ) (c : ℕ → List ℕ) → ((level : List ℕ) → Ends 
 before_each n c below [] ends = before_nothing c
 before_each n c below (x ∷ xs) ends =
     let own : Ends n c (c x) = ends_first n c (c x) (flat_map c xs) (c x ++ flat_map c xs)
-        (times_both (c x) (flat_map c xs)) ends in
+    (times_both (c x) (flat_map c xs)) ends in
     let rest : Ends n c (flat_map c xs)
     = ends_first n c (flat_map c xs) (c x) (c x ++ flat_map c xs)
-        (λ j. let b : times (c x ++ flat_map c xs) j ≡ times (c x) j + times (flat_map c xs) j =
-        times_both (c x) (flat_map c xs) j in omega arith) ends in
+    (λ j. let b : times (c x ++ flat_map c xs) j ≡ times (c x) j + times (flat_map c xs) j =
+    times_both (c x) (flat_map c xs) j in omega arith) ends in
     before_both c (numbers_innermost_first n c (c x) ++ x ∷ [])
-        (flat_map (λ (k : ℕ). numbers_innermost_first n c (c k) ++ k ∷ []) xs)
+    (flat_map (λ (k : ℕ). numbers_innermost_first n c (c k) ++ k ∷ []) xs)
     (before_one c x (numbers_innermost_first n c (c x)) (below (c x) own) (λ j h. level_there n c (c x) j own h))
-        (before_each n c below xs rest)
+    (before_each n c below xs rest)
 
 pub listed_before : (n : ℕ) (c : ℕ → List ℕ) (level : List ℕ) → Ends n c level
     → Before c (numbers_innermost_first n c level)
@@ -162,12 +162,12 @@ pub order_innermost : (u : HirUnit) → rules_hold u ≡ Ok tt → (xs ys : List
 order_innermost u rules xs ys k j e h =
     let c = created_numbers u.env.functions in
     let tree : Ends 63 (created_at u.env) (created_in u.function) =
-        tree_ends 63 u.env [] (created_in u.function) (unit_below u rules) (unit_tree u rules) in
+    tree_ends 63 u.env [] (created_in u.function) (unit_below u rules) (unit_tree u rules) in
     let ends : Ends 63 c (numbers (created_functions u.function))
     = ends_same 63 c (created_at u.env) (slots_as_often u rules) (numbers (created_functions u.function))
-        (created_in u.function) (root_as_often u rules) tree in
+    (created_in u.function) (root_as_often u rules) tree in
     let creates : 1 ≤ times (c k) j = (let a : times (c k) j ≡ times (created_at u.env k) j =
-        slots_as_often u rules k j in let b : 1 ≤ times (created_at u.env k) j = counted (created_at u.env k) j h in
-        omega arith) in
+    slots_as_often u rules k j in let b : 1 ≤ times (created_at u.env k) j = counted (created_at u.env k) j h in
+    omega arith) in
     there_among xs j (listed_before 63 c (numbers (created_functions u.function)) ends xs ys k j
-        (sym (order_numbers 63 u.env.functions (created_functions u.function)) ∙ e) creates)
+    (sym (order_numbers 63 u.env.functions (created_functions u.function)) ∙ e) creates)

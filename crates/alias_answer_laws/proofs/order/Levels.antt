@@ -37,8 +37,8 @@ module _ (env : Environment) where
   instructions_within n (i ∷ is) h =
       let p = created_first n (created i.value) (flat_map (λ (i : Instruction). number_of (created i.value)) is) h in
       together (created_within (is_within n env) env (created i.value))
-          (list_all (λ (i : Instruction). created_within (is_within n env) env (created i.value)) is) p.0
-          (instructions_within n is p.1)
+      (list_all (λ (i : Instruction). created_within (is_within n env) env (created i.value)) is) p.0
+      (instructions_within n is p.1)
 
   own_within : (n : ℕ) (f : HirFunction) → AllByRecursion (SlotWithin n) (created_in f) → is_within (suc n) env f ≡ true
   unfolding is_within

@@ -1,6 +1,6 @@
 -- The analysis goes over the functions below a function in the order that is stated.
-use Rattle.std.specs.Prelude.{◌≡◌, ℕ, ◌==◌, ◌||◌, nat_eq, Bool, true, false, cond, List, [], ◌∷◌, ◌++◌, Option, Some,
-    None, Result, Ok, Err, length, map, slice_get, slice_set}
+use Rattle.std.specs.Prelude.{◌≡◌, ℕ, ◌==◌, ◌||◌, nat_eq, Bool, true, false, cond, List, [], ◌∷◌, ◌++◌, Option, Some}
+use Rattle.std.specs.Prelude.{None, Result, Ok, Err, length, map, slice_get, slice_set}
 use Rattle.std.specs.List.{flat_map}
 use Rattle.std.proofs.Common.{zero, suc, refl, ap, sym, ◌∙◌, subst, arith, ◌+◌, ◌<◌, ◌≤◌}
 use Rattle.std.proofs.lemmas.Bool.{eqb-true}
@@ -22,8 +22,9 @@ use Rattle.alias_effects.specs.Recording.{with_effects_of}
 use Rattle.alias_effects.specs.declared.output.PassEnd.{PassEnd}
 use Rattle.alias_range_pass.specs.places.Keeping.{but_context}
 use Rattle.alias_range_pass.specs.Passes.{Ranged, range_pass}
-use Rattle.alias_nested.specs.Analysis.{naming, numbered, Analysed, Analysis, analysis, each, effects_analysed,
-    completed, completed_with, function_analysed, taken_analysed, put_back, found_analysed, slot_analysed, analysed}
+use Rattle.alias_nested.specs.Analysis.{naming, numbered, Analysed, Analysis, analysis, each, effects_analysed}
+use Rattle.alias_nested.specs.Analysis.{completed, completed_with, function_analysed, taken_analysed, put_back}
+use Rattle.alias_nested.specs.Analysis.{found_analysed, slot_analysed, analysed}
 use Rattle.alias_nested.specs.Created.{created_functions}
 use Rattle.alias_nested.specs.Annotating.{annotated}
 use Rattle.alias_nested.specs.Slots.{emptied}
@@ -115,9 +116,11 @@ pub record Finished (id : FunctionId) (f : HirFunction) (a : Analysis) (g : HirF
   pub contexts : map but_context b.env.functions ≡ map but_context a.env.functions
 
 abbrev pub effects_made : FunctionId → HirFunction → Analysis → PassEnd → HirFunction × Analysis
-effects_made id f a e = (with_effects_of e.solved f,
-    analysis (env_after a.env e) (a.functions
-    ++ record { env = a.env; func = f; is_function_expression = true; solved = numbered id e.solved } ∷ []))
+effects_made id f a e = (
+  with_effects_of e.solved f,
+  analysis (env_after a.env e) (a.functions
+      ++ record { env = a.env; func = f; is_function_expression = true; solved = numbered id e.solved } ∷ []),
+)
 
 effects_finished : (id : FunctionId) (f : HirFunction) (a : Analysis) (p : HirFunction × Analysis)
     → effects_analysed id f a ≡ Ok p → Finished id f a p.0 p.1
@@ -145,7 +148,7 @@ ranges_completed id f env c h =
     let ran : range_pass true f env ≡ Ok r = naming_ok id (range_pass true f env) r w.1 in
     let is : annotated r.summary r.after ≡ c = cc in
     subst (λ (q : HirFunction × Environment). Completed f env q.0 q.1) is
-        (record { creates = created_ranged f env r ran; contexts = ranged_contexts f env r ran })
+    (record { creates = created_ranged f env r ran; contexts = ranged_contexts f env r ran })
 
 pub function_finished : (id : FunctionId) (f : HirFunction) (a : Analysis) (s : HirFunction × Analysis)
     → function_analysed id f a ≡ Ok s → Finished id f a s.0 s.1
@@ -154,13 +157,16 @@ function_finished id f a s h =
     let p : HirFunction × Analysis = w.0 in
     let first : Finished id f a p.0 p.1 = effects_finished id f a p w.1 in
     let v = went (completed id p.0 p.1.env) (λ (c : HirFunction × Environment). Ok (c.0, analysis c.1 p.1.functions)) s
-        w.2 in
+    w.2 in
     let c : HirFunction × Environment = v.0 in
     let after : Completed p.0 p.1.env c.0 c.1 = ranges_completed id p.0 p.1.env c v.1 in
     let is : ◌≡◌ {A = HirFunction × Analysis} (c.0, analysis c.1 p.1.functions) s = cc in
     subst (λ (q : HirFunction × Analysis). Finished id f a q.0 q.1) is
-        (record { functions = first.functions; creates = after.creates ∙ first.creates;
-        contexts = after.contexts ∙ first.contexts })
+    (record {
+      functions = first.functions;
+      creates = after.creates ∙ first.creates;
+      contexts = after.contexts ∙ first.contexts;
+    })
 
 -- ---- a function is taken out of its slot, and put back
 
@@ -216,7 +222,7 @@ module _ (fs : List HirFunction) (n : ℕ) where
     count = length_set env.functions id.0 g ∙ s.count;
     slots = λ k h.
         elim (nat_eq k id.0) as (λ b. nat_eq k id.0 ≡ b → created_by_slot (slice_get (slice_set env.functions id.0 g) k)
-            ≡ created_by_slot (slice_get fs k)) [
+        ≡ created_by_slot (slice_get fs k)) [
           | true ↦ λ e. let same : k ≡ id.0 = eqb-true k id.0 e in
               subst (λ z. created_by_slot (slice_get (slice_set env.functions id.0 g) z)
               ≡ created_by_slot (slice_get fs z)) (sym same)
@@ -255,20 +261,20 @@ module _ (fs : List HirFunction) (n : ℕ) (below_goes : GoesOver fs (analysed n
       let v = went (analysed n f a0) (function_analysed id f) s w.1 in
       let a1 : Analysis = v.0 in
       let same : created_functions f ≡ created_by_slot (slice_get fs id.0) = sym (ap created_by_slot h)
-          ∙ st.slots id.0 (not_out fs n id out apart) in
+      ∙ st.slots id.0 (not_out fs n id out apart) in
       let first : Done fs (id.0 ∷ out) a0 a1 (innermost_first n fs (created_functions f))
       = below_goes f (id.0 ∷ out) a0 a1 (taken_stands fs n id out a.env (emptied f.returns) st)
-          (subst (λ ids. Apart fs (id.0 ∷ out) (innermost_first n fs ids)) (sym same) (apart_below fs n id out apart))
-          v.1 in
+      (subst (λ ids. Apart fs (id.0 ∷ out) (innermost_first n fs ids)) (sym same) (apart_below fs n id out apart))
+      v.1 in
       let after : Finished id f a1 s.0 s.1 = function_finished id f a1 s v.2 in
       let names : done s.1 ≡ done a ++ map Some (ids_of fs n id)
       = after.functions ∙ ap (λ xs. xs ++ Some id ∷ [])
-          (first.functions ∙ ap (λ ids. done a ++ map Some (innermost_first n fs ids)) same)
+      (first.functions ∙ ap (λ ids. done a ++ map Some (innermost_first n fs ids)) same)
       ∙ append_assoc (done a) (map Some (ids_below fs n id)) (Some id ∷ [])
       ∙ ap (λ xs. done a ++ xs) (sym (map-append (λ (id : FunctionId). Some id) (ids_below fs n id) (id ∷ []))) in
       let stands : Stands fs out (with_function id s.0 s.1.env)
       = back_stands fs n id out s.1.env s.0 (in_slot fs n id out apart) (after.creates ∙ same)
-          (stands_alike fs (id.0 ∷ out) a1.env s.1.env after.contexts first.stands) in
+      (stands_alike fs (id.0 ∷ out) a1.env s.1.env after.contexts first.stands) in
       subst (λ (z : Analysis). Done fs out a z (ids_of fs n id)) is (record { functions = names; stands = stands })
 
   each_done : (ids : List FunctionId) (out : List ℕ) (a b : Analysis) → Stands fs out a.env
@@ -281,17 +287,17 @@ module _ (fs : List HirFunction) (n : ℕ) (below_goes : GoesOver fs (analysed n
       let w = went (slot_analysed (analysed n) id a) (each (slot_analysed (analysed n)) ids) b h in
       let a1 : Analysis = w.0 in
       let first : Done fs out a a1 (ids_of fs n id) =
-          found_done id out a a1 (slice_get a.env.functions id.0) st
-          (apart_first fs out (ids_of fs n id) (flat_map (ids_of fs n) ids) apart) refl w.1 in
+      found_done id out a a1 (slice_get a.env.functions id.0) st
+      (apart_first fs out (ids_of fs n id) (flat_map (ids_of fs n) ids) apart) refl w.1 in
       let rest : Done fs out a1 b (flat_map (ids_of fs n) ids) =
-          each_done ids out a1 b first.stands (apart_rest fs out (ids_of fs n id) (flat_map (ids_of fs n) ids) apart)
-          w.2 in
+      each_done ids out a1 b first.stands (apart_rest fs out (ids_of fs n id) (flat_map (ids_of fs n) ids) apart)
+      w.2 in
       record {
         functions =
             rest.functions ∙ ap (λ xs. xs ++ map Some (flat_map (ids_of fs n) ids)) first.functions
             ∙ append_assoc (done a) (map Some (ids_of fs n id)) (map Some (flat_map (ids_of fs n) ids))
             ∙ ap (λ xs. done a ++ xs) (sym (map-append (λ (id : FunctionId). Some id) (ids_of fs n id)
-                (flat_map (ids_of fs n) ids)));
+            (flat_map (ids_of fs n) ids)));
         stands = rest.stands;
       }
 

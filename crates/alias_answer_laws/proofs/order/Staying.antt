@@ -1,6 +1,6 @@
 -- What the passes of the inference leave of what functions create: all of it.
-use Rattle.std.specs.Prelude.{◌≡◌, ℕ, ◌+◌, Bool, true, false, List, [], ◌∷◌, Option, Some, None, Ok, length, map,
-    option_map, slice_get}
+use Rattle.std.specs.Prelude.{◌≡◌, ℕ, ◌+◌, Bool, true, false, List, [], ◌∷◌, Option, Some, None, Ok, length, map}
+use Rattle.std.specs.Prelude.{option_map, slice_get}
 use Rattle.std.specs.List.{flat_map}
 use Rattle.std.proofs.Common.{zero, suc, refl, ap, sym, ◌∙◌}
 use Rattle.std.proofs.lemmas.List.{length-map}
@@ -19,18 +19,18 @@ use Rattle.alias_effects.specs.declared.solved.Solved.{Solved}
 use Rattle.alias_graph.specs.declared.recorded.listing.Listing.{Listing}
 use Rattle.alias_graph.specs.declared.recorded.listing.RecordedMutation.{RecordedMutation}
 use Rattle.alias_graph.specs.recorded.Recording.{graph_listed}
-use Rattle.alias_range_pass.specs.places.Blocks.{block_merged, first_order, Placed, placed_at, block_placed,
-    blocks_placed, function_placed}
-use Rattle.alias_range_pass.specs.places.Instructions.{instruction_placed, placed_in, instruction_at,
-    instructions_placed}
+use Rattle.alias_range_pass.specs.places.Blocks.{block_merged, first_order, Placed, placed_at, block_placed}
+use Rattle.alias_range_pass.specs.places.Blocks.{blocks_placed, function_placed}
+use Rattle.alias_range_pass.specs.places.Instructions.{instruction_placed, placed_in, instruction_at}
+use Rattle.alias_range_pass.specs.places.Instructions.{instructions_placed}
 use Rattle.alias_range_pass.specs.places.Keeping.{but_context, but_instruction, but_entry, but_effects}
 use Rattle.alias_range_pass.specs.places.Blocks.{ends_placed}
 use Rattle.alias_range_pass.specs.places.Ranges.{assigned}
 use Rattle.alias_range_pass.specs.places.StayLaws.{instruction_stays, block_stays, set_stays, block_effects}
 use Rattle.alias_range_pass.specs.places.Tables.{table_of}
 use Rattle.alias_range_pass.specs.summary.MarkedPlaces.{function_captured}
-use Rattle.alias_range_pass.specs.summary.Walking.{Walked, after_mutation, after_mutations, env_reported,
-    mutations_done, renders_done}
+use Rattle.alias_range_pass.specs.summary.Walking.{Walked, after_mutation, after_mutations, env_reported}
+use Rattle.alias_range_pass.specs.summary.Walking.{mutations_done, renders_done}
 use Rattle.alias_range_pass.specs.Passes.{records, Ranged, range_pass}
 use Rattle.alias_ranges.specs.laws.AnswerLaws.{pass_is}
 use Rattle.alias_ranges.specs.laws.PlacedLaws.{function_keeps}
@@ -58,10 +58,10 @@ module _ (t : BlockId × BasicBlock → BlockId × BasicBlock) (h : Instruction 
       ≡ created_with is bs
   created_mapped is bs =
       flat_mapped (λ (b : BlockId × BasicBlock). created_by_ids (map h is) b.1.instructions) t
-          (λ (b : BlockId × BasicBlock). created_by_ids is b.1.instructions)
+      (λ (b : BlockId × BasicBlock). created_by_ids is b.1.instructions)
       (λ b. ap (created_by_ids (map h is)) (lists b)
-          ∙ flat_same (λ (i : InstructionId). created_by (slice_get (map h is) i.0))
-          (λ (i : InstructionId). created_by (slice_get is i.0)) (λ i. slice_created is i.0) b.1.instructions) bs
+      ∙ flat_same (λ (i : InstructionId). created_by (slice_get (map h is) i.0))
+      (λ (i : InstructionId). created_by (slice_get is i.0)) (λ i. slice_created is i.0) b.1.instructions) bs
 
 created_without : (f : HirFunction) → created_functions (without_effects f) ≡ created_functions f
 created_without f = created_mapped without_block_effects without_instruction_effects (λ b. refl) (λ i. refl)
@@ -97,15 +97,15 @@ block_kept b k None s h = refl
 block_kept b k (Some x) s h =
     let mid : Environment = block_merged s.0 x s.1 in
     block_effects s.0 k x (ends_placed b mid.identifiers (first_order s.0.instructions x) x)
-        (instructions_placed x.instructions (s.0.instructions, mid)).0 h
+    (instructions_placed x.instructions (s.0.instructions, mid)).0 h
     (block_stays b mid.identifiers (first_order s.0.instructions x) x)
-        (instructions_kept x.instructions (s.0.instructions, mid))
+    (instructions_kept x.instructions (s.0.instructions, mid))
 
 blocks_kept : (b : Bool) (n k : ℕ) (s : Placed) → but_effects (blocks_placed b n k s).0 ≡ but_effects s.0
 blocks_kept b zero k s = refl
 blocks_kept b (suc n) k s =
     blocks_kept b n (k + 1) (block_placed b k s)
-        ∙ block_kept b k (option_map (λ (e : BlockId × BasicBlock). e.1) (slice_get s.0.body.blocks k)) s refl
+    ∙ block_kept b k (option_map (λ (e : BlockId × BasicBlock). e.1) (slice_get s.0.body.blocks k)) s refl
 
 -- of a function placing changes the effects of its places alone
 pub placed_still : (b : Bool) (s : Placed) → but_effects (function_placed b s).0 ≡ but_effects s.0
@@ -134,7 +134,7 @@ module _ (f : HirFunction) (env : Environment) (r : Ranged) (h : range_pass true
       let p = pass_is true f env r h in
       let c : Bool = records true env in
       ap (λ (z : Ranged). created_functions z.after.0) (sym p.2)
-          ∙ created_placed true (function_captured (mutations_done c p.0 env).0 f, walks_done c p.0 env)
+      ∙ created_placed true (function_captured (mutations_done c p.0 env).0 f, walks_done c p.0 env)
 
   -- and of the functions in their slots it changes context places alone
   pub ranged_contexts : map but_context r.after.1.functions ≡ map but_context env.functions
@@ -144,7 +144,7 @@ module _ (f : HirFunction) (env : Environment) (r : Ranged) (h : range_pass true
       let walked : Environment = walks_done c p.0 env in
       let k = function_keeps true (function_captured (mutations_done c p.0 env).0 f, walked) in
       ap (λ (z : Ranged). map but_context z.after.1.functions) (sym p.2) ∙ ap (λ (e : Environment). e.functions) k.rest
-          ∙ ap (map but_context) (silent_functions c p.0 env refl)
+      ∙ ap (map but_context) (silent_functions c p.0 env refl)
 
 -- ---- slots
 

@@ -1,6 +1,6 @@
 -- The order of a unit that is well formed has each nested function once.
-use Rattle.std.specs.Prelude.{◌≡◌, ℕ, true, false, List, [], ◌∷◌, ◌++◌, Option, Some, None, Ok, length, slice_get,
-    if◌then◌else◌}
+use Rattle.std.specs.Prelude.{◌≡◌, ℕ, true, false, List, [], ◌∷◌, ◌++◌, Option, Some, None, Ok, length, slice_get}
+use Rattle.std.specs.Prelude.{if◌then◌else◌}
 use Rattle.std.specs.List.{flat_map}
 use Rattle.std.proofs.Common.{zero, suc, refl, ap, ◌∙◌, subst, arith, ◌+◌, ◌<◌, ◌≤◌}
 use Rattle.alias_hir.specs.declared.env.Environment.{Environment}
@@ -8,10 +8,10 @@ use Rattle.alias_hir.specs.declared.env.Unit.{Unit as HirUnit}
 use Rattle.alias_hir.specs.declared.hir.HirFunction.{HirFunction}
 use Rattle.alias_rules.specs.function_rules.Rules.{is_among}
 use Rattle.alias_rules.specs.Functions.{of_function, rules_hold}
-use Rattle.alias_rules.specs.Nesting.{created_in, created_of, created_at, next_level, tree_below, fresh, reached_from,
-    reached, times}
-use Rattle.alias_rules.specs.RuleLaws.{Parts, parts_of_rules, root_of_rules, nested_of_rules, function_past,
-    found_within, rules_make_function_fit}
+use Rattle.alias_rules.specs.Nesting.{created_in, created_of, created_at, next_level, tree_below, fresh, reached_from}
+use Rattle.alias_rules.specs.Nesting.{reached, times}
+use Rattle.alias_rules.specs.RuleLaws.{Parts, parts_of_rules, root_of_rules, nested_of_rules, function_past}
+use Rattle.alias_rules.specs.RuleLaws.{found_within, rules_make_function_fit}
 use Rattle.alias_rules.specs.TreeLaws.{times_both, counted}
 use Rattle.alias_rules.specs.declared.rules.Rule.TheVariants.{Numbers, Listed, ListedOnce}
 use Rattle.alias_nesting_laws.specs.ClosureLaws.{Among, Closed, tree_closed}
@@ -20,8 +20,8 @@ use Rattle.alias_nesting_laws.specs.PartLaws.{among_cases, append_cases}
 use Rattle.alias_fitting_laws.specs.pruning.BelowLaws.{Source, source_of, below_are, below_distinct}
 use Rattle.alias_nested.specs.Created.{created_functions}
 use Rattle.alias_nested.specs.Order.{created_by_slot, numbers}
-use Rattle.alias_nested.proofs.Counting.{flat_times, total_same, zero_total, numbers_innermost_first, listed_same,
-    tree_times}
+use Rattle.alias_nested.proofs.Counting.{flat_times, total_same, zero_total, numbers_innermost_first, listed_same}
+use Rattle.alias_nested.proofs.Counting.{tree_times}
 use Rattle.alias_nested.proofs.Creating.{once_again, created_as_often}
 use Rattle.alias_nested.proofs.InOrder.{created_numbers, order_numbers}
 use Rattle.alias_answer_laws.specs.order.Order.{nested_innermost_first}
@@ -39,7 +39,7 @@ fresh_among : (found xs : List ℕ) (k : ℕ) → is_among (fresh found xs) k �
 fresh_among found [] k h = h
 fresh_among found (x ∷ xs) k h =
     elim (is_among found x) as (λ b. is_among (if b then fresh found xs else x ∷ fresh (found ++ x ∷ []) xs) k ≡ true
-        → is_among (x ∷ xs) k ≡ true) [
+    → is_among (x ∷ xs) k ≡ true) [
       | true ↦ λ g. later_among x xs k (fresh_among found xs k g)
       | false ↦ λ g. among_more (fresh (found ++ x ∷ []) xs) g (fresh_among (found ++ x ∷ []) xs k)
     ] h
@@ -60,7 +60,7 @@ reached_among (suc n) env found level ks f l c =
     reached_among n env (found ++ fresh found level) (next_level env (fresh found level)) ks
     (λ k h. append_cases found (fresh found level) k (is_among ks k ≡ true) h (f k) (new k))
     (λ k h. let s : Source (created_at env) (fresh found level) k =
-        source_of (created_at env) (fresh found level) k h in c s.number (new s.number s.among) k s.taken)
+    source_of (created_at env) (fresh found level) k h in c s.number (new s.number s.among) k s.taken)
     c
 
 -- ---- the unit
@@ -97,36 +97,36 @@ module _ (u : HirUnit) (rules : rules_hold u ≡ Ok tt) where
   order_times : (j : ℕ) → times (numbers (nested_innermost_first u)) j ≡ times fits.below j
   order_times j =
       let a : times (numbers (nested_innermost_first u)) j
-          ≡ times (numbers_innermost_first 63 (created_numbers u.env.functions)
-          (numbers (created_functions u.function))) j =
-          ap (λ zs. times zs j) (order_numbers 63 u.env.functions (created_functions u.function)) in
+      ≡ times (numbers_innermost_first 63 (created_numbers u.env.functions)
+      (numbers (created_functions u.function))) j =
+      ap (λ zs. times zs j) (order_numbers 63 u.env.functions (created_functions u.function)) in
       let b : times (numbers_innermost_first 63 (created_numbers u.env.functions)
-          (numbers (created_functions u.function))) j
-          ≡ times (numbers_innermost_first 63 (created_at u.env) (created_in u.function)) j
+      (numbers (created_functions u.function))) j
+      ≡ times (numbers_innermost_first 63 (created_at u.env) (created_in u.function)) j
       = listed_same 63 (created_numbers u.env.functions) (created_at u.env) slots_as_often
-          (numbers (created_functions u.function)) (created_in u.function) root_as_often j in
+      (numbers (created_functions u.function)) (created_in u.function) root_as_often j in
       let t : times fits.below j ≡ times [] j
-          + times (numbers_innermost_first 63 (created_at u.env) (created_in u.function)) j =
-          tree_times 63 u.env [] (created_in u.function) fits.below fits.tree j in
+      + times (numbers_innermost_first 63 (created_at u.env) (created_in u.function)) j =
+      tree_times 63 u.env [] (created_in u.function) fits.below fits.tree j in
       let none : times [] j ≡ 0 = refl in
       let d : times (numbers_innermost_first 63 (created_at u.env) (created_in u.function)) j ≡ times fits.below j =
-          omega arith in
+      omega arith in
       a ∙ b ∙ d
 
   pub order_past : (k : ℕ) → length u.env.functions ≤ k → times (numbers (nested_innermost_first u)) k ≡ 0
   order_past k past =
       let a : times fits.below k ≡ times (created_in u.function ++ flat_map (created_at u.env) fits.below) k =
-          ap (λ zs. times zs k) (below_are u.env u.function fits.below fits.tree) in
+      ap (λ zs. times zs k) (below_are u.env u.function fits.below fits.tree) in
       let b : times (created_in u.function ++ flat_map (created_at u.env) fits.below) k
-          ≡ times (created_in u.function) k + times (flat_map (created_at u.env) fits.below) k =
-          times_both (created_in u.function) (flat_map (created_at u.env) fits.below) k in
+      ≡ times (created_in u.function) k + times (flat_map (created_at u.env) fits.below) k =
+      times_both (created_in u.function) (flat_map (created_at u.env) fits.below) k in
       let c : times (created_in u.function) k ≡ 0 =
-          function_past u.env u.function k (root_of_rules Numbers u parts.numbers) past in
+      function_past u.env u.function k (root_of_rules Numbers u parts.numbers) past in
       let d : times (flat_map (created_at u.env) fits.below) k ≡ 0
       = flat_times (created_at u.env) fits.below k
       ∙ total_same (λ x. times (created_at u.env x) k) (λ x. 0)
-          (λ x. slot_past u.env x (slice_get u.env.functions x) k (nested_of_rules Numbers u x parts.numbers) past)
-          fits.below
+      (λ x. slot_past u.env x (slice_get u.env.functions x) k (nested_of_rules Numbers u x parts.numbers) past)
+      fits.below
       ∙ zero_total fits.below in
       let e : times (numbers (nested_innermost_first u)) k ≡ times fits.below k = order_times k in
       omega arith
@@ -134,14 +134,14 @@ module _ (u : HirUnit) (rules : rules_hold u ≡ Ok tt) where
   pub order_once : (k : ℕ) → k < length u.env.functions → times (numbers (nested_innermost_first u)) k ≡ 1
   order_once k there =
       let closed : Closed u.env [] (created_in u.function) fits.below =
-          tree_closed u.env 63 [] (created_in u.function) fits.below fits.tree in
+      tree_closed u.env 63 [] (created_in u.function) fits.below fits.tree in
       let found : is_among (reached 63 u) k ≡ true = found_within u k parts.depth there in
       let among : is_among fits.below k ≡ true
       = reached_among 63 u.env [] (created_in u.function) fits.below closed.has_found closed.has_level
-          (λ x h. closed.closed x h refl) k found in
+      (λ x h. closed.closed x h refl) k found in
       let least : 1 ≤ times fits.below k = counted fits.below k among in
       let most : times fits.below k ≤ 1 = once_again [] fits.below k
-          (below_distinct u.env u.function fits.below fits.tree) in
+      (below_distinct u.env u.function fits.below fits.tree) in
       let e : times (numbers (nested_innermost_first u)) k ≡ times fits.below k = order_times k in
       let one : times fits.below k ≡ 1 = omega arith in
       e ∙ one

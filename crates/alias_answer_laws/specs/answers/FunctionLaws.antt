@@ -1,7 +1,7 @@
 -- No instruction or terminal of a function carries Apply after the effects pass, and so the range pass after it finds
 -- none left.
-use Rattle.std.specs.Prelude.{◌≡◌, ◌≢◌, ◌+◌, ℕ, Bool, true, false, if◌then◌else◌, nat_le, List, [], ◌∷◌, Option, Some,
-    None, Result, Ok, Err, ⊤, length, option_map, position, slice_get, slice_set, refl}
+use Rattle.std.specs.Prelude.{◌≡◌, ◌≢◌, ◌+◌, ℕ, Bool, true, false, if◌then◌else◌, nat_le, List, [], ◌∷◌, Option, Some}
+use Rattle.std.specs.Prelude.{None, Result, Ok, Err, ⊤, length, option_map, position, slice_get, slice_set, refl}
 use Rattle.std.specs.List.{AllByRecursion}
 use Rattle.std.specs.Map.{keys_of}
 use Rattle.std.specs.Option.{option_map_or}
@@ -28,30 +28,32 @@ use Rattle.alias_hir.specs.declared.value.InstructionValue.{InstructionValue}
 use Rattle.alias_step.specs.declared.block.recorded.InstructionEffects.{InstructionEffects}
 use Rattle.alias_step.specs.declared.block.recorded.TerminalEffects.{TerminalEffects}
 use Rattle.alias_effects.specs.Inference.{pass_end}
-use Rattle.alias_effects.specs.Recording.{recorded_instructions, block_with, with_terminal_at, recorded_terminals,
-    with_effects_of}
+use Rattle.alias_effects.specs.Recording.{recorded_instructions, block_with, with_terminal_at, recorded_terminals}
+use Rattle.alias_effects.specs.Recording.{with_effects_of}
 use Rattle.alias_effects.specs.declared.output.PassEnd.{PassEnd}
 use Rattle.alias_effects.specs.declared.solved.Solved.{Solved}
 use Rattle.alias_graph.specs.recorded.BlockListings.{listed}
 use Rattle.alias_graph.specs.declared.recorded.listing.Listing.{Listing}
 use Rattle.alias_range_pass.specs.places.Blocks.{Placed, block_merged, placed_at, block_placed, blocks_placed}
-use Rattle.alias_range_pass.specs.places.Instructions.{context_placed, created_placed, surroundings, surrounded,
-    env_assigned, instruction_placed, placed_in, instruction_at, instructions_placed}
+use Rattle.alias_range_pass.specs.places.Instructions.{context_placed, created_placed, surroundings, surrounded}
+use Rattle.alias_range_pass.specs.places.Instructions.{env_assigned, instruction_placed, placed_in, instruction_at}
+use Rattle.alias_range_pass.specs.places.Instructions.{instructions_placed}
 use Rattle.alias_range_pass.specs.places.Ranges.{assigned}
 use Rattle.alias_range_pass.specs.places.Tables.{Table, table_of}
 use Rattle.alias_range_pass.specs.Passes.{records, Ranged, ranged, range_pass}
-use Rattle.alias_range_pass.specs.Refusals.{has_apply, carries_apply, first_apply, or_else, first_apply_of, unreplaced,
-    none_unreplaced, listing_or, positions_left, recorded}
+use Rattle.alias_range_pass.specs.Refusals.{has_apply, carries_apply, first_apply, or_else, first_apply_of, unreplaced}
+use Rattle.alias_range_pass.specs.Refusals.{none_unreplaced, listing_or, positions_left, recorded}
 use Rattle.alias_range_pass.specs.summary.MarkedPlaces.{function_captured}
 use Rattle.alias_range_pass.specs.summary.Summaries.{tracked}
-use Rattle.alias_range_pass.specs.summary.Walking.{Walked, after_mutation, after_mutations, after_render, after_renders,
-    env_reported, mutations_done, renders_done}
+use Rattle.alias_range_pass.specs.summary.Walking.{Walked, after_mutation, after_mutations, after_render, after_renders}
+use Rattle.alias_range_pass.specs.summary.Walking.{env_reported, mutations_done, renders_done}
 use Rattle.alias_graph.specs.recorded.Recording.{graph_listed}
 use Rattle.alias_graph.specs.declared.recorded.listing.RecordedMutation.{RecordedMutation}
 use Rattle.alias_graph.specs.declared.recorded.listing.RecordedRender.{RecordedRender}
 use Rattle.alias_graph.specs.Nodes.{Nodes}
-use Rattle.alias_answer_laws.specs.answers.Applies.{NoneIsApply, NoInstructionRecordsApply, NoTerminalRecordsApply,
-    RecordsNoApply, InstructionsLackApply, TerminalsLackApply, NestedLackApply, Leads}
+use Rattle.alias_answer_laws.specs.answers.Applies.{NoneIsApply, NoInstructionRecordsApply, NoTerminalRecordsApply}
+use Rattle.alias_answer_laws.specs.answers.Applies.{RecordsNoApply, InstructionsLackApply, TerminalsLackApply}
+use Rattle.alias_answer_laws.specs.answers.Applies.{NestedLackApply, Leads}
 use Rattle.alias_answer_laws.specs.answers.Avoiding.{is_unreplaced, Answered, avoids_then, listing_avoids, room_avoids}
 use Rattle.alias_answer_laws.specs.answers.PassLaws.{EndsPlain, pass_plain}
 
@@ -95,7 +97,7 @@ LacksApply i = has_apply i.effects ≡ false
 recorded_at : (e : InstructionEffects) (o : Option Instruction) (xs : List Instruction) → NoneIsApply e.effects
     → AllByRecursion LacksApply xs
     → AllByRecursion LacksApply (option_map_or
-        (λ (x : Instruction). slice_set xs e.instruction.0 (record x { effects = Some e.effects })) o xs)
+    (λ (x : Instruction). slice_set xs e.instruction.0 (record x { effects = Some e.effects })) o xs)
 recorded_at e None xs p h = h
 recorded_at e (Some x) xs p h = set_all LacksApply xs e.instruction.0 (record x { effects = Some e.effects }) p h
 
@@ -126,7 +128,7 @@ value_set_all (b ∷ bs) (suc n) x es e p h = (h.0, value_set_all bs n x es e p 
 end_at_set : (es : List AliasingEffect) (bs : List (BlockId × BasicBlock)) (n : ℕ) (o : Option (BlockId × BasicBlock))
     → slice_get bs n ≡ o → NoneIsApply es → AllByRecursion EndLacksApply bs
     → AllByRecursion EndLacksApply (option_map_or (λ (x : BlockId × BasicBlock). set_value_at bs n (block_with x.1 es))
-        o bs)
+    o bs)
 end_at_set es bs n None e p h = h
 end_at_set es bs n (Some x) e p h = value_set_all bs n x es e p h
 
@@ -184,11 +186,11 @@ replaced_leads (Some i) h = cc
 listed_leads : (f : HirFunction) → InstructionsLackApply f → Leads (Answered {A = Listing}) (recorded f)
 listed_leads f h =
     avoids_then is_unreplaced (Answered {A = ⊤}) (Answered {A = Listing}) (none_unreplaced (unreplaced f)) _
-        (replaced_leads (unreplaced f) (none_in_blocks f.instructions f.body.blocks h)) (λ r q.
+    (replaced_leads (unreplaced f) (none_in_blocks f.instructions f.body.blocks h)) (λ r q.
     avoids_then is_unreplaced (Answered {A = Listing}) (Answered {A = Listing}) (listing_or (listed f)) _
-        (listing_avoids (listed f)).0 (λ l p.
+    (listing_avoids (listed f)).0 (λ l p.
     avoids_then is_unreplaced (Answered {A = ⊤}) (Answered {A = Listing}) (positions_left l.next (length (tracked f))) _
-        (room_avoids (nat_le (l.next + length (tracked f)) 4294967295)).0 (λ s t. tt)))
+    (room_avoids (nat_le (l.next + length (tracked f)) 4294967295)).0 (λ s t. tt)))
 
 -- ---- what the range pass leaves
 
@@ -202,7 +204,7 @@ ListLacksApply s = AllByRecursion LacksApply s.0 × NestedLackApply s.1
 context_set : (table : Table) (fs : List HirFunction) (n : ℕ) (o : Option HirFunction) → slice_get fs n ≡ o
     → AllByRecursion InstructionsLackApply fs
     → AllByRecursion InstructionsLackApply
-        (option_map_or (λ (f : HirFunction). slice_set fs n (context_placed table f)) o fs)
+    (option_map_or (λ (f : HirFunction). slice_set fs n (context_placed table f)) o fs)
 context_set table fs n None e h = h
 context_set table fs n (Some f) e h = set_all InstructionsLackApply fs n (context_placed table f)
     (got_all InstructionsLackApply fs n f e h) h
@@ -225,9 +227,10 @@ surrounded_lacks (Some es) table t v env h = some_surrounded _ table t v env h
 placed_lacks : (is : List Instruction) (env : Environment) (id : InstructionId) (o : Option Instruction)
     → slice_get is id.0 ≡ o → ListLacksApply (is, env) → ListLacksApply (placed_in is env id o)
 placed_lacks is env id None e h = h
-placed_lacks is env id (Some i) e h =
-    (set_all LacksApply is id.0 (instruction_placed i env).0 (got_all LacksApply is id.0 i e h.0) h.0,
-        surrounded_lacks i.effects (table_of (assigned i env.identifiers) i) i.id i.value (env_assigned i env) h.1)
+placed_lacks is env id (Some i) e h = (
+  set_all LacksApply is id.0 (instruction_placed i env).0 (got_all LacksApply is id.0 i e h.0) h.0,
+  surrounded_lacks i.effects (table_of (assigned i env.identifiers) i) i.id i.value (env_assigned i env) h.1,
+)
 
 instructions_lack : (ids : List InstructionId) (s : List Instruction × Environment) → ListLacksApply s
     → ListLacksApply (instructions_placed ids s)
@@ -270,14 +273,14 @@ ranges_plain b f env h n =
     avoids_then is_unreplaced (Answered {A = Listing}) RangesPlain (recorded f) _ (listed_leads f h) (λ l p.
     let w : Walked = mutations_done (records b env) l env in
     let walked : NestedLackApply w.1 = walks_lack (records b env) l.mutations
-        (graph_listed l, env_reported (records b env) l env) n in
+    (graph_listed l, env_reported (records b env) l env) n in
     blocks_lack b (length f.body.blocks) 0 (function_captured w.0 f, renders_done (records b env) l w)
-        (h, rendered_lacks (records b env) l w walked))
+    (h, rendered_lacks (records b env) l w walked))
 
 -- where no instruction carries Apply, the range pass doesn't say that one is left
 pub none_left : (b : Bool) (f : HirFunction) (env : Environment) → InstructionsLackApply f
     → (i : InstructionId) (report : Report) → range_pass b f env ≢ Err (UnreplacedApply i report)
 none_left b f env h =
     never_left (Answered {A = Ranged}) (range_pass b f env)
-        (avoids_then is_unreplaced (Answered {A = Listing}) (Answered {A = Ranged}) (recorded f)
-        (λ l. Ok (ranged b f env l)) (listed_leads f h) (λ l p. tt))
+    (avoids_then is_unreplaced (Answered {A = Listing}) (Answered {A = Ranged}) (recorded f)
+    (λ l. Ok (ranged b f env l)) (listed_leads f h) (λ l p. tt))

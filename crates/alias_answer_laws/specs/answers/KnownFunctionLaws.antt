@@ -1,7 +1,7 @@
 -- After the range pass each instruction that stands in a block of the function has operands with effects, and the
 -- function creates what it did.
-use Rattle.std.specs.Prelude.{◌≡◌, ℕ, ◌+◌, ◌<◌, Bool, List, [], ◌∷◌, ◌++◌, Option, Some, None, length, map, option_map,
-    position, slice_get, slice_set, refl}
+use Rattle.std.specs.Prelude.{◌≡◌, ℕ, ◌+◌, ◌<◌, Bool, List, [], ◌∷◌, ◌++◌, Option, Some, None, length, map, option_map}
+use Rattle.std.specs.Prelude.{position, slice_get, slice_set, refl}
 use Rattle.std.specs.List.{AllByRecursion, flat_map}
 use Rattle.std.specs.Map.{keys_of}
 use Rattle.std.specs.Option.{option_map_or}
@@ -19,14 +19,14 @@ use Rattle.alias_hir.specs.declared.hir.HirFunction.{HirFunction}
 use Rattle.alias_hir.specs.declared.hir.Instruction.{Instruction}
 use Rattle.alias_step.specs.declared.block.recorded.InstructionEffects.{InstructionEffects}
 use Rattle.alias_step.specs.declared.block.recorded.TerminalEffects.{TerminalEffects}
-use Rattle.alias_effects.specs.Recording.{recorded_instructions, block_with, with_terminal_at, recorded_terminals,
-    with_effects_of}
+use Rattle.alias_effects.specs.Recording.{recorded_instructions, block_with, with_terminal_at, recorded_terminals}
+use Rattle.alias_effects.specs.Recording.{with_effects_of}
 use Rattle.alias_effects.specs.declared.solved.Solved.{Solved}
 use Rattle.alias_nested.specs.Created.{one_of, created_by, created_by_all, created_functions}
-use Rattle.alias_range_pass.specs.places.Blocks.{Placed, ends_placed, first_order, block_merged, placed_at,
-    block_placed, blocks_placed, function_placed}
-use Rattle.alias_range_pass.specs.places.Instructions.{instruction_placed, placed_in, instruction_at,
-    instructions_placed}
+use Rattle.alias_range_pass.specs.places.Blocks.{Placed, ends_placed, first_order, block_merged, placed_at}
+use Rattle.alias_range_pass.specs.places.Blocks.{block_placed, blocks_placed, function_placed}
+use Rattle.alias_range_pass.specs.places.Instructions.{instruction_placed, placed_in, instruction_at}
+use Rattle.alias_range_pass.specs.places.Instructions.{instructions_placed}
 use Rattle.alias_range_pass.specs.places.Ranges.{assigned}
 use Rattle.alias_range_pass.specs.places.Tables.{table_of}
 use Rattle.alias_answer_laws.specs.answers.KnownValueLaws.{OperandsKnown, table_known, value_known, creates_same}
@@ -89,8 +89,10 @@ persists (id ∷ ids) s k p = persists ids (instruction_at s id) k (placed_persi
 ids_placed : (ids : List InstructionId) (s : List Instruction × Environment)
     → IdsKnown (instructions_placed ids s).0 ids
 ids_placed [] s = tt
-ids_placed (id ∷ ids) s = (persists ids (instruction_at s id) id.0 (placed_there s.0 s.1 id (slice_get s.0 id.0) refl),
-    ids_placed ids (instruction_at s id))
+ids_placed (id ∷ ids) s = (
+  persists ids (instruction_at s id) id.0 (placed_there s.0 s.1 id (slice_get s.0 id.0) refl),
+  ids_placed ids (instruction_at s id),
+)
 
 ids_persist : (ids : List InstructionId) (s : List Instruction × Environment) (js : List InstructionId)
     → IdsKnown s.0 js → IdsKnown (instructions_placed ids s).0 js
@@ -152,7 +154,7 @@ slot_persists b k None s j e p = p
 slot_persists b k (Some x) s j e p =
     let begun : List Instruction × Environment = (s.0.instructions, block_merged s.0 x s.1) in
     subst (λ ls. ListKnown (instructions_placed x.instructions begun).0 (slice_get ls j))
-        (sym (slot_lists b k (Some x) s e)) (list_persists x.instructions begun (slice_get (lists s.0) j) p)
+    (sym (slot_lists b k (Some x) s e)) (list_persists x.instructions begun (slice_get (lists s.0) j) p)
 
 slot_there : (b : Bool) (k : ℕ) (o : Option BasicBlock) (s : Placed) → option_map block_of (slice_get s.0.body.blocks k)
     ≡ o → SlotKnown (placed_at b k o s) k
@@ -160,7 +162,7 @@ slot_there b k None s e = subst (ListKnown s.0.instructions) (sym (none_listed s
 slot_there b k (Some x) s e =
     let begun : List Instruction × Environment = (s.0.instructions, block_merged s.0 x s.1) in
     let here : slice_get (lists (placed_at b k (Some x) s).0) k ≡ Some x.instructions =
-        ap (λ ls. slice_get ls k) (slot_lists b k (Some x) s e) ∙ some_listed s.0.body.blocks k x e in
+    ap (λ ls. slice_get ls k) (slot_lists b k (Some x) s e) ∙ some_listed s.0.body.blocks k x e in
     subst (ListKnown (instructions_placed x.instructions begun).0) (sym here) (ids_placed x.instructions begun)
 
 blocks_persist : (b : Bool) (n k : ℕ) (s : Placed) (j : ℕ) → SlotKnown s j → SlotKnown (blocks_placed b n k s) j
@@ -173,8 +175,8 @@ blocks_there b zero k s d h = absurd (omega arith)
 blocks_there b (suc n) k s zero h =
     let here : k ≡ k + 0 = omega arith in
     subst (SlotKnown (blocks_placed b (suc n) k s)) here
-        (blocks_persist b n (k + 1) (block_placed b k s) k
-        (slot_there b k (option_map block_of (slice_get s.0.body.blocks k)) s refl))
+    (blocks_persist b n (k + 1) (block_placed b k s) k
+    (slot_there b k (option_map block_of (slice_get s.0.body.blocks k)) s refl))
 blocks_there b (suc n) k s (suc d) h =
     let here : (k + 1) + d ≡ k + suc d = omega arith in
     subst (SlotKnown (blocks_placed b (suc n) k s)) here (blocks_there b n (k + 1) (block_placed b k s) d (omega arith))
@@ -225,7 +227,7 @@ created_by_lists f (b ∷ bs) = ap (λ z. created_by_all f b.1.instructions ++ z
 pub same_functions : (f g : HirFunction) → SameListing f g → created_functions g ≡ created_functions f
 same_functions f g p =
     created_by_lists g g.body.blocks ∙ ap (flat_map (created_by_all g)) p.listed ∙ created_of_lists f g p (lists f)
-        ∙ sym (created_by_lists f f.body.blocks)
+    ∙ sym (created_by_lists f f.body.blocks)
 
 set_creates : (is : List Instruction) (n : ℕ) (i x : Instruction) (k : ℕ) → slice_get is n ≡ Some i → created x.value
     ≡ created i.value → created_by (slice_get (slice_set is n x) k) ≡ created_by (slice_get is k)
@@ -262,16 +264,18 @@ blocks_create b (suc n) j s k = blocks_create b n (j + 1) (block_placed b j s) k
     ∙ slot_creates b j (option_map block_of (slice_get s.0.body.blocks j)) s k
 
 pub placed_lists_same : (b : Bool) (s : Placed) → SameListing s.0 (function_placed b s).0
-placed_lists_same b s = record { listed = blocks_lists b (length s.0.body.blocks) 0 s;
-    creates = blocks_create b (length s.0.body.blocks) 0 s }
+placed_lists_same b s = record {
+  listed = blocks_lists b (length s.0.body.blocks) 0 s;
+  creates = blocks_create b (length s.0.body.blocks) 0 s;
+}
 
 -- by the effects pass
 
 recorded_at : (e : InstructionEffects) (xs : List Instruction) (o : Option Instruction) (k : ℕ)
     → slice_get xs e.instruction.0 ≡ o
     → created_by (slice_get (option_map_or
-        (λ (x : Instruction). slice_set xs e.instruction.0 (record x { effects = Some e.effects })) o xs) k)
-        ≡ created_by (slice_get xs k)
+    (λ (x : Instruction). slice_set xs e.instruction.0 (record x { effects = Some e.effects })) o xs) k)
+    ≡ created_by (slice_get xs k)
 recorded_at e xs None k h = refl
 recorded_at e xs (Some x) k h = set_creates xs e.instruction.0 x (record x { effects = Some e.effects }) k h refl
 
@@ -284,7 +288,7 @@ recorded_create (e ∷ es) xs k = recorded_at e (recorded_instructions es xs)
 end_at : (es : List AliasingEffect) (bs : List (BlockId × BasicBlock)) (n : ℕ) (o : Option (BlockId × BasicBlock))
     → slice_get bs n ≡ o
     → map listed_in (option_map_or (λ (x : BlockId × BasicBlock). set_value_at bs n (block_with x.1 es)) o bs)
-        ≡ map listed_in bs
+    ≡ map listed_in bs
 end_at es bs n None h = refl
 end_at es bs n (Some x) h = lists_set bs n x.1 (block_with x.1 es) (ap (option_map block_of) h) refl
 
@@ -300,5 +304,7 @@ ends_listed (t ∷ ts) bs = end_set t.effects (recorded_terminals ts bs)
     (position (same_block t.block) (keys_of (recorded_terminals ts bs))) ∙ ends_listed ts bs
 
 pub effects_lists_same : (s : Solved) (f : HirFunction) → SameListing f (with_effects_of s f)
-effects_lists_same s f = record { listed = ends_listed s.terminal_effects f.body.blocks;
-    creates = recorded_create s.effects f.instructions }
+effects_lists_same s f = record {
+  listed = ends_listed s.terminal_effects f.body.blocks;
+  creates = recorded_create s.effects f.instructions;
+}

@@ -1,6 +1,6 @@
 -- No inference of a unit says that an operand has no effect.
-use Rattle.std.specs.Prelude.{◌≡◌, ◌≢◌, ◌⊎◌, ℕ, ◌+◌, Bool, true, false, List, [], ◌∷◌, Option, Some, None, Result, Err,
-    ⊤, if◌then◌else◌, length, map, option_map, slice_get, slice_set, refl}
+use Rattle.std.specs.Prelude.{◌≡◌, ◌≢◌, ◌⊎◌, ℕ, ◌+◌, Bool, true, false, List, [], ◌∷◌, Option, Some, None, Result, Err}
+use Rattle.std.specs.Prelude.{⊤, if◌then◌else◌, length, map, option_map, slice_get, slice_set, refl}
 use Rattle.std.specs.List.{AllByRecursion}
 use Rattle.std.specs.Option.{option_map_or}
 use Rattle.std.proofs.Common.{zero, suc, inl, inr, ap, sym, ◌∙◌, subst, arith}
@@ -37,10 +37,10 @@ use Rattle.alias_graph.specs.declared.recorded.listing.Listing.{Listing}
 use Rattle.alias_graph.specs.declared.recorded.listing.RecordedMutation.{RecordedMutation}
 use Rattle.alias_graph.specs.declared.recorded.listing.RecordedRender.{RecordedRender}
 use Rattle.alias_graph.specs.Nodes.{Nodes}
-use Rattle.alias_range_pass.specs.places.Blocks.{Placed, block_merged, block_placed, placed_at, blocks_placed,
-    function_placed}
-use Rattle.alias_range_pass.specs.places.Instructions.{context_placed, created_placed, surroundings, surrounded,
-    env_assigned, placed_in, instruction_at, instructions_placed}
+use Rattle.alias_range_pass.specs.places.Blocks.{Placed, block_merged, block_placed, placed_at, blocks_placed}
+use Rattle.alias_range_pass.specs.places.Blocks.{function_placed}
+use Rattle.alias_range_pass.specs.places.Instructions.{context_placed, created_placed, surroundings, surrounded}
+use Rattle.alias_range_pass.specs.places.Instructions.{env_assigned, placed_in, instruction_at, instructions_placed}
 use Rattle.alias_range_pass.specs.places.Keeping.{but_context}
 use Rattle.alias_range_pass.specs.places.Ranges.{assigned}
 use Rattle.alias_range_pass.specs.places.Tables.{Table, table_of}
@@ -48,22 +48,23 @@ use Rattle.alias_range_pass.specs.Passes.{records, Ranged, range_pass}
 use Rattle.alias_range_pass.specs.Refusals.{unreplaced, none_unreplaced, listing_or, positions_left, recorded}
 use Rattle.alias_range_pass.specs.summary.MarkedPlaces.{function_captured}
 use Rattle.alias_range_pass.specs.summary.Summaries.{tracked}
-use Rattle.alias_range_pass.specs.summary.Walking.{Walked, after_mutation, after_mutations, after_render, after_renders,
-    env_reported, mutations_done, renders_done}
+use Rattle.alias_range_pass.specs.summary.Walking.{Walked, after_mutation, after_mutations, after_render, after_renders}
+use Rattle.alias_range_pass.specs.summary.Walking.{env_reported, mutations_done, renders_done}
 use Rattle.alias_nesting_laws.specs.SlotLaws.{set_other, set_there}
 use Rattle.alias_nesting_laws.specs.Slots.{with_function}
-use Rattle.alias_nested.specs.Analysis.{naming, Analysis, analysis, each, effects_analysed, completed, completed_with,
-    function_analysed, taken_analysed, found_analysed, slot_analysed, analysed}
+use Rattle.alias_nested.specs.Analysis.{naming, Analysis, analysis, each, effects_analysed, completed, completed_with}
+use Rattle.alias_nested.specs.Analysis.{function_analysed, taken_analysed, found_analysed, slot_analysed, analysed}
 use Rattle.alias_nested.specs.Created.{created_functions}
 use Rattle.alias_nested.specs.Slots.{emptied}
-use Rattle.alias_nested.specs.Units.{RootAnalysis, validated, root_analysed, all_analysed, UnitAnalysis, unit_analysed,
-    InfersUnit}
+use Rattle.alias_nested.specs.Units.{RootAnalysis, validated, root_analysed, all_analysed, UnitAnalysis, unit_analysed}
+use Rattle.alias_nested.specs.Units.{InfersUnit}
 use Rattle.alias_nested.specs.declared.infer.Inferred.{Inferred}
 use Rattle.alias_nested.proofs.Evolving.{passed_contexts}
-use Rattle.alias_answer_laws.specs.answers.Avoiding.{is_not_inferred, Answered, avoids_then, avoids_on, avoids_naming,
-    named_alike, block_refused, listing_avoids, room_avoids}
-use Rattle.alias_answer_laws.specs.answers.KnownFunctionLaws.{FunctionKnown, function_known, SameListing,
-    listing_through, same_functions, placed_lists_same, effects_lists_same}
+use Rattle.alias_answer_laws.specs.answers.Avoiding.{is_not_inferred, Answered, avoids_then, avoids_on, avoids_naming}
+use Rattle.alias_answer_laws.specs.answers.Avoiding.{named_alike, block_refused, listing_avoids, room_avoids}
+use Rattle.alias_answer_laws.specs.answers.KnownFunctionLaws.{FunctionKnown, function_known, SameListing}
+use Rattle.alias_answer_laws.specs.answers.KnownFunctionLaws.{listing_through, same_functions, placed_lists_same}
+use Rattle.alias_answer_laws.specs.answers.KnownFunctionLaws.{effects_lists_same}
 use Rattle.alias_answer_laws.specs.answers.KnownWalkLaws.{Comes, Passes, WalkKnown, validated_passes}
 use Rattle.alias_walks.specs.Words.{all_mapped as all_on}
 
@@ -130,9 +131,9 @@ walk_keeps (suc n) env more k (Some f) (Some g) s h = (
   subst (AllByRecursion (λ (id : FunctionId). WalkKnown n more (slice_get more.functions id.0)))
       (sym (same_functions f g s.0))
       (all_on (λ (id : FunctionId). WalkKnown n env (slice_get env.functions id.0))
-          (λ (id : FunctionId). WalkKnown n more (slice_get more.functions id.0))
+      (λ (id : FunctionId). WalkKnown n more (slice_get more.functions id.0))
       (λ id. walk_keeps n env more k (slice_get env.functions id.0) (slice_get more.functions id.0) (k id.0))
-          (created_functions f) h.1),
+      (created_functions f) h.1),
 )
 
 -- the functions that a function creates, and those on the levels below
@@ -144,21 +145,23 @@ below_keeps : (n : ℕ) (env more : Environment) (f g : HirFunction) → SlotsKe
     → SameListing f g → BelowKnown n env f → BelowKnown n more g
 below_keeps n env more f g k s h =
     subst (AllByRecursion (λ (id : FunctionId). WalkKnown n more (slice_get more.functions id.0)))
-        (sym (same_functions f g s))
+    (sym (same_functions f g s))
     (all_on (λ (id : FunctionId). WalkKnown n env (slice_get env.functions id.0))
-        (λ (id : FunctionId). WalkKnown n more (slice_get more.functions id.0))
+    (λ (id : FunctionId). WalkKnown n more (slice_get more.functions id.0))
     (λ id. walk_keeps n env more k (slice_get env.functions id.0) (slice_get more.functions id.0) (k id.0))
-        (created_functions f) h)
+    (created_functions f) h)
 
 -- on fewer levels
 lower : (n : ℕ) (env : Environment) (o : Option HirFunction) → WalkKnown (suc n) env o → WalkKnown n env o
 unfolding WalkKnown
 lower zero env o h = tt
 lower (suc n) env None h = tt
-lower (suc n) env (Some f) h =
-    (h.0, all_on (λ (id : FunctionId). WalkKnown (suc n) env (slice_get env.functions id.0))
-        (λ (id : FunctionId). WalkKnown n env (slice_get env.functions id.0))
-        (λ id. lower n env (slice_get env.functions id.0)) (created_functions f) h.1)
+lower (suc n) env (Some f) h = (
+  h.0,
+  all_on (λ (id : FunctionId). WalkKnown (suc n) env (slice_get env.functions id.0))
+      (λ (id : FunctionId). WalkKnown n env (slice_get env.functions id.0))
+      (λ id. lower n env (slice_get env.functions id.0)) (created_functions f) h.1,
+)
 
 -- ---- a function that is put back
 
@@ -204,14 +207,14 @@ slots_back fs gs n f e g at h k j =
     elim (same_or_not j n) [
       | inl same ↦
           (let out : SlotKeeps (Some e) (slice_get gs n) =
-              subst (λ o. SlotKeeps o (slice_get gs n)) (got_set fs n f e at) (k n) in
+          subst (λ o. SlotKeeps o (slice_get gs n)) (got_set fs n f e at) (k n) in
           let there = some_kept e (slice_get gs n) out in
           subst (λ m. SlotKeeps (slice_get fs m) (slice_get (slice_set gs n g) m)) (sym same)
           (subst (λ o. SlotKeeps o (slice_get (slice_set gs n g) n)) (sym at)
-              (subst (SlotKeeps (Some f)) (sym (got_set gs n there.0 g there.1)) h)))
+          (subst (SlotKeeps (Some f)) (sym (got_set gs n there.0 g there.1)) h)))
       | inr other ↦
           subst (SlotKeeps (slice_get fs j)) (sym (set_other gs n j g other))
-              (subst (λ o. SlotKeeps o (slice_get gs j)) (set_other fs n j e other) (k j))
+          (subst (λ o. SlotKeeps o (slice_get gs j)) (set_other fs n j e other) (k j))
     ]
 
 -- ---- the environment after the effects pass
@@ -223,7 +226,7 @@ contexts_keep (f ∷ fs) [] e k = cc
 contexts_keep (f ∷ fs) (g ∷ gs) e zero =
     let one : but_context g ≡ but_context f = cc in
     let h : SlotKeeps (Some f) (Some (but_context g)) =
-        subst (λ (z : HirFunction). SlotKeeps (Some f) (Some z)) (sym one) (context_keeps f (but_context f).context) in
+    subst (λ (z : HirFunction). SlotKeeps (Some f) (Some z)) (sym one) (context_keeps f (but_context f).context) in
     (record { listed = h.0.listed; creates = h.0.creates }, h.1)
 contexts_keep (f ∷ fs) (g ∷ gs) e (suc k) = let rest : map but_context gs ≡ map but_context fs = cc in
     contexts_keep fs gs rest k
@@ -274,7 +277,7 @@ instructions_keep : (ids : List InstructionId) (s : List Instruction × Environm
 instructions_keep [] s = slots_self s.1.functions
 instructions_keep (id ∷ ids) s =
     slots_through s.1.functions (instruction_at s id).1.functions (instructions_placed (id ∷ ids) s).1.functions
-        (placed_keep s.0 s.1 id (slice_get s.0 id.0)) (instructions_keep ids (instruction_at s id))
+    (placed_keep s.0 s.1 id (slice_get s.0 id.0)) (instructions_keep ids (instruction_at s id))
 
 block_keeps : (b : Bool) (k : ℕ) (o : Option BasicBlock) (s : Placed)
     → SlotsKeep s.1.functions (placed_at b k o s).1.functions
@@ -309,11 +312,11 @@ replaced_comes (Some i) = refl
 listed_comes : (f : HirFunction) → Passes (recorded f)
 listed_comes f =
     avoids_then is_not_inferred (Answered {A = ⊤}) (Answered {A = Listing}) (none_unreplaced (unreplaced f)) _
-        (replaced_comes (unreplaced f)) (λ r q.
+    (replaced_comes (unreplaced f)) (λ r q.
     avoids_then is_not_inferred (Answered {A = Listing}) (Answered {A = Listing}) (listing_or (listed f)) _
-        (listing_avoids (listed f)).1 (λ l p.
+    (listing_avoids (listed f)).1 (λ l p.
     avoids_then is_not_inferred (Answered {A = ⊤}) (Answered {A = Listing}) (positions_left l.next (length (tracked f)))
-        _ (room_avoids _).1 (λ s t. tt)))
+    _ (room_avoids _).1 (λ s t. tt)))
 
 -- the function has operands with effects, creates what it did, and the environment keeps its own
 abbrev pub Finished : HirFunction → Environment → Placed → Type 0
@@ -323,18 +326,20 @@ pub range_comes : (b : Bool) (f : HirFunction) (env : Environment)
     → Comes (λ (r : Ranged). Finished f env r.after) (range_pass b f env)
 range_comes b f env =
     avoids_then is_not_inferred (Answered {A = Listing}) (λ (r : Ranged). Finished f env r.after) (recorded f) _
-        (listed_comes f) (λ l p.
+    (listed_comes f) (λ l p.
     let w : Walked = mutations_done (records b env) l env in
     let begun : Placed = (function_captured w.0 f, renders_done (records b env) l w) in
     let after : Placed = function_placed b begun in
     let walked : SlotsKeep env.functions w.1.functions =
-        walks_keep (records b env) l.mutations (graph_listed l, env_reported (records b env) l env) in
+    walks_keep (records b env) l.mutations (graph_listed l, env_reported (records b env) l env) in
     let rendered : SlotsKeep env.functions begun.1.functions =
-        slots_through env.functions w.1.functions begun.1.functions walked (rendered_keep (records b env) l w) in
-    let captured : SameListing f begun.0 = record { listed = refl; creates = λ k. refl } in
-    (function_known b begun, listing_through f begun.0 after.0 captured (placed_lists_same b begun),
-        slots_through env.functions begun.1.functions after.1.functions rendered
-        (blocks_keep b (length f.body.blocks) 0 begun)))
+    slots_through env.functions w.1.functions begun.1.functions walked (rendered_keep (records b env) l w) in
+    let captured : SameListing f begun.0 = record { listed = refl; creates = λ k. refl } in (
+      function_known b begun,
+      listing_through f begun.0 after.0 captured (placed_lists_same b begun),
+      slots_through env.functions begun.1.functions after.1.functions rendered
+          (blocks_keep b (length f.body.blocks) 0 begun),
+    ))
 
 -- ---- nested functions
 
@@ -343,25 +348,28 @@ FinishedWith f env s = Finished f env (s.0, s.1.env)
 
 finished_through : (f g : HirFunction) (env more : Environment) (s : Placed) → SameListing f g
     → SlotsKeep env.functions more.functions → Finished g more s → Finished f env s
-finished_through f g env more s p k h = (h.0, listing_through f g s.0 p h.1,
-    slots_through env.functions more.functions s.1.functions k h.2)
+finished_through f g env more s p k h = (
+  h.0,
+  listing_through f g s.0 p h.1,
+  slots_through env.functions more.functions s.1.functions k h.2,
+)
 
 function_comes : (id : FunctionId) (f : HirFunction) (a : Analysis)
     → Comes (FinishedWith f a.env) (function_analysed id f a)
 function_comes id f a =
     let Effects : HirFunction × Analysis → Type 0 = λ s. SameListing f s.0
-        × SlotsKeep a.env.functions s.1.env.functions in
+    × SlotsKeep a.env.functions s.1.env.functions in
     avoids_then is_not_inferred Effects (FinishedWith f a.env) (effects_analysed id f a) (completed_with id)
     (avoids_then is_not_inferred (Answered {A = PassEnd}) Effects (naming id (pass_end a.env f true)) _
-        (avoids_naming is_not_inferred (Answered {A = PassEnd}) id (pass_end a.env f true) (λ e. (named_alike id e).1)
-        (pass_comes a.env f true)) (λ e p. (effects_lists_same e.solved f, after_keeps a.env e)))
+    (avoids_naming is_not_inferred (Answered {A = PassEnd}) id (pass_end a.env f true) (λ e. (named_alike id e).1)
+    (pass_comes a.env f true)) (λ e p. (effects_lists_same e.solved f, after_keeps a.env e)))
     (λ s p.
     let Done : Placed → Type 0 = Finished s.0 s.1.env in
     avoids_then is_not_inferred Done (FinishedWith f a.env) (completed id s.0 s.1.env) _
     (avoids_then is_not_inferred (λ (r : Ranged). Done r.after) Done (naming id (range_pass true s.0 s.1.env)) _
-        (avoids_naming is_not_inferred (λ (r : Ranged). Done r.after) id (range_pass true s.0 s.1.env)
-        (λ e. (named_alike id e).1) (range_comes true s.0 s.1.env))
-        (λ r q. (q.0, record { listed = q.1.listed; creates = q.1.creates }, q.2)))
+    (avoids_naming is_not_inferred (λ (r : Ranged). Done r.after) id (range_pass true s.0 s.1.env)
+    (λ e. (named_alike id e).1) (range_comes true s.0 s.1.env))
+    (λ r q. (q.0, record { listed = q.1.listed; creates = q.1.creates }, q.2)))
     (λ c q. finished_through f s.0 a.env s.1.env c p.0 p.1 q))
 
 -- the environment keeps its functions, and those that the function creates are known on so many levels
@@ -395,23 +403,27 @@ module _ (n : ℕ) (below : HirFunction → Analysis → Result Analysis InferEr
   taken_comes : (id : FunctionId) (f : HirFunction) (a : Analysis) → Comes (TakenDone f a) (taken_analysed below id f a)
   taken_comes id f a =
       avoids_then is_not_inferred (BelowDone n f a) (TakenDone f a) (below f a) (function_analysed id f) (done f a)
-          (λ b p.
+      (λ b p.
       avoids_on is_not_inferred (FinishedWith f b.env) (TakenDone f a) (function_analysed id f b)
-          (λ s q. (finished_through f f a.env b.env (s.0, s.1.env) (same_listing f) p.0 q,
-          below_keeps n b.env s.1.env f s.0 q.2 q.1 p.1)) (function_comes id f b))
+      (λ s q. (
+        finished_through f f a.env b.env (s.0, s.1.env) (same_listing f) p.0 q,
+        below_keeps n b.env s.1.env f s.0 q.2 q.1 p.1,
+      )) (function_comes id f b))
 
   found_comes : (id : FunctionId) (a : Analysis) (o : Option HirFunction) → slice_get a.env.functions id.0 ≡ o
       → Comes (SlotDone (suc n) id a) (found_analysed below id a o)
-  found_comes id a None e = (slots_self a.env.functions,
-      subst (WalkKnown (suc n) a.env) (sym e) (no_walk (suc n) a.env))
+  found_comes id a None e = (
+    slots_self a.env.functions,
+    subst (WalkKnown (suc n) a.env) (sym e) (no_walk (suc n) a.env),
+  )
   found_comes id a (Some f) e =
       let out : Analysis = record a { env = with_function id (emptied f.returns) a.env } in
       avoids_then is_not_inferred (TakenDone f out) (SlotDone (suc n) id a) (taken_analysed below id f out) _
-          (taken_comes id f out) (λ s p.
+      (taken_comes id f out) (λ s p.
       let back : Environment = with_function id s.0 s.1.env in
       let empty : SlotKeeps (Some (emptied f.returns)) (slice_get s.1.env.functions id.0)
       = subst (λ o. SlotKeeps o (slice_get s.1.env.functions id.0))
-          (got_set a.env.functions id.0 f (emptied f.returns) e) (p.0.2 id.0) in
+      (got_set a.env.functions id.0 f (emptied f.returns) e) (p.0.2 id.0) in
       let held = some_kept (emptied f.returns) (slice_get s.1.env.functions id.0) empty in
       let there : slice_get back.functions id.0 ≡ Some s.0 = got_set s.1.env.functions id.0 held.0 s.0 held.1 in
       let own : WalkKnown (suc n) s.1.env (Some s.0) = own_walk n s.1.env s.0 p.0.0 p.1 in (
@@ -435,9 +447,13 @@ each_comes n step h [] a = (slots_self a.env.functions, tt)
 each_comes n step h (id ∷ ids) a =
     avoids_then is_not_inferred (SlotDone n id a) (EachDone n (id ∷ ids) a) (step id a) (each step ids) (h id a) (λ b p.
     avoids_on is_not_inferred (EachDone n ids b) (EachDone n (id ∷ ids) a) (each step ids b)
-    (λ c q. (slots_through a.env.functions b.env.functions c.env.functions p.0 q.0,
-        (walk_keeps n b.env c.env q.0 (slice_get b.env.functions id.0) (slice_get c.env.functions id.0) (q.0 id.0) p.1,
-        q.1)))
+    (λ c q. (
+      slots_through a.env.functions b.env.functions c.env.functions p.0 q.0,
+      (
+        walk_keeps n b.env c.env q.0 (slice_get b.env.functions id.0) (slice_get c.env.functions id.0) (q.0 id.0) p.1,
+        q.1,
+      ),
+    ))
     (each_comes n step h ids b))
 
 analysed_comes : (n : ℕ) (f : HirFunction) (a : Analysis) → Comes (BelowDone n f a) (analysed n f a)
@@ -451,25 +467,25 @@ analysed_comes (suc n) f a = each_comes (suc n) (slot_analysed (analysed n))
 root_comes : (f : HirFunction) (a : Analysis) → BelowKnown 63 a.env f → Passes (root_analysed f a)
 root_comes f a h =
     avoids_then is_not_inferred (Answered {A = PassEnd}) (Answered {A = RootAnalysis}) (pass_end a.env f false) _
-        (pass_comes a.env f false) (λ e p.
+    (pass_comes a.env f false) (λ e p.
     let g : HirFunction = with_effects_of e.solved f in
     let more : Environment = env_after a.env e in
     avoids_then is_not_inferred (λ (r : Ranged). Finished g more r.after) (Answered {A = RootAnalysis})
-        (range_pass false g more) _ (range_comes false g more) (λ r q.
+    (range_pass false g more) _ (range_comes false g more) (λ r q.
     let all : Finished f a.env r.after = finished_through f g a.env more r.after (effects_lists_same e.solved f)
-        (after_keeps a.env e) q in
+    (after_keeps a.env e) q in
     avoids_then is_not_inferred (Answered {A = Environment}) (Answered {A = RootAnalysis})
-        (validated r.after.0 r.after.1) _
+    (validated r.after.0 r.after.1) _
     (validated_passes r.after.0 r.after.1 (own_walk 63 r.after.1 r.after.0 all.0
-        (below_keeps 63 a.env r.after.1 f r.after.0 all.2 all.1 h))) (λ n s. tt)))
+    (below_keeps 63 a.env r.after.1 f r.after.0 all.2 all.1 h))) (λ n s. tt)))
 
 unit_comes : (u : HirUnit) → Passes (unit_analysed u)
 unit_comes u =
     let a : Analysis = analysis u.env [] in
     avoids_then is_not_inferred (Answered {A = RootAnalysis}) (Answered {A = UnitAnalysis}) (all_analysed u.function a)
-        _
+    _
     (avoids_then is_not_inferred (BelowDone 63 u.function a) (Answered {A = RootAnalysis}) (analysed 63 u.function a)
-        (root_analysed u.function) (analysed_comes 63 u.function a) (λ b p. root_comes u.function b p.1)) (λ r s. tt)
+    (root_analysed u.function) (analysed_comes 63 u.function a) (λ b p. root_comes u.function b p.1)) (λ r s. tt)
 
 not_uninferred : (x : IdentifierId) (X : Type 0) → is_not_inferred (EffectsNotInferred x) ≡ false → X
 not_uninferred x X h = cc

@@ -1,6 +1,6 @@
 -- After the range pass has set the effects of an instruction's places, none of its operands has Unknown.
-use Rattle.std.specs.Prelude.{◌≡◌, Bool, true, false, cond, if◌then◌else◌, List, [], ◌∷◌, ◌++◌, Option, Some, None, map,
-    refl}
+use Rattle.std.specs.Prelude.{◌≡◌, Bool, true, false, cond, if◌then◌else◌, List, [], ◌∷◌, ◌++◌, Option, Some, None, map}
+use Rattle.std.specs.Prelude.{refl}
 use Rattle.std.specs.List.{AllByRecursion, flat_map}
 use Rattle.std.specs.Map.{lookup}
 use Rattle.std.specs.Option.{option_map_or}
@@ -22,12 +22,18 @@ use Rattle.alias_hir.specs.declared.place.PlaceOrSpread.TheVariants as arg
 use Rattle.alias_hir.specs.declared.value.ArrayElement.{ArrayElement}
 use Rattle.alias_hir.specs.declared.value.ArrayElement.TheVariants as element
 use Rattle.alias_hir.specs.declared.value.InstructionValue.{InstructionValue}
-use Rattle.alias_hir.specs.declared.value.InstructionValue.TheVariants.{ArrayExpression, ObjectExpression, Await,
-    NewExpression, CallExpression, MethodCall, PropertyDelete, ComputedDelete, PropertyLoad, ComputedLoad,
-    PropertyStore, ComputedStore, FunctionExpression, GetIterator, IteratorNext, NextPropertyOf, JsxExpression,
-    JsxFragment, Destructure, LoadContext, StoreContext, LoadLocal, StoreLocal, PostfixUpdate, PrefixUpdate,
-    StoreGlobal, TypeCastExpression, StartMemoize, FinishMemoize, TaggedTemplateExpression, BinaryExpression,
-    TemplateLiteral, UnaryExpression}
+use Rattle.alias_hir.specs.declared.value.InstructionValue.TheVariants.{ArrayExpression, ObjectExpression, Await}
+use Rattle.alias_hir.specs.declared.value.InstructionValue.TheVariants.{NewExpression, CallExpression, MethodCall}
+use Rattle.alias_hir.specs.declared.value.InstructionValue.TheVariants.{PropertyDelete, ComputedDelete, PropertyLoad}
+use Rattle.alias_hir.specs.declared.value.InstructionValue.TheVariants.{ComputedLoad, PropertyStore, ComputedStore}
+use Rattle.alias_hir.specs.declared.value.InstructionValue.TheVariants.{FunctionExpression, GetIterator, IteratorNext}
+use Rattle.alias_hir.specs.declared.value.InstructionValue.TheVariants.{NextPropertyOf, JsxExpression, JsxFragment}
+use Rattle.alias_hir.specs.declared.value.InstructionValue.TheVariants.{Destructure, LoadContext, StoreContext}
+use Rattle.alias_hir.specs.declared.value.InstructionValue.TheVariants.{LoadLocal, StoreLocal, PostfixUpdate}
+use Rattle.alias_hir.specs.declared.value.InstructionValue.TheVariants.{PrefixUpdate, StoreGlobal, TypeCastExpression}
+use Rattle.alias_hir.specs.declared.value.InstructionValue.TheVariants.{StartMemoize, FinishMemoize}
+use Rattle.alias_hir.specs.declared.value.InstructionValue.TheVariants.{TaggedTemplateExpression, BinaryExpression}
+use Rattle.alias_hir.specs.declared.value.InstructionValue.TheVariants.{TemplateLiteral, UnaryExpression}
 use Rattle.alias_hir.specs.declared.value.JsxAttribute.{JsxAttribute}
 use Rattle.alias_hir.specs.declared.value.JsxAttribute.TheVariants as attribute
 use Rattle.alias_hir.specs.declared.value.JsxTag.{JsxTag}
@@ -37,12 +43,12 @@ use Rattle.alias_hir.specs.declared.value.ObjectPropertyOrSpread.TheVariants as 
 use Rattle.alias_graph.specs.Nodes.{same_id}
 use Rattle.alias_range_pass.specs.places.Instructions.{value_placed}
 use Rattle.alias_range_pass.specs.places.Mapped.{map_operands, map_lvalues}
-use Rattle.alias_range_pass.specs.places.Tables.{Table, effect_of, ends_past, source_effect, flow_tabled, effect_tabled,
-    effects_tabled, recorded, table_of, with_table}
+use Rattle.alias_range_pass.specs.places.Tables.{Table, effect_of, ends_past, source_effect, flow_tabled, effect_tabled}
+use Rattle.alias_range_pass.specs.places.Tables.{effects_tabled, recorded, table_of, with_table}
 use Rattle.alias_validate.specs.Marking.{is_unknown}
 use Rattle.alias_visit.specs.Operands.{owned_operands}
-use Rattle.alias_visit.specs.Rebuilt.{with_places, with_args, with_elements, with_properties, with_attributes,
-    after_attributes}
+use Rattle.alias_visit.specs.Rebuilt.{with_places, with_args, with_elements, with_properties, with_attributes}
+use Rattle.alias_visit.specs.Rebuilt.{after_attributes}
 
 -- the place has an effect
 abbrev pub IsKnown : Place → Type 0

@@ -1,6 +1,6 @@
 -- The first validation comes to no operand without an effect, where the functions that it walks have none.
-use Rattle.std.specs.Prelude.{◌≡◌, ℕ, Bool, true, false, cond, ◌||◌, List, [], ◌∷◌, ◌++◌, Option, Some, None, Result,
-    Ok, Err, ⊤, map, slice_get, refl}
+use Rattle.std.specs.Prelude.{◌≡◌, ℕ, Bool, true, false, cond, ◌||◌, List, [], ◌∷◌, ◌++◌, Option, Some, None, Result}
+use Rattle.std.specs.Prelude.{Ok, Err, ⊤, map, slice_get, refl}
 use Rattle.std.specs.List.{AllByRecursion, flat_map}
 use Rattle.std.proofs.Common.{zero, suc}
 use Rattle.alias_base.specs.Answer.{◌>>=◌}
@@ -19,16 +19,18 @@ use Rattle.alias_hir.specs.declared.hir.HirFunction.{HirFunction}
 use Rattle.alias_hir.specs.declared.hir.Instruction.{Instruction}
 use Rattle.alias_hir.specs.declared.place.Place.{Place}
 use Rattle.alias_hir.specs.declared.value.InstructionValue.{InstructionValue}
-use Rattle.alias_hir.specs.declared.value.InstructionValue.TheVariants.{CallExpression, MethodCall, FunctionExpression,
-    ObjectMethod, DeclareContext, LoadLocal, StoreContext, StoreLocal}
+use Rattle.alias_hir.specs.declared.value.InstructionValue.TheVariants.{CallExpression, MethodCall, FunctionExpression}
+use Rattle.alias_hir.specs.declared.value.InstructionValue.TheVariants.{ObjectMethod, DeclareContext, LoadLocal}
+use Rattle.alias_hir.specs.declared.value.InstructionValue.TheVariants.{StoreContext, StoreLocal}
 use Rattle.alias_nested.specs.Created.{one_of, created_by, created_by_all, created_functions}
 use Rattle.alias_nested.specs.Units.{validated}
 use Rattle.alias_validate.specs.InstructionSteps.{plain_step}
 use Rattle.alias_validate.specs.Marking.{is_unknown, mark_of}
-use Rattle.alias_validate.specs.OperandMarks.{ReassigningFunctions, Seen, first_mark, marked_operand, operand, checked,
-    other_step}
-use Rattle.alias_validate.specs.Reassigning.{Below, created_step, value_step, instruction_step, instruction_steps,
-    block_step, block_steps, context_reassignment, reassigned_reports, with_reassigned}
+use Rattle.alias_validate.specs.OperandMarks.{ReassigningFunctions, Seen, first_mark, marked_operand, operand, checked}
+use Rattle.alias_validate.specs.OperandMarks.{other_step}
+use Rattle.alias_validate.specs.Reassigning.{Below, created_step, value_step, instruction_step, instruction_steps}
+use Rattle.alias_validate.specs.Reassigning.{block_step, block_steps, context_reassignment, reassigned_reports}
+use Rattle.alias_validate.specs.Reassigning.{with_reassigned}
 use Rattle.alias_validate.specs.Walks.{each, ended}
 use Rattle.alias_validate.specs.declared.outcome.Shared.{Shared}
 use Rattle.alias_validate.specs.declared.outcome.WalkOutcome.{WalkOutcome}
@@ -94,7 +96,7 @@ checked_known env (CallExpression callee args) h k =
     (k.0, tt) k
 checked_known env (MethodCall receiver property args) h k =
     known_either (has_no_alias env property.identifier) (receiver ∷ property ∷ [])
-        (owned_operands (MethodCall receiver property args)) (k.0, (k.1.0, tt)) k
+    (owned_operands (MethodCall receiver property args)) (k.0, (k.1.0, tt)) k
 checked_known env (FunctionExpression lowered) h k = cc
 checked_known env (ObjectMethod lowered) h k = cc
 checked_known env v h k = k
@@ -157,16 +159,16 @@ module _ (env : Environment) (n : ℕ) (below : Below)
     blocks_walk [] k h = tt
     blocks_walk (x ∷ bs) k h =
         let p = both_parts SlotWalk (created_by_all f x.1.instructions)
-            (flat_map (λ (y : BlockId × BasicBlock). created_by_all f y.1.instructions) bs) h in
+        (flat_map (λ (y : BlockId × BasicBlock). created_by_all f y.1.instructions) bs) h in
         (ids_walk x.1.instructions k.0 p.0, blocks_walk bs k.1 p.1)
 
     block_passes : (s : Seen) (x : BlockId × BasicBlock) → BlockWalk x → Passes (block_step env below b async f s x.1)
     block_passes s x h =
         passes_then (instruction_steps env below b async f s x.1.instructions) _
         (passes_each (λ t (i : InstructionId). instruction_step env below b async t (slice_get f.instructions i.0))
-            IdWalk (λ t i q. instruction_passes b async t (slice_get f.instructions i.0) q.0 q.1) x.1.instructions h s)
+        IdWalk (λ t i q. instruction_passes b async t (slice_get f.instructions i.0) q.0 q.1) x.1.instructions h s)
         (λ r. avoids_and_then is_not_inferred
-            (λ (t : Seen). Ok (t, ended (first_mark t.0 (terminal_places x.1.terminal)))) r.0 r.1 tt)
+        (λ (t : Seen). Ok (t, ended (first_mark t.0 (terminal_places x.1.terminal)))) r.0 r.1 tt)
 
     blocks_pass : (s : Seen) → AllByRecursion BlockWalk f.body.blocks
         → Passes (block_steps env below b async f s f.body.blocks)
@@ -181,18 +183,18 @@ reassignment_passes zero env b async f sh h = tt
 reassignment_passes (suc n) env b async f sh h =
     let below : Below = context_reassignment n env true in
     let passes : (async : Bool) (g : HirFunction) (sh : Shared) → WalkKnown n env (Some g) → Passes (below async g sh) =
-        reassignment_passes n env true in
+    reassignment_passes n env true in
     passes_then (block_steps env below b async f ([], sh) f.body.blocks) _
-        (blocks_pass env n below passes b async f ([], sh)
-        (blocks_walk env n below passes b async f f.body.blocks h.0 h.1)) (λ r. tt)
+    (blocks_pass env n below passes b async f ([], sh)
+    (blocks_walk env n below passes b async f f.body.blocks h.0 h.1)) (λ r. tt)
 
 -- both validations
 pub validated_passes : (f : HirFunction) (env : Environment) → WalkKnown 64 env (Some f) → Passes (validated f env)
 validated_passes f env h =
     let walked : Passes (context_reassignment 64 env false false f (record { context_variables = []; reports = [] })) =
-        reassignment_passes 64 env false false f (record { context_variables = []; reports = [] }) h in
+    reassignment_passes 64 env false false f (record { context_variables = []; reports = [] }) h in
     let reported : Passes (reassigned_reports env f) =
-        passes_then (context_reassignment 64 env false false f (record { context_variables = []; reports = [] })) _
-        walked (λ r. tt) in
+    passes_then (context_reassignment 64 env false false f (record { context_variables = []; reports = [] })) _
+    walked (λ r. tt) in
     passes_then (with_reassigned env (reassigned_reports env f)) _
-        (passes_then (reassigned_reports env f) _ reported (λ rs. tt)) (λ more. tt)
+    (passes_then (reassigned_reports env f) _ reported (λ rs. tt)) (λ more. tt)

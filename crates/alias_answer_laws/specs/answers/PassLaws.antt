@@ -25,8 +25,8 @@ use Rattle.alias_effects.specs.Inference.{block_at, instructions_recorded, termi
 use Rattle.alias_effects.specs.Numbered.{step_at, numbered, visits_end}
 use Rattle.alias_effects.specs.PassLaws.{outcome_is}
 use Rattle.alias_effects.specs.declared.output.PassEnd.{PassEnd}
-use Rattle.alias_answer_laws.specs.answers.Applies.{NoneIsApply, NoInstructionRecordsApply, NoTerminalRecordsApply,
-    RecordsNoApply, Leads}
+use Rattle.alias_answer_laws.specs.answers.Applies.{NoneIsApply, NoInstructionRecordsApply, NoTerminalRecordsApply}
+use Rattle.alias_answer_laws.specs.answers.Applies.{RecordsNoApply, Leads}
 use Rattle.alias_answer_laws.specs.answers.Avoiding.{block_refused}
 use Rattle.alias_answer_laws.specs.answers.BlockLaws.{BlockPlain, block_plain}
 
@@ -65,7 +65,7 @@ EndsPlain e = RecordsNoApply e.solved
 
 answered_plain : (env : Environment) (f : HirFunction) (r : End (VisitLog State) TableLists BlockEffects BlockRefusal)
     → ((w : SolverState (VisitLog State) TableLists BlockEffects) → r ≡ end.Solved w → AllHold BlockPlain w.recorded)
-        → Leads EndsPlain (answer_of env f r)
+    → Leads EndsPlain (answer_of env f r)
 answered_plain env f (end.Solved w) h = let all = h w refl in
     (instructions_of_all w.recorded all, terminals_of_all w.recorded all)
 answered_plain env f (end.Fault n c) h = (block_refused env (block_at f.body.blocks n) c).0
@@ -77,5 +77,5 @@ pass_plain env f b =
     let c = context_of env f b in
     answered_plain env f (visits_end c)
     (λ w e. solution_keeps state_join state_below (numbered c) BlockPlain
-        (λ t n x y u k s. step_plain c (slice_get f.body.blocks n) t u x y k s) (tables_of env)
-        (replicate (length f.body.blocks) None) w (none_yet (length f.body.blocks)) e)
+    (λ t n x y u k s. step_plain c (slice_get f.body.blocks n) t u x y k s) (tables_of env)
+    (replicate (length f.body.blocks) None) w (none_yet (length f.body.blocks)) e)

@@ -1,6 +1,6 @@
 -- No inference of a unit that is well formed says that an Apply is left.
-use Rattle.std.specs.Prelude.{◌≡◌, ◌≢◌, ℕ, true, false, List, [], ◌∷◌, Option, Some, None, Result, Ok, Err, is_none,
-    map, slice_get, refl}
+use Rattle.std.specs.Prelude.{◌≡◌, ◌≢◌, ℕ, true, false, List, [], ◌∷◌, Option, Some, None, Result, Ok, Err, is_none}
+use Rattle.std.specs.Prelude.{map, slice_get, refl}
 use Rattle.std.specs.List.{AllByRecursion, list_all}
 use Rattle.std.proofs.Common.{zero, suc, sym, subst}
 use Rattle.alias_base.specs.AnswerLaws.{both_true}
@@ -14,8 +14,8 @@ use Rattle.alias_hir.specs.declared.error.InferError.TheVariants.{UnreplacedAppl
 use Rattle.alias_hir.specs.declared.hir.HirFunction.{HirFunction}
 use Rattle.alias_hir.specs.declared.hir.Instruction.{Instruction}
 use Rattle.alias_hir.specs.declared.report.Report.{Report}
-use Rattle.alias_rules.specs.function_rules.Rules.{instruction_is_uninferred, function_is_uninferred,
-    environment_is_uninferred}
+use Rattle.alias_rules.specs.function_rules.Rules.{instruction_is_uninferred, function_is_uninferred}
+use Rattle.alias_rules.specs.function_rules.Rules.{environment_is_uninferred}
 use Rattle.alias_rules.specs.Functions.{rules_hold}
 use Rattle.alias_rules.specs.RuleLaws.{parts_of_rules}
 use Rattle.alias_effects.specs.Inference.{pass_end, env_after}
@@ -25,18 +25,19 @@ use Rattle.alias_range_pass.specs.places.Keeping.{but_context}
 use Rattle.alias_range_pass.specs.Passes.{range_pass}
 use Rattle.alias_range_pass.specs.Refusals.{has_apply}
 use Rattle.alias_nesting_laws.specs.Slots.{with_function}
-use Rattle.alias_nested.specs.Analysis.{naming, Analysis, analysis, each, effects_analysed, completed, completed_with,
-    function_analysed, taken_analysed, found_analysed, slot_analysed, analysed, most_levels}
+use Rattle.alias_nested.specs.Analysis.{naming, Analysis, analysis, each, effects_analysed, completed, completed_with}
+use Rattle.alias_nested.specs.Analysis.{function_analysed, taken_analysed, found_analysed, slot_analysed, analysed}
+use Rattle.alias_nested.specs.Analysis.{most_levels}
 use Rattle.alias_nested.specs.Created.{created_functions}
 use Rattle.alias_nested.specs.Slots.{emptied}
-use Rattle.alias_nested.specs.Units.{RootAnalysis, validated, root_analysed, all_analysed, UnitAnalysis, unit_analysed,
-    InfersUnit}
+use Rattle.alias_nested.specs.Units.{RootAnalysis, validated, root_analysed, all_analysed, UnitAnalysis, unit_analysed}
+use Rattle.alias_nested.specs.Units.{InfersUnit}
 use Rattle.alias_nested.specs.declared.infer.Inferred.{Inferred}
 use Rattle.alias_nested.proofs.Evolving.{passed_contexts}
 use Rattle.alias_answer_laws.specs.answers.Applies.{InstructionsLackApply, NestedLackApply, Leads}
 use Rattle.alias_answer_laws.specs.answers.Avoiding.{is_unreplaced, Answered, avoids_then, avoids_naming, named_alike}
-use Rattle.alias_answer_laws.specs.answers.FunctionLaws.{never_left, set_all, got_all, instructions_without_apply,
-    RangesPlain, ranges_plain}
+use Rattle.alias_answer_laws.specs.answers.FunctionLaws.{never_left, set_all, got_all, instructions_without_apply}
+use Rattle.alias_answer_laws.specs.answers.FunctionLaws.{RangesPlain, ranges_plain}
 use Rattle.alias_answer_laws.specs.answers.PassLaws.{EndsPlain, pass_plain}
 use Rattle.alias_answer_laws.specs.answers.ValidationLaws.{validated_says}
 
@@ -76,16 +77,16 @@ effects_lead : (id : FunctionId) (f : HirFunction) (a : Analysis) → Instructio
     → Leads Taken (effects_analysed id f a)
 effects_lead id f a h n =
     avoids_then is_unreplaced EndsPlain Taken (naming id (pass_end a.env f true)) _
-        (avoids_naming is_unreplaced EndsPlain id (pass_end a.env f true) (λ e. (named_alike id e).0)
-        (pass_plain a.env f true))
+    (avoids_naming is_unreplaced EndsPlain id (pass_end a.env f true) (λ e. (named_alike id e).0)
+    (pass_plain a.env f true))
     (λ e p. (instructions_without_apply e.solved f p h, after_lacks a.env e n))
 
 completed_leads : (id : FunctionId) (f : HirFunction) (env : Environment) → InstructionsLackApply f
     → NestedLackApply env → Leads TakenAlone (completed id f env)
 completed_leads id f env h n =
     avoids_then is_unreplaced RangesPlain TakenAlone (naming id (range_pass true f env)) _
-        (avoids_naming is_unreplaced RangesPlain id (range_pass true f env) (λ e. (named_alike id e).0)
-        (ranges_plain true f env h n)) (λ r p. p)
+    (avoids_naming is_unreplaced RangesPlain id (range_pass true f env) (λ e. (named_alike id e).0)
+    (ranges_plain true f env h n)) (λ r p. p)
 
 completed_with_leads : (id : FunctionId) (s : HirFunction × Analysis) → Taken s → Leads Taken (completed_with id s)
 completed_with_leads id s h = avoids_then is_unreplaced TakenAlone Taken (completed id s.0 s.1.env) _
@@ -117,7 +118,7 @@ module _ (below : HirFunction → Analysis → Result Analysis InferError)
       let out : Analysis = record a { env = with_function id (emptied f.returns) a.env } in
       avoids_then is_unreplaced Taken Nested (taken_analysed below id f out) _
       (taken_leads id f out (got_all InstructionsLackApply a.env.functions id.0 f e n)
-          (set_all InstructionsLackApply a.env.functions id.0 (emptied f.returns) tt n))
+      (set_all InstructionsLackApply a.env.functions id.0 (emptied f.returns) tt n))
       (λ s p. set_all InstructionsLackApply s.1.env.functions id.0 s.0 p.0 p.1)
 
   slot_leads : (id : FunctionId) (a : Analysis) → Nested a → Leads Nested (slot_analysed below id a)
@@ -134,13 +135,13 @@ analysed_leads (suc n) f a h = each_leads (slot_analysed (analysed n)) (slot_lea
 root_says : (f : HirFunction) (a : Analysis) → InstructionsLackApply f → Nested a → Says (root_analysed f a)
 root_says f a h n =
     avoids_then is_unreplaced EndsPlain (Answered {A = RootAnalysis}) (pass_end a.env f false) _
-        (pass_plain a.env f false) (λ e p.
+    (pass_plain a.env f false) (λ e p.
     let g : HirFunction = with_effects_of e.solved f in
     avoids_then is_unreplaced RangesPlain (Answered {A = RootAnalysis}) (range_pass false g (env_after a.env e)) _
-        (ranges_plain false g (env_after a.env e) (instructions_without_apply e.solved f p h) (after_lacks a.env e n))
-        (λ r q.
+    (ranges_plain false g (env_after a.env e) (instructions_without_apply e.solved f p h) (after_lacks a.env e n))
+    (λ r q.
     avoids_then is_unreplaced (Answered {A = Environment}) (Answered {A = RootAnalysis}) (validated r.after.0 r.after.1)
-        _ (validated_says is_unreplaced (λ x. refl) r.after.0 r.after.1) (λ more s. tt)))
+    _ (validated_says is_unreplaced (λ x. refl) r.after.0 r.after.1) (λ more s. tt)))
 
 -- ---- a unit in which nothing is inferred
 
@@ -174,10 +175,10 @@ unit_says : (u : HirUnit) → rules_hold u ≡ Ok tt → Says (unit_analysed u)
 unit_says u rules =
     let p = parts_of_rules u rules in
     avoids_then is_unreplaced (Answered {A = RootAnalysis}) (Answered {A = UnitAnalysis})
-        (all_analysed u.function (analysis u.env [])) _
+    (all_analysed u.function (analysis u.env [])) _
     (avoids_then is_unreplaced Nested (Answered {A = RootAnalysis})
-        (analysed most_levels u.function (analysis u.env [])) (root_analysed u.function)
-        (analysed_leads most_levels u.function (analysis u.env []) (environment_lacks u.env p.environment))
+    (analysed most_levels u.function (analysis u.env [])) (root_analysed u.function)
+    (analysed_leads most_levels u.function (analysis u.env []) (environment_lacks u.env p.environment))
     (λ a n. root_says u.function a (function_lacks u.function p.function) n)) (λ r s. tt)
 
 -- the inference of a unit that is well formed never says that an Apply is left

@@ -1,6 +1,6 @@
 -- The validations refuse for no reason but an operand without an effect.
-use Rattle.std.specs.Prelude.{◌≡◌, ℕ, Bool, true, false, cond, ◌||◌, List, [], ◌∷◌, Option, Some, None, Result, Ok, Err,
-    slice_get}
+use Rattle.std.specs.Prelude.{◌≡◌, ℕ, Bool, true, false, cond, ◌||◌, List, [], ◌∷◌, Option, Some, None, Result, Ok, Err}
+use Rattle.std.specs.Prelude.{slice_get}
 use Rattle.std.proofs.Common.{zero, suc}
 use Rattle.alias_base.specs.Answer.{◌>>=◌}
 use Rattle.alias_base.specs.declared.ids.BlockId.{BlockId}
@@ -17,13 +17,14 @@ use Rattle.alias_hir.specs.declared.hir.HirFunction.{HirFunction}
 use Rattle.alias_hir.specs.declared.hir.Instruction.{Instruction}
 use Rattle.alias_hir.specs.declared.place.Place.{Place}
 use Rattle.alias_hir.specs.declared.value.InstructionValue.{InstructionValue}
-use Rattle.alias_hir.specs.declared.value.InstructionValue.TheVariants.{DeclareContext, LoadLocal, StoreContext,
-    StoreLocal}
+use Rattle.alias_hir.specs.declared.value.InstructionValue.TheVariants.{DeclareContext, LoadLocal, StoreContext}
+use Rattle.alias_hir.specs.declared.value.InstructionValue.TheVariants.{StoreLocal}
 use Rattle.alias_validate.specs.InstructionSteps.{plain_step}
 use Rattle.alias_validate.specs.Marking.{is_unknown}
 use Rattle.alias_validate.specs.OperandMarks.{ReassigningFunctions, Seen, first_mark, operand, checked, other_step}
-use Rattle.alias_validate.specs.Reassigning.{Below, created_step, value_step, instruction_step, instruction_steps,
-    block_step, block_steps, context_reassignment, reassigned_reports, with_reassigned}
+use Rattle.alias_validate.specs.Reassigning.{Below, created_step, value_step, instruction_step, instruction_steps}
+use Rattle.alias_validate.specs.Reassigning.{block_step, block_steps, context_reassignment, reassigned_reports}
+use Rattle.alias_validate.specs.Reassigning.{with_reassigned}
 use Rattle.alias_validate.specs.Walks.{each, ended}
 use Rattle.alias_validate.specs.declared.outcome.Shared.{Shared}
 use Rattle.alias_validate.specs.declared.outcome.WalkOutcome.{WalkOutcome}
@@ -94,9 +95,9 @@ module _ (is : InferError → Bool) (other : (x : IdentifierId) → is (EffectsN
       block_says b async f s x =
           says_then (instruction_steps env below b async f s x.instructions) _
           (says_each (λ t (i : InstructionId). instruction_step env below b async t (slice_get f.instructions i.0))
-              (λ t i. instruction_says b async t (slice_get f.instructions i.0)) x.instructions s)
+          (λ t i. instruction_says b async t (slice_get f.instructions i.0)) x.instructions s)
           (λ r. avoids_and_then is (λ (t : Seen). Ok (t, ended (first_mark t.0 (terminal_places x.terminal)))) r.0 r.1
-              tt)
+          tt)
 
       blocks_say : (b async : Bool) (f : HirFunction) (bs : List (BlockId × BasicBlock)) (s : Seen)
           → Says (block_steps env below b async f s bs)
@@ -109,8 +110,8 @@ module _ (is : InferError → Bool) (other : (x : IdentifierId) → is (EffectsN
     reassignment_says zero b async f sh = tt
     reassignment_says (suc n) b async f sh =
         says_then (block_steps env (context_reassignment n env true) b async f ([], sh) f.body.blocks) _
-            (blocks_say (context_reassignment n env true) (reassignment_says n true) b async f f.body.blocks ([], sh))
-            (λ r. tt)
+        (blocks_say (context_reassignment n env true) (reassignment_says n true) b async f f.body.blocks ([], sh))
+        (λ r. tt)
 
     reports_say : (f : HirFunction) → Says (reassigned_reports env f)
     reports_say f = says_then (context_reassignment 64 env false false f
@@ -121,4 +122,4 @@ module _ (is : InferError → Bool) (other : (x : IdentifierId) → is (EffectsN
   pub validated_says : (f : HirFunction) (env : Environment) → Says (validated f env)
   validated_says f env =
       says_then (with_reassigned env (reassigned_reports env f)) _
-          (says_then (reassigned_reports env f) _ (reports_say env f) (λ rs. tt)) (λ more. tt)
+      (says_then (reassigned_reports env f) _ (reports_say env f) (λ rs. tt)) (λ more. tt)

@@ -6,14 +6,14 @@ use Rattle.alias_base.specs.declared.ids.IdentifierId.{IdentifierId}
 use Rattle.alias_hir.specs.declared.effect.ValueReason.{ValueReason}
 use Rattle.alias_hir.specs.declared.place.Place.{Place}
 use Rattle.alias_lattice.specs.declared.site.Site.{Site}
-use Rattle.alias_lattice.specs.declared.site.Site.TheVariants.{Parameter, Context as OfContext, Created, CreatedFrom,
-    Function, AssignFrozen, AssignCopy, Default}
+use Rattle.alias_lattice.specs.declared.site.Site.TheVariants.{Parameter, Context as OfContext, Created, CreatedFrom}
+use Rattle.alias_lattice.specs.declared.site.Site.TheVariants.{Function, AssignFrozen, AssignCopy, Default}
 use Rattle.alias_lattice.specs.States.{State, Sites, sites_of, frozen, does_freeze}
 use Rattle.alias_lattice.specs.ProperStates.{StateProper}
 use Rattle.alias_lattice.specs.ProperLaws.{proper-frozen}
 use Rattle.alias_apply.specs.freezing.Sites.{sites_at}
-use Rattle.alias_apply.specs.freezing.Transitive.{at_sites, where_frozen, at_place, at_places, at_site, levels_frozen,
-    frozen_transitively, place_frozen_transitively, live}
+use Rattle.alias_apply.specs.freezing.Transitive.{at_sites, where_frozen, at_place, at_places, at_site, levels_frozen}
+use Rattle.alias_apply.specs.freezing.Transitive.{frozen_transitively, place_frozen_transitively, live}
 
 module _ (r : ValueReason) where
   module _ (going : Site → State → State)

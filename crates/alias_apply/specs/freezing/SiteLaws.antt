@@ -1,7 +1,7 @@
 -- A set is gone through from each site to the next, and a place freezes where it is defined and its kind is one that
 -- freezes.
-use Rattle.std.specs.Prelude.{◌≡◌, ◌<◌, Bool, true, false, cond, ◌&&◌, IsTrue, List, [], ◌∷◌, Option, Some, None,
-    length, refl}
+use Rattle.std.specs.Prelude.{◌≡◌, ◌<◌, Bool, true, false, cond, ◌&&◌, IsTrue, List, [], ◌∷◌, Option, Some, None}
+use Rattle.std.specs.Prelude.{length, refl}
 use Rattle.std.proofs.Common.{ap, sym, ◌∙◌, subst, arith}
 use Rattle.std.proofs.Math.Dec.{T}
 use Rattle.std.specs.Option.{is_some, option_map}
@@ -22,8 +22,8 @@ use Rattle.alias_lattice.specs.Nexts.{is_after, next_entry}
 use Rattle.alias_lattice.specs.SiteOrder.{site_cmp}
 use Rattle.alias_lattice.specs.SiteOrderLaws.{sites_total}
 use Rattle.alias_lattice.specs.ProperStates.{AreValued, StateProper}
-use Rattle.alias_lattice.specs.States.{State, Sites, sites_of, value_over, lookup, lookup_at, or_default, freezes,
-    freezes_value, does_freeze, does_freeze_at, next_site}
+use Rattle.alias_lattice.specs.States.{State, Sites, sites_of, value_over, lookup, lookup_at, or_default, freezes}
+use Rattle.alias_lattice.specs.States.{freezes_value, does_freeze, does_freeze_at, next_site}
 use Rattle.alias_apply.specs.freezing.Sites.{in_order, above}
 
 -- ---- from each site to the next
@@ -37,8 +37,8 @@ pub next-above : (after : Option Site) (t : Sites) → next_site after t ≡ fir
 next-above after [] = refl
 next-above after (e ∷ es) =
     elim (is_after site_cmp after e.0) as (λ b.
-        option_map (λ (x : Site × Unit {0}). x.0) (cond b (Some e) (next_entry site_cmp after es))
-        ≡ first_of (cond b (e ∷ es) (above after es))) [
+    option_map (λ (x : Site × Unit {0}). x.0) (cond b (Some e) (next_entry site_cmp after es))
+    ≡ first_of (cond b (e ∷ es) (above after es))) [
       | true ↦ refl
       | false ↦ next-above after es
     ]
@@ -81,14 +81,14 @@ above-next after (x ∷ xs) e es s g =
     let low = T-first (below_all site_cmp x.0 xs) (is_sorted site_cmp xs) s in
     let rest = T-second (below_all site_cmp x.0 xs) (is_sorted site_cmp xs) s in
     elim (is_after site_cmp after x.0) as (λ b. cond b (x ∷ xs) (above after xs) ≡ e ∷ es → above (Some e.0) (x ∷ xs)
-        ≡ es) [
+    ≡ es) [
       | true ↦ λ i.
           let same : x ≡ e = cc in
           let tail : xs ≡ es = cc in
           ap (λ (z : Site × Unit {0}). above (Some z.0) (x ∷ xs)) (sym same) ∙ above_first x xs low ∙ tail
       | false ↦ λ i.
           ap (λ b. cond b (x ∷ xs) (above (Some e.0) xs))
-              (not_below_lesser e.0 x.0 (left_above x.0 after xs e es low i))
+          (not_below_lesser e.0 x.0 (left_above x.0 after xs e es low i))
           ∙ above-next after xs e es rest i
     ] g
 

@@ -7,8 +7,8 @@ use Rattle.alias_base.specs.declared.ids.IdentifierId.{IdentifierId}
 use Rattle.alias_hir.specs.declared.effect.ValueReason.{ValueReason}
 use Rattle.alias_hir.specs.declared.place.Place.{Place}
 use Rattle.alias_lattice.specs.declared.site.Site.{Site}
-use Rattle.alias_lattice.specs.declared.site.Site.TheVariants.{Parameter, Context as OfContext, Created, CreatedFrom,
-    Function, AssignFrozen, AssignCopy, Default}
+use Rattle.alias_lattice.specs.declared.site.Site.TheVariants.{Parameter, Context as OfContext, Created, CreatedFrom}
+use Rattle.alias_lattice.specs.declared.site.Site.TheVariants.{Function, AssignFrozen, AssignCopy, Default}
 use Rattle.alias_lattice.specs.States.{State, frozen, does_freeze}
 use Rattle.alias_apply.specs.freezing.Sites.{sites_at}
 use Rattle.alias_apply.specs.freezing.Transitive.{at_sites, where_frozen, at_place, at_places, frozen_transitively}
@@ -61,7 +61,7 @@ module _ (context : FunctionId → List Place) where
         ++ led_to context k → finish context r old s ≡ finish context r new s
     finish-site old a new k s h e f =
         ap (λ z. finish context r z s) e ∙ finish-append a (AtSite k ∷ []) s ∙ ap (finish context r a) (led_done k s h)
-            ∙ sym (finish-append a (led_to context k) s) ∙ ap (λ z. finish context r z s) (sym f)
+        ∙ sym (finish-append a (led_to context k) s) ∙ ap (λ z. finish context r z s) (sym f)
 
     -- a place on top that freezes becomes its sites
     pub finish-place : (a : List Task) (p : IdentifierId) (s : State) → does_freeze s p ≡ true
@@ -96,16 +96,16 @@ module _ (context : FunctionId → List Place) where
       → weight context new < weight context old
   lighter-site old a new k e f =
       let x : weight context old ≡ weight context a + weight context (AtSite k ∷ []) = ap (weight context) e
-          ∙ weight-append a (AtSite k ∷ []) in
+      ∙ weight-append a (AtSite k ∷ []) in
       let y : weight context new ≡ weight context a + weight context (led_to context k) = ap (weight context) f
-          ∙ weight-append a (led_to context k) in
+      ∙ weight-append a (led_to context k) in
       let z = led_lighter k in omega arith
 
   pub lighter-place : (old a : List Task) (p : IdentifierId) → old ≡ a ++ AtPlace p ∷ [] → weight context a
       < weight context old
   lighter-place old a p e =
       let x : weight context old ≡ weight context a + weight context (AtPlace p ∷ []) = ap (weight context) e
-          ∙ weight-append a (AtPlace p ∷ []) in omega arith
+      ∙ weight-append a (AtPlace p ∷ []) in omega arith
 
 -- what a pop says, where it gave the task
 pub popped : (old a : List Task) (o : Option Task) (t u : Task) → old ≡ a ++ option_to_list o → o ≡ Some t → t ≡ u → old

@@ -1,6 +1,6 @@
 -- Freezing transitively from a site is the recursion: it goes into all that the site reaches.
-use Rattle.std.specs.Prelude.{◌≡◌, ℕ, ◌+◌, ◌-◌, ◌<◌, ◌≤◌, Bool, true, false, cond, ◌&&◌, ◌||◌, List, [], ◌∷◌, Option,
-    Some, None, refl}
+use Rattle.std.specs.Prelude.{◌≡◌, ℕ, ◌+◌, ◌-◌, ◌<◌, ◌≤◌, Bool, true, false, cond, ◌&&◌, ◌||◌, List, [], ◌∷◌, Option}
+use Rattle.std.specs.Prelude.{Some, None, refl}
 use Rattle.std.proofs.Common.{length, zero, suc, ap, sym, ◌∙◌, subst, arith}
 use Rattle.std.proofs.Math.Dec.{T}
 use Rattle.std.specs.Ordering.{eq_by_cmp, is_eq, is_lt}
@@ -18,18 +18,18 @@ use Rattle.alias_lattice.specs.Kinds.{kind_join}
 use Rattle.alias_lattice.specs.AbstractValues.{abstract_join}
 use Rattle.alias_lattice.specs.declared.value.AbstractValue.{AbstractValue}
 use Rattle.alias_hir.specs.declared.effect.ValueKind.{ValueKind}
-use Rattle.alias_hir.specs.declared.effect.ValueKind.TheVariants.{Primitive, Global, Frozen, Mutable, Context,
-    MaybeFrozen}
+use Rattle.alias_hir.specs.declared.effect.ValueKind.TheVariants.{Primitive, Global, Frozen, Mutable, Context}
+use Rattle.alias_hir.specs.declared.effect.ValueKind.TheVariants.{MaybeFrozen}
 use Rattle.alias_lattice.specs.declared.site.Site.{Site}
-use Rattle.alias_lattice.specs.declared.site.Site.TheVariants.{Parameter, Context as OfContext, Created, CreatedFrom,
-    Function, AssignFrozen, AssignCopy, Default}
+use Rattle.alias_lattice.specs.declared.site.Site.TheVariants.{Parameter, Context as OfContext, Created, CreatedFrom}
+use Rattle.alias_lattice.specs.declared.site.Site.TheVariants.{Function, AssignFrozen, AssignCopy, Default}
 use Rattle.alias_lattice.specs.SiteOrder.{site_cmp}
 use Rattle.alias_lattice.specs.SiteOrderLaws.{sites_total, sites_apart}
-use Rattle.alias_lattice.specs.States.{State, Sites, sites_of, frozen, frozen_at, frozen_for, all_set, does_freeze,
-    does_freeze_at, freezes, freezes_value, value_over}
+use Rattle.alias_lattice.specs.States.{State, Sites, sites_of, frozen, frozen_at, frozen_for, all_set, does_freeze}
+use Rattle.alias_lattice.specs.States.{does_freeze_at, freezes, freezes_value, value_over}
 use Rattle.alias_apply.specs.freezing.Sites.{sites_at}
-use Rattle.alias_apply.specs.freezing.Transitive.{at_sites, where_frozen, at_place, at_places, at_site, lives, live,
-    levels_frozen, frozen_transitively}
+use Rattle.alias_apply.specs.freezing.Transitive.{at_sites, where_frozen, at_place, at_places, at_site, lives, live}
+use Rattle.alias_apply.specs.freezing.Transitive.{levels_frozen, frozen_transitively}
 
 abbrev pub Sorted : State → Type 0
 Sorted s = T (is_sorted site_cmp s.values)
@@ -70,7 +70,7 @@ module _ (v : AbstractValue) (cold : v.kind ≡ Frozen) where
       let e = none_lives in
       let ih = live_put k m in
       elim (site_cmp k x.0) as (λ o. live (by_order o ((k, v) ∷ x ∷ m) ((x.0, v) ∷ m) (x ∷ put site_cmp k v m))
-          ≤ lives x.1.kind + live m) [
+      ≤ lives x.1.kind + live m) [
         | Less ↦ omega arith
         | Equal ↦ omega arith
         | Greater ↦ omega arith
@@ -101,7 +101,7 @@ unfound : (k : Site) (m : List (Site × AbstractValue)) → T (below_all site_cm
 unfound k [] h = refl
 unfound k (x ∷ m) h =
     ap (λ o. cond (is_eq o) (Some x.1) (find site_cmp k m))
-        (lesser _ (T-first (is_lt (site_cmp k x.0)) (below_all site_cmp k m) h))
+    (lesser _ (T-first (is_lt (site_cmp k x.0)) (below_all site_cmp k m) h))
     ∙ unfound k m (T-second (is_lt (site_cmp k x.0)) (below_all site_cmp k m) h)
 
 below_less : (x y : Site) (m : List (Site × AbstractValue)) → site_cmp x y ≡ Less → T (below_all site_cmp y m)
@@ -109,8 +109,8 @@ below_less : (x y : Site) (m : List (Site × AbstractValue)) → site_cmp x y �
 below_less x y [] p h = tt
 below_less x y (e ∷ m) p h =
     T-both _ _ (less_than x e.0 (sites_total.trans x y e.0 p
-        (lesser _ (T-first (is_lt (site_cmp y e.0)) (below_all site_cmp y m) h))))
-        (below_less x y m p (T-second (is_lt (site_cmp y e.0)) (below_all site_cmp y m) h))
+    (lesser _ (T-first (is_lt (site_cmp y e.0)) (below_all site_cmp y m) h))))
+    (below_less x y m p (T-second (is_lt (site_cmp y e.0)) (below_all site_cmp y m) h))
 
 live_is : (k : ValueKind) → is_live_kind k ≡ true → lives k ≡ 1
 live_is Primitive h = refl
@@ -128,7 +128,7 @@ module _ (v : AbstractValue) (cold : v.kind ≡ Frozen) where
       let e = none_lives v cold in
       let one : lives w.kind ≡ 1 = live_is w.kind h in
       elim (site_cmp k x.0) as (λ o. site_cmp k x.0 ≡ o → cond (is_eq o) (Some x.1) (find site_cmp k m) ≡ Some w
-          → live (by_order o ((k, v) ∷ x ∷ m) ((x.0, v) ∷ m) (x ∷ put site_cmp k v m)) < lives x.1.kind + live m) [
+      → live (by_order o ((k, v) ∷ x ∷ m) ((x.0, v) ∷ m) (x ∷ put site_cmp k v m)) < lives x.1.kind + live m) [
         | Less ↦ λ o g. let no : find site_cmp k m ≡ None =
             unfound k m (below_less k x.0 m o (T-first (below_all site_cmp x.0 m) (is_sorted site_cmp m) s)) in cc
         | Equal ↦ λ o g. let same : x.1 ≡ w = cc in let same_lives : lives x.1.kind ≡ lives w.kind =
@@ -151,7 +151,7 @@ module _ (v : AbstractValue) (cold : v.kind ≡ Frozen) where
   still_live k q m h g =
       ap is_live (find-put site_cmp sites_total q k v m)
       ∙ tie_case (eq_by_cmp site_cmp q k) (find site_cmp q m) (find site_cmp k m)
-          (λ e. ap (λ z. find site_cmp z m) (sites_apart q k (equal (site_cmp q k) (subst T (sym e) tt)))) h g
+      (λ e. ap (λ z. find site_cmp z m) (sites_apart q k (equal (site_cmp q k) (subst T (sym e) tt)))) h g
 
   or_case : (a b c d : Bool) → (a || b) ≡ true → (a ≡ true → c ≡ true) → (b ≡ true → d ≡ true) → (c || d) ≡ true
   or_case true b c d h f g = ap (λ z. z || d) (f refl)
@@ -175,13 +175,13 @@ module _ (v : AbstractValue) (cold : v.kind ≡ Frozen) where
   strict_all_set [] m s h = cc
   strict_all_set (e ∷ t) m s h =
       elim (is_live (find site_cmp e.0 m)) as
-          (λ b. is_live (find site_cmp e.0 m) ≡ b → (b || any_live m t) ≡ true
-          → live (all_set v t (put site_cmp e.0 v m)) < live m) [
+      (λ b. is_live (find site_cmp e.0 m) ≡ b → (b || any_live m t) ≡ true
+      → live (all_set v t (put site_cmp e.0 v m)) < live m) [
         | true ↦ λ b g. let a = at_live e.0 m (find site_cmp e.0 m) refl s b in let c =
             live_all_set v cold t (put site_cmp e.0 v m) in omega arith
         | false ↦ λ b g.
             let a = strict_all_set t (put site_cmp e.0 v m) (is_sorted-put site_cmp sites_total e.0 v m s)
-                (still_any e.0 m t b g) in
+            (still_any e.0 m t b g) in
             let c = live_put v cold e.0 m in omega arith
       ] refl h
 
@@ -205,8 +205,8 @@ module _ (v : AbstractValue) (cold : v.kind ≡ Frozen) where
   over_cold m [] o h g = h
   over_cold m (e ∷ t) o h g =
       over_cold m t (join_option abstract_join o (find site_cmp e.0 m))
-          (joined_cold o (find site_cmp e.0 m) h (or_first (is_live (find site_cmp e.0 m)) (any_live m t) g))
-          (or_second (is_live (find site_cmp e.0 m)) (any_live m t) g)
+      (joined_cold o (find site_cmp e.0 m) h (or_first (is_live (find site_cmp e.0 m)) (any_live m t) g))
+      (or_second (is_live (find site_cmp e.0 m)) (any_live m t) g)
 
   freezing_live : (o : Option AbstractValue) → freezes_value o ≡ true → is_live o ≡ true
   freezing_live None h = cc
@@ -266,9 +266,9 @@ module _ (going : Site → State → State) (down : Goes going) where
         → Down s (where_frozen going r b p s)
     acted_down true p s h e =
         let f : Down s (frozen p r s) = (let l = frozen_less r p s h e in
-            record { sorted = frozen_sorted r p s h; fewer = omega arith }) in
+        record { sorted = frozen_sorted r p s h; fewer = omega arith }) in
         then_down s (frozen p r s) (at_sites going (sites_at s p) (frozen p r s)) f
-            (sites_down (sites_at s p) (frozen p r s) f.sorted)
+        (sites_down (sites_at s p) (frozen p r s) f.sorted)
     acted_down false p s h e = same_down s h
 
     place_down : (p : IdentifierId) (s : State) → Sorted s → Down s (at_place going r p s)
@@ -300,7 +300,7 @@ module _ (going other : Site → State → State) (m : ℕ)
       let a = down k s h in
       let f = a.fewer in
       let ih : at_sites going t (going k s) ≡ at_sites other t (going k s) =
-          sites_agree t (going k s) a.sorted (omega arith) in
+      sites_agree t (going k s) a.sorted (omega arith) in
       ih ∙ ap (at_sites other t) (agree k s h l)
 
   module _ (r : ValueReason) where
@@ -317,8 +317,8 @@ module _ (going other : Site → State → State) (m : ℕ)
         let a = place_down going down r p.identifier s h in
         let f = a.fewer in
         let ih : at_places going r ps (at_place going r p.identifier s)
-            ≡ at_places other r ps (at_place going r p.identifier s) =
-            places_agree ps (at_place going r p.identifier s) a.sorted (omega arith) in
+        ≡ at_places other r ps (at_place going r p.identifier s) =
+        places_agree ps (at_place going r p.identifier s) a.sorted (omega arith) in
         ih ∙ ap (at_places other r ps) (acted_agree (does_freeze s p.identifier) p.identifier s h l refl)
 
     site_agree : (context : FunctionId → List Place) (k : Site) (s : State) → Sorted s → live s.values ≤ m
@@ -343,7 +343,7 @@ module _ (r : ValueReason) (context : FunctionId → List Place) where
   enter_more zero k s h l = absurd (omega arith)
   enter_more (suc n) k s h l =
       site_agree (levels_frozen r context n) (levels_frozen r context (suc n)) n (λ j t i q. enter_more n j t i q)
-          (enter_down n) r context k s h (omega arith)
+      (enter_down n) r context k s h (omega arith)
 
   enter_enough : (d n : ℕ) (k : Site) (s : State) → Sorted s → n ≡ d + suc (live s.values)
       → levels_frozen r context n k s ≡ frozen_transitively r context k s
@@ -365,4 +365,4 @@ module _ (r : ValueReason) (context : FunctionId → List Place) where
       ≡ at_site (frozen_transitively r context) r context k s
   frozen_transitively-is k s h =
       site_agree (levels_frozen r context (live s.values)) (frozen_transitively r context) (live s.values)
-          (λ j t i q. enter_all (live s.values) j t i q) (enter_down (live s.values)) r context k s h (omega arith)
+      (λ j t i q. enter_all (live s.values) j t i q) (enter_down (live s.values)) r context k s h (omega arith)

@@ -1,6 +1,6 @@
 -- The list of a call by a signature without an aliasing part: what a host is given is what a pass would be given.
-use Rattle.std.specs.Prelude.{◌≡◌, ℕ, ◌+◌, Bool, false, ◌&&◌, ◌||◌, not, List, [], ◌∷◌, ◌++◌, slice_get, Option, Some,
-    None, Result, Ok, Err, refl, if◌then◌else◌}
+use Rattle.std.specs.Prelude.{◌≡◌, ℕ, ◌+◌, Bool, false, ◌&&◌, ◌||◌, not, List, [], ◌∷◌, ◌++◌, slice_get, Option, Some}
+use Rattle.std.specs.Prelude.{None, Result, Ok, Err, refl, if◌then◌else◌}
 use Rattle.std.specs.List.{list_any}
 use Rattle.std.proofs.Common.{ap, sym, ◌∙◌}
 use Rattle.alias_hir.specs.declared.effect.AliasingEffect.{AliasingEffect}
@@ -32,20 +32,21 @@ use Rattle.alias_calls.specs.declared.immutable.Checked.{Checked}
 use Rattle.alias_calls.specs.declared.immutable.Verdict.{Verdict}
 use Rattle.alias_calls.specs.declared.legacy.Legacy.{Legacy}
 use Rattle.alias_calls.specs.declared.visits.Visits.{Visits}
-use Rattle.alias_calls.specs.Immutable.{is_long_param, param_place, writes_param, is_writing_site, is_still, verdict,
-    checked, answered_by, verdict_of_place, verdict_by, signature_at, verdict_of, unless_answered, immutables}
-use Rattle.alias_calls.specs.Legacy.{all_links, legacy, ended, return_reason, with_impure, with_receiver, visits_of,
-    asked, with_still, visited, legacy_after, legacy_expansion}
-use Rattle.alias_calls.specs.Visits.{iterated, visit, rest_use, or_effect, spread_effect, is_refused, with_refused,
-    visit_argument, visit_arguments}
+use Rattle.alias_calls.specs.Immutable.{is_long_param, param_place, writes_param, is_writing_site, is_still, verdict}
+use Rattle.alias_calls.specs.Immutable.{checked, answered_by, verdict_of_place, verdict_by, signature_at, verdict_of}
+use Rattle.alias_calls.specs.Immutable.{unless_answered, immutables}
+use Rattle.alias_calls.specs.Legacy.{all_links, legacy, ended, return_reason, with_impure, with_receiver, visits_of}
+use Rattle.alias_calls.specs.Legacy.{asked, with_still, visited, legacy_after, legacy_expansion}
+use Rattle.alias_calls.specs.Visits.{iterated, visit, rest_use, or_effect, spread_effect, is_refused, with_refused}
+use Rattle.alias_calls.specs.Visits.{visit_argument, visit_arguments}
 use Rattle.alias_call_effects.specs.declared.error.SignatureError.{SignatureError}
 use Rattle.alias_call_effects.specs.Answers.{tables_with, with_reports}
 use Rattle.alias_call_effects.specs.Kept.{Kept}
 use Rattle.alias_call_effects.specs.Legacy.{legacy_called}
 use Rattle.alias_call_effects.specs.laws.MoreLaws.{AsksTheSame, asks_with}
 use Rattle.alias_call_effects.specs.laws.PassLaws.{host_of, as_host}
-use Rattle.alias_call_effects.specs.laws.ReadsLaws.{onto, ReadsReports, reads_gives, reads_refuses, reads_then,
-    reads_if, reads_report}
+use Rattle.alias_call_effects.specs.laws.ReadsLaws.{onto, ReadsReports, reads_gives, reads_refuses, reads_then}
+use Rattle.alias_call_effects.specs.laws.ReadsLaws.{reads_if, reads_report}
 
 same_any : {X : Type 0} (p q : X → Bool) → ((x : X) → p x ≡ q x) → (xs : List X) → list_any p xs ≡ list_any q xs
 same_any p q same [] = refl
@@ -69,7 +70,7 @@ module _ (e f : Environment) (same : AsksTheSame e f) where
   same_place : (u : State) (p : Place) (m : Option MissingLookup) → verdict_of_place e u p m ≡ verdict_of_place f u p m
   same_place u p m =
       ap (λ b. verdict (answered_by (is_still (lookup u p.identifier).kind && not b))
-          (first_missing m (missing_lookup u p.identifier None)))
+      (first_missing m (missing_lookup u p.identifier None)))
       (same_any (is_writing_site e) (is_writing_site f) same_site (sites_at u p.identifier))
 
   same_by : (o : Option FunctionSignature) (u : State) (p : Place) (m : Option MissingLookup) → verdict_by o e u p m
@@ -90,7 +91,7 @@ module _ (e f : Environment) (same : AsksTheSame e f) where
   same_immutables u (a ∷ others) m =
       ap (λ (v : Verdict). unless_answered v.answer v.missing (immutables e u others v.missing)) (same_verdict u a m)
       ∙ ap (λ (c : Checked). unless_answered (verdict_of f u a m).answer (verdict_of f u a m).missing c)
-          (same_immutables u others (verdict_of f u a m).missing)
+      (same_immutables u others (verdict_of f u a m).missing)
 
   same_asked : (s : FunctionSignature) (args : List PlaceOrSpreadOrHole) (u : State) → asked e s args u
       ≡ asked f s args u
@@ -136,16 +137,16 @@ module _ (e f : Environment) (same : AsksTheSame e f) where
     same_visited : (out : List AliasingEffect) → visited e s site args out ≡ visited f s site args out
     same_visited out =
         ap (visit_arguments e s site.into (return_reason s) 0 args)
-            (same_visit site.into (return_reason s) site.receiver s.callee_effect
-            (visits_of (with_receiver s site out)))
+        (same_visit site.into (return_reason s) site.receiver s.callee_effect
+        (visits_of (with_receiver s site out)))
         ∙ same_arguments s site.into (return_reason s) 0 args
-            (visit f site.into (return_reason s) site.receiver s.callee_effect (visits_of (with_receiver s site out)))
+        (visit f site.into (return_reason s) site.receiver s.callee_effect (visits_of (with_receiver s site out)))
 
     same_after : (c : Checked) (out : List AliasingEffect) (t : TableLists) → legacy_after e s site args c out t
         ≡ legacy_after f s site args c out t
     same_after c out t =
         ap (λ (v : Visits). (if c.holds then gives (legacy (with_still site args out) c.missing)
-            else ended v.refused site.into v c.missing) t) (same_visited out)
+        else ended v.refused site.into v c.missing) t) (same_visited out)
 
     abbrev caused_if : Bool → List AliasingEffect → Step (List AliasingEffect)
     caused_if b out =
@@ -172,7 +173,7 @@ module _ (e f : Environment) (same : AsksTheSame e f) where
     same_list u t =
         let first = effect.Create site.into s.return_value_kind (return_reason s) ∷ [] in
         ap (λ (r : Result (List AliasingEffect × TableLists) Refusal). and_then r (rest_in e (asked e s args u)))
-            (same_if_reported first t)
+        (same_if_reported first t)
         ∙ same_rest u (with_impure f s site first t)
 
 -- ---- reports
@@ -192,7 +193,7 @@ module _ (env : Environment) (s : FunctionSignature) (site : CallSite) (args : L
   reads_if_reported out =
       reads_if (s.impure && env.config.validate_no_impure_functions_in_render) _ _
       (reads_then _ _ (reads_report site.receiver.identifier (impure_report s.canonical_name site.span))
-          (λ d. reads_gives (out ++ effect.Impure site.receiver d ∷ [])))
+      (λ d. reads_gives (out ++ effect.Impure site.receiver d ∷ [])))
       (reads_gives out)
 
   reads_list : (u : State) → ReadsReports (legacy_expansion env s site args u)
@@ -216,15 +217,20 @@ module _ (env : Environment) (s : FunctionSignature) (site : CallSite) (args : L
   host_asks : (t : TableLists) → AsksTheSame (host_of env t).env env
   host_asks t =
       let h = asks_with t.temporaries env in
-      record { config = h.config; functions = h.functions; collections = h.collections; signatures = h.signatures;
-          long = h.long }
+      record {
+        config = h.config;
+        functions = h.functions;
+        collections = h.collections;
+        signatures = h.signatures;
+        long = h.long;
+      }
 
   -- the expansion of a call by a signature without an aliasing part
   pub same_legacy_expansion : (t : TableLists) → legacy_called s site args u (host_of env t).env
       ≡ environment_alone (as_host env (legacy_expansion env s site args u t))
   same_legacy_expansion t =
       ap (λ (r : Result (Legacy × TableLists) Refusal). with_reports (host_of env t).env r)
-          (same_list (host_of env t).env env (host_asks t) s site args u (tables_with t.reports))
+      (same_list (host_of env t).env env (host_asks t) s site args u (tables_with t.reports))
       ∙ same_reported env t (legacy_expansion env s site args u (tables_with t.reports))
       ∙ ap (λ (r : Result (Legacy × TableLists) Refusal). environment_alone (as_host env r))
-          (sym (reads_list env s site args u t))
+      (sym (reads_list env s site args u t))

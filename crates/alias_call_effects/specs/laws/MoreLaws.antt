@@ -1,6 +1,6 @@
 -- What calls ask of an environment is the same where it has more identifiers of which nothing is known.
-use Rattle.std.specs.Prelude.{◌≡◌, ℕ, zero, suc, false, List, [], ◌∷◌, ◌++◌, length, slice_get, Option, Some, None,
-    refl, option_and_then}
+use Rattle.std.specs.Prelude.{◌≡◌, ℕ, zero, suc, false, List, [], ◌∷◌, ◌++◌, length, slice_get, Option, Some, None}
+use Rattle.std.specs.Prelude.{refl, option_and_then}
 use Rattle.std.specs.Option.{option_map_or}
 use Rattle.std.proofs.Common.{ap, sym, ◌∙◌, arith}
 use Rattle.std.proofs.lemmas.Option.{slice_get_past}
@@ -58,7 +58,7 @@ module _ {X : Type 0} (q : Ty → X) (d : X) (unknown : q Var ≡ d) where
       → option_map_or q (type_of (with_identifier span env) x) d ≡ option_map_or q (type_of env x) d
   asked_with_one span env x =
       asked_among (with_identifier span env) env.identifiers
-          (fresh_identifier span (length env.identifiers) (length env.types)) x.0 (asked_new env)
+      (fresh_identifier span (length env.identifiers) (length env.types)) x.0 (asked_new env)
       ∙ asked_at span env (slice_get env.identifiers x.0)
 
 no_collection : is_builtin_collection_type Var ≡ false
@@ -110,8 +110,13 @@ asks_through e f g a b = record {
 }
 
 pub asks_with : (ts : List Temporary) (env : Environment) → AsksTheSame (with_identifiers ts env) env
-asks_with [] env = record { config = refl; functions = refl; collections = λ x. refl; signatures = λ x. refl;
-    long = λ n. refl }
+asks_with [] env = record {
+  config = refl;
+  functions = refl;
+  collections = λ x. refl;
+  signatures = λ x. refl;
+  long = λ n. refl;
+}
 asks_with (t ∷ ts) env = asks_through (with_identifiers ts (with_identifier t.place.span env))
     (with_identifier t.place.span env) env (asks_with ts (with_identifier t.place.span env))
     (asks_with_one t.place.span env)

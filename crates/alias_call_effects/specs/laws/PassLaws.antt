@@ -1,6 +1,6 @@
 -- What a host is given, call by call, is what a pass over the environment would be given.
-use Rattle.std.specs.Prelude.{◌≡◌, ℕ, ◌+◌, Bool, true, false, ◌&&◌, ◌||◌, ◌==◌, not, nat_lt, List, [], ◌∷◌, ◌++◌,
-    length, Option, Some, None, Result, Ok, Err, refl, if◌then◌else◌}
+use Rattle.std.specs.Prelude.{◌≡◌, ℕ, ◌+◌, Bool, true, false, ◌&&◌, ◌||◌, ◌==◌, not, nat_lt, List, [], ◌∷◌, ◌++◌}
+use Rattle.std.specs.Prelude.{length, Option, Some, None, Result, Ok, Err, refl, if◌then◌else◌}
 use Rattle.std.proofs.Common.{ap, sym, ◌∙◌, subst, append_assoc, append-nil, length-append, arith}
 use Rattle.alias_base.specs.declared.ids.FunctionId.{FunctionId}
 use Rattle.alias_base.specs.declared.ids.IdentifierId.{IdentifierId}
@@ -36,8 +36,8 @@ use Rattle.alias_calls.specs.declared.call.CallSite.{CallSite}
 use Rattle.alias_calls.specs.declared.call.SummaryNames.{SummaryNames}
 use Rattle.alias_calls.specs.Arguments.{first_of, is_bad_spread_of, is_bad_spread, first_bad}
 use Rattle.alias_calls.specs.Calls.{ConfigCall}
-use Rattle.alias_calls.specs.Configs.{impure_step, substituted, with_apply, with_config_effect, with_config_effects,
-    config_call, config_expansion}
+use Rattle.alias_calls.specs.Configs.{impure_step, substituted, with_apply, with_config_effect, with_config_effects}
+use Rattle.alias_calls.specs.Configs.{config_call, config_expansion}
 use Rattle.alias_calls.specs.Configs.{with_temporary as with_place}
 use Rattle.alias_calls.specs.Copies.{Collected, with_freezes_unless}
 use Rattle.alias_calls.specs.Summaries.{last_spread, summary_names, names_with}
@@ -53,8 +53,8 @@ use Rattle.alias_call_effects.specs.PartLaws.{named_nothing}
 use Rattle.alias_call_effects.specs.Summaries.{rest_or_temporary, signature_with, signature_of}
 use Rattle.alias_call_effects.specs.Summaries.{names_of as names_alone}
 use Rattle.alias_call_effects.specs.laws.MoreLaws.{asks_with}
-use Rattle.alias_call_effects.specs.laws.ReadsLaws.{onto, ReadsReports, reads_gives, reads_refuses, reads_then,
-    reads_each, reads_collect, reads_report}
+use Rattle.alias_call_effects.specs.laws.ReadsLaws.{onto, ReadsReports, reads_gives, reads_refuses, reads_then}
+use Rattle.alias_call_effects.specs.laws.ReadsLaws.{reads_each, reads_collect, reads_report}
 
 -- a host whose environment has an identifier for each temporary of the pass, and which keeps these, and the pass's
 -- reports
@@ -79,7 +79,7 @@ identifiers_there [] env = omega arith
 identifiers_there (t ∷ ts) env =
     let more = identifiers_there ts (with_identifier t.place.span env) in
     let one = length-append env.identifiers
-        (fresh_identifier t.place.span (length env.identifiers) (length env.types) ∷ []) in
+    (fresh_identifier t.place.span (length env.identifiers) (length env.types) ∷ []) in
     omega (arith, more, one)
 
 types_there : (ts : List Temporary) (env : Environment) → length (with_identifiers ts env).types ≡ length env.types
@@ -102,14 +102,18 @@ module _ (env : Environment) (key : TempKey) (span : Option Span) (t : TableList
   pass_place = new_place (length env.identifiers) (length t.temporaries) span
 
   abbrev made_by_pass : Bool → Result (Place × TableLists) Refusal
-  made_by_pass b = if b then Ok (pass_place,
-      record t { temporaries = t.temporaries ++ temporary_of key pass_place ∷ [] })
+  made_by_pass b = if b then Ok (
+    pass_place,
+    record t { temporaries = t.temporaries ++ temporary_of key pass_place ∷ [] },
+  )
       else Err (refusal.TooMany Identifiers)
 
   same_made : (b : Bool) → made_by_host b (length env.identifiers + length t.temporaries) ≡ as_host env (made_by_pass b)
   same_made true =
-      ap (λ (e : Environment). Ok (pass_place,
-          kept (record e { interned = t.reports }) (t.temporaries ++ temporary_of key pass_place ∷ [])))
+      ap (λ (e : Environment). Ok (
+        pass_place,
+        kept (record e { interned = t.reports }) (t.temporaries ++ temporary_of key pass_place ∷ []),
+      ))
       (sym (one_more t.temporaries (temporary_of key pass_place) env))
   same_made false = refl
 
@@ -118,10 +122,10 @@ module _ (env : Environment) (key : TempKey) (span : Option Span) (t : TableList
   same_temporary_or (Some x) = refl
   same_temporary_or None =
       ap (λ n. made_by_host (nat_lt n 4294967295
-          && nat_lt (length (with_identifiers t.temporaries env).types) 4294967295) n)
-          (identifiers_there t.temporaries env)
+      && nat_lt (length (with_identifiers t.temporaries env).types) 4294967295) n)
+      (identifiers_there t.temporaries env)
       ∙ ap (λ n. made_by_host (nat_lt (length env.identifiers + length t.temporaries) 4294967295 && nat_lt n 4294967295)
-          (length env.identifiers + length t.temporaries)) (types_there t.temporaries env)
+      (length env.identifiers + length t.temporaries)) (types_there t.temporaries env)
       ∙ same_made (has_room (length env.identifiers) (length env.types) (length t.temporaries))
 
   same_temporary : temporary_at key span (host_of env t) ≡ as_host env (temporary env key span t)
@@ -276,7 +280,7 @@ module _ (env : Environment) (config : AliasingSignatureConfig) (site : CallSite
   makes_from : (q : List ℕ) (more : List (List ℕ)) (ns : NamedPlaces) (t : TableLists)
       → ((l : NamedPlaces) (u : TableLists) → HostMakes l u more (pass_names more l.places u))
       → (r : Result (Place × TableLists) Refusal) → host_names (q ∷ more) ns (host_of env t)
-          ≡ host_next q more ns (as_host env r) → HostMakes ns t (q ∷ more) (pass_next more ns.places r)
+      ≡ host_next q more ns (as_host env r) → HostMakes ns t (q ∷ more) (pass_next more ns.places r)
   makes_from q more ns t others (Ok p) is =
       let after = with_named q p.0 ns in
       makes_more q more ns after t p.1 is refl (pass_names more after.places p.1) (others after p.1)
@@ -301,21 +305,21 @@ module _ (env : Environment) (config : AliasingSignatureConfig) (site : CallSite
   same_listed ns ps u names places =
       let there = (host_of env u).env in
       let listed : ConfigCall → Result (Collected × Kept) SignatureError =
-          λ c. beside u.temporaries (with_reports there
-          (with_config_effects there c config.effects [] (tables_with u.reports))) in
+      λ c. beside u.temporaries (with_reports there
+      (with_config_effects there c config.effects [] (tables_with u.reports))) in
       ap (λ (l : NamedPlaces). listed (part_call config site args l)) (named_nothing ns)
       ∙ ap (λ (l : List (List ℕ)). listed (config_call (record config { temporaries = l }) site args ns.places)) names
       ∙ ap (λ (l : List Place). listed (config_call config site args l)) places
       ∙ ap (λ (r : Result (Collected × TableLists) Refusal). beside u.temporaries (with_reports there r))
-          (same_effects there env (asks_with u.temporaries env).collections (config_call config site args ps)
-          config.effects [] (tables_with u.reports))
+      (same_effects there env (asks_with u.temporaries env).collections (config_call config site args ps)
+      config.effects [] (tables_with u.reports))
       ∙ same_reported u (effects_in_pass ps (tables_with u.reports))
       ∙ ap (as_host env) (sym (reads_effects env (config_call config site args ps) config.effects [] u))
 
   same_from : (t : TableLists) (r : Result (List Place × TableLists) Refusal)
       → HostMakes nothing_named t config.temporaries r
       → and_then (host_names config.temporaries nothing_named (host_of env t)) (list_called config site args [])
-          ≡ as_host env (and_then r effects_in_pass)
+      ≡ as_host env (and_then r effects_in_pass)
   same_from t (Ok p) h = ap (λ (r : Result (NamedPlaces × Kept) SignatureError).
       and_then r (list_called config site args [])) h.made ∙ same_listed h.every p.0 p.1 h.names h.places
   same_from t (Err c) h = ap (λ (r : Result (NamedPlaces × Kept) SignatureError).
@@ -323,8 +327,8 @@ module _ (env : Environment) (config : AliasingSignatureConfig) (site : CallSite
 
   same_if : (b : Bool) (t : TableLists)
       → (if b then gives None else (host_names config.temporaries nothing_named >>= list_called config site args []))
-          (host_of env t) ≡ as_host env ((if b then gives None
-          else (pass_names config.temporaries [] >>= effects_in_pass)) t)
+      (host_of env t) ≡ as_host env ((if b then gives None
+      else (pass_names config.temporaries [] >>= effects_in_pass)) t)
   same_if true t = refl
   same_if false t = same_from t (pass_names config.temporaries [] t) (makes config.temporaries nothing_named t)
 
@@ -350,7 +354,7 @@ module _ (env : Environment) (f : FunctionId) (function : HirFunction) where
   same_rest_name (Some rest) t = refl
   same_rest_name None t =
       ap (λ (r : Result (Place × Kept) SignatureError). and_then r (λ p. gives p.identifier))
-          (same_temporary env (Rest f) function.span t)
+      (same_temporary env (Rest f) function.span t)
       ∙ same_identifier (temporary env (Rest f) function.span t)
 
   module _ (effects : List AliasingEffect) where
@@ -365,6 +369,6 @@ module _ (env : Environment) (f : FunctionId) (function : HirFunction) where
         ≡ as_host env (summary_names env f function t)
     same_summary_names t =
         ap (λ (r : Result (IdentifierId × Kept) SignatureError).
-            names_given (and_then r (λ rest. gives (signature_with function effects (Some rest)))))
-            (same_rest_name (last_spread function.params None) t)
+        names_given (and_then r (λ rest. gives (signature_with function effects (Some rest)))))
+        (same_rest_name (last_spread function.params None) t)
         ∙ same_names (rest_in_pass (last_spread function.params None) env f function t)

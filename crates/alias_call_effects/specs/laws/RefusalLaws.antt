@@ -1,6 +1,6 @@
 -- The expansions of calls are refused for a spread argument, and where numbers are wanting, and for nothing else.
-use Rattle.std.specs.Prelude.{◌≡◌, Bool, true, false, ◌&&◌, not, nat_lt, List, [], ◌∷◌, ◌++◌, length, Option, Some,
-    None, Result, Ok, Err, refl, if◌then◌else◌}
+use Rattle.std.specs.Prelude.{◌≡◌, Bool, true, false, ◌&&◌, not, nat_lt, List, [], ◌∷◌, ◌++◌, length, Option, Some}
+use Rattle.std.specs.Prelude.{None, Result, Ok, Err, refl, if◌then◌else◌}
 use Rattle.std.proofs.Common.{subst}
 use Rattle.std.specs.Option.{is_some}
 use Rattle.alias_base.specs.declared.ids.IdentifierId.{IdentifierId}
@@ -32,8 +32,8 @@ use Rattle.alias_calls.specs.Arguments.{first_bad, first_of}
 use Rattle.alias_calls.specs.Calls.{ConfigCall, SummaryCall}
 use Rattle.alias_calls.specs.Configs.{impure_step, substituted, with_apply, with_config_effect, with_config_effects}
 use Rattle.alias_calls.specs.Copies.{with_freezes_unless, with_freezes}
-use Rattle.alias_calls.specs.Legacy.{return_reason, with_impure, visited, asked, with_still, legacy, ended, all_links,
-    legacy_after, legacy_expansion}
+use Rattle.alias_calls.specs.Legacy.{return_reason, with_impure, visited, asked, with_still, legacy, ended, all_links}
+use Rattle.alias_calls.specs.Legacy.{legacy_after, legacy_expansion}
 use Rattle.alias_calls.specs.Summaries.{substituted_for, copied, with_copied, with_copies, needs_rest, names_expansion}
 use Rattle.alias_call_effects.specs.Answers.{is_memory, signature_error}
 
@@ -164,7 +164,7 @@ caused_with_impure : (env : Environment) (s : FunctionSignature) (site : CallSit
 caused_with_impure env s site out =
     caused_if (s.impure && env.config.validate_no_impure_functions_in_render) _ _
     (caused_then _ _ (caused_report site.receiver.identifier (impure_report s.canonical_name site.span))
-        (λ d. caused_gives (out ++ effect.Impure site.receiver d ∷ [])))
+    (λ d. caused_gives (out ++ effect.Impure site.receiver d ∷ [])))
     (caused_gives out)
 
 caused_ended : (o : Option Place) (into : Place) (v : Visits) (m : Option MissingLookup)
@@ -182,5 +182,5 @@ module _ (env : Environment) (s : FunctionSignature) (site : CallSite) (args : L
   pub caused_legacy_expansion : (u : State) → RefusesWithCause (legacy_expansion env s site args u)
   caused_legacy_expansion u =
       caused_then _ _ (caused_with_impure env s site
-          (effect.Create site.into s.return_value_kind (return_reason s) ∷ []))
+      (effect.Create site.into s.return_value_kind (return_reason s) ∷ []))
       (λ out. caused_legacy_after (asked env s args u) out)

@@ -1,6 +1,6 @@
 -- Functions that differ in effects of places and in their summaries alone.
-use Rattle.std.specs.Prelude.{◌≡◌, ℕ, ◌+◌, ◌==◌, ◌&&◌, ◌||◌, Bool, true, false, if◌then◌else◌, List, [], ◌∷◌, Option,
-    Some, None, Result, Ok, map, option_map, slice_get, refl}
+use Rattle.std.specs.Prelude.{◌≡◌, ℕ, ◌+◌, ◌==◌, ◌&&◌, ◌||◌, Bool, true, false, if◌then◌else◌, List, [], ◌∷◌, Option}
+use Rattle.std.specs.Prelude.{Some, None, Result, Ok, map, option_map, slice_get, refl}
 use Rattle.std.specs.List.{list_any}
 use Rattle.std.specs.Option.{option_map_or}
 use Rattle.std.proofs.Common.{ap, sym, ◌∙◌, subst}
@@ -14,8 +14,8 @@ use Rattle.alias_fitting_laws.specs.bare.BareParts.{terminal_records}
 use Rattle.alias_graph.specs.recorded.BlockListings.{listed}
 use Rattle.alias_graph.specs.recorded.Recording.{graph_listed}
 use Rattle.alias_graph.specs.declared.recorded.listing.Listing.{Listing}
-use Rattle.alias_explain.specs.Causes.{writes, ends_range, defines, first_cause, or_else, first_defining,
-    first_defining_of, defined_by, defined_or, mutated_or_not, cause_of}
+use Rattle.alias_explain.specs.Causes.{writes, ends_range, defines, first_cause, or_else, first_defining}
+use Rattle.alias_explain.specs.Causes.{first_defining_of, defined_by, defined_or, mutated_or_not, cause_of}
 use Rattle.alias_explain.specs.Standing.{has_place, is_named, instructions_name, terminals_name}
 use Rattle.alias_explain.specs.declared.cause.Cause.{Cause}
 use Rattle.alias_explain.specs.declared.cause.Cause.TheVariants.{Unset}
@@ -55,7 +55,7 @@ pub has_among : (id : IdentifierId) (ps : List Place) → has_place id ps ≡ tr
 has_among id [] h = cc
 has_among id (p ∷ ps) h =
     elim (p.identifier.0 == id.0) as (λ b. (p.identifier.0 == id.0) ≡ b → (b || has_place id ps) ≡ true
-        → is_among (numbers_of (p ∷ ps)) id.0 ≡ true) [
+    → is_among (numbers_of (p ∷ ps)) id.0 ≡ true) [
       | true ↦ λ e g. subst (λ z. is_among (z ∷ numbers_of ps) id.0 ≡ true) (sym (eqb-true p.identifier.0 id.0 e))
           (first_among id.0 (numbers_of ps))
       | false ↦ λ e g. later_among p.identifier.0 (numbers_of ps) id.0 (has_among id ps g)
@@ -86,9 +86,9 @@ stored_but v = refl
 writes_but : (id : IdentifierId) (i : Instruction) → writes id (but_instruction i) ≡ writes id i
 writes_but id i =
     ap (λ b. (i.lvalue.identifier.0 == id.0) || (b || has_place id (stored_places (but_value i.value))))
-        (same_places id (lvalues_of i.value) (lvalues_of (but_value i.value)) (lvalues_but i.value))
+    (same_places id (lvalues_of i.value) (lvalues_of (but_value i.value)) (lvalues_but i.value))
     ∙ ap (λ b. (i.lvalue.identifier.0 == id.0) || (has_place id (lvalues_of i.value) || b))
-        (same_places id (stored_places i.value) (stored_places (but_value i.value)) (stored_but i.value))
+    (same_places id (stored_places i.value) (stored_places (but_value i.value)) (stored_but i.value))
 
 ends_but : (id : IdentifierId) (end : ℕ) (o : Option Instruction)
     → option_map_or (ends_range id end) (option_map but_instruction o) false ≡ option_map_or (ends_range id end) o false
@@ -112,7 +112,7 @@ all_but : (is : List Instruction) (id : IdentifierId) (end : ℕ) (bs : List (Bl
 all_but is id end [] = refl
 all_but is id end (b ∷ bs) =
     ap (λ o. or_else o (first_defining_of (map but_instruction is) id end (map but_entry bs)))
-        (first_but is id end b.1.instructions)
+    (first_but is id end b.1.instructions)
     ∙ ap (λ o. or_else (first_defining is id end b.1.instructions) o) (all_but is id end bs)
 
 -- ---- what effects name
@@ -143,7 +143,7 @@ module _ (f g : HirFunction) (alike : AreAlike f g) where
   alike_defined : (id : IdentifierId) (end : ℕ) → defined_by g id end ≡ defined_by f id end
   alike_defined id end =
       sym (all_but g.instructions id end g.body.blocks) ∙ ap (λ (h : HirFunction). defined_by h id end) alike
-          ∙ all_but f.instructions id end f.body.blocks
+      ∙ all_but f.instructions id end f.body.blocks
 
   pub alike_listed : listed g ≡ listed f
   alike_listed = listed_alike (without_summary f) (without_summary g) alike
@@ -152,7 +152,7 @@ module _ (f g : HirFunction) (alike : AreAlike f g) where
   pub alike_cause : (id : IdentifierId) (end : ℕ) → cause_of g id end ≡ cause_of f id end
   alike_cause id end =
       let mutated : Result Listing HirError → Result Cause HirError = λ r. r
-          >>= (λ (k : Listing). Ok (first_cause (graph_listed k) id end k.mutations)) in
+      >>= (λ (k : Listing). Ok (first_cause (graph_listed k) id end k.mutations)) in
       ap (λ o. if end == 0 then Ok Unset else defined_or o (mutated_or_not g id end)) (alike_defined id end)
       ∙ ap (λ r. if end == 0 then Ok Unset else defined_or (defined_by f id end) (mutated r)) alike_listed
 
@@ -161,7 +161,7 @@ module _ (f g : HirFunction) (alike : AreAlike f g) where
   alike_names id =
       let both : HirFunction → Bool = λ h. effects_name id h in
       sym (ap (λ b. b || terminals_name id (map but_entry g.body.blocks)) (instructions_but id g.instructions)
-          ∙ ap (λ b. instructions_name id g.instructions || b) (terminals_but id g.body.blocks))
+      ∙ ap (λ b. instructions_name id g.instructions || b) (terminals_but id g.body.blocks))
       ∙ ap both alike
       ∙ ap (λ b. b || terminals_name id (map but_entry f.body.blocks)) (instructions_but id f.instructions)
-          ∙ ap (λ b. instructions_name id f.instructions || b) (terminals_but id f.body.blocks)
+      ∙ ap (λ b. instructions_name id f.instructions || b) (terminals_but id f.body.blocks)

@@ -22,8 +22,8 @@ use Rattle.alias_graph.specs.Walks.{IsOneOf}
 use Rattle.alias_rules.specs.Sharing.{identifiers_of, identifiers_at, context_of, context_at}
 use Rattle.alias_cause_laws.proofs.causes.Below.{context_named}
 use Rattle.alias_cause_laws.proofs.causes.Ends.{reset_stays, reset_unset, reset_length}
-use Rattle.alias_cause_laws.proofs.causes.Passes.{begun, after, bare_same, effects_kept, ends_stay, ranged_length,
-    more_length}
+use Rattle.alias_cause_laws.proofs.causes.Passes.{begun, after, bare_same, effects_kept, ends_stay, ranged_length}
+use Rattle.alias_cause_laws.proofs.causes.Passes.{more_length}
 use Rattle.alias_cause_laws.proofs.causes.Walking.{Link, Chained, range_kept}
 
 all_at : (fs : List HirFunction) (k : ℕ) (g : HirFunction) → list_all function_is_uninferred fs ≡ true → slice_get fs k
@@ -51,16 +51,16 @@ module _ (u : Environment) (uninferred : environment_is_uninferred u ≡ true) w
     link_context =
         let r : Ranged = l.ran.ranged in
         let kept = range_kept (begun u l.func link_uninferred true x.env x.func l.ran)
-            (after u l.func link_uninferred true x.env x.func l.ran) r
-            (effects_kept u l.func link_uninferred true x.env x.func l.ran).fits l.ran.ran in
+        (after u l.func link_uninferred true x.env x.func l.ran) r
+        (effects_kept u l.func link_uninferred true x.env x.func l.ran).fits l.ran.ran in
         let bare_last = kept.still ∙ (effects_kept u l.func link_uninferred true x.env x.func l.ran).still
-            ∙ bare_same u l.func link_uninferred true x.env x.func l.ran in
+        ∙ bare_same u l.func link_uninferred true x.env x.func l.ran in
         context_of_bare l.func last (sym bare_last) ∙ sym (ap context_of l.slot)
 
     pub link_named : (n : ℕ) → is_among (context_at u id.0) n ≡ true → is_among (identifiers_at u id.0) n ≡ true
     link_named n h =
         subst (λ xs. is_among xs n ≡ true) (sym (ap (identifiers_of u) l.slot))
-            (context_named u l.func n (subst (λ xs. is_among xs n ≡ true) (ap context_of l.slot) h))
+        (context_named u l.func n (subst (λ xs. is_among xs n ≡ true) (ap context_of l.slot) h))
 
     -- no identifier goes
     pub link_length : length x.env.identifiers ≤ length new
@@ -74,25 +74,25 @@ module _ (u : Environment) (uninferred : environment_is_uninferred u ≡ true) w
     pub link_after : length new ≡ length (env_after x.env l.ran.end).identifiers
     link_after =
         sym (ap length l.left) ∙ reset_length last.context l.ran.ranged.after.1.identifiers
-            ∙ ranged_length u l.func link_uninferred true x.env x.func l.ran
+        ∙ ranged_length u l.func link_uninferred true x.env x.func l.ran
 
     -- but for context places ends are those that the range pass left
     pub link_left : (n : ℕ) → is_among (context_at u id.0) n ≡ false → end_at new n
         ≡ end_at l.ran.ranged.after.1.identifiers n
     link_left n h =
         ap (λ is. end_at is n) (sym l.left) ∙ reset_stays last.context l.ran.ranged.after.1.identifiers n
-            (subst (λ xs. is_among xs n ≡ false) (sym link_context) h)
+        (subst (λ xs. is_among xs n ≡ false) (sym link_context) h)
 
     -- what doesn't stand in the function keeps its end
     pub link_stays : (n : ℕ) → (is_among (identifiers_at u id.0) n ≡ true → ⊥) → n < length x.env.identifiers
         → end_at new n ≡ end_at x.env.identifiers n
     link_stays n off below =
         let free : is_among (context_at u id.0) n ≡ false =
-            absent (is_among (context_at u id.0) n) (λ c. off (link_named n c)) in
+        absent (is_among (context_at u id.0) n) (λ c. off (link_named n c)) in
         link_left n free
         ∙ ends_stay u l.func link_uninferred true x.env x.func l.ran n
         (λ named. ⊎_elim (λ there. off (subst (λ xs. is_among xs n ≡ true) (sym (ap (identifiers_of u) l.slot)) there))
-            (λ new. absurd (omega arith)) named)
+        (λ new. absurd (omega arith)) named)
 
     -- what stands in its context alone is unset, where it was
     pub link_unset : (n : ℕ) → (is_among (identifiers_at u id.0) n ≡ true → is_among (context_at u id.0) n ≡ true) → n
@@ -130,7 +130,7 @@ module _ (u : Environment) (uninferred : environment_is_uninferred u ≡ true) w
       let there : n < length x.env.identifiers = omega arith in
       let a = link_length id x c.1 c.2 in
       chain_stays c.1 new ids xs c.3 n (λ j i. off j (inr i)) (omega arith)
-          ∙ link_stays id x c.1 c.2 n (off id (inl refl)) there ∙ ap (λ is. end_at is n) c.0
+      ∙ link_stays id x c.1 c.2 n (off id (inl refl)) there ∙ ap (λ is. end_at is n) c.0
 
   -- what stands in contexts alone is unset, where it was
   pub chain_unset : (old new : List Identifier) (ids : List FunctionId) (xs : List Analysed) → Chained u old ids xs new
@@ -145,7 +145,7 @@ module _ (u : Environment) (uninferred : environment_is_uninferred u ≡ true) w
       let there : n < length x.env.identifiers = omega arith in
       let a = link_length id x c.1 c.2 in
       chain_unset c.1 new ids xs c.3 n (λ j i. only j (inr i)) (omega arith)
-          (link_unset id x c.1 c.2 n (only id (inl refl)) there (ap (λ is. end_at is n) c.0 ∙ unset))
+      (link_unset id x c.1 c.2 n (only id (inl refl)) there (ap (λ is. end_at is n) c.0 ∙ unset))
 
 -- ---- one among them
 
@@ -212,7 +212,12 @@ chain_has u old new [] xs k c h = cc
 chain_has u old new (id ∷ ids) [] k c h = absurd c
 chain_has u old new (id ∷ ids) (x ∷ xs) k c h =
     among_cases id.0 (numbers ids) k (Analyses u k (x ∷ xs)) h
-    (λ same. record { one = x; there = inl refl; id = id; number = sym same;
-        solved = ap (λ (z : Solved). z.function) c.2.solved })
+    (λ same. record {
+      one = x;
+      there = inl refl;
+      id = id;
+      number = sym same;
+      solved = ap (λ (z : Solved). z.function) c.2.solved;
+    })
     (λ later. let r : Analyses u k xs = chain_has u c.1 new ids xs k c.3 later in
-        record { one = r.one; there = inr r.there; id = r.id; number = r.number; solved = r.solved })
+    record { one = r.one; there = inr r.there; id = r.id; number = r.number; solved = r.solved })

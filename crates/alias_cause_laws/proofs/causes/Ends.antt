@@ -1,6 +1,6 @@
 -- How range ends change as a function's effects pass ends, and as the ranges of its context are reset.
-use Rattle.std.specs.Prelude.{◌≡◌, ℕ, ◌≤◌, ◌&&◌, ◌==◌, nat_eq, true, false, is_none, List, [], ◌∷◌, ◌++◌, Option, Some,
-    None, length, slice_get, slice_set, refl}
+use Rattle.std.specs.Prelude.{◌≡◌, ℕ, ◌≤◌, ◌&&◌, ◌==◌, nat_eq, true, false, is_none, List, [], ◌∷◌, ◌++◌, Option, Some}
+use Rattle.std.specs.Prelude.{None, length, slice_get, slice_set, refl}
 use Rattle.std.specs.List.{list_all}
 use Rattle.std.proofs.Common.{zero, suc, ap, ◌∙◌, length-append, arith}
 use Rattle.std.proofs.lemmas.Bool.{eqb-true}
@@ -8,8 +8,8 @@ use Rattle.alias_base.specs.AnswerLaws.{both_true}
 use Rattle.alias_fitting_laws.specs.bare.Bare.{without_range}
 use Rattle.alias_effects.specs.Inference.{end_tables, env_after}
 use Rattle.alias_effects.specs.declared.output.PassEnd.{PassEnd}
-use Rattle.alias_rules.specs.function_rules.Rules.{is_among, identifier_is_uninferred, environment_is_uninferred,
-    function_is_uninferred}
+use Rattle.alias_rules.specs.function_rules.Rules.{is_among, identifier_is_uninferred, environment_is_uninferred}
+use Rattle.alias_rules.specs.function_rules.Rules.{function_is_uninferred}
 use Rattle.alias_hir.specs.Tables.{fresh_identifier, with_identifier}
 use Rattle.alias_hir.specs.declared.env.Environment.{Environment}
 use Rattle.alias_hir.specs.declared.env.Identifier.{Identifier}
@@ -50,7 +50,7 @@ identified_length : (ts : List Temporary) (env : Environment) → length env.ide
 identified_length [] env = omega arith
 identified_length (t ∷ ts) env =
     let one = length-append env.identifiers
-        (fresh_identifier t.place.span (length env.identifiers) (length env.types) ∷ []) in
+    (fresh_identifier t.place.span (length env.identifiers) (length env.types) ∷ []) in
     let rest = identified_length ts (with_identifier t.place.span env) in
     omega (arith, one, rest)
 
@@ -94,7 +94,7 @@ reset_stays [] is n h = refl
 reset_stays (p ∷ ps) is n h =
     let b = neither (nat_eq n p.identifier.0) (is_among (numbers_of ps) n) h in
     reset_stays ps (reset_at is p.identifier.0 (slice_get is p.identifier.0)) n b.1
-        ∙ end_apart is p.identifier.0 n (slice_get is p.identifier.0) (differs n p.identifier.0 b.0)
+    ∙ end_apart is p.identifier.0 n (slice_get is p.identifier.0) (differs n p.identifier.0 b.0)
 
 -- an unset end stays unset
 still_unset : (is : List Identifier) (k n : ℕ) (o : Option Identifier) → slice_get is k ≡ o → end_at is n ≡ 0
@@ -144,6 +144,6 @@ uninferred_ends (i ∷ is) (suc n) h = uninferred_ends is n
 pub begun_unset : (env : Environment) (n : ℕ) → environment_is_uninferred env ≡ true → end_at env.identifiers n ≡ 0
 begun_unset env n h =
     let a = both_true ((length env.errors == 0) && (length env.interned == 0)
-        && list_all identifier_is_uninferred env.identifiers) (list_all function_is_uninferred env.functions) h in
+    && list_all identifier_is_uninferred env.identifiers) (list_all function_is_uninferred env.functions) h in
     uninferred_ends env.identifiers n (both_true ((length env.errors == 0) && (length env.interned == 0))
-        (list_all identifier_is_uninferred env.identifiers) a.0).1
+    (list_all identifier_is_uninferred env.identifiers) a.0).1

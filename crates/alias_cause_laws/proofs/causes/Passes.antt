@@ -30,8 +30,9 @@ use Rattle.alias_cause_laws.specs.ends.Making.{FunctionMakes, ends_named, legal_
 use Rattle.alias_cause_laws.specs.ends.Owned.{AllOwned, all_there, by_numbers, numbers_owned, owned_across, makes_owned}
 use Rattle.alias_cause_laws.proofs.causes.Alike.{AreAlike, effects_name}
 use Rattle.alias_cause_laws.proofs.causes.Ends.{passed_ends, passed_length}
-use Rattle.alias_cause_laws.proofs.causes.Recorded.{EffectsOwned, InstructionsOwned, TerminalsOwned, IsBelow,
-    named_owned, instructions_make, recorded_all, uninferred_owned, fitting_below}
+use Rattle.alias_cause_laws.proofs.causes.Recorded.{EffectsOwned, InstructionsOwned, TerminalsOwned, IsBelow}
+use Rattle.alias_cause_laws.proofs.causes.Recorded.{named_owned, instructions_make, recorded_all, uninferred_owned}
+use Rattle.alias_cause_laws.proofs.causes.Recorded.{fitting_below}
 
 -- contexts name at most what they named in the unit
 abbrev pub NamesLess : Environment → Environment → Type 0
@@ -78,7 +79,7 @@ module _ (u : Environment) (g : HirFunction) (uninferred : function_is_uninferre
   own_places P h there e =
       let unit : AllOwned P (places_in u g) = by_numbers P (places_in u g) (all_there P (identifiers_in u g) there) in
       let own : AllByRecursion P (identifiers_in env g) =
-          numbers_owned P (places_in env g) (owned_across P u env p.less g unit) in
+      numbers_owned P (places_in env g) (owned_across P u env p.less g unit) in
       by_numbers P (places_in env h) (subst (AllByRecursion P) (sym (identifiers_of_bare env g h (sym e))) own)
 
   solved_names : SolvedNames env Named p.end.solved
@@ -108,13 +109,13 @@ module _ (u : Environment) (g : HirFunction) (uninferred : function_is_uninferre
   ends_stay n off =
       ⊎_elim (λ same. same ∙ passed_ends env p.end n) (λ on. absurd (off on))
       (ends_named Named begun leaves.listing after.identifiers p.ranged.after.1.identifiers begun_makes leaves.lists
-          leaves.causes n)
+      leaves.causes n)
 
   -- no identifier goes
   pub ranged_length : length p.ranged.after.1.identifiers ≡ length after.identifiers
   ranged_length =
       sym (length-map p.ranged.after.1.identifiers but_range)
-          ∙ ap (λ (e : Environment). length e.identifiers) leaves.kept.rest ∙ length-map after.identifiers but_range
+      ∙ ap (λ (e : Environment). length e.identifiers) leaves.kept.rest ∙ length-map after.identifiers but_range
 
   pub more_length : length env.identifiers ≤ length p.ranged.after.1.identifiers
   more_length = let a = passed_length env p.end in let c = ranged_length in omega arith
@@ -135,15 +136,15 @@ module _ (u : Environment) (g : HirFunction) (uninferred : function_is_uninferre
       → ((x : ℕ) → is_among (identifiers_in u g) x ≡ true → x < length after.identifiers)
       → Legal (graph_listed leaves.listing) index start e
       → (is_among (identifiers_in u g) e.id.0 ≡ true)
-          ⊎ ((length env.identifiers ≤ e.id.0) × (e.id.0 < length after.identifiers))
+      ⊎ ((length env.identifiers ≤ e.id.0) × (e.id.0 < length after.identifiers))
   path_named index start e there legal =
       let makes : FunctionMakes (IsBelow after) begun =
-          makes_owned (IsBelow after) env begun (own_places (IsBelow after) begun there begun_bare)
-          (instructions_make (IsBelow after) begun.instructions begun_below.instructions) in
+      makes_owned (IsBelow after) env begun (own_places (IsBelow after) begun there begun_bare)
+      (instructions_make (IsBelow after) begun.instructions begun_below.instructions) in
       let below : e.id.0 < length after.identifiers =
-          legal_named (IsBelow after) begun leaves.listing index start e makes leaves.lists legal in
+      legal_named (IsBelow after) begun leaves.listing index start e makes leaves.lists legal in
       ⊎_elim (λ named. inl named) (λ new. inr (new, below))
-          (legal_named Named begun leaves.listing index start e begun_makes leaves.lists legal)
+      (legal_named Named begun leaves.listing index start e begun_makes leaves.lists legal)
 
   -- after the range pass the function is the same but for effects of places
   pub ranged_alike : AreAlike begun p.ranged.after.0

@@ -1,6 +1,6 @@
 -- The range ends of a unit that was inferred are those that each function's range pass left, and were unset before.
-use Rattle.std.specs.Prelude.{◌≡◌, ℕ, ◌<◌, ◌≤◌, ◌⊎◌, true, false, List, [], ◌∷◌, ◌++◌, Option, Some, None, Ok, length,
-    slice_get, refl}
+use Rattle.std.specs.Prelude.{◌≡◌, ℕ, ◌<◌, ◌≤◌, ◌⊎◌, true, false, List, [], ◌∷◌, ◌++◌, Option, Some, None, Ok, length}
+use Rattle.std.specs.Prelude.{slice_get, refl}
 use Rattle.std.proofs.Common.{inl, inr, ⊎_elim, ap, sym, ◌∙◌, subst, arith}
 use Rattle.std.proofs.lemmas.List.{map-append, append_assoc}
 use Rattle.alias_base.specs.declared.ids.FunctionId.{FunctionId}
@@ -42,14 +42,14 @@ number_among : (ids : List FunctionId) (id : FunctionId) → IsOneOf id ids → 
 number_among [] id i = absurd i
 number_among (x ∷ ids) id i =
     ⊎_elim (λ (same : id ≡ x). subst (λ z. is_among (numbers (z ∷ ids)) id.0 ≡ true) same
-        (first_among id.0 (numbers ids))) (λ later. later_among x.0 (numbers ids) id.0 (number_among ids id later)) i
+    (first_among id.0 (numbers ids))) (λ later. later_among x.0 (numbers ids) id.0 (number_among ids id later)) i
 
 split_one : (ids : List FunctionId) (id : FunctionId) → IsOneOf id ids → (before : List FunctionId)
     × (behind : List FunctionId) × (ids ≡ before ++ id ∷ behind)
 split_one [] id i = absurd i
 split_one (x ∷ ids) id i =
     ⊎_elim (λ (same : id ≡ x). ([], ids, ap (λ z. z ∷ ids) (sym same)))
-        (λ later. let r = split_one ids id later in (x ∷ r.0, r.1, ap (λ zs. x ∷ zs) r.2)) i
+    (λ later. let r = split_one ids id later in (x ∷ r.0, r.1, ap (λ zs. x ∷ zs) r.2)) i
 
 one_of_both : (xs ys : List FunctionId) (id : FunctionId) → IsOneOf id xs → IsOneOf id (xs ++ ys)
 one_of_both [] ys id i = absurd i
@@ -155,12 +155,12 @@ module _ (u : HirUnit) (a : UnitAnalysis) (rules : rules_hold u ≡ Ok tt) (is :
         let s = split_one r.before id i in
         let split : numbers order ≡ numbers s.0 ++ id.0 ∷ (numbers s.1 ++ number ∷ numbers r.behind)
         = order_split ∙ ap (λ zs. numbers zs ++ number ∷ numbers r.behind) s.2
-            ∙ ap (λ zs. zs ++ number ∷ numbers r.behind) (numbers_split s.0 s.1 id)
-            ∙ append_assoc (numbers s.0) (id.0 ∷ numbers s.1) (number ∷ numbers r.behind) in
+        ∙ ap (λ zs. zs ++ number ∷ numbers r.behind) (numbers_split s.0 s.1 id)
+        ∙ append_assoc (numbers s.0) (id.0 ∷ numbers s.1) (number ∷ numbers r.behind) in
         let also : id.0 < length u.env.functions =
-            ordered_there id (subst (IsOneOf id) (sym r.split) (one_of_both r.before (r.id ∷ r.behind) id i)) in
+        ordered_there id (subst (IsOneOf id) (sym r.split) (one_of_both r.before (r.id ∷ r.behind) id i)) in
         apart_before u rules (numbers s.0) (numbers s.1 ++ number ∷ numbers r.behind) id.0 split number n also there
-            (at_below number n own)
+        (at_below number n own)
         (among_rest (numbers s.1) (number ∷ numbers r.behind) number (first_among number (numbers r.behind))) own other
 
     -- its end was unset as the function's range pass began
@@ -169,7 +169,7 @@ module _ (u : HirUnit) (a : UnitAnalysis) (rules : rules_hold u ≡ Ok tt) (is :
         passed_ends x.env r.link.ran.end n
         ∙ ⊎_elim
         (λ s. chain_unset u.env parts.environment u.env.identifiers x.env.identifiers r.before r.earlier r.first n
-            (in_context n s.0) (at_below number n s.0) (begun_unset u.env n parts.environment))
+        (in_context n s.0) (at_below number n s.0) (begun_unset u.env n parts.environment))
         (λ t. past_ends x.env.identifiers n t.0)
         own
 
@@ -177,17 +177,17 @@ module _ (u : HirUnit) (a : UnitAnalysis) (rules : rules_hold u ≡ Ok tt) (is :
     own_free n own =
         ⊎_elim (λ s. s.1)
         (λ t. absent (is_among (context_at u.env number) n)
-            (λ c. let below = context_below number n c in let g = grown in let past = t.0 in absurd (omega arith)))
+        (λ c. let below = context_below number n c in let g = grown in let past = t.0 in absurd (omega arith)))
         own
 
     not_behind : (n : ℕ) → IsOwn n → (id : FunctionId) → IsOneOf id r.behind → is_among (identifiers_at u.env id.0) n
         ≡ true → ⊥
     not_behind n own id i other =
         let also : id.0 < length u.env.functions =
-            ordered_there id (subst (IsOneOf id) (sym r.split) (one_behind r.before (r.id ∷ r.behind) id (inr i))) in
+        ordered_there id (subst (IsOneOf id) (sym r.split) (one_behind r.before (r.id ∷ r.behind) id (inr i))) in
         ⊎_elim
         (λ s. apart_behind u rules (numbers r.before) (numbers r.behind) number order_split id.0 n there also
-            (at_below number n s.0) (number_among r.behind id i) s.0 s.1 other)
+        (at_below number n s.0) (number_among r.behind id i) s.0 s.1 other)
         (λ t. let below = at_below id.0 n other in let g = grown in let past = t.0 in absurd (omega arith))
         own
 
@@ -204,12 +204,12 @@ module _ (u : HirUnit) (a : UnitAnalysis) (rules : rules_hold u ≡ Ok tt) (is :
         ⊎_elim
         (λ root. ⊎_elim
         (λ s. not_both (is_among (context_at u.env number) n)
-            (apart_root u rules number n there (at_below number n s.0) root s.0) s.1)
+        (apart_root u rules number n there (at_below number n s.0) root s.0) s.1)
         (λ t. let below = root_below n root in let g = grown in let past = t.0 in absurd (omega arith))
         own)
         (λ past. let below = own_below n own in let more =
-            chain_length u.env parts.environment r.left nested.env.identifiers r.behind r.later r.rest in
-            absurd (omega arith))
+        chain_length u.env parts.environment r.left nested.env.identifiers r.behind r.later r.rest in
+        absurd (omega arith))
         named
 
     -- in the unit that is handed out it is the end that the function's range pass left
@@ -219,7 +219,7 @@ module _ (u : HirUnit) (a : UnitAnalysis) (rules : rules_hold u ≡ Ok tt) (is :
         ap (λ ids. end_at ids n) root.identifiers
         ∙ ends_stay u.env u.function parts.function false nested.env u.function root_ran n (not_root n own)
         ∙ chain_stays u.env parts.environment r.left nested.env.identifiers r.behind r.later r.rest n (not_behind n own)
-            (own_below n own)
+        (own_below n own)
         ∙ link_left u.env parts.environment r.id x r.left r.link n (own_free n own)
 
   -- ---- the root
@@ -235,7 +235,7 @@ module _ (u : HirUnit) (a : UnitAnalysis) (rules : rules_hold u ≡ Ok tt) (is :
       passed_ends nested.env root.end n
       ∙ ⊎_elim
       (λ s. chain_unset u.env parts.environment u.env.identifiers nested.env.identifiers order walked.taken walked.chain
-          n (λ id i other. apart_root u rules id.0 n (ordered_there id i) (root_below n s) s other) (root_below n s)
-          (begun_unset u.env n parts.environment))
+      n (λ id i other. apart_root u rules id.0 n (ordered_there id i) (root_below n s) s other) (root_below n s)
+      (begun_unset u.env n parts.environment))
       (λ t. past_ends nested.env.identifiers n t.0)
       own

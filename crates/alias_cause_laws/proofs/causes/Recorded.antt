@@ -1,6 +1,6 @@
 -- What the effects pass records on a function names only what holds of its places, or what is new.
-use Rattle.std.specs.Prelude.{◌≡◌, ℕ, ◌<◌, ◌||◌, ◌&&◌, Bool, true, false, is_none, List, [], ◌∷◌, length, Option, Some,
-    None, slice_get, slice_set, refl}
+use Rattle.std.specs.Prelude.{◌≡◌, ℕ, ◌<◌, ◌||◌, ◌&&◌, Bool, true, false, is_none, List, [], ◌∷◌, length, Option, Some}
+use Rattle.std.specs.Prelude.{None, slice_get, slice_set, refl}
 use Rattle.std.specs.List.{AllByRecursion, list_all}
 use Rattle.std.specs.Option.{option_map_or}
 use Rattle.std.proofs.Common.{zero, suc, ⊎_elim, inl, inr, ◌⊎◌, subst, ltb-true}
@@ -10,13 +10,14 @@ use Rattle.alias_base.specs.declared.ids.BlockId.{BlockId}
 use Rattle.alias_base.specs.declared.ids.IdentifierId.{IdentifierId}
 use Rattle.alias_step.specs.declared.block.recorded.InstructionEffects.{InstructionEffects}
 use Rattle.alias_step.specs.declared.block.recorded.TerminalEffects.{TerminalEffects}
-use Rattle.alias_effects.specs.Recording.{block_with, with_terminal_at, recorded_instructions, recorded_terminals,
-    with_effects_of}
+use Rattle.alias_effects.specs.Recording.{block_with, with_terminal_at, recorded_instructions, recorded_terminals}
+use Rattle.alias_effects.specs.Recording.{with_effects_of}
 use Rattle.alias_effects.specs.declared.solved.Solved.{Solved}
 use Rattle.alias_graph.specs.recorded.Fitting.{AllOf}
 use Rattle.alias_explain.specs.Standing.{has_place, is_named, instructions_name, terminals_name}
-use Rattle.alias_rules.specs.function_rules.Rules.{instruction_is_uninferred, block_is_uninferred,
-    function_is_uninferred, place_is_uninferred, own_places_are_uninferred, phi_is_uninferred, terminal_is_uninferred}
+use Rattle.alias_rules.specs.function_rules.Rules.{instruction_is_uninferred, block_is_uninferred}
+use Rattle.alias_rules.specs.function_rules.Rules.{function_is_uninferred, place_is_uninferred}
+use Rattle.alias_rules.specs.function_rules.Rules.{own_places_are_uninferred, phi_is_uninferred, terminal_is_uninferred}
 use Rattle.alias_hir.specs.Effects.{effect_places}
 use Rattle.alias_hir.specs.Terminals.{terminal_effects, with_terminal_effects, terminal_places}
 use Rattle.alias_hir.specs.Values.{places_of}
@@ -32,9 +33,10 @@ use Rattle.alias_hir.specs.declared.terminal.Terminal.TheVariants as terminal
 use Rattle.alias_effects_laws.specs.naming.Owning.{EffectOwns, EffectsOwn}
 use Rattle.alias_effects_laws.specs.naming.PassLaws.{SolvedNames, all_on}
 use Rattle.alias_range_pass.specs.places.Causes.{numbers_of}
-use Rattle.alias_rules.specs.Fitting.{place_within_tables, function_within_tables, type_within_tables,
-    error_within_tables, named_within_tables, summary_within_tables, effect_within_tables, recorded_within_tables,
-    effects_within_tables, holds_no_call, effects_fit}
+use Rattle.alias_rules.specs.Fitting.{place_within_tables, function_within_tables, type_within_tables}
+use Rattle.alias_rules.specs.Fitting.{error_within_tables, named_within_tables, summary_within_tables}
+use Rattle.alias_rules.specs.Fitting.{effect_within_tables, recorded_within_tables, effects_within_tables}
+use Rattle.alias_rules.specs.Fitting.{holds_no_call, effects_fit}
 use Rattle.alias_hir.specs.Effects.{function_of, signature_of, error_of}
 use Rattle.alias_hir.specs.Positions.{position_in}
 use Rattle.alias_cause_laws.specs.ends.Making.{EffectMakes, EffectsMake}
@@ -78,7 +80,7 @@ module _ (P : ℕ → Type 0) where
   effects_owned id [] h e = cc
   effects_owned id (x ∷ es) h e =
       ⊎_elim (λ here. place_owned id (effect_places x) h.0 here) (λ later. effects_owned id es h.1 later)
-          (either_true (has_place id (effect_places x)) (is_named id (Some es)) e)
+      (either_true (has_place id (effect_places x)) (is_named id (Some es)) e)
 
   recorded_owned : (id : IdentifierId) (o : Option (List AliasingEffect)) → RecordedOwned o → is_named id o ≡ true
       → P id.0
@@ -90,20 +92,20 @@ module _ (P : ℕ → Type 0) where
   instructions_owned id [] h e = cc
   instructions_owned id (i ∷ is) h e =
       ⊎_elim (λ here. recorded_owned id i.effects h.0 here) (λ later. instructions_owned id is h.1 later)
-          (either_true (is_named id i.effects) (instructions_name id is) e)
+      (either_true (is_named id i.effects) (instructions_name id is) e)
 
   terminals_owned : (id : IdentifierId) (bs : Blocks) → TerminalsOwned bs → terminals_name id bs ≡ true → P id.0
   terminals_owned id [] h e = cc
   terminals_owned id (b ∷ bs) h e =
       ⊎_elim (λ here. recorded_owned id (terminal_effects b.1.terminal) h.0 here)
-          (λ later. terminals_owned id bs h.1 later)
-          (either_true (is_named id (terminal_effects b.1.terminal)) (terminals_name id bs) e)
+      (λ later. terminals_owned id bs h.1 later)
+      (either_true (is_named id (terminal_effects b.1.terminal)) (terminals_name id bs) e)
 
   -- of what effects name P holds
   pub named_owned : (id : IdentifierId) (f : HirFunction) → EffectsOwned f → effects_name id f ≡ true → P id.0
   named_owned id f h e =
       ⊎_elim (λ here. instructions_owned id f.instructions h.instructions here)
-          (λ later. terminals_owned id f.body.blocks h.terminals later)
+      (λ later. terminals_owned id f.body.blocks h.terminals later)
       (either_true (instructions_name id f.instructions) (terminals_name id f.body.blocks) e)
 
   -- ---- what effects make they name
@@ -146,7 +148,7 @@ module _ (P : ℕ → Type 0) where
   instruction_put : (e : InstructionEffects) (o : Option Instruction) (xs : List Instruction)
       → AllByRecursion EffectOwned e.effects → InstructionsOwned xs
       → InstructionsOwned (option_map_or (λ (x : Instruction).
-          slice_set xs e.instruction.0 (record x { effects = Some e.effects })) o xs)
+      slice_set xs e.instruction.0 (record x { effects = Some e.effects })) o xs)
   instruction_put e None xs h a = a
   instruction_put e (Some x) xs h a = set_all (λ (i : Instruction). RecordedOwned i.effects) xs e.instruction.0
       (record x { effects = Some e.effects }) h a
@@ -202,13 +204,13 @@ module _ (P : ℕ → Type 0) where
     instructions =
         instructions_put s.effects f.instructions
         (all_on (λ (e : InstructionEffects). EffectsOwn env P e.effects)
-            (λ (e : InstructionEffects). AllByRecursion EffectOwned e.effects) (λ e a. effects_of env e.effects a)
-            s.effects n.instructions) h.instructions;
+        (λ (e : InstructionEffects). AllByRecursion EffectOwned e.effects) (λ e a. effects_of env e.effects a)
+        s.effects n.instructions) h.instructions;
     terminals =
         terminals_put s.terminal_effects f.body.blocks
         (all_on (λ (e : TerminalEffects). EffectsOwn env P e.effects)
-            (λ (e : TerminalEffects). AllByRecursion EffectOwned e.effects) (λ e a. effects_of env e.effects a)
-            s.terminal_effects n.terminals) h.terminals;
+        (λ (e : TerminalEffects). AllByRecursion EffectOwned e.effects) (λ e a. effects_of env e.effects a)
+        s.terminal_effects n.terminals) h.terminals;
   }
 
   -- ---- nothing is inferred yet
@@ -223,30 +225,35 @@ module _ (P : ℕ → Type 0) where
   uninferred_instructions (i ∷ is) h =
       let b = both_true (instruction_is_uninferred i) (list_all instruction_is_uninferred is) h in
       let c = both_true (is_none i.effects && place_is_uninferred i.lvalue)
-          (list_all place_is_uninferred (places_of i.value)) b.0 in
-      (nothing_owned i.effects (both_true (is_none i.effects) (place_is_uninferred i.lvalue) c.0).0,
-          uninferred_instructions is b.1)
+      (list_all place_is_uninferred (places_of i.value)) b.0 in (
+        nothing_owned i.effects (both_true (is_none i.effects) (place_is_uninferred i.lvalue) c.0).0,
+        uninferred_instructions is b.1,
+      )
 
   uninferred_terminals : (bs : Blocks) → list_all (λ (e : BlockId × BasicBlock). block_is_uninferred e.1) bs ≡ true
       → TerminalsOwned bs
   uninferred_terminals [] h = tt
   uninferred_terminals (e ∷ es) h =
       let b = both_true (block_is_uninferred e.1) (list_all (λ (e : BlockId × BasicBlock). block_is_uninferred e.1) es)
-          h in
-      let c = both_true (list_all phi_is_uninferred e.1.phis) (terminal_is_uninferred e.1.terminal) b.0 in
-      (nothing_owned (terminal_effects e.1.terminal)
-          (both_true (is_none (terminal_effects e.1.terminal))
-          (list_all place_is_uninferred (terminal_places e.1.terminal)) c.1).0, uninferred_terminals es b.1)
+      h in
+      let c = both_true (list_all phi_is_uninferred e.1.phis) (terminal_is_uninferred e.1.terminal) b.0 in (
+        nothing_owned (terminal_effects e.1.terminal)
+            (both_true (is_none (terminal_effects e.1.terminal))
+            (list_all place_is_uninferred (terminal_places e.1.terminal)) c.1).0,
+        uninferred_terminals es b.1,
+      )
 
   pub uninferred_owned : (f : HirFunction) → function_is_uninferred f ≡ true → EffectsOwned f
   uninferred_owned f h =
       let a = both_true (is_none f.aliasing_effects && own_places_are_uninferred f
-          && list_all instruction_is_uninferred f.instructions)
-          (list_all (λ (e : BlockId × BasicBlock). block_is_uninferred e.1) f.body.blocks) h in
+      && list_all instruction_is_uninferred f.instructions)
+      (list_all (λ (e : BlockId × BasicBlock). block_is_uninferred e.1) f.body.blocks) h in
       let b = both_true (is_none f.aliasing_effects && own_places_are_uninferred f)
-          (list_all instruction_is_uninferred f.instructions) a.0 in
-      record { instructions = uninferred_instructions f.instructions b.1;
-          terminals = uninferred_terminals f.body.blocks a.1 }
+      (list_all instruction_is_uninferred f.instructions) a.0 in
+      record {
+        instructions = uninferred_instructions f.instructions b.1;
+        terminals = uninferred_terminals f.body.blocks a.1;
+      }
 
 -- ---- effects that fit
 
@@ -265,12 +272,12 @@ module _ (env : Environment) where
   effect_below e h =
       let a = both_true (named_within_tables env e) (summary_within_tables env (function_of e)) h in
       let b = both_true (list_all (place_within_tables env) (effect_places e)
-          && function_within_tables env (function_of e) && type_within_tables env (signature_of e))
-          (error_within_tables env (error_of e)) a.0 in
+      && function_within_tables env (function_of e) && type_within_tables env (signature_of e))
+      (error_within_tables env (error_of e)) a.0 in
       let c = both_true (list_all (place_within_tables env) (effect_places e)
-          && function_within_tables env (function_of e)) (type_within_tables env (signature_of e)) b.0 in
+      && function_within_tables env (function_of e)) (type_within_tables env (signature_of e)) b.0 in
       places_below (effect_places e) (both_true (list_all (place_within_tables env) (effect_places e))
-          (function_within_tables env (function_of e)) c.0).0
+      (function_within_tables env (function_of e)) c.0).0
 
   effects_below : (es : List AliasingEffect) → list_all (effect_within_tables env) es ≡ true
       → AllByRecursion (EffectOwned IsBelow) es
@@ -287,7 +294,7 @@ module _ (env : Environment) where
   instructions_below [] h = tt
   instructions_below (i ∷ is) h =
       let b = both_true (recorded_within_tables env i.effects)
-          (list_all (λ (i : Instruction). recorded_within_tables env i.effects) is) h in
+      (list_all (λ (i : Instruction). recorded_within_tables env i.effects) is) h in
       (recorded_below i.effects b.0, instructions_below is b.1)
 
   terminals_below : (bs : Blocks) → list_all
@@ -296,7 +303,7 @@ module _ (env : Environment) where
   terminals_below [] h = tt
   terminals_below (e ∷ es) h =
       let b = both_true (recorded_within_tables env (terminal_effects e.1.terminal))
-          (list_all (λ (e : BlockId × BasicBlock). recorded_within_tables env (terminal_effects e.1.terminal)) es) h in
+      (list_all (λ (e : BlockId × BasicBlock). recorded_within_tables env (terminal_effects e.1.terminal)) es) h in
       (recorded_below (terminal_effects e.1.terminal) b.0, terminals_below es b.1)
 
   -- effects that fit name what is in the table

@@ -1,6 +1,6 @@
 -- The analysis of the functions below a function, as the passes on one after the other.
-use Rattle.std.specs.Prelude.{◌≡◌, ℕ, ◌<◌, ◌≤◌, nat_eq, Bool, true, false, List, [], ◌∷◌, ◌++◌, Option, Some, None,
-    Result, Ok, IsOkAnd, length, map, option_map, slice_get, slice_set, refl}
+use Rattle.std.specs.Prelude.{◌≡◌, ℕ, ◌<◌, ◌≤◌, nat_eq, Bool, true, false, List, [], ◌∷◌, ◌++◌, Option, Some, None}
+use Rattle.std.specs.Prelude.{Result, Ok, IsOkAnd, length, map, option_map, slice_get, slice_set, refl}
 use Rattle.std.specs.List.{flat_map}
 use Rattle.std.proofs.Common.{zero, suc, ⊎_elim, ap, sym, ◌∙◌, subst, arith}
 use Rattle.std.proofs.lemmas.Bool.{eqb-true}
@@ -24,10 +24,12 @@ use Rattle.alias_nested.proofs.Counting.{there_among}
 use Rattle.alias_nested.proofs.Creating.{created_at_most}
 use Rattle.alias_nested.proofs.Evolving.{passed_contexts}
 use Rattle.alias_nested.proofs.InOrder.{times_append, in_front, in_rest, in_neither, not_one, same_creates}
-use Rattle.alias_nested.proofs.Keeping.{effects_keep, ranged_keeps, annotated_keeps, summary_kept, kept_pruned,
-    pruned_self, pruned_through, pruned_fits, pruned_beside, not_itself, environment_back}
-use Rattle.alias_nested.specs.Analysis.{naming, numbered, Analysed, Analysis, analysis, each, effects_analysed,
-    completed, completed_with, function_analysed, taken_analysed, put_back, found_analysed, slot_analysed, analysed}
+use Rattle.alias_nested.proofs.Keeping.{effects_keep, ranged_keeps, annotated_keeps, summary_kept, kept_pruned}
+use Rattle.alias_nested.proofs.Keeping.{pruned_self, pruned_through, pruned_fits, pruned_beside, not_itself}
+use Rattle.alias_nested.proofs.Keeping.{environment_back}
+use Rattle.alias_nested.specs.Analysis.{naming, numbered, Analysed, Analysis, analysis, each, effects_analysed}
+use Rattle.alias_nested.specs.Analysis.{completed, completed_with, function_analysed, taken_analysed, put_back}
+use Rattle.alias_nested.specs.Analysis.{found_analysed, slot_analysed, analysed}
 use Rattle.alias_nested.specs.Created.{created_functions}
 use Rattle.alias_nested.specs.Fitting.{FunctionKept, EnvironmentPruned, SummaryFits}
 use Rattle.alias_nested.specs.Order.{created_by_slot, innermost_first, numbers, SameInSlot, ChangesOnly}
@@ -117,8 +119,14 @@ pub stored_still : (x : Analysed) (o p : Option HirFunction) → option_map but_
     → Stored x o → Stored x p
 stored_still x o p e s =
     let r = slot_is o p s.func e s.in_slot in
-    record { func = r.0; in_slot = r.1; alike = context_alike s.func r.0 r.2 ∙ s.alike; summary = s.summary;
-        stores = ap (λ (z : HirFunction). z.aliasing_effects) r.2 ∙ s.stores; flows = s.flows }
+    record {
+      func = r.0;
+      in_slot = r.1;
+      alike = context_alike s.func r.0 r.2 ∙ s.alike;
+      summary = s.summary;
+      stores = ap (λ (z : HirFunction). z.aliasing_effects) r.2 ∙ s.stores;
+      flows = s.flows;
+    }
 
 -- ---- the passes over a nested function
 
@@ -138,8 +146,11 @@ annotated_alike summary f = ap (λ ps. record (but_ranged f) { context = ps }) (
 
 kept_through : (f g h : HirFunction) (a b c : Environment) → FunctionKept f a g b → FunctionKept g b h c
     → FunctionKept f a h c
-kept_through f g h a b c p q = record { evolves = evolves_through a b c p.evolves q.evolves; still = q.still ∙ p.still;
-    fits = q.fits }
+kept_through f g h a b c p q = record {
+  evolves = evolves_through a b c p.evolves q.evolves;
+  still = q.still ∙ p.still;
+  fits = q.fits;
+}
 
 -- what the range pass and the summary keep
 pub range_kept : (f : HirFunction) (env : Environment) (r : Ranged) → function_fits f env ≡ true → range_pass true f env
@@ -147,13 +158,13 @@ pub range_kept : (f : HirFunction) (env : Environment) (r : Ranged) → function
 range_kept f env r fits h =
     let l : PassLeaves true f env r = pass_leaves true f env r h in
     let ranged : function_fits r.after.0 r.after.1 ≡ true =
-        silent_fits f r.after.0 env r.after.1 fits l.still l.kept (expression_reports f env r h) in
+    silent_fits f r.after.0 env r.after.1 fits l.still l.kept (expression_reports f env r h) in
     let first : FunctionKept f env r.after.0 r.after.1 = ranged_keeps f r.after.0 env r.after.1 ranged l.still l.kept in
     let s = summary_fits true f env r h fits in
     let summary : SummaryFits r.after.1 r.summary =
-        summary_kept env r.after.1 f first.evolves.effects fits r.summary (record { within = s.0; no_call = s.1 }) in
+    summary_kept env r.after.1 f first.evolves.effects fits r.summary (record { within = s.0; no_call = s.1 }) in
     kept_through f r.after.0 (annotated r.summary r.after).0 env r.after.1 (annotated r.summary r.after).1 first
-        (annotated_keeps r.summary r.after.0 r.after.1 ranged summary)
+    (annotated_keeps r.summary r.after.0 r.after.1 ranged summary)
 
 -- the summary ends with the flows
 pub flows_listed : (b : Bool) (f : HirFunction) (env : Environment) (r : Ranged) → function_fits f env ≡ true
@@ -161,7 +172,7 @@ pub flows_listed : (b : Bool) (f : HirFunction) (env : Environment) (r : Ranged)
 flows_listed b f env r fits h =
     let l = ranged_flows b f env r fits h in
     subst (λ (q : Result Listing InferError).
-        IsOkAnd q (λ l. EndsWithFlows (graph_listed l) l.next f.returns (tracked f) r.summary)) (sym l.1) l.2
+    IsOkAnd q (λ l. EndsWithFlows (graph_listed l) l.next f.returns (tracked f) r.summary)) (sym l.1) l.2
 
 abbrev Taken : Type 0
 Taken = HirFunction × Analysis
@@ -205,35 +216,48 @@ module _ (u : Environment) where
       let f1 : HirFunction = with_effects_of e.solved f in
       let env1 : Environment = env_after a.env e in
       let v = went (completed id f1 env1) (λ (c : HirFunction × Environment).
-          Ok (c.0, analysis c.1 (effects_made id f a e).1.functions)) s then_ in
+      Ok (c.0, analysis c.1 (effects_made id f a e).1.functions)) s then_ in
       let c : HirFunction × Environment = v.0 in
       let y = went (naming id (range_pass true f1 env1)) (λ (r : Ranged). Ok (annotated r.summary r.after)) c v.1 in
       let r : Ranged = y.0 in
       let ran : range_pass true f1 env1 ≡ Ok r = naming_ok id (range_pass true f1 env1) r y.1 in
       let set : annotated r.summary r.after ≡ c = ok_same (annotated r.summary r.after) c y.2 in
       let last : ◌≡◌ {A = Taken} (c.0, analysis c.1 (effects_made id f a e).1.functions) s =
-          ok_same (c.0, analysis c.1 (effects_made id f a e).1.functions) s v.2 in
+      ok_same (c.0, analysis c.1 (effects_made id f a e).1.functions) s v.2 in
       let effects : FunctionKept f a.env f1 env1 = effects_keep f a.env true e fits ended in
       let leaves : PassLeaves true f1 env1 r = pass_leaves true f1 env1 r ran in
-      let one : Analysed = record { env = a.env; func = f; is_function_expression = true;
-          solved = numbered id e.solved } in
+      let one : Analysed = record {
+        env = a.env;
+        func = f;
+        is_function_expression = true;
+        solved = numbered id e.solved;
+      } in
       let done : HirFunction × Environment → Taken = λ z. (z.0, analysis z.1 (a.functions ++ one ∷ [])) in
       let whole : Passed u id f a (annotated r.summary r.after).0 (done (annotated r.summary r.after)).1 = record {
         one = one;
         functions = refl;
         begins = refl;
-        link = record { func = g; slot = slot;
-            ran = record { fits = fits; same = same; less = less; end = e; ended = ended; ranged = r; ran = ran };
-            solved = refl; left = refl };
+        link = record {
+          func = g;
+          slot = slot;
+          ran = record { fits = fits; same = same; less = less; end = e; ended = ended; ranged = r; ran = ran };
+          solved = refl;
+          left = refl;
+        };
         contexts = ap (λ (z : Environment). z.functions) leaves.kept.rest ∙ passed_contexts a.env e;
-        stands = record { func = (annotated r.summary r.after).0; in_slot = refl;
-            alike = annotated_alike r.summary r.after.0 ∙ ap without_summary leaves.still; summary = r.summary;
-            stores = refl; flows = flows_listed true f1 env1 r effects.fits ran };
+        stands = record {
+          func = (annotated r.summary r.after).0;
+          in_slot = refl;
+          alike = annotated_alike r.summary r.after.0 ∙ ap without_summary leaves.still;
+          summary = r.summary;
+          stores = refl;
+          flows = flows_listed true f1 env1 r effects.fits ran;
+        };
         kept = kept_through f f1 (annotated r.summary r.after).0 a.env env1 (annotated r.summary r.after).1 effects
             (range_kept f1 env1 r effects.fits ran);
       } in
       subst (λ (z : Taken). Passed u id f a z.0 z.1) last
-          (subst (λ (z : HirFunction × Environment). Passed u id f a z.0 (done z).1) set whole)
+      (subst (λ (z : HirFunction × Environment). Passed u id f a z.0 (done z).1) set whole)
 
   -- ---- lists of functions
 
@@ -273,8 +297,10 @@ module _ (u : Environment) where
       absurd (omega arith))
 
   ready_front : (xs ys : List FunctionId) (env : Environment) → Ready (xs ++ ys) env → Ready xs env
-  ready_front xs ys env r = record { slots = λ k h. r.slots k (in_front xs ys k h);
-      once = λ k. let a = r.once k in let t = times_append xs ys k in omega arith }
+  ready_front xs ys env r = record {
+    slots = λ k h. r.slots k (in_front xs ys k h);
+    once = λ k. let a = r.once k in let t = times_append xs ys k in omega arith;
+  }
 
   -- the others, once the first are analysed
   ready_rest : (xs ys : List FunctionId) (env more : Environment) → ChangesOnly xs env more → Ready (xs ++ ys) env
@@ -295,9 +321,11 @@ module _ (u : Environment) where
     stored = λ x i id e.
         ⊎_elim
         (λ first.
-        let s = p.stored x first id e in
-        (in_front xs ys id.0 s.0, stored_still x (slice_get b.env.functions id.0) (slice_get c.env.functions id.0)
-            (q.changes id.0 (not_behind xs ys once id.0 s.0)) s.1))
+        let s = p.stored x first id e in (
+          in_front xs ys id.0 s.0,
+          stored_still x (slice_get b.env.functions id.0) (slice_get c.env.functions id.0)
+              (q.changes id.0 (not_behind xs ys once id.0 s.0)) s.1,
+        ))
         (λ later. let s = q.stored x later id e in (in_rest xs ys id.0 s.0, s.1))
         (in_either p.taken q.taken x i);
   }
@@ -350,8 +378,8 @@ module _ (u : Environment) where
         let m = in_neither xs (id ∷ []) k i in
         let other : k ≡ id.0 → ⊥ = not_one id k m.1 in
         ap (option_map but_context) (set_other s.1.env.functions id.0 k s.0 other)
-            ∙ slots_stay a1.env s.1.env one.contexts k ∙ first.changes k m.0
-            ∙ ap (option_map but_context) (set_other a.env.functions id.0 k (emptied x.returns) other)
+        ∙ slots_stay a1.env s.1.env one.contexts k ∙ first.changes k m.0
+        ∙ ap (option_map but_context) (set_other a.env.functions id.0 k (emptied x.returns) other)
 
     abbrev back : List HirFunction
     back = slice_set s.1.env.functions id.0 s.0
@@ -363,17 +391,21 @@ module _ (u : Environment) where
         → StoredAt y j
     earlier_stored y i j e =
         let z = first.stored y i j e in
-        let other : j.0 ≡ id.0 → ⊥ = not_one id j.0 (not_behind xs (id ∷ []) once j.0 z.0) in
-        (in_front xs (id ∷ []) j.0 z.0, stored_still y (slice_get a1.env.functions j.0) (slice_get back j.0)
-            (ap (option_map but_context) (set_other s.1.env.functions id.0 j.0 s.0 other)
-            ∙ slots_stay a1.env s.1.env one.contexts j.0) z.1)
+        let other : j.0 ≡ id.0 → ⊥ = not_one id j.0 (not_behind xs (id ∷ []) once j.0 z.0) in (
+          in_front xs (id ∷ []) j.0 z.0,
+          stored_still y (slice_get a1.env.functions j.0) (slice_get back j.0)
+              (ap (option_map but_context) (set_other s.1.env.functions id.0 j.0 s.0 other)
+              ∙ slots_stay a1.env s.1.env one.contexts j.0) z.1,
+        )
 
     own_number : one.one.solved.function ≡ Some id
     own_number = ap (λ (z : Solved). z.function) one.link.solved
 
     own_stored : id.0 < length s.1.env.functions → StoredAt one.one id
-    own_stored there = (in_rest xs (id ∷ []) id.0 (first_among id.0 []),
-        subst (Stored one.one) (sym (put_there s.1.env.functions id.0 s.0 there)) one.stands)
+    own_stored there = (
+      in_rest xs (id ∷ []) id.0 (first_among id.0 []),
+      subst (Stored one.one) (sym (put_there s.1.env.functions id.0 s.0 there)) one.stands,
+    )
 
     back_stored : id.0 < length s.1.env.functions → (y : Analysed) → IsOneOf y (first.taken ++ one.one ∷ [])
         → (j : FunctionId) → y.solved.function ≡ Some j → StoredAt y j
@@ -382,7 +414,7 @@ module _ (u : Environment) where
         (λ own. ⊎_elim
         (λ (same : y ≡ one.one).
         let number : id ≡ j = some_same id j (sym own_number ∙ ap (λ (z : Analysed). z.solved.function) (sym same)
-            ∙ e) in
+        ∙ e) in
         subst (StoredAt y) number (subst (λ z. StoredAt z id) (sym same) (own_stored there)))
         (λ none. absurd none) own)
         (in_either first.taken (one.one ∷ []) y i)
@@ -405,7 +437,7 @@ module _ (u : Environment) where
       → Type 0
   WalksOver below ordered =
       (f : HirFunction) (a b : Analysis) → function_fits f a.env ≡ true → NamesLess u a.env
-          → Ready (ordered (created_functions f)) a.env → below f a ≡ Ok b → Walked (ordered (created_functions f)) a b
+      → Ready (ordered (created_functions f)) a.env → below f a ≡ Ok b → Walked (ordered (created_functions f)) a b
 
   -- without the last one, which is out of its slot
   ready_out : (xs : List FunctionId) (id : FunctionId) (x : HirFunction) (env : Environment) → Ready (xs ++ id ∷ []) env
@@ -414,7 +446,7 @@ module _ (u : Environment) where
     slots = λ k i.
         let other : k ≡ id.0 → ⊥ = not_one id k (not_behind xs (id ∷ []) r.once k i) in
         ap (option_map but_context) (set_other env.functions id.0 k (emptied x.returns) other)
-            ∙ r.slots k (in_front xs (id ∷ []) k i);
+        ∙ r.slots k (in_front xs (id ∷ []) k i);
     once = λ k. let c = r.once k in let t = times_append xs (id ∷ []) k in omega arith;
   }
 
@@ -423,28 +455,34 @@ module _ (u : Environment) where
       (s : Taken) → slice_get a.env.functions id.0 ≡ Some x → function_fits f a.env ≡ true
       → is_among (created_in f) id.0 ≡ true → NamesLess u a.env
       → Ready (xs ++ id ∷ []) a.env → function_fits x (with_function id (emptied x.returns) a.env) ≡ true
-          → Walked xs (record a { env = with_function id (emptied x.returns) a.env }) a1 → function_analysed id x a1
-          ≡ Ok s → Walked (xs ++ id ∷ []) a (put_back id s)
+      → Walked xs (record a { env = with_function id (emptied x.returns) a.env }) a1 → function_analysed id x a1
+      ≡ Ok s → Walked (xs ++ id ∷ []) a (put_back id s)
   taken_walked f xs id x a a1 s at fits among less ready fits0 first h =
       let out : Environment = with_function id (emptied x.returns) a.env in
       let fits1 : function_fits x a1.env ≡ true = pruned_fits out a1.env first.pruned x fits0 in
       let own : is_among (numbers (xs ++ id ∷ [])) id.0 ≡ true = in_rest xs (id ∷ []) id.0 (first_among id.0 []) in
       let g = slot_is (slice_get a.env.functions id.0) (slice_get u.functions id.0) x (sym (ready.slots id.0 own)) at in
       let one : Passed u id x a1 s.0 s.1 = function_passed id g.0 x a1 s g.1 (sym g.2)
-          (less_still out a1.env first.pruned (less_out a.env id x less)) fits1 h in
+      (less_still out a1.env first.pruned (less_out a.env id x less)) fits1 h in
       let there : id.0 < length s.1.env.functions
       = (let c = created_exists a.env f id fits among in let l = length_set a.env.functions id.0 (emptied x.returns) in
-          let m = first.pruned.prunes.count in let z = one.kept.evolves.count in omega arith) in
+      let m = first.pruned.prunes.count in let z = one.kept.evolves.count in omega arith) in
       back_walked xs id x a a1 s first one ready.once there
       (environment_back a.env id x s.0 out s.1.env (with_function id s.0 s.1.env) at
-          (not_itself a.env f x id fits among at) refl refl
+      (not_itself a.env f x id fits among at) refl refl
       (function_through x x s.0 out a1.env s.1.env (pruned_beside out a1.env first.pruned x fits0)
-          (kept_pruned x a1.env s.0 s.1.env one.kept)))
+      (kept_pruned x a1.env s.0 s.1.env one.kept)))
 
   nothing_walked : (f : HirFunction) (a b : Analysis) → function_fits f a.env ≡ true → a ≡ b → Walked [] a b
   nothing_walked f a b fits is =
-      let nothing : Walked [] a a = record { taken = []; functions = sym (append-nil a.functions); chain = refl;
-          changes = λ k i. refl; pruned = pruned_self f a.env fits; stored = λ x i id e. absurd i } in
+      let nothing : Walked [] a a = record {
+        taken = [];
+        functions = sym (append-nil a.functions);
+        chain = refl;
+        changes = λ k i. refl;
+        pruned = pruned_self f a.env fits;
+        stored = λ x i id e. absurd i;
+      } in
       subst (λ (z : Analysis). Walked [] a z) is nothing
 
   none_found : (env : Environment) (f : HirFunction) (id : FunctionId) → function_fits f env ≡ true
@@ -463,18 +501,18 @@ module _ (u : Environment) where
         → function_fits x (with_function id (emptied x.returns) a.env) ≡ true → NamesLess u a.env
         → Ready (ids_of id) a.env
         → analysed n x (record a { env = with_function id (emptied x.returns) a.env }) ≡ Ok a1
-            → Walked (ids_below id) (record a { env = with_function id (emptied x.returns) a.env }) a1
+        → Walked (ids_below id) (record a { env = with_function id (emptied x.returns) a.env }) a1
     below_walked id x a a1 at fits0 less ready h =
         let out : Environment = with_function id (emptied x.returns) a.env in
         let own : is_among (numbers (ids_of id)) id.0 ≡ true =
-            in_rest (ids_below id) (id ∷ []) id.0 (first_among id.0 []) in
+        in_rest (ids_below id) (id ∷ []) id.0 (first_among id.0 []) in
         let same : created_functions x ≡ created_by_slot (slice_get u.functions id.0)
         = sym (ap created_by_slot at) ∙ same_creates (slice_get u.functions id.0) (slice_get a.env.functions id.0)
-            (ready.slots id.0 own) in
+        (ready.slots id.0 own) in
         subst (λ ids. Walked (innermost_first n u.functions ids) (record a { env = out }) a1) same
         (below_walks x (record a { env = out }) a1 fits0 (less_out a.env id x less)
-            (subst (λ ids. Ready (innermost_first n u.functions ids) out) (sym same)
-            (ready_out (ids_below id) id x a.env ready)) h)
+        (subst (λ ids. Ready (innermost_first n u.functions ids) out) (sym same)
+        (ready_out (ids_below id) id x a.env ready)) h)
 
     found_some : (f : HirFunction) (id : FunctionId) (a b : Analysis) (x : HirFunction)
         (p : FoundParts (analysed n) id a x b) → slice_get a.env.functions id.0 ≡ Some x → function_fits f a.env ≡ true
@@ -482,10 +520,10 @@ module _ (u : Environment) where
         → Walked (ids_of id) a b
     found_some f id a b x p at fits among less ready =
         let fits0 : function_fits x (with_function id (emptied x.returns) a.env) ≡ true =
-            taken_out_fits a.env f x (emptied x.returns) id fits among at refl in
+        taken_out_fits a.env f x (emptied x.returns) id fits among at refl in
         subst (λ (z : Analysis). Walked (ids_of id) a z) p.back
         (taken_walked f (ids_below id) id x a p.below p.taken at fits among less ready fits0
-            (below_walked id x a p.below at fits0 less ready p.went_below) p.went_own)
+        (below_walked id x a p.below at fits0 less ready p.went_below) p.went_own)
 
     found_walked : (f : HirFunction) (id : FunctionId) (a b : Analysis) (o : Option HirFunction)
         → slice_get a.env.functions id.0 ≡ o → function_fits f a.env ≡ true → is_among (created_in f) id.0 ≡ true
@@ -499,16 +537,16 @@ module _ (u : Environment) where
     each_more : (f : HirFunction) (id : FunctionId) (ids : List FunctionId) (a a1 b : Analysis) → function_fits f a.env
         ≡ true → is_among (created_in f) id.0 ≡ true → NamesLess u a.env → Ready (flat_map ids_of (id ∷ ids)) a.env
         → slot_analysed (analysed n) id a ≡ Ok a1
-            → (function_fits f a1.env ≡ true → NamesLess u a1.env → Ready (flat_map ids_of ids) a1.env
-            → Walked (flat_map ids_of ids) a1 b) → Walked (flat_map ids_of (id ∷ ids)) a b
+        → (function_fits f a1.env ≡ true → NamesLess u a1.env → Ready (flat_map ids_of ids) a1.env
+        → Walked (flat_map ids_of ids) a1 b) → Walked (flat_map ids_of (id ∷ ids)) a b
     each_more f id ids a a1 b fits among less ready h rest =
         let ys : List FunctionId = flat_map ids_of ids in
         let first : Walked (ids_of id) a a1 =
-            found_walked f id a a1 (slice_get a.env.functions id.0) refl fits among less
-            (ready_front (ids_of id) ys a.env ready) h in
+        found_walked f id a a1 (slice_get a.env.functions id.0) refl fits among less
+        (ready_front (ids_of id) ys a.env ready) h in
         walked_both (ids_of id) ys a a1 b ready.once first
         (rest (pruned_fits a.env a1.env first.pruned f fits) (less_still a.env a1.env first.pruned less)
-            (ready_rest (ids_of id) ys a.env a1.env first.changes ready))
+        (ready_rest (ids_of id) ys a.env a1.env first.changes ready))
 
     each_walked : (f : HirFunction) (ids : List FunctionId) (a b : Analysis) → function_fits f a.env ≡ true
         → ((k : ℕ) → is_among (numbers ids) k ≡ true → is_among (created_in f) k ≡ true) → NamesLess u a.env
@@ -519,8 +557,8 @@ module _ (u : Environment) where
         let w = went (slot_analysed (analysed n) id a) (each (slot_analysed (analysed n)) ids) b h in
         let a1 : Analysis = w.0 in
         each_more f id ids a a1 b fits (among id.0 (first_among id.0 (numbers ids))) less ready w.1
-            (λ fits1 less1 ready1. each_walked f ids a1 b fits1 (λ k i. among k (later_among id.0 (numbers ids) k i))
-            less1 ready1 w.2)
+        (λ fits1 less1 ready1. each_walked f ids a1 b fits1 (λ k i. among k (later_among id.0 (numbers ids) k i))
+        less1 ready1 w.2)
 
   -- the analysis of the functions on n levels walks over them in their order
   pub analysed_walked : (n : ℕ) → WalksOver (analysed n) (innermost_first n u.functions)

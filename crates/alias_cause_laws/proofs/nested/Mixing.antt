@@ -32,7 +32,7 @@ mixed_there ks n j zero (x ∷ old) (y ∷ new) e there more =
     let same : j ≡ n = omega arith in
     let test : is_among ks n ≡ true = subst (λ z. is_among ks z ≡ true) same there in
     let is : end_of (Some (if is_among ks n then x else y)) ≡ end_of (Some x) =
-        ap (λ b. end_of (Some (if b then x else y))) test in
+    ap (λ b. end_of (Some (if b then x else y))) test in
     omega arith
 mixed_there ks n j (suc k) (x ∷ old) (y ∷ new) e there more =
     mixed_there ks (suc n) j k old new (omega arith) there (omega arith)

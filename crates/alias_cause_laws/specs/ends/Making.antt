@@ -1,8 +1,8 @@
 -- The range pass changes ends only of identifiers that the function names: those of its own places, and those that its
 -- effects make.
-use Rattle.std.proofs.Common.{◌≡◌, ℕ, ◌+◌, ◌⊎◌, inl, inr, ⊎_elim, Bool, true, false, ◌||◌, if◌then◌else◌, IsTrue, List,
-    [], ◌∷◌, ◌++◌, Option, Some, None, is_some, nat_lt, length, map, replicate, slice_get, slice_set, refl, sym, subst,
-    suc, zero}
+use Rattle.std.proofs.Common.{◌≡◌, ℕ, ◌+◌, ◌⊎◌, inl, inr, ⊎_elim, Bool, true, false, ◌||◌, if◌then◌else◌, IsTrue, List}
+use Rattle.std.proofs.Common.{[], ◌∷◌, ◌++◌, Option, Some, None, is_some, nat_lt, length, map, replicate, slice_get}
+use Rattle.std.proofs.Common.{slice_set, refl, sym, subst, suc, zero}
 use Rattle.std.specs.Prelude.{Result, Ok}
 use Rattle.std.specs.Option.{option_map_or}
 use Rattle.alias_base.specs.Answer.{◌>>=◌}
@@ -41,15 +41,17 @@ use Rattle.alias_graph.proofs.Covering.{eqb_is}
 use Rattle.alias_graph.proofs.Reaching.{legal_exists}
 use Rattle.alias_graph.proofs.RemainingNodes.{graph_is_remaining}
 use Rattle.alias_graph.specs.declared.recorded.listing.Listing.{Listing}
-use Rattle.alias_graph.specs.recorded.BlockListings.{pending_at, pending_more, added_or_pending, link_of, slot_of_block,
-    operand_listed, phi_listed, returns_listed, alias_listed, aliases_in, with_pending, end_listed, block_listed,
-    blocks_listed, object_of, first_listing, listed}
+use Rattle.alias_graph.specs.recorded.BlockListings.{pending_at, pending_more, added_or_pending, link_of, slot_of_block}
+use Rattle.alias_graph.specs.recorded.BlockListings.{operand_listed, phi_listed, returns_listed, alias_listed}
+use Rattle.alias_graph.specs.recorded.BlockListings.{aliases_in, with_pending, end_listed, block_listed, blocks_listed}
+use Rattle.alias_graph.specs.recorded.BlockListings.{object_of, first_listing, listed}
 use Rattle.alias_graph.specs.recorded.Each.{each}
 use Rattle.alias_graph.specs.recorded.Fitting.{AllOf, effect_makes}
 use Rattle.alias_graph.proofs.FitLaws.{all_append, all_push, all_at, all_set, went_on, each_keeps}
 use Rattle.alias_graph.specs.recorded.IdSets.{made_id, has_made}
-use Rattle.alias_graph.specs.recorded.Listings.{position_after, with_event, made, made_once, positioned, linked,
-    mutated, summarized, rendered, effect_listed, effects_in, recorded_in, instruction_listed}
+use Rattle.alias_graph.specs.recorded.Listings.{position_after, with_event, made, made_once, positioned, linked}
+use Rattle.alias_graph.specs.recorded.Listings.{mutated, summarized, rendered, effect_listed, effects_in, recorded_in}
+use Rattle.alias_graph.specs.recorded.Listings.{instruction_listed}
 use Rattle.alias_graph.specs.recorded.Recording.{graph_listed}
 use Rattle.alias_range_pass.specs.Laws.{Causes}
 use Rattle.alias_range_pass.specs.places.Causes.{written}
@@ -101,9 +103,9 @@ module _ (Q : ℕ → Type 0) where
       ≡ Ok m → Makes m
   makes_positioned e q l m p h =
       let w = went_on (position_after l.next)
-          (λ after. Ok (record l { next = after; events = l.events ++ e l.next ∷ [] })) m h in
+      (λ after. Ok (record l { next = after; events = l.events ++ e l.next ∷ [] })) m h in
       same (record l { next = w.0; events = l.events ++ e l.next ∷ [] }) m
-          (record { events = all_push EventMakes l.events (e l.next) p.events (q l.next); pending = p.pending }) w.2
+      (record { events = all_push EventMakes l.events (e l.next) p.events (q l.next); pending = p.pending }) w.2
 
   makes_linked : (kind : EdgeKind) (a x : Place) (l m : Listing) → Makes l → linked kind a x l ≡ Ok m → Makes m
   makes_linked kind a x l m p h = makes_positioned (λ i. event.Link kind i a.identifier x.identifier) (λ i. tt) l m p h
@@ -111,18 +113,22 @@ module _ (Q : ℕ → Type 0) where
   makes_mutated : (i : InstructionId) (o : EvaluationOrder) (x : Place) (t : Bool) (k : MutationKind)
       (r : Option MutationReason) (l m : Listing) → Makes l → mutated i o x t k r l ≡ Ok m → Makes m
   makes_mutated i o x t k r l m p h =
-      let more : ℕ → Listing = λ after. record l
-          { next = after; mutations = l.mutations
-          ++ record { index = l.next; instruction = i; order = o; place = x; transitive = t; kind = k; reason = r }
-          ∷ [] } in
+      let more : ℕ → Listing = λ after. record l {
+        next = after;
+        mutations = l.mutations
+            ++ record { index = l.next; instruction = i; order = o; place = x; transitive = t; kind = k; reason = r }
+            ∷ [];
+      } in
       let w = went_on (position_after l.next) (λ after. Ok (more after)) m h in
       same (more w.0) m (record { events = p.events; pending = p.pending }) w.2
 
   makes_rendered : (i : InstructionId) (x : Place) (l m : Listing) → Makes l → rendered i x l ≡ Ok m → Makes m
   makes_rendered i x l m p h =
-      let more : ℕ → Listing = λ after. record l
-          { next = after; renders = l.renders ++ record { index = l.next; instruction = i; place = x } ∷ [];
-          summary = l.summary ++ effect.Render x ∷ [] } in
+      let more : ℕ → Listing = λ after. record l {
+        next = after;
+        renders = l.renders ++ record { index = l.next; instruction = i; place = x } ∷ [];
+        summary = l.summary ++ effect.Render x ∷ [];
+      } in
       let w = went_on (position_after l.next) (λ after. Ok (more after)) m h in
       same (more w.0) m (record { events = p.events; pending = p.pending }) w.2
 
@@ -194,8 +200,10 @@ module _ (Q : ℕ → Type 0) where
   makes_added : (b : Bool) (k : ℕ) (e : GraphEvent) (l : Listing) → EventMakes e → Makes l
       → Makes (if b then with_event e l else record l { pending = pending_more l.pending k e })
   makes_added true k e l q p = makes_event e l q p
-  makes_added false k e l q p = record { events = p.events;
-      pending = pending_makes l.pending k e (slice_get l.pending k) p.pending q refl }
+  makes_added false k e l q p = record {
+    events = p.events;
+    pending = pending_makes l.pending k e (slice_get l.pending k) p.pending q refl;
+  }
 
   makes_added_or_pending : (k : ℕ) (o : Option ℕ) (e : GraphEvent) (l : Listing) → EventMakes e → Makes l
       → Makes (added_or_pending k o e l)
@@ -206,17 +214,17 @@ module _ (Q : ℕ → Type 0) where
       → Unit {0} → Makes l → operand_listed blocks k x e l ≡ Ok m → Makes m
   makes_operand blocks k x e l m u p h =
       let more : ℕ → Listing = λ after. added_or_pending k (slot_of_block blocks e.0) (link_of l.next e.1 x)
-          (record l { next = after }) in
+      (record l { next = after }) in
       let w = went_on (position_after l.next) (λ after. Ok (more after)) m h in
       same (more w.0) m (makes_added_or_pending k (slot_of_block blocks e.0) (link_of l.next e.1 x)
-          (record l { next = w.0 }) tt (record { events = p.events; pending = p.pending })) w.2
+      (record l { next = w.0 }) tt (record { events = p.events; pending = p.pending })) w.2
 
   makes_phi : (blocks : List (BlockId × BasicBlock)) (k : ℕ) (phi : Phi) (l m : Listing) → PhiMakes phi → Makes l
       → phi_listed blocks k phi l ≡ Ok m → Makes m
   makes_phi blocks k phi l m q p h =
       each_keeps Makes (λ _. Unit {0}) (operand_listed blocks k phi.place) (makes_operand blocks k phi.place)
-          phi.operands (made PhiNode phi.place l) m (all_unit phi.operands)
-          (makes_event (event.Make phi.place.identifier PhiNode) l q p) h
+      phi.operands (made PhiNode phi.place l) m (all_unit phi.operands)
+      (makes_event (event.Make phi.place.identifier PhiNode) l q p) h
 
   makes_returns : (returns : Place) (t : Terminal) (l m : Listing) → Makes l → returns_listed returns t l ≡ Ok m
       → Makes m
@@ -240,8 +248,11 @@ module _ (Q : ℕ → Type 0) where
       → Makes m
   makes_end returns k t l m p h =
       let added : Makes (with_pending k l) =
-          record { events = all_append EventMakes l.events (pending_at l.pending k) p.events
-          (pending_at_makes l.pending k (slice_get l.pending k) p.pending refl); pending = p.pending } in
+      record {
+        events = all_append EventMakes l.events (pending_at l.pending k) p.events
+            (pending_at_makes l.pending k (slice_get l.pending k) p.pending refl);
+        pending = p.pending;
+      } in
       let w = went_on (returns_listed returns t (with_pending k l)) (λ r. aliases_in (terminal_effects t) r) m h in
       makes_aliases (terminal_effects t) w.0 m (makes_returns returns t (with_pending k l) w.0 added w.1) w.2
 
@@ -250,14 +261,14 @@ module _ (Q : ℕ → Type 0) where
       → Makes m
   makes_block f q k b l m phis p h =
       let v = went_on (each (phi_listed f.body.blocks k) b.phis l)
-          (λ z. each (instruction_listed f.instructions) b.instructions z
-          >>= (λ y. end_listed f.returns k b.terminal y)) m h in
+      (λ z. each (instruction_listed f.instructions) b.instructions z
+      >>= (λ y. end_listed f.returns k b.terminal y)) m h in
       let w = went_on (each (instruction_listed f.instructions) b.instructions v.0)
-          (λ y. end_listed f.returns k b.terminal y) m v.2 in
+      (λ y. end_listed f.returns k b.terminal y) m v.2 in
       let first : Makes v.0 = each_keeps Makes PhiMakes (phi_listed f.body.blocks k) (makes_phi f.body.blocks k) b.phis
-          l v.0 phis p v.1 in
+      l v.0 phis p v.1 in
       let second : Makes w.0 = each_keeps Makes (λ _. Unit {0}) (instruction_listed f.instructions)
-          (makes_instruction f.instructions q) b.instructions v.0 w.0 (all_unit b.instructions) first w.1 in
+      (makes_instruction f.instructions q) b.instructions v.0 w.0 (all_unit b.instructions) first w.1 in
       makes_end f.returns k b.terminal w.0 m second w.2
 
   makes_blocks : (f : HirFunction) → AllOf (λ (i : Instruction). EffectsMake i.effects) f.instructions
@@ -281,10 +292,10 @@ module _ (Q : ℕ → Type 0) where
   first_makes f fit = record {
     events =
         all_append EventMakes (map (λ p. object_of (param_place p)) f.params ++ map object_of f.context)
-            (object_of f.returns ∷ [])
+        (object_of f.returns ∷ [])
         (all_append EventMakes (map (λ p. object_of (param_place p)) f.params) (map object_of f.context)
-            (all_mapped EventMakes (λ p. object_of (param_place p)) f.params fit.params)
-            (all_mapped EventMakes object_of f.context fit.context)) (fit.returns, tt);
+        (all_mapped EventMakes (λ p. object_of (param_place p)) f.params fit.params)
+        (all_mapped EventMakes object_of f.context fit.context)) (fit.returns, tt);
     pending = nothing_makes (length f.body.blocks);
   }
 
@@ -315,12 +326,12 @@ module _ (Q : ℕ → Type 0) where
       → Legal (graph_listed l) index start e → Q e.id.0
   legal_named f l index start e fit is legal =
       let p : Makes l = makes_blocks f fit.effects 0 f.body.blocks (first_listing f) l fit.phis (first_makes f fit)
-          is in
+      is in
       let there = legal_exists (graph_listed l) index start e legal in
       let S : Option Node → Type 0 = λ z. IsTrue (is_some z) in
       let made : IsTrue (was_made e.id (events_of l.events)) =
-          when_some (was_made e.id (events_of l.events)) (remaining_node (events_of l.events) e.id)
-          (subst S (graph_is_remaining (events_of l.events) e.id) there) in
+      when_some (was_made e.id (events_of l.events)) (remaining_node (events_of l.events) e.id)
+      (subst S (graph_is_remaining (events_of l.events) e.id) there) in
       made_has l.events e.id p.events made
 
   -- an end that changed has a cause, and so the identifier is named
@@ -329,5 +340,5 @@ module _ (Q : ℕ → Type 0) where
   ends_named f l old new fit is causes k =
       ⊎_elim (λ same. inl same)
       (λ cause. inr (⊎_elim (λ m. subst Q m.3 (legal_named f l m.0.index (mutation_entry m.0) m.2 fit is m.4))
-          (λ i. fit.written i.0 i.1 k i.2) cause))
+      (λ i. fit.written i.0 i.1 k i.2) cause))
       (causes k)

@@ -5,8 +5,8 @@ use Rattle.std.specs.Option.{option_map_or}
 use Rattle.std.proofs.Common.{⊎_elim, sym, subst}
 use Rattle.alias_base.specs.declared.ids.BlockId.{BlockId}
 use Rattle.alias_base.specs.declared.ids.FunctionId.{FunctionId}
-use Rattle.alias_hir.specs.Parts.{param_place, optional_place, property_places, target_places, pattern_places,
-    places_in_pattern}
+use Rattle.alias_hir.specs.Parts.{param_place, optional_place, property_places, target_places, pattern_places}
+use Rattle.alias_hir.specs.Parts.{places_in_pattern}
 use Rattle.alias_hir.specs.Terminals.{terminal_places}
 use Rattle.alias_hir.specs.Values.{places_of, created}
 use Rattle.alias_hir.specs.declared.env.Environment.{Environment}
@@ -83,17 +83,17 @@ module _ (P : ℕ → Type 0) where
     created_owned None h = tt
     created_owned (Some f) h =
         let there : AllByRecursion P (context_at env f.0) =
-            subst (AllByRecursion P) (context_places (slice_get env.functions f.0))
-            (numbers_owned (created_places env (Some f)) h) in
+        subst (AllByRecursion P) (context_places (slice_get env.functions f.0))
+        (numbers_owned (created_places env (Some f)) h) in
         by_numbers (created_places more (Some f))
         (subst (AllByRecursion P) (sym (context_places (slice_get more.functions f.0)))
-            (all_there P (context_at more f.0) (λ x m. one_there P (context_at env f.0) x there (less f.0 x m))))
+        (all_there P (context_at more f.0) (λ x m. one_there P (context_at env f.0) x there (less f.0 x m))))
 
     instruction_owned : (i : Instruction) → AllOwned (instruction_places env i) → AllOwned (instruction_places more i)
     instruction_owned i h =
         let b = parts_of Owned (i.lvalue ∷ created_places env (created i.value)) (places_of i.value) h in
         all_appended Owned (i.lvalue ∷ created_places more (created i.value)) (places_of i.value)
-            (b.0.0, created_owned (created i.value) b.0.1) b.1
+        (b.0.0, created_owned (created i.value) b.0.1) b.1
 
     instructions_owned : (is : List Instruction) → AllOwned (flat_map (instruction_places env) is)
         → AllOwned (flat_map (instruction_places more) is)
@@ -101,21 +101,21 @@ module _ (P : ℕ → Type 0) where
     instructions_owned (i ∷ is) h =
         let b = parts_of Owned (instruction_places env i) (flat_map (instruction_places env) is) h in
         all_appended Owned (instruction_places more i) (flat_map (instruction_places more) is) (instruction_owned i b.0)
-            (instructions_owned is b.1)
+        (instructions_owned is b.1)
 
     -- over an environment whose contexts name less
     pub owned_across : (f : HirFunction) → AllOwned (places_in env f) → AllOwned (places_in more f)
     owned_across f h =
         let blocks = flat_map (λ (e : BlockId × BasicBlock). block_places e.1) f.body.blocks in
         let b = parts_of Owned (map param_place f.params ++ f.context ++ f.returns
-            ∷ flat_map (instruction_places env) f.instructions) blocks h in
+        ∷ flat_map (instruction_places env) f.instructions) blocks h in
         let d = parts_of Owned (map param_place f.params ++ f.context)
-            (f.returns ∷ flat_map (instruction_places env) f.instructions) b.0 in
+        (f.returns ∷ flat_map (instruction_places env) f.instructions) b.0 in
         all_appended Owned (map param_place f.params ++ f.context ++ f.returns
-            ∷ flat_map (instruction_places more) f.instructions) blocks
+        ∷ flat_map (instruction_places more) f.instructions) blocks
         (all_appended Owned (map param_place f.params ++ f.context)
-            (f.returns ∷ flat_map (instruction_places more) f.instructions) d.0
-            (d.1.0, instructions_owned f.instructions d.1.1)) b.1
+        (f.returns ∷ flat_map (instruction_places more) f.instructions) d.0
+        (d.1.0, instructions_owned f.instructions d.1.1)) b.1
 
   -- ---- what instructions assign and store
 
@@ -152,9 +152,9 @@ module _ (P : ℕ → Type 0) where
   written_owned i k l h w =
       ⊎_elim
       (λ a. one_of_all P (numbers_of (i.lvalue ∷ lvalues_of i.value)) k
-          (l, numbers_owned (lvalues_of i.value) (lvalues_owned i.value h)) a)
+      (l, numbers_owned (lvalues_of i.value) (lvalues_owned i.value h)) a)
       (λ b. one_of_all P (numbers_of (stored_places i.value)) k
-          (numbers_owned (stored_places i.value) (stored_owned i.value h)) b)
+      (numbers_owned (stored_places i.value) (stored_owned i.value h)) b)
       (in_either (numbers_of (i.lvalue ∷ lvalues_of i.value)) (numbers_of (stored_places i.value)) k w)
 
   -- ---- what the range pass makes nodes of
@@ -173,9 +173,10 @@ module _ (P : ℕ → Type 0) where
       → AllOf (λ (b : BlockId × BasicBlock). AllOf (PhiMakes P) b.1.phis) bs
   blocks_owned [] h = tt
   blocks_owned (b ∷ bs) h =
-      let d = parts_of Owned (block_places b.1) (flat_map (λ (e : BlockId × BasicBlock). block_places e.1) bs) h in
-      (phis_owned b.1.phis (parts_of Owned (flat_map phi_places b.1.phis) (terminal_places b.1.terminal) d.0).0,
-          blocks_owned bs d.1)
+      let d = parts_of Owned (block_places b.1) (flat_map (λ (e : BlockId × BasicBlock). block_places e.1) bs) h in (
+        phis_owned b.1.phis (parts_of Owned (flat_map phi_places b.1.phis) (terminal_places b.1.terminal) d.0).0,
+        blocks_owned bs d.1,
+      )
 
   -- the instruction's places, but for those of a function that it creates
   abbrev InstructionOwned : Instruction → Type 0
@@ -186,14 +187,14 @@ module _ (P : ℕ → Type 0) where
   makes_owned env f h effects =
       let blocks = flat_map (λ (e : BlockId × BasicBlock). block_places e.1) f.body.blocks in
       let b = parts_of Owned (map param_place f.params ++ f.context ++ f.returns
-          ∷ flat_map (instruction_places env) f.instructions) blocks h in
+      ∷ flat_map (instruction_places env) f.instructions) blocks h in
       let d = parts_of Owned (map param_place f.params ++ f.context)
-          (f.returns ∷ flat_map (instruction_places env) f.instructions) b.0 in
+      (f.returns ∷ flat_map (instruction_places env) f.instructions) b.0 in
       let e = parts_of Owned (map param_place f.params) f.context d.0 in
       let is : AllByRecursion InstructionOwned f.instructions
       = all_on (λ (i : Instruction). AllOwned (instruction_places env i)) InstructionOwned
       (λ i a. let c = parts_of Owned (i.lvalue ∷ created_places env (created i.value)) (places_of i.value) a in
-          (c.0.0, c.1)) f.instructions
+      (c.0.0, c.1)) f.instructions
       (each_of Owned (instruction_places env) f.instructions d.1.1) in
       record {
         params = params_owned f.params e.0;

@@ -40,7 +40,7 @@ CoversOwn f g ms ids = (m : RecordedMutation) → IsOneOf m ms → (e : Entry) �
 abbrev pub EndsPastOwnWrites : HirFunction → List Identifier → Type 0
 EndsPastOwnWrites f ids =
     (m : Moment f) (o : Object) → Writes (history_at m) m.next o → (y : IdentifierId) → Reaches (history_at m) y o
-        → IsNoContext f y → m.order.0 < end_at ids y.0
+    → IsNoContext f y → m.order.0 < end_at ids y.0
 
 -- that holds of a forward function that makes each place at most once, and before another is aliased into it
 abbrev pub CoversOwnHeap : HirFunction → List Identifier → Type 0
@@ -53,7 +53,7 @@ abbrev pub CausesOwn : HirFunction → Nodes → List RecordedMutation → Envir
 CausesOwn f g ms env =
     (id : IdentifierId) → stands_in env f id ≡ true → IsNoContext f id
     → (end_at env.identifiers id.0 ≡ 0) ⊎ (MutationCause g ms id.0 (end_at env.identifiers id.0)
-        ⊎ InstructionCause f.instructions id.0 (end_at env.identifiers id.0))
+    ⊎ InstructionCause f.instructions id.0 (end_at env.identifiers id.0))
 
 -- What holds of a nested function, as its range pass begins, in the unit that is handed out: of range ends but for
 -- context places, and of the summary
@@ -68,4 +68,4 @@ pub record NestedRanged (f : HirFunction) (env : Environment) (slot : Option Hir
 abbrev pub NestedAreRanged : UnitAnalysis → Type 0
 NestedAreRanged a =
     (x : Analysed) (id : FunctionId) → IsOneOf x a.functions → x.solved.function ≡ Some id
-        → NestedRanged (with_effects x) a.inferred.unit.env (slice_get a.inferred.unit.env.functions id.0)
+    → NestedRanged (with_effects x) a.inferred.unit.env (slice_get a.inferred.unit.env.functions id.0)

@@ -1,6 +1,6 @@
 -- The check of a function from its parts, in order.
-use Rattle.std.proofs.Common.{◌≡◌, ℕ, Bool, true, false, if◌then◌else◌, List, length, replicate, Option, None, Result,
-    Ok, Err, ap, sym, ◌∙◌, subst}
+use Rattle.std.proofs.Common.{◌≡◌, ℕ, Bool, true, false, if◌then◌else◌, List, length, replicate, Option, None, Result}
+use Rattle.std.proofs.Common.{Ok, Err, ap, sym, ◌∙◌, subst}
 use Rattle.std.specs.Prelude.{⊤}
 use Rattle.alias_base.specs.Answer.{◌>>=◌, Gives}
 use Rattle.alias_base.specs.declared.ids.FunctionId.{FunctionId}
@@ -24,15 +24,15 @@ use Rattle.alias_cert.specs.declared.function.claims.Difference.{Difference}
 use Rattle.alias_cert.specs.function.Blocks.{are_lines}
 use Rattle.alias_cert.specs.function.Claims.{differs}
 use Rattle.alias_cert.specs.function.Faults.{is_memory, unsolved_fault, faulted}
-use Rattle.alias_cert.specs.function.Functions.{flow_rules, marks, numbers, entries_checked, steps_checked, checked_end,
-    function_solved}
+use Rattle.alias_cert.specs.function.Functions.{flow_rules, marks, numbers, entries_checked, steps_checked, checked_end}
+use Rattle.alias_cert.specs.function.Functions.{function_solved}
 use Rattle.alias_cert.specs.function.Temporaries.{temporaries_stated}
 
 -- what a check of entry states finds is what is stated, unless memory was wanting
 pub found_is : {A : Type 0} (B : Type 0) (function : Option FunctionId) (env : Environment) (blocks : Blocks)
     (stated : Result A (Unsolved BlockRefusal Difference)) (e : Unsolved BlockRefusal Difference) (w : A)
     → ChecksInto {B = B} (λ c. c) stated (Err e) w → is_memory (unsolved_fault function env blocks e) ≡ false → stated
-        ≡ Err e
+    ≡ Err e
 found_is B function env blocks stated unsolved.Initial w h m = h
 found_is B function env blocks stated (unsolved.Step b c) w h m = h
 found_is B function env blocks stated (unsolved.Differs b d) w h m = h
@@ -45,10 +45,10 @@ pub fault_is : {A : Type 0} (B : Type 0) (function : Option FunctionId) (env : E
     (stated : Result A (Unsolved BlockRefusal Difference)) (u : Unsolved BlockRefusal Difference) (e : CheckFault)
     (w : A)
     → ChecksInto {B = B} (λ c. c) stated (Err u) w → (is_memory e ≡ false → e ≡ unsolved_fault function env blocks u)
-        → is_memory e ≡ false → faulted function env blocks stated ≡ Err e
+    → is_memory e ≡ false → faulted function env blocks stated ≡ Err e
 fault_is B function env blocks stated u e w h is m =
     ap (faulted function env blocks) (found_is B function env blocks stated u w h
-        (subst (λ z. is_memory z ≡ false) (is m) m)) ∙ ap Err (sym (is m))
+    (subst (λ z. is_memory z ≡ false) (is m) m)) ∙ ap Err (sym (is m))
 
 -- a result that is a fault gives it
 pub gives_fault : {A : Type 0} (stated : Result A CheckFault) (x : Result A CheckFault) (e : CheckFault) → x ≡ Err e
@@ -80,8 +80,8 @@ module _ (c : CertFunction) (env : Environment) (f : HirFunction) (is_function_e
       → Result (Arriving State TableLists BlockEffects) (Unsolved BlockRefusal Difference)
   solution_said entries tables =
       solution_checked state_join state_below (flow_rules c env f is_function_expression)
-          (differs c.blocks (numbers c env f is_function_expression) (length c.temporaries)) entries tables
-          (replicate (length f.body.blocks) None)
+      (differs c.blocks (numbers c env f is_function_expression) (length c.temporaries)) entries tables
+      (replicate (length f.body.blocks) None)
 
   pub lines_fail : are_lines c.blocks f.body.blocks (marks c env f is_function_expression) ≡ false
       → function_solved c env f is_function_expression ≡ Err (fault.Blocks c.function)
@@ -136,21 +136,21 @@ module _ (c : CertFunction) (env : Environment) (f : HirFunction) (is_function_e
   pub steps_at : (entries : List (Option State)) (tables t : TableLists)
       (r : Rules State TableLists BlockEffects BlockRefusal) (ns : List (Option ℕ)) (k : List (Option BlockEffects))
       → r ≡ flow_rules c env f is_function_expression → ns ≡ numbers c env f is_function_expression → t ≡ tables → k
-          ≡ replicate (length f.body.blocks) None
+      ≡ replicate (length f.body.blocks) None
       → faulted c.function env f.body.blocks
-          (solution_checked state_join state_below r (differs c.blocks ns (length c.temporaries)) entries t k)
-          ≡ steps_checked c env f is_function_expression entries tables
+      (solution_checked state_join state_below r (differs c.blocks ns (length c.temporaries)) entries t k)
+      ≡ steps_checked c env f is_function_expression entries tables
   steps_at entries tables t r ns k rules_are numbers_are tables_are recorded_are =
       ap (λ z. faulted c.function env f.body.blocks
-          (solution_checked state_join state_below z (differs c.blocks ns (length c.temporaries)) entries t k))
-          rules_are
+      (solution_checked state_join state_below z (differs c.blocks ns (length c.temporaries)) entries t k))
+      rules_are
       ∙ ap (λ z. faulted c.function env f.body.blocks
-          (solution_checked state_join state_below (flow_rules c env f is_function_expression)
-          (differs c.blocks z (length c.temporaries)) entries t k)) numbers_are
+      (solution_checked state_join state_below (flow_rules c env f is_function_expression)
+      (differs c.blocks z (length c.temporaries)) entries t k)) numbers_are
       ∙ ap (λ z. faulted c.function env f.body.blocks
-          (solution_checked state_join state_below (flow_rules c env f is_function_expression)
-          (differs c.blocks (numbers c env f is_function_expression) (length c.temporaries)) entries z k)) tables_are
+      (solution_checked state_join state_below (flow_rules c env f is_function_expression)
+      (differs c.blocks (numbers c env f is_function_expression) (length c.temporaries)) entries z k)) tables_are
       ∙ ap (λ z. faulted c.function env f.body.blocks
-          (solution_checked state_join state_below (flow_rules c env f is_function_expression)
-          (differs c.blocks (numbers c env f is_function_expression) (length c.temporaries)) entries tables z))
-          recorded_are
+      (solution_checked state_join state_below (flow_rules c env f is_function_expression)
+      (differs c.blocks (numbers c env f is_function_expression) (length c.temporaries)) entries tables z))
+      recorded_are

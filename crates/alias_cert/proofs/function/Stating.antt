@@ -1,6 +1,6 @@
 -- Where there is an entry state, its block is marked.
-use Rattle.std.proofs.Common.{◌≡◌, ℕ, ◌+◌, zero, suc, Bool, true, false, List, [], ◌∷◌, ◌++◌, length, get_or, Option,
-    Some, None, Result, Ok, Err, refl, ap, sym, ◌∙◌, append_assoc, append-nil, arith}
+use Rattle.std.proofs.Common.{◌≡◌, ℕ, ◌+◌, zero, suc, Bool, true, false, List, [], ◌∷◌, ◌++◌, length, get_or, Option}
+use Rattle.std.proofs.Common.{Some, None, Result, Ok, Err, refl, ap, sym, ◌∙◌, append_assoc, append-nil, arith}
 use Rattle.alias_base.specs.Answer.{◌>>=◌}
 use Rattle.alias_base.specs.declared.ids.FunctionId.{FunctionId}
 use Rattle.alias_lattice.specs.States.{State}
@@ -34,8 +34,12 @@ module _ (function : Option FunctionId) (identifiers : ℕ) (created : List Func
     pub lined : (b : ℕ) (s : State) → entry_at more b ≡ Some s → (k : ℕ) × (entry_at numbers b ≡ Some k)
 
   none_stated : (done entries : List (Option State)) → done ≡ entries → AreStated done [] entries
-  none_stated done entries same = record { more = []; is = sym same ∙ sym (append-nil done); long = refl;
-      lined = λ b s h. cc }
+  none_stated done entries same = record {
+    more = [];
+    is = sym same ∙ sym (append-nil done);
+    long = refl;
+    lined = λ b s h. cc;
+  }
 
   no_error : {A : Type 0} (e : CheckFault) (x : A) {B : Type 0} → Err e ≡ Ok x → B
   no_error e x h = cc
@@ -43,7 +47,7 @@ module _ (function : Option FunctionId) (identifiers : ℕ) (created : List Func
   one_lined : (n : Option ℕ) (e : Option State) (numbers : List (Option ℕ)) (more : List (Option State))
       → entry_stated function identifiers created lines n ≡ Ok e
       → ((b : ℕ) (s : State) → entry_at more b ≡ Some s → (k : ℕ) × (entry_at numbers b ≡ Some k)) → (b : ℕ) (s : State)
-          → entry_at (e ∷ more) b ≡ Some s → (k : ℕ) × (entry_at (n ∷ numbers) b ≡ Some k)
+      → entry_at (e ∷ more) b ≡ Some s → (k : ℕ) × (entry_at (n ∷ numbers) b ≡ Some k)
   one_lined None e numbers more is lined zero s h = let two : None ≡ Some s = let none : None ≡ e = cc in none ∙ h in cc
   one_lined (Some k) e numbers more is lined zero s h = (k, refl)
   one_lined n e numbers more is lined (suc b) s h = lined b s h
@@ -52,7 +56,7 @@ module _ (function : Option FunctionId) (identifiers : ℕ) (created : List Func
       (r : Result (Option State) CheckFault) → entry_stated function identifiers created lines n ≡ r
       → (r >>= (λ e. entries_stated function identifiers created lines (done ++ e ∷ []) numbers)) ≡ Ok entries
       → ((e : Option State) → entries_stated function identifiers created lines (done ++ e ∷ []) numbers ≡ Ok entries
-          → AreStated (done ++ e ∷ []) numbers entries) → AreStated done (n ∷ numbers) entries
+      → AreStated (done ++ e ∷ []) numbers entries) → AreStated done (n ∷ numbers) entries
   one_stated done n numbers entries (Err e) is h next = no_error e entries h
   one_stated done n numbers entries (Ok e) is h next =
       let r = next e h in
@@ -68,4 +72,4 @@ module _ (function : Option FunctionId) (identifiers : ℕ) (created : List Func
   are_stated done [] entries h = none_stated done entries cc
   are_stated done (n ∷ numbers) entries h =
       one_stated done n numbers entries (entry_stated function identifiers created lines n) refl h
-          (λ e k. are_stated (done ++ e ∷ []) numbers entries k)
+      (λ e k. are_stated (done ++ e ∷ []) numbers entries k)

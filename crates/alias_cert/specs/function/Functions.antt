@@ -1,6 +1,6 @@
 -- What a certificate says of a function, checked: the first fault, or what is handed out of the function.
-use Rattle.std.specs.Prelude.{ℕ, ◌+◌, Bool, true, false, if◌then◌else◌, List, [], ◌∷◌, length, replicate, Option, None,
-    Result, Ok, Err, ⊤}
+use Rattle.std.specs.Prelude.{ℕ, ◌+◌, Bool, true, false, if◌then◌else◌, List, [], ◌∷◌, length, replicate, Option, None}
+use Rattle.std.specs.Prelude.{Result, Ok, Err, ⊤}
 use Rattle.alias_base.specs.Answer.{◌>>=◌}
 use Rattle.alias_hir.specs.declared.env.Environment.{Environment}
 use Rattle.alias_hir.specs.declared.hir.HirFunction.{HirFunction}
@@ -58,14 +58,16 @@ module _ (c : CertFunction) (env : Environment) (f : HirFunction) (is_function_e
       → Result (Arriving State TableLists BlockEffects) CheckFault
   steps_checked entries tables =
       faulted c.function env f.body.blocks (solution_checked state_join state_below flow_rules
-          (differs c.blocks numbers (length c.temporaries)) entries tables (replicate (length f.body.blocks) None))
+      (differs c.blocks numbers (length c.temporaries)) entries tables (replicate (length f.body.blocks) None))
 
   -- what is handed out: these entry states, with what the check comes to; the visits are the reached blocks in stored
   -- order
   abbrev pub checked_end : List (Option State) → Arriving State TableLists BlockEffects → PassEnd
-  checked_end entries w = end_of f (record
-      { progress = record { visits = marked_positions 0 marks; joined_input = entries; last_input = [] };
-      tables = w.tables; recorded = w.recorded })
+  checked_end entries w = end_of f (record {
+    progress = record { visits = marked_positions 0 marks; joined_input = entries; last_input = [] };
+    tables = w.tables;
+    recorded = w.recorded;
+  })
 
   abbrev pub function_solved : Result PassEnd CheckFault
   function_solved = do

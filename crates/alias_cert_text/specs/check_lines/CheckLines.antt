@@ -7,8 +7,9 @@ use Rattle.alias_hir.specs.declared.error.Counter.{Counter}
 use Rattle.alias_text.specs.Lines.{spaced}
 use Rattle.alias_text.specs.Refusals.{counter_word, last_word, spaced_function}
 use Rattle.alias_certificate.specs.declared.fault.CheckFault.{CheckFault}
-use Rattle.alias_certificate.specs.declared.fault.CheckFault.TheVariants.{Functions, Blocks, State, Temporaries,
-    Initial, Step, MissingTemporary, Effects, NotBelow, NotJoin, Summary, TooMany, Memory}
+use Rattle.alias_certificate.specs.declared.fault.CheckFault.TheVariants.{Functions, Blocks, State, Temporaries}
+use Rattle.alias_certificate.specs.declared.fault.CheckFault.TheVariants.{Initial, Step, MissingTemporary, Effects}
+use Rattle.alias_certificate.specs.declared.fault.CheckFault.TheVariants.{NotBelow, NotJoin, Summary, TooMany, Memory}
 
 -- the number of the fault, and then the function and the block where it is
 abbrev pub head_text : ℕ → List ℕ

@@ -1,6 +1,6 @@
 -- The step of each effect but calls repeats, whatever interned effects and reports there are.
-use Rattle.std.specs.Prelude.{◌≡◌, ◌||◌, refl, Bool, true, false, List, [], ◌∷◌, ◌++◌, Option, None, Some,
-    if◌then◌else◌}
+use Rattle.std.specs.Prelude.{◌≡◌, ◌||◌, refl, Bool, true, false, List, [], ◌∷◌, ◌++◌, Option, None, Some}
+use Rattle.std.specs.Prelude.{if◌then◌else◌}
 use Rattle.std.proofs.Common.{ap, sym, ◌∙◌, subst}
 use Rattle.std.specs.List.{list_any}
 use Rattle.alias_base.specs.declared.ids.FunctionId.{FunctionId}
@@ -8,8 +8,8 @@ use Rattle.alias_base.specs.declared.ids.IdentifierId.{IdentifierId}
 use Rattle.alias_hir.specs.declared.effect.AliasingEffect.{AliasingEffect}
 use Rattle.alias_hir.specs.declared.effect.AliasingEffect.TheVariants as effect
 use Rattle.alias_hir.specs.declared.effect.ValueKind.{ValueKind}
-use Rattle.alias_hir.specs.declared.effect.ValueKind.TheVariants.{Primitive, Global, Frozen, Mutable, Context,
-    MaybeFrozen}
+use Rattle.alias_hir.specs.declared.effect.ValueKind.TheVariants.{Primitive, Global, Frozen, Mutable, Context}
+use Rattle.alias_hir.specs.declared.effect.ValueKind.TheVariants.{MaybeFrozen}
 use Rattle.alias_hir.specs.declared.effect.ValueReason.{ValueReason}
 use Rattle.alias_hir.specs.declared.place.Place.{Place}
 use Rattle.alias_hir.specs.declared.place.Span.{Span}
@@ -19,8 +19,8 @@ use Rattle.alias_lattice.specs.declared.lookup.MissingLookup.{MissingLookup}
 use Rattle.alias_lattice.specs.declared.site.Site.TheVariants.{AssignFrozen, AssignCopy, Created, CreatedFrom, Function}
 use Rattle.alias_lattice.specs.declared.value.AbstractValue.{AbstractValue}
 use Rattle.alias_lattice.specs.Reasons.{primary_reason}
-use Rattle.alias_lattice.specs.States.{State, Sites, lookup, given, assigned, frozen, does_freeze, sites_of, missing_at,
-    missing_lookup}
+use Rattle.alias_lattice.specs.States.{State, Sites, lookup, given, assigned, frozen, does_freeze, sites_of, missing_at}
+use Rattle.alias_lattice.specs.States.{missing_lookup}
 use Rattle.alias_apply.specs.freezing.Contexts.{context_of}
 use Rattle.alias_apply.specs.freezing.Transitive.{place_frozen_transitively}
 use Rattle.alias_tables.specs.Steps.{◌>>=◌, gives}
@@ -30,28 +30,32 @@ use Rattle.alias_tables.specs.declared.temporaries.Temporary.{Temporary}
 use Rattle.alias_apply.specs.declared.progress.StepProgress.{StepProgress}
 use Rattle.alias_apply.specs.Contexts.{StepContext, hoisted_access, summary_of}
 use Rattle.alias_apply.specs.Kinds.{is_constant, is_frozen, is_writable, may_be_frozen, captures, may_alias, value_with}
-use Rattle.alias_apply.specs.Progress.{kind_at, is_made, made, first_missing, looked_up, looked_up_at,
-    looked_up_with_span, record_of, with_state}
-use Rattle.alias_apply.specs.Leaves.{apply_leaf, intern_and_apply_leaf, apply_maybe_alias, apply_aliasing,
-    intern_and_apply_aliasing}
-use Rattle.alias_apply.specs.Values.{apply_create, record_create_from, apply_create_from, assign_value, apply_assign,
-    apply_link, apply_alias}
-use Rattle.alias_apply.specs.Mutation.{intern_and_apply_mutate_frozen, intern_and_apply_mutate_global, report_write,
-    report_hoisted_write, record_mutation, apply_mutate, apply_mutate_conditionally, apply_freeze, freezes_on}
-use Rattle.alias_apply.specs.Apply.{apply_simple, intern_and_apply_simple, is_read_capture, note_read_capture,
-    is_mutable_capture, has_error, is_mutable_function, function_value, capture_each, apply_create_function,
-    apply_plain, intern_and_apply_plain, intern_and_apply_all_plain}
-use Rattle.alias_certificate_laws.specs.accepting.Alike.{Paired, none, more, moved, AlikePlace, at, AlikePlaces, Alike,
-    apply, create_from, immutable_capture, assign, alias, capture, maybe_alias, create, freeze, impure, mutate_frozen,
-    mutate_global, render, mutate, mutate_conditionally, mutate_transitive, mutate_transitive_conditionally,
-    create_function, AlikeEffects, AlikeLookup, there, missing, AlikeProgress, like, IsFull, Repeats, Elsewhere,
-    elsewhere}
-use Rattle.alias_certificate_laws.proofs.accepting.Elsewhere.{other, same_has_error, summary_elsewhere,
-    context_elsewhere, contexts_elsewhere}
+use Rattle.alias_apply.specs.Progress.{kind_at, is_made, made, first_missing, looked_up, looked_up_at}
+use Rattle.alias_apply.specs.Progress.{looked_up_with_span, record_of, with_state}
+use Rattle.alias_apply.specs.Leaves.{apply_leaf, intern_and_apply_leaf, apply_maybe_alias, apply_aliasing}
+use Rattle.alias_apply.specs.Leaves.{intern_and_apply_aliasing}
+use Rattle.alias_apply.specs.Values.{apply_create, record_create_from, apply_create_from, assign_value, apply_assign}
+use Rattle.alias_apply.specs.Values.{apply_link, apply_alias}
+use Rattle.alias_apply.specs.Mutation.{intern_and_apply_mutate_frozen, intern_and_apply_mutate_global, report_write}
+use Rattle.alias_apply.specs.Mutation.{report_hoisted_write, record_mutation, apply_mutate, apply_mutate_conditionally}
+use Rattle.alias_apply.specs.Mutation.{apply_freeze, freezes_on}
+use Rattle.alias_apply.specs.Apply.{apply_simple, intern_and_apply_simple, is_read_capture, note_read_capture}
+use Rattle.alias_apply.specs.Apply.{is_mutable_capture, has_error, is_mutable_function, function_value, capture_each}
+use Rattle.alias_apply.specs.Apply.{apply_create_function, apply_plain, intern_and_apply_plain}
+use Rattle.alias_apply.specs.Apply.{intern_and_apply_all_plain}
+use Rattle.alias_certificate_laws.specs.accepting.Alike.{Paired, none, more, moved, AlikePlace, at, AlikePlaces, Alike}
+use Rattle.alias_certificate_laws.specs.accepting.Alike.{apply, create_from, immutable_capture, assign, alias, capture}
+use Rattle.alias_certificate_laws.specs.accepting.Alike.{maybe_alias, create, freeze, impure, mutate_frozen}
+use Rattle.alias_certificate_laws.specs.accepting.Alike.{mutate_global, render, mutate, mutate_conditionally}
+use Rattle.alias_certificate_laws.specs.accepting.Alike.{mutate_transitive, mutate_transitive_conditionally}
+use Rattle.alias_certificate_laws.specs.accepting.Alike.{create_function, AlikeEffects, AlikeLookup, there, missing}
+use Rattle.alias_certificate_laws.specs.accepting.Alike.{AlikeProgress, like, IsFull, Repeats, Elsewhere, elsewhere}
+use Rattle.alias_certificate_laws.proofs.accepting.Elsewhere.{other, same_has_error, summary_elsewhere}
+use Rattle.alias_certificate_laws.proofs.accepting.Elsewhere.{context_elsewhere, contexts_elsewhere}
 use Rattle.alias_certificate_laws.proofs.accepting.Interning.{repeats_intern}
 use Rattle.alias_certificate_laws.proofs.accepting.Likeness.{paired_append, paired_self, alike_self, progress_self}
-use Rattle.alias_certificate_laws.proofs.accepting.Repeating.{repeats_gives, repeats_refuses, repeats_then, repeats_if,
-    repeats_each}
+use Rattle.alias_certificate_laws.proofs.accepting.Repeating.{repeats_gives, repeats_refuses, repeats_then, repeats_if}
+use Rattle.alias_certificate_laws.proofs.accepting.Repeating.{repeats_each}
 use Rattle.alias_certificate_laws.proofs.accepting.Tabling.{AnyNumber, repeats_report, repeats_noted}
 
 -- ---- parts of a step
@@ -74,8 +78,8 @@ pub looked_up_alike : (x : IdentifierId) (a b : Option Span) (s t : StepProgress
     → AlikeProgress (looked_up x a s) (looked_up x b t)
 looked_up_alike x a b s t (like u r m c l) =
     like (looked_up x a u) r (first_missing m (missing_lookup u.state x b)) c
-        (first_alike u.missing m (missing_lookup u.state x a) (missing_lookup u.state x b) l
-        (missing_alike (sites_of u.state x) x a b))
+    (first_alike u.missing m (missing_lookup u.state x a) (missing_lookup u.state x b) l
+    (missing_alike (sites_of u.state x) x a b))
 
 if_alike : (b : Bool) (s t u v : StepProgress) → AlikeProgress s t → AlikeProgress u v
     → AlikeProgress (if b then s else u) (if b then t else v)
@@ -87,7 +91,7 @@ leaf_alike : (e f : AliasingEffect) (s t : StepProgress) → Alike e f → Alike
 leaf_alike e f s t (immutable_capture a b x y) (like u r m c l) =
     if_alike (is_constant (kind_at a u)) _ _ _ _ (looked_up_alike a.identifier None None u _ (like u r m c l))
     (recorded_alike (effect.ImmutableCapture a x) (effect.ImmutableCapture (moved a b) (moved x y)) _ _
-        (immutable_capture a b x y) (looked_up_alike a.identifier None None u _ (like u r m c l)))
+    (immutable_capture a b x y) (looked_up_alike a.identifier None None u _ (like u r m c l)))
 leaf_alike e f s t (impure p q d g) a = recorded_alike _ _ s t (impure p q d g) a
 leaf_alike e f s t (mutate_frozen p q d g) a = recorded_alike _ _ s t (mutate_frozen p q d g) a
 leaf_alike e f s t (mutate_global p q d g) a = recorded_alike _ _ s t (mutate_global p q d g) a
@@ -115,7 +119,7 @@ module _ (c : StepContext) (o : Elsewhere c.env) where
   conditionally_alike e f v w s t b (like u r m a l) =
       let now = looked_up_alike v.identifier v.span w.span u _ (like u r m a l) in
       if_alike (is_ref_at c.env v.identifier) _ _ _ _ (like u r m a l)
-          (if_alike (is_writable (kind_at v u)) _ _ _ _ (recorded_alike e f _ _ b now) now)
+      (if_alike (is_writable (kind_at v u)) _ _ _ _ (recorded_alike e f _ _ b now) now)
 
   freeze_alike : (v w : Place) (r : ValueReason) (s t : StepProgress) → AlikeProgress s t
       → AlikeProgress (apply_freeze c v r s) (apply_freeze (other c o) (moved v w) r t)
@@ -123,12 +127,12 @@ module _ (c : StepContext) (o : Elsewhere c.env) where
       let now = stated (frozen v.identifier r) u _ (like u q m a l) in
       let first : StepProgress = record_of (effect.Freeze v r) (with_state (frozen v.identifier r u.state) u) in
       let second : StepProgress = record_of (effect.Freeze (moved v w) r)
-          (with_state (frozen v.identifier r u.state) (record u { recorded = q; missing = m })) in
+      (with_state (frozen v.identifier r u.state) (record u { recorded = q; missing = m })) in
       let claimed : AlikeProgress first second = recorded_alike _ _ _ _ (freeze v w r) now in
       let gone = subst (λ (z : FunctionId → List Place).
-          AlikeProgress (with_state (place_frozen_transitively r (context_of c.env) v.identifier first.state) first)
-          (with_state (place_frozen_transitively r z v.identifier second.state) second))
-          (sym (contexts_elsewhere c.env o))
+      AlikeProgress (with_state (place_frozen_transitively r (context_of c.env) v.identifier first.state) first)
+      (with_state (place_frozen_transitively r z v.identifier second.state) second))
+      (sym (contexts_elsewhere c.env o))
       (stated (place_frozen_transitively r (context_of c.env) v.identifier) first second claimed) in
       if_alike (does_freeze u.state v.identifier) _ _ _ _ (if_alike (freezes_on c.env.config) _ _ _ _ gone claimed) now
 
@@ -142,22 +146,22 @@ module _ (c : StepContext) (o : Elsewhere c.env) where
       ≡ is_mutable_function (other c o) f qs u
   same_function f ps qs u a =
       ap (λ b. b || has_error (summary_of c.env f)
-          || list_any (λ (p : Place). is_ref_at c.env p.identifier) (context_of c.env f)) (any_mutable u ps qs a)
+      || list_any (λ (p : Place). is_ref_at c.env p.identifier) (context_of c.env f)) (any_mutable u ps qs a)
       ∙ ap (λ b. list_any (is_mutable_capture u) qs || b
-          || list_any (λ (p : Place). is_ref_at c.env p.identifier) (context_of c.env f))
-          (same_has_error _ _ (summary_elsewhere c.env o f))
+      || list_any (λ (p : Place). is_ref_at c.env p.identifier) (context_of c.env f))
+      (same_has_error _ _ (summary_elsewhere c.env o f))
       ∙ ap (λ zs. list_any (is_mutable_capture u) qs || has_error (summary_of (elsewhere c.env o) f)
-          || list_any (λ (p : Place). is_ref_at c.env p.identifier) zs) (sym (context_elsewhere c.env o f))
+      || list_any (λ (p : Place). is_ref_at c.env p.identifier) zs) (sym (context_elsewhere c.env o f))
 
   function_alike : (x : IdentifierId) (f : FunctionId) (ps qs : List Place) (s t : StepProgress) → AlikePlaces ps qs
       → AlikeProgress s t
       → AlikeProgress (with_state (given x (Function f) (function_value (is_mutable_function c f ps s.state)) s.state)
-          s) (with_state (given x (Function f) (function_value (is_mutable_function (other c o) f qs t.state)) t.state)
-          t)
+      s) (with_state (given x (Function f) (function_value (is_mutable_function (other c o) f qs t.state)) t.state)
+      t)
   function_alike x f ps qs s t b (like u r m a l) =
       subst (λ v. AlikeProgress (with_state (given x (Function f) (function_value (is_mutable_function c f ps u.state))
-          u.state) u) (with_state (given x (Function f) (function_value v) u.state)
-          (record u { recorded = r; missing = m })))
+      u.state) u) (with_state (given x (Function f) (function_value v) u.state)
+      (record u { recorded = r; missing = m })))
       (same_function f ps qs u.state b)
       (stated (given x (Function f) (function_value (is_mutable_function c f ps u.state))) u _ (like u r m a l))
 
@@ -194,7 +198,7 @@ module _ {whole : List Temporary} where
   same_maybe_alias a b x y s t (like u r m c l) =
       let now = both_looked_up a b x y u _ (like u r m c l) in
       same_if (may_be_frozen (kind_at a u)) _ _ _ _ (same_intern_and_apply_leaf _ _ _ _ (immutable_capture a b x y) now)
-          (same_gives _ _ (recorded_alike _ _ _ _ (maybe_alias a b x y) now))
+      (same_gives _ _ (recorded_alike _ _ _ _ (maybe_alias a b x y) now))
 
   same_aliasing : (e f : AliasingEffect) (s t : StepProgress) → Alike e f → AlikeProgress s t
       → Same whole (apply_aliasing e s) (apply_aliasing f t)
@@ -212,7 +216,7 @@ module _ {whole : List Temporary} where
   same_create x y k r s t a =
       same_then _ _ _ _ (same_made x.identifier s t a)
       (λ u v b. same_gives _ _ (recorded_alike _ _ _ _ (create x y k r)
-          (stated (given x.identifier (Created x.identifier k r) (value_with k r)) u v b)))
+      (stated (given x.identifier (Created x.identifier k r) (value_with k r)) u v b)))
 
   same_record_create_from : (k : ValueKind) (r : ValueReason) (a b x y : Place) (s t : StepProgress) → AlikeProgress s t
       → Same whole (record_create_from k r a x s) (record_create_from k r (moved a b) (moved x y) t)
@@ -226,17 +230,17 @@ module _ {whole : List Temporary} where
 
   same_from_made : (a b x y : Place) (s t : StepProgress) → AlikeProgress s t
       → Same whole (record_create_from (lookup s.state a.identifier).kind
-          (primary_reason (lookup s.state a.identifier).reason) a x
-          (with_state (given x.identifier (CreatedFrom a.identifier x.identifier) (lookup s.state a.identifier) s.state)
-          (looked_up_at a s)))
+      (primary_reason (lookup s.state a.identifier).reason) a x
+      (with_state (given x.identifier (CreatedFrom a.identifier x.identifier) (lookup s.state a.identifier) s.state)
+      (looked_up_at a s)))
       (record_create_from (lookup t.state a.identifier).kind (primary_reason (lookup t.state a.identifier).reason)
-          (moved a b) (moved x y) (with_state (given x.identifier (CreatedFrom a.identifier x.identifier)
-          (lookup t.state a.identifier) t.state) (looked_up_at (moved a b) t)))
+      (moved a b) (moved x y) (with_state (given x.identifier (CreatedFrom a.identifier x.identifier)
+      (lookup t.state a.identifier) t.state) (looked_up_at (moved a b) t)))
   same_from_made a b x y s t (like u r m c l) =
       let v = lookup u.state a.identifier in
       same_record_create_from v.kind (primary_reason v.reason) a b x y _ _
-          (stated (given x.identifier (CreatedFrom a.identifier x.identifier) v) _ _
-          (looked_up_alike a.identifier None None u _ (like u r m c l)))
+      (stated (given x.identifier (CreatedFrom a.identifier x.identifier) v) _ _
+      (looked_up_alike a.identifier None None u _ (like u r m c l)))
 
   same_create_from : (a b x y : Place) (s t : StepProgress) → AlikeProgress s t
       → Same whole (apply_create_from a x s) (apply_create_from (moved a b) (moved x y) t)
@@ -248,14 +252,14 @@ module _ {whole : List Temporary} where
   same_assign_value v a b x y s t c =
       same_if (is_frozen v.kind) _ _ _ _
       (same_then _ _ _ _ (same_intern_and_apply_leaf _ _ s t (immutable_capture a b x y) c)
-          (λ p q d. same_gives _ _ (stated (given x.identifier (AssignFrozen a.identifier x.identifier) v) p q d)))
+      (λ p q d. same_gives _ _ (stated (given x.identifier (AssignFrozen a.identifier x.identifier) v) p q d)))
       (same_if (is_constant v.kind) _ _ _ _
       (same_gives _ _ (stated (given x.identifier (AssignCopy a.identifier x.identifier) v) s t c))
       (same_gives _ _ (recorded_alike _ _ _ _ (assign a b x y) (stated (assigned x.identifier a.identifier) s t c))))
 
   same_assign_made : (a b x y : Place) (s t : StepProgress) → AlikeProgress s t
       → Same whole (assign_value (lookup s.state a.identifier) a x (looked_up_with_span a s))
-          (assign_value (lookup t.state a.identifier) (moved a b) (moved x y) (looked_up_with_span (moved a b) t))
+      (assign_value (lookup t.state a.identifier) (moved a b) (moved x y) (looked_up_with_span (moved a b) t))
   same_assign_made a b x y s t (like u r m c l) =
       same_assign_value (lookup u.state a.identifier) a b x y _ _
       (looked_up_alike a.identifier a.span b.span u _ (like u r m c l))
@@ -273,13 +277,13 @@ module _ {whole : List Temporary} where
       same_if (may_be_frozen (kind_at a u)) _ _ _ _ (same_intern_and_apply_leaf _ _ _ _ (immutable_capture a b x y) now)
       (same_if (captures (kind_at a u) (kind_at x u)) _ _ _ _ (same_gives _ _ (recorded_alike e f _ _ g now))
       (same_if (may_alias (kind_at a u) (kind_at x u)) _ _ _ _
-          (same_intern_and_apply_aliasing _ _ _ _ (maybe_alias a b x y) now) (same_gives _ _ now)))
+      (same_intern_and_apply_aliasing _ _ _ _ (maybe_alias a b x y) now) (same_gives _ _ now)))
 
   same_alias : (a b x y : Place) (s t : StepProgress) → AlikeProgress s t
       → Same whole (apply_alias a x s) (apply_alias (moved a b) (moved x y) t)
   same_alias a b x y s t (like u r m c l) =
       same_if (is_made x.identifier u.made) _ _ _ _ (same_link _ _ a b x y u _ (alias a b x y) (like u r m c l))
-          (repeats_refuses AlikeProgress (AliasBeforeCreate x.identifier) _)
+      (repeats_refuses AlikeProgress (AliasBeforeCreate x.identifier) _)
 
   -- ---- writes
 
@@ -287,20 +291,20 @@ module _ {whole : List Temporary} where
       → Same whole (intern_and_apply_mutate_frozen r v s) (intern_and_apply_mutate_frozen q (moved v w) t)
   same_frozen_write r q v w s t a =
       repeats_then AnyNumber AlikeProgress (λ d. tt) _ _ _ _ (repeats_report v.identifier r q)
-          (λ d e n. same_intern_and_apply_leaf _ _ s t (mutate_frozen v w d e) a)
+      (λ d e n. same_intern_and_apply_leaf _ _ s t (mutate_frozen v w d e) a)
 
   same_global_write : (r q : Report) (v w : Place) (s t : StepProgress) → AlikeProgress s t
       → Same whole (intern_and_apply_mutate_global r v s) (intern_and_apply_mutate_global q (moved v w) t)
   same_global_write r q v w s t a =
       repeats_then AnyNumber AlikeProgress (λ d. tt) _ _ _ _ (repeats_report v.identifier r q)
-          (λ d e n. same_intern_and_apply_leaf _ _ s t (mutate_global v w d e) a)
+      (λ d e n. same_intern_and_apply_leaf _ _ s t (mutate_global v w d e) a)
 
   same_note_read : (f : FunctionId) (p : Place) (s t : StepProgress) → AlikeProgress s t
       → Same whole (note_read_capture f p s) (note_read_capture f p t)
   same_note_read f p s t (like u r m c l) =
       same_if (is_read_capture u.state p) _ _ _ _
-          (repeats_noted AlikeProgress (record { function = f; place = p.identifier }) u _ (like u r m c l))
-          (same_gives u _ (like u r m c l))
+      (repeats_noted AlikeProgress (record { function = f; place = p.identifier }) u _ (like u r m c l))
+      (same_gives u _ (like u r m c l))
 
   module _ (c : StepContext) (o : Elsewhere c.env) where
     same_report_write : (is : AbstractValue) (v w : Place) (s t : StepProgress) → AlikeProgress s t
@@ -330,7 +334,7 @@ module _ {whole : List Temporary} where
     same_mutate e f v w s t b (like u r m a l) =
         same_if (is_ref_at c.env v.identifier) _ _ _ _ (same_gives u _ (like u r m a l))
         (same_mutation (kind_at v u) (lookup u.state v.identifier) e f v w _ _ b
-            (looked_up_alike v.identifier v.span w.span u _ (like u r m a l)))
+        (looked_up_alike v.identifier v.span w.span u _ (like u r m a l)))
 
     same_simple : (e f : AliasingEffect) (s t : StepProgress) → Alike e f → AlikeProgress s t
         → Same whole (apply_simple c e s) (apply_simple (other c o) f t)
@@ -369,11 +373,11 @@ module _ {whole : List Temporary} where
         same_then _ _ _ _ (same_made x.identifier s t a) (λ u v d.
         same_then _ _ _ _
         (repeats_each (λ p q. p ≡ q) AlikeProgress progress_self (note_read_capture f) (note_read_capture f)
-            (λ p q e g h i. subst (λ z. Same whole (note_read_capture f p g) (note_read_capture f z h)) e
-            (same_note_read f p g h i)) (context_of c.env f) (context_of (elsewhere c.env o) f)
-            (subst (λ zs. Paired (λ p q. p ≡ q) (context_of c.env f) zs) (sym (context_elsewhere c.env o f))
-            (paired_self (λ p q. p ≡ q) (λ p. refl) (context_of c.env f))) _ _
-            (recorded_alike _ _ u v (create_function x y f ps qs b) d))
+        (λ p q e g h i. subst (λ z. Same whole (note_read_capture f p g) (note_read_capture f z h)) e
+        (same_note_read f p g h i)) (context_of c.env f) (context_of (elsewhere c.env o) f)
+        (subst (λ zs. Paired (λ p q. p ≡ q) (context_of c.env f) zs) (sym (context_elsewhere c.env o f))
+        (paired_self (λ p q. p ≡ q) (λ p. refl) (context_of c.env f))) _ _
+        (recorded_alike _ _ u v (create_function x y f ps qs b) d))
         (λ p q e. same_capture_each x y ps qs _ _ b (function_alike c o x.identifier f ps qs p q b e)))
 
     same_plain : (e f : AliasingEffect) (s t : StepProgress) → Alike e f → AlikeProgress s t

@@ -26,24 +26,26 @@ use Rattle.alias_step.specs.declared.block.block.BlockProgress.{BlockProgress}
 use Rattle.alias_step.specs.declared.block.faults.BlockRefusal.{BlockRefusal}
 use Rattle.alias_step.specs.declared.block.faults.BlockRefusal.TheVariants.{Uninitialized, Instruction as Refused}
 use Rattle.alias_step.specs.declared.block.recorded.BlockEffects.{BlockEffects}
-use Rattle.alias_step.specs.block.Actions.{interned_or, record_interned, catch_call, is_call, catch_instruction,
-    catch_calls, handler_binding, catch_into, return_value, terminal_action}
-use Rattle.alias_step.specs.block.Blocks.{infer_phis, step_start, after_instruction, infer_instruction,
-    infer_instruction_at, apply_signatures, after_terminal, apply_terminal, block_start, finished_at, finished,
-    infer_block}
+use Rattle.alias_step.specs.block.Actions.{interned_or, record_interned, catch_call, is_call, catch_instruction}
+use Rattle.alias_step.specs.block.Actions.{catch_calls, handler_binding, catch_into, return_value, terminal_action}
+use Rattle.alias_step.specs.block.Blocks.{infer_phis, step_start, after_instruction, infer_instruction}
+use Rattle.alias_step.specs.block.Blocks.{infer_instruction_at, apply_signatures, after_terminal, apply_terminal}
+use Rattle.alias_step.specs.block.Blocks.{block_start, finished_at, finished, infer_block}
 use Rattle.alias_step.specs.block.Contexts.{BlockContext}
 use Rattle.alias_step.specs.block.Faults.{BlockStep, in_block_at, in_block}
 use Rattle.alias_step.specs.block.Recorded.{recorded_as, terminal_recorded_as}
 use Rattle.alias_step.specs.block.ReplayLaws.{in_block_gives}
-use Rattle.alias_certificate_laws.specs.accepting.Alike.{Paired, none, more, Alike, AlikeEffects, AlikeLookup, there,
-    missing, AlikeProgress, like, AlikeTemporaries, IsFull, Gives, given, excused, Repeats, Elsewhere, elsewhere}
-use Rattle.alias_certificate_laws.specs.accepting.AlikeBlocks.{AlikeInstruction, of_instruction, AlikeTerminal,
-    of_terminal, AlikeRecorded, AlikeSoFar, so_far, AlikeOut, out, IsBlockFull}
+use Rattle.alias_certificate_laws.specs.accepting.Alike.{Paired, none, more, Alike, AlikeEffects, AlikeLookup, there}
+use Rattle.alias_certificate_laws.specs.accepting.Alike.{missing, AlikeProgress, like, AlikeTemporaries, IsFull, Gives}
+use Rattle.alias_certificate_laws.specs.accepting.Alike.{given, excused, Repeats, Elsewhere, elsewhere}
+use Rattle.alias_certificate_laws.specs.accepting.AlikeBlocks.{AlikeInstruction, of_instruction, AlikeTerminal}
+use Rattle.alias_certificate_laws.specs.accepting.AlikeBlocks.{of_terminal, AlikeRecorded, AlikeSoFar, so_far, AlikeOut}
+use Rattle.alias_certificate_laws.specs.accepting.AlikeBlocks.{out, IsBlockFull}
 use Rattle.alias_certificate_laws.proofs.accepting.Interning.{interned}
-use Rattle.alias_certificate_laws.proofs.accepting.Likeness.{paired_self, paired_append, alike_self, alike_sym,
-    alike_trans, lookup_self, progress_self}
-use Rattle.alias_certificate_laws.proofs.accepting.Repeating.{repeats_gives, repeats_refuses, repeats_then, repeats_if,
-    repeats_each}
+use Rattle.alias_certificate_laws.proofs.accepting.Likeness.{paired_self, paired_append, alike_self, alike_sym}
+use Rattle.alias_certificate_laws.proofs.accepting.Likeness.{alike_trans, lookup_self, progress_self}
+use Rattle.alias_certificate_laws.proofs.accepting.Repeating.{repeats_gives, repeats_refuses, repeats_then, repeats_if}
+use Rattle.alias_certificate_laws.proofs.accepting.Repeating.{repeats_each}
 use Rattle.alias_certificate_laws.proofs.accepting.Applying.{recorded_alike, stated}
 use Rattle.alias_certificate_laws.proofs.accepting.Stepping.{same_signature}
 
@@ -96,14 +98,16 @@ after_instruction_alike : (i : InstructionId) (r q : BlockEffects) (s t : StepPr
     → AlikeProgress s t → AlikeSoFar (after_instruction i r s) (after_instruction i q t)
 after_instruction_alike i r q s t a (like u es m b l) =
     so_far (after_instruction i r u) (record q { instructions = q.instructions ++ recorded_as i es }) m
-    (record { instructions = paired_append a.instructions (recorded_as_alike i u.recorded es b);
-        terminal = a.terminal }) l
+    (record {
+      instructions = paired_append a.instructions (recorded_as_alike i u.recorded es b);
+      terminal = a.terminal;
+    }) l
 
 after_terminal_alike : (b : BlockId) (r q : BlockEffects) (s t : StepProgress) → AlikeRecorded r q → AlikeProgress s t
     → AlikeSoFar (after_terminal b r s) (after_terminal b q t)
 after_terminal_alike b r q s t a (like u es m d l) =
     so_far (after_terminal b r u) (record q { terminal = terminal_recorded_as b es }) m
-        (record { instructions = a.instructions; terminal = terminal_recorded_alike b u.recorded es d }) l
+    (record { instructions = a.instructions; terminal = terminal_recorded_alike b u.recorded es d }) l
 
 instruction_self : (r : BlockEffects) → AlikeRecorded r r
 instruction_self r = record {
@@ -132,16 +136,16 @@ module _ {whole : List Temporary} where
         let i = interned e t₀ in
         let tables : i.tables ≡ u = tables_are (record_of i.effect s) y i.tables u (sym (recorded_is e s t₀) ∙ h) in
         subst (λ (w : TableLists). Grows t₀.temporaries w.temporaries) tables
-            (subst (Grows t₀.temporaries) (sym i.same) (grows_self t₀.temporaries));
+        (subst (Grows t₀.temporaries) (sym i.same) (grows_self t₀.temporaries));
     again = λ t₀ u v y h g likes.
         let i = interned e t₀ in
         let j = interned f v in
         let first : record_of i.effect s ≡ y =
-            first_is (record_of i.effect s) y i.tables u (sym (recorded_is e s t₀) ∙ h) in
+        first_is (record_of i.effect s) y i.tables u (sym (recorded_is e s t₀) ∙ h) in
         given (record_of j.effect t) j.tables (recorded_is f t v)
-            (subst (λ z. AlikeProgress z (record_of j.effect t)) first
-            (recorded_alike i.effect j.effect s t (interned_alike e f t₀ v a) b))
-            (subst (AlikeTemporaries whole) (sym j.same) likes);
+        (subst (λ z. AlikeProgress z (record_of j.effect t)) first
+        (recorded_alike i.effect j.effect s t (interned_alike e f t₀ v a) b))
+        (subst (AlikeTemporaries whole) (sym j.same) likes);
   }
 
   -- ---- the terminal
@@ -151,8 +155,8 @@ module _ {whole : List Temporary} where
   same_catch_call binding x s t (like u r m a l) =
       let now = stated (appended binding.identifier x.identifier) u _ (like u r m a l) in
       repeats_if AlikeProgress (is_writable (kind_at x
-          (with_state (appended binding.identifier x.identifier u.state) u))) _ _ _ _
-          (same_record_interned _ _ _ _ (alike_self (effect.Alias x binding)) now) (repeats_gives AlikeProgress _ _ now)
+      (with_state (appended binding.identifier x.identifier u.state) u))) _ _ _ _
+      (same_record_interned _ _ _ _ (alike_self (effect.Alias x binding)) now) (repeats_gives AlikeProgress _ _ now)
 
   same_catch_instruction : (binding : Place) (o : Option Instruction) (s t : StepProgress) → AlikeProgress s t
       → Same whole (catch_instruction binding o s) (catch_instruction binding o t)
@@ -165,11 +169,11 @@ module _ {whole : List Temporary} where
       → AlikeProgress s t → Same whole (catch_calls instructions binding is s) (catch_calls instructions binding is t)
   same_catch_calls instructions binding is s t a =
       repeats_each (λ i j. i ≡ j) AlikeProgress progress_self
-          (λ i. catch_instruction binding (slice_get instructions i.0))
-          (λ i. catch_instruction binding (slice_get instructions i.0))
+      (λ i. catch_instruction binding (slice_get instructions i.0))
+      (λ i. catch_instruction binding (slice_get instructions i.0))
       (λ i j e u v b. subst (λ z. Same whole (catch_instruction binding (slice_get instructions i.0) u)
-          (catch_instruction binding (slice_get instructions z.0) v)) e
-          (same_catch_instruction binding (slice_get instructions i.0) u v b))
+      (catch_instruction binding (slice_get instructions z.0) v)) e
+      (same_catch_instruction binding (slice_get instructions i.0) u v b))
       is is (paired_self (λ i j. i ≡ j) (λ i. refl) is) s t a
 
   same_catch_into : (instructions : List Instruction) (o : Option Place) (is : List InstructionId) (s t : StepProgress)
@@ -177,8 +181,8 @@ module _ {whole : List Temporary} where
   same_catch_into instructions None is s t a = repeats_gives AlikeProgress s t a
   same_catch_into instructions (Some binding) is s t (like u r m a l) =
       repeats_if AlikeProgress (is_some (sites_of u.state binding.identifier)) _ _ _ _
-          (same_catch_calls instructions binding is u _ (like u r m a l))
-          (repeats_gives AlikeProgress u _ (like u r m a l))
+      (same_catch_calls instructions binding is u _ (like u r m a l))
+      (repeats_gives AlikeProgress u _ (like u r m a l))
 
   same_return_value : (b : Bool) (value : Place) (s t : StepProgress) → AlikeProgress s t
       → Same whole (return_value b value s) (return_value b value t)
@@ -208,10 +212,10 @@ module _ {whole : List Temporary} where
         → Repeats IsBlockFull whole AlikeSoFar (infer_instruction c i x s) (infer_instruction (away c o) i x t)
     same_infer_instruction i x s t a =
         repeats_then AlikeProgress AlikeSoFar progress_self _ _ _ _
-            (repeats_in_block AlikeProgress i _ _
-            (same_signature c.env o c.facts x (step_start s) (step_start t) (start_alike s t a)))
+        (repeats_in_block AlikeProgress i _ _
+        (same_signature c.env o c.facts x (step_start s) (step_start t) (start_alike s t a)))
         (λ u v b. repeats_gives AlikeSoFar _ _
-            (after_instruction_alike i s.effects t.effects u v (before_alike s t a) b))
+        (after_instruction_alike i s.effects t.effects u v (before_alike s t a) b))
 
     same_infer_instruction_at : (i : InstructionId) (z : Option Instruction) (s t : BlockProgress) → AlikeSoFar s t
         → Repeats IsBlockFull whole AlikeSoFar (infer_instruction_at c i z s) (infer_instruction_at (away c o) i z t)
@@ -222,27 +226,27 @@ module _ {whole : List Temporary} where
         → Repeats IsBlockFull whole AlikeSoFar (apply_signatures c is s) (apply_signatures (away c o) is t)
     same_apply_signatures is s t a =
         repeats_each (λ i j. i ≡ j) AlikeSoFar so_far_self
-            (λ i. infer_instruction_at c i (slice_get c.func.instructions i.0))
-            (λ i. infer_instruction_at (away c o) i (slice_get c.func.instructions i.0))
+        (λ i. infer_instruction_at c i (slice_get c.func.instructions i.0))
+        (λ i. infer_instruction_at (away c o) i (slice_get c.func.instructions i.0))
         (λ i j e u v b. subst (λ z. Repeats IsBlockFull whole AlikeSoFar
-            (infer_instruction_at c i (slice_get c.func.instructions i.0) u)
-            (infer_instruction_at (away c o) z (slice_get c.func.instructions z.0) v)) e
-            (same_infer_instruction_at i (slice_get c.func.instructions i.0) u v b))
+        (infer_instruction_at c i (slice_get c.func.instructions i.0) u)
+        (infer_instruction_at (away c o) z (slice_get c.func.instructions z.0) v)) e
+        (same_infer_instruction_at i (slice_get c.func.instructions i.0) u v b))
         is is (paired_self (λ i j. i ≡ j) (λ i. refl) is) s t a
 
     same_apply_terminal : (b : BlockId) (block : BasicBlock) (s t : BlockProgress) → AlikeSoFar s t
         → Repeats IsBlockFull whole AlikeSoFar (apply_terminal c b block s) (apply_terminal (away c o) b block t)
     same_apply_terminal b block s t a =
         repeats_then AlikeProgress AlikeSoFar progress_self _ _ _ _
-            (same_terminal_action c o block.instructions block.terminal (step_start s) (step_start t)
-            (start_alike s t a))
+        (same_terminal_action c o block.instructions block.terminal (step_start s) (step_start t)
+        (start_alike s t a))
         (λ u v d. repeats_gives AlikeSoFar _ _ (after_terminal_alike b s.effects t.effects u v (before_alike s t a) d))
 
     pub same_infer_block : (b : BlockId) (block : BasicBlock) (x : State)
         → Repeats IsBlockFull whole AlikeOut (infer_block c b block x) (infer_block (away c o) b block x)
     same_infer_block b block x =
         repeats_then AlikeSoFar AlikeOut so_far_self _ _ _ _
-            (same_apply_signatures block.instructions _ _ (so_far_self (block_start (infer_phis block.phis x))))
-            (λ s t a.
+        (same_apply_signatures block.instructions _ _ (so_far_self (block_start (infer_phis block.phis x))))
+        (λ s t a.
         repeats_then AlikeSoFar AlikeOut so_far_self _ _ _ _ (same_apply_terminal b block s t a)
-            (λ u v d. same_finished u v d))
+        (λ u v d. same_finished u v d))

@@ -1,6 +1,6 @@
 -- The lists that calls stand for are alike.
-use Rattle.std.specs.Prelude.{◌≡◌, ℕ, ◌+◌, Bool, true, false, ◌&&◌, ◌||◌, not, nat_lt, List, [], ◌∷◌, length, Option,
-    Some, None, slice_get, refl, if◌then◌else◌}
+use Rattle.std.specs.Prelude.{◌≡◌, ℕ, ◌+◌, Bool, true, false, ◌&&◌, ◌||◌, not, nat_lt, List, [], ◌∷◌, length, Option}
+use Rattle.std.specs.Prelude.{Some, None, slice_get, refl, if◌then◌else◌}
 use Rattle.std.proofs.Common.{suc, ap, ◌∙◌, subst}
 use Rattle.std.specs.List.{list_any}
 use Rattle.std.specs.Option.{is_some}
@@ -32,25 +32,30 @@ use Rattle.alias_calls.specs.declared.copies.PairKind.{PairKind}
 use Rattle.alias_calls.specs.declared.copies.PairKind.TheVariants as pair
 use Rattle.alias_calls.specs.declared.copies.PlaceKind.{PlaceKind}
 use Rattle.alias_calls.specs.declared.copies.PlaceKind.TheVariants as kind
-use Rattle.alias_calls.specs.Arguments.{is_rest, with_further, with_plain, with_argument, substituted_arguments,
-    is_further, has_further, is_bad_spread_of, is_bad_spread, first_bad, first_of}
-use Rattle.alias_calls.specs.Configs.{name_index, or_places, substituted_first, substituted, argument_at,
-    inner_argument, inner_arguments, with_apply, impure_step, with_impures, with_config_effect, with_config_effects,
-    with_temporary, config_call, config_expansion}
-use Rattle.alias_calls.specs.Copies.{pair_of, effect_at, pairs, with_pairs, with_each, with_freezes_unless,
-    with_freezes}
-use Rattle.alias_calls.specs.Summaries.{last_spread, rest_or_temporary, names_with, summary_names, same_id,
-    substituted_context, returned, substituted_for, with_copies, is_spread, needs_rest, names_expansion, summary_call,
-    summary_expansion}
-use Rattle.alias_certificate_laws.specs.accepting.Alike.{Paired, none, more, Maybe, nothing, just, moved, AlikePlace,
-    at, AlikePlaces, AlikeArgument, plain, spread, hole, AlikeArguments, Alike, apply, create_from, immutable_capture,
-    assign, alias, capture, maybe_alias, create, freeze, impure, mutate_frozen, mutate_global, render, mutate,
-    mutate_conditionally, mutate_transitive, mutate_transitive_conditionally, AlikeEffects, AlikeList, AlikeSite,
-    called, IsFull, Repeats, Elsewhere, elsewhere, create_function}
-use Rattle.alias_certificate_laws.proofs.accepting.Likeness.{paired_get, paired_self, paired_append, paired_map,
-    place_self, alike_self}
-use Rattle.alias_certificate_laws.proofs.accepting.Repeating.{repeats_gives, repeats_refuses, repeats_then,
-    repeats_if_same, repeats_each, repeats_collect}
+use Rattle.alias_calls.specs.Arguments.{is_rest, with_further, with_plain, with_argument, substituted_arguments}
+use Rattle.alias_calls.specs.Arguments.{is_further, has_further, is_bad_spread_of, is_bad_spread, first_bad, first_of}
+use Rattle.alias_calls.specs.Configs.{name_index, or_places, substituted_first, substituted, argument_at}
+use Rattle.alias_calls.specs.Configs.{inner_argument, inner_arguments, with_apply, impure_step, with_impures}
+use Rattle.alias_calls.specs.Configs.{with_config_effect, with_config_effects, with_temporary, config_call}
+use Rattle.alias_calls.specs.Configs.{config_expansion}
+use Rattle.alias_calls.specs.Copies.{pair_of, effect_at, pairs, with_pairs, with_each, with_freezes_unless}
+use Rattle.alias_calls.specs.Copies.{with_freezes}
+use Rattle.alias_calls.specs.Summaries.{last_spread, rest_or_temporary, names_with, summary_names, same_id}
+use Rattle.alias_calls.specs.Summaries.{substituted_context, returned, substituted_for, with_copies, is_spread}
+use Rattle.alias_calls.specs.Summaries.{needs_rest, names_expansion, summary_call, summary_expansion}
+use Rattle.alias_certificate_laws.specs.accepting.Alike.{Paired, none, more, Maybe, nothing, just, moved, AlikePlace}
+use Rattle.alias_certificate_laws.specs.accepting.Alike.{at, AlikePlaces, AlikeArgument, plain, spread, hole}
+use Rattle.alias_certificate_laws.specs.accepting.Alike.{AlikeArguments, Alike, apply, create_from, immutable_capture}
+use Rattle.alias_certificate_laws.specs.accepting.Alike.{assign, alias, capture, maybe_alias, create, freeze, impure}
+use Rattle.alias_certificate_laws.specs.accepting.Alike.{mutate_frozen, mutate_global, render, mutate}
+use Rattle.alias_certificate_laws.specs.accepting.Alike.{mutate_conditionally, mutate_transitive}
+use Rattle.alias_certificate_laws.specs.accepting.Alike.{mutate_transitive_conditionally, AlikeEffects, AlikeList}
+use Rattle.alias_certificate_laws.specs.accepting.Alike.{AlikeSite, called, IsFull, Repeats, Elsewhere, elsewhere}
+use Rattle.alias_certificate_laws.specs.accepting.Alike.{create_function}
+use Rattle.alias_certificate_laws.proofs.accepting.Likeness.{paired_get, paired_self, paired_append, paired_map}
+use Rattle.alias_certificate_laws.proofs.accepting.Likeness.{place_self, alike_self}
+use Rattle.alias_certificate_laws.proofs.accepting.Repeating.{repeats_gives, repeats_refuses, repeats_then}
+use Rattle.alias_certificate_laws.proofs.accepting.Repeating.{repeats_if_same, repeats_each, repeats_collect}
 use Rattle.alias_certificate_laws.proofs.accepting.Tabling.{AnyNumber, repeats_report, repeats_temporary}
 
 -- ---- lists
@@ -87,11 +92,11 @@ substituted_arguments_alike : {K : Type 0} (same : K → K → Bool) (k : K) (pa
     (args others : List PlaceOrSpreadOrHole) (i : ℕ) (xs ys : List Place) → AlikeArguments args others
     → AlikePlaces xs ys
     → AlikePlaces (substituted_arguments same k params rest args i xs)
-        (substituted_arguments same k params rest others i ys)
+    (substituted_arguments same k params rest others i ys)
 substituted_arguments_alike same k params rest args others i xs ys none a = a
 substituted_arguments_alike same k params rest args others i xs ys (more {a = x} {b = y} {xs = us} {ys = vs} q qs) a =
     substituted_arguments_alike same k params rest us vs (i + 1) _ _ qs
-        (argument_alike same k (slice_get params i) rest x y xs ys q a)
+    (argument_alike same k (slice_get params i) rest x y xs ys q a)
 
 same_further : {K : Type 0} (o : Option K) (x y : PlaceOrSpreadOrHole) → AlikeArgument x y → is_further o x
     ≡ is_further o y
@@ -122,7 +127,7 @@ same_needs_rest : (params : List IdentifierId) (args others : List PlaceOrSpread
     → needs_rest params args ≡ needs_rest params others
 same_needs_rest params args others a =
     ap (λ n. nat_lt (length params) n || list_any is_spread args) (same_length args others a)
-        ∙ ap (λ c. nat_lt (length params) (length others) || c) (same_spreads args others a)
+    ∙ ap (λ c. nat_lt (length params) (length others) || c) (same_spreads args others a)
 
 same_bad_of : (env : Environment) (x : IdentifierId) (a b : PlaceOrSpreadOrHole) → AlikeArgument a b
     → is_bad_spread_of env x a ≡ is_bad_spread_of env x b
@@ -135,7 +140,7 @@ same_bad : (env : Environment) (args others : List PlaceOrSpreadOrHole) (x : Ide
 same_bad env args others x none = refl
 same_bad env args others x (more {a = a} {b = b} {xs = us} {ys = vs} q qs) =
     ap (λ c. c || is_bad_spread env us x) (same_bad_of env x a b q)
-        ∙ ap (λ c. is_bad_spread_of env x b || c) (same_bad env us vs x qs)
+    ∙ ap (λ c. is_bad_spread_of env x b || c) (same_bad env us vs x qs)
 
 bad_if : (b : Bool) (p q : Place) (o r : Option Place) → Maybe AlikePlace o r
     → Maybe AlikePlace (if b then Some p else o) (if b then Some (moved p q) else r)
@@ -148,9 +153,9 @@ bad_alike : (env : Environment) (args others : List PlaceOrSpreadOrHole) (ps qs 
 bad_alike env args others ps qs a none = nothing
 bad_alike env args others ps qs a (more {xs = us} {ys = vs} (at p q) rest) =
     subst (λ b. Maybe AlikePlace (first_bad env args (p ∷ us))
-        (if b then Some (moved p q) else first_bad env others vs)) (same_bad env args others p.identifier a)
+    (if b then Some (moved p q) else first_bad env others vs)) (same_bad env args others p.identifier a)
     (bad_if (is_bad_spread env args p.identifier) p q (first_bad env args us) (first_bad env others vs)
-        (bad_alike env args others us vs a rest))
+    (bad_alike env args others us vs a rest))
 
 first_alike : (ps qs : List Place) → AlikePlaces ps qs → Maybe AlikePlace (first_of ps) (first_of qs)
 first_alike ps qs none = nothing
@@ -189,7 +194,7 @@ pairs_alike : (k : PairKind) (ps qs xs ys : List Place) → AlikePlaces ps qs �
 pairs_alike k ps qs xs ys none b = none
 pairs_alike k ps qs xs ys (more {xs = us} {ys = vs} (at p q) rest) b =
     paired_append (paired_map Alike (pair_of k p) (pair_of k (moved p q)) (pair_placed k p q) b)
-        (pairs_alike k us vs xs ys rest b)
+    (pairs_alike k us vs xs ys rest b)
 
 module _ {whole : List Temporary} where
   same_pairs : (k : PairKind) (ps qs xs ys : List Place) (out others_ : List AliasingEffect) → AlikePlaces ps qs
@@ -215,7 +220,7 @@ module _ {whole : List Temporary} where
       (ps qs : List Place) (out others_ : List AliasingEffect) → AlikeArguments args others → AlikePlaces ps qs
       → AlikeEffects out others_
       → Repeats IsFull whole AlikeList (with_freezes env args r ps out)
-          (with_freezes (elsewhere env away) others r qs others_)
+      (with_freezes (elsewhere env away) others r qs others_)
   same_freezes env away args others r ps qs out others_ b a c =
       same_freezes_unless (first_bad env args ps) (first_bad env others qs) r ps qs out others_
       (bad_alike env args others ps qs b a) a c
@@ -225,16 +230,16 @@ module _ {whole : List Temporary} where
   unfolding impure_step
   same_impure_step p q es fs (at _ z) a =
       repeats_then AnyNumber AlikeEffects (λ d. tt) (intern_report p.identifier impure_part_report)
-          (intern_report p.identifier impure_part_report) _ _
-          (repeats_report p.identifier impure_part_report impure_part_report)
+      (intern_report p.identifier impure_part_report) _ _
+      (repeats_report p.identifier impure_part_report impure_part_report)
       (λ d e n. repeats_gives AlikeEffects _ _ (paired_append a (more (impure p z d e) none)))
 
   same_impures : (ps qs : List Place) (es fs : List AliasingEffect) → AlikePlaces ps qs → AlikeEffects es fs
       → Repeats IsFull whole AlikeList (with_impures ps es) (with_impures qs fs)
   same_impures ps qs es fs a b =
       repeats_then AlikeEffects AlikeList (paired_self Alike alike_self) _ _ _ _
-          (repeats_each AlikePlace AlikeEffects (paired_self Alike alike_self) impure_step impure_step
-          (λ p q d x y e. same_impure_step p q x y d e) ps qs a es fs b)
+      (repeats_each AlikePlace AlikeEffects (paired_self Alike alike_self) impure_step impure_step
+      (λ p q d x y e. same_impure_step p q x y d e) ps qs a es fs b)
       (λ x y d. repeats_gives AlikeList _ _ (just d))
 
 -- ---- aliasing parts
@@ -243,7 +248,7 @@ first_substituted_alike : (c : AliasingSignatureConfig) (s t : CallSite) (q : Li
     → AlikePlaces (substituted_first c s q) (substituted_first c t q)
 first_substituted_alike c s t q (called u v) =
     paired_if (same_text c.returns q) _ _ _ _ (more (at u.into v.into) none)
-        (paired_if (same_text c.receiver q) _ _ _ _ (more (at u.receiver v.receiver) none) none)
+    (paired_if (same_text c.receiver q) _ _ _ _ (more (at u.receiver v.receiver) none) none)
 
 or_places_alike : (o p : Option Place) (xs ys : List Place) → Maybe AlikePlace o p → AlikePlaces xs ys
     → AlikePlaces (or_places o xs) (or_places p ys)
@@ -261,7 +266,7 @@ module _ (c : AliasingSignatureConfig) (s t : CallSite) (args others : List Plac
   substituted_alike q =
       or_places_alike _ _ _ _ (paired_get (name_index q c.temporaries) ts us temporaries)
       (substituted_arguments_alike same_text q c.params c.rest args others 0 _ _ arguments
-          (first_substituted_alike c s t q site))
+      (first_substituted_alike c s t q site))
 
   first_at : (q : List ℕ) → Maybe AlikePlace (first_of (substituted (config_call c s args ts) q))
       (first_of (substituted (config_call c t others us) q))
@@ -282,10 +287,10 @@ module _ (c : AliasingSignatureConfig) (s t : CallSite) (args others : List Plac
         (es fs : List AliasingEffect) → Maybe AlikePlace o p → Maybe AlikePlace m n → Maybe AlikePlace i j
         → AlikeEffects es fs
         → Repeats IsFull whole AlikeList (with_apply (config_call c s args ts) o m i mutates inner es)
-            (with_apply (config_call c t others us) p n j mutates inner fs)
+        (with_apply (config_call c t others us) p n j mutates inner fs)
     same_apply o p m n i j mutates inner es fs (just (at r q)) (just (at f g)) (just (at x y)) a =
         repeats_gives AlikeList _ _ (just (paired_append a
-            (more (apply r q f g x y mutates _ _ None s.span t.span (all_inner_alike inner)) none)))
+        (more (apply r q f g x y mutates _ _ None s.span t.span (all_inner_alike inner)) none)))
     same_apply o p m n i j mutates inner es fs (just q) (just g) nothing a = repeats_gives AlikeList None None nothing
     same_apply o p m n i j mutates inner es fs (just q) nothing k a = repeats_gives AlikeList None None nothing
     same_apply o p m n i j mutates inner es fs nothing g k a = repeats_gives AlikeList None None nothing
@@ -322,12 +327,12 @@ module _ (c : AliasingSignatureConfig) (s t : CallSite) (args others : List Plac
         (with_config_effects (elsewhere env away) (config_call c t others us) xs fs)
     same_config_effects env away xs es fs b =
         repeats_collect (λ x y. x ≡ y) AlikeEffects (paired_self Alike alike_self)
-            (with_config_effect env (config_call c s args ts))
-            (with_config_effect (elsewhere env away) (config_call c t others us))
+        (with_config_effect env (config_call c s args ts))
+        (with_config_effect (elsewhere env away) (config_call c t others us))
         (λ x y e u v d. subst (λ z. Repeats IsFull whole AlikeList
-            (with_config_effect env (config_call c s args ts) x u)
-            (with_config_effect (elsewhere env away) (config_call c t others us) z v)) e
-            (same_config_effect env away x u v d))
+        (with_config_effect env (config_call c s args ts) x u)
+        (with_config_effect (elsewhere env away) (config_call c t others us) z v)) e
+        (same_config_effect env away x u v d))
         xs xs (paired_self (λ x y. x ≡ y) (λ x. refl) xs) es fs b
 
 module _ {whole : List Temporary} where
@@ -336,22 +341,22 @@ module _ {whole : List Temporary} where
       (with_temporary (elsewhere env away) t name qs)
   same_with_temporary env away s t name ps qs (called u v) a =
       repeats_then AlikePlace AlikePlaces place_self _ _ _ _
-          (repeats_temporary env away (Named u.into.identifier (record { text = name })) u.receiver.span
-          v.receiver.span)
+      (repeats_temporary env away (Named u.into.identifier (record { text = name })) u.receiver.span
+      v.receiver.span)
       (λ p q b. repeats_gives AlikePlaces _ _ (paired_append a (more b none)))
 
   pub same_config_expansion : (env : Environment) (away : Elsewhere env) (c : AliasingSignatureConfig) (s t : CallSite)
       (args others : List PlaceOrSpreadOrHole) → AlikeSite s t → AlikeArguments args others
       → Repeats IsFull whole AlikeList (config_expansion env c s args)
-          (config_expansion (elsewhere env away) c t others)
+      (config_expansion (elsewhere env away) c t others)
   same_config_expansion env away c s t args others a b =
       repeats_if_same AlikeList _ _ _ _ _ _ (ap (λ f. f && not (is_some c.rest))
-          (same_has_further c.params args others 0 b)) (repeats_gives AlikeList None None nothing)
+      (same_has_further c.params args others 0 b)) (repeats_gives AlikeList None None nothing)
       (repeats_then AlikePlaces AlikeList (paired_self AlikePlace place_self) _ _ _ _
       (repeats_each (λ x y. x ≡ y) AlikePlaces (paired_self AlikePlace place_self) (with_temporary env s)
-          (with_temporary (elsewhere env away) t)
+      (with_temporary (elsewhere env away) t)
       (λ x y e u v d. subst (λ z. Repeats IsFull whole AlikePlaces (with_temporary env s x u)
-          (with_temporary (elsewhere env away) t z v)) e (same_with_temporary env away s t x u v a d))
+      (with_temporary (elsewhere env away) t z v)) e (same_with_temporary env away s t x u v a d))
       c.temporaries c.temporaries (paired_self (λ x y. x ≡ y) (λ x. refl) c.temporaries) [] [] none)
       (λ ts us d. same_config_effects c s t args others ts us a b d env away c.effects [] [] none))
 
@@ -395,22 +400,22 @@ module _ (names : SummaryNames) (into to : Place) (args others : List PlaceOrSpr
     same_kinds : (k l : PlaceKind) → ((p q : Place) → AlikePlace p q → Alike (effect_at k p) (effect_at l q))
         → (x : IdentifierId) (es fs : List AliasingEffect) → AlikeEffects es fs
         → Repeats IsFull whole AlikeList (with_each k (substituted_for (summary_call names into args context) x) es)
-            (with_each l (substituted_for (summary_call names to others context) x) fs)
+        (with_each l (substituted_for (summary_call names to others context) x) fs)
     same_kinds k l h x es fs b = repeats_gives AlikeList _ _
         (just (paired_append b (paired_map Alike (effect_at k) (effect_at l) h (substituted_for_alike x))))
 
     same_linked : (k : PairKind) (a x : IdentifierId) (es fs : List AliasingEffect) → AlikeEffects es fs
         → Repeats IsFull whole AlikeList (with_pairs k (substituted_for (summary_call names into args context) a)
-            (substituted_for (summary_call names into args context) x) es)
-            (with_pairs k (substituted_for (summary_call names to others context) a)
-            (substituted_for (summary_call names to others context) x) fs)
+        (substituted_for (summary_call names into args context) x) es)
+        (with_pairs k (substituted_for (summary_call names to others context) a)
+        (substituted_for (summary_call names to others context) x) fs)
     same_linked k a x es fs b = same_pairs k _ _ _ _ es fs (substituted_for_alike a) (substituted_for_alike x) b
 
     -- what is copied of effects that are alike
     same_copies : (env : Environment) (away : Elsewhere env) (e f : AliasingEffect) (es fs : List AliasingEffect)
         → Alike e f → AlikeEffects es fs
         → Repeats IsFull whole AlikeList (with_copies env (summary_call names into args context) e es)
-            (with_copies (elsewhere env away) (summary_call names to others context) f fs)
+        (with_copies (elsewhere env away) (summary_call names to others context) f fs)
     same_copies env away e f es fs (apply r q g h x y mutates args others signature span other a) b =
         repeats_gives AlikeList _ _ (just b)
     same_copies env away e f es fs (create_from a d x y) b =
@@ -449,17 +454,17 @@ module _ (names : SummaryNames) (into to : Place) (args others : List PlaceOrSpr
     same_names_expansion : (env : Environment) (away : Elsewhere env) (summary claimed : List AliasingEffect)
         → AlikeEffects summary claimed
         → Repeats IsFull whole AlikeList (names_expansion env (summary_call names into args context) summary)
-            (names_expansion (elsewhere env away) (summary_call names to others context) claimed)
+        (names_expansion (elsewhere env away) (summary_call names to others context) claimed)
     same_names_expansion env away summary claimed a =
         repeats_if_same AlikeList _ _ _ _ _ _
-            (ap (λ n. nat_lt n (length names.params)) (same_length args others arguments))
-            (repeats_gives AlikeList None None nothing)
+        (ap (λ n. nat_lt n (length names.params)) (same_length args others arguments))
+        (repeats_gives AlikeList None None nothing)
         (repeats_if_same AlikeList _ _ _ _ _ _
-            (ap (λ f. f && not (is_some names.rest)) (same_needs_rest names.params args others arguments))
-            (repeats_gives AlikeList None None nothing)
+        (ap (λ f. f && not (is_some names.rest)) (same_needs_rest names.params args others arguments))
+        (repeats_gives AlikeList None None nothing)
         (repeats_collect Alike AlikeEffects (paired_self Alike alike_self)
-            (with_copies env (summary_call names into args context))
-            (with_copies (elsewhere env away) (summary_call names to others context))
+        (with_copies env (summary_call names into args context))
+        (with_copies (elsewhere env away) (summary_call names to others context))
         (λ x y e u v d. same_copies env away x y u v e d) summary claimed a [] [] none))
 
 abbrev SameId : IdentifierId → IdentifierId → Type 0
@@ -482,25 +487,25 @@ module _ {whole : List Temporary} where
   same_rest (Some rest) env away f function there = repeats_gives SameId rest rest refl
   same_rest None env away f function there =
       repeats_then AlikePlace SameId place_self _ _ _ _ (repeats_temporary env away (Rest f) function.span there.span)
-          (λ p q a. repeats_gives SameId _ _ (placed_same p q a))
+      (λ p q a. repeats_gives SameId _ _ (placed_same p q a))
 
   same_names : (env : Environment) (away : Elsewhere env) (f : FunctionId) (function there : HirFunction)
       → Repeats IsFull whole SameNames (summary_names env f function)
       (summary_names (elsewhere env away) f (seen_as function there))
   same_names env away f function there =
       repeats_then SameId SameNames (λ x. refl) _ _ _ _
-          (same_rest (last_spread function.params None) env away f function there)
-          (λ x y e. repeats_gives SameNames _ _ (ap (names_with function) e))
+      (same_rest (last_spread function.params None) env away f function there)
+      (λ x y e. repeats_gives SameNames _ _ (ap (names_with function) e))
 
   pub same_summary_expansion : (env : Environment) (away : Elsewhere env) (f : FunctionId)
       (function there : HirFunction) (summary claimed : List AliasingEffect) (into to : Place)
       (args others : List PlaceOrSpreadOrHole) → AlikeEffects summary claimed → AlikePlace into to
       → AlikeArguments args others
       → Repeats IsFull whole AlikeList (summary_expansion env f function summary into args)
-          (summary_expansion (elsewhere env away) f (seen_as function there) claimed to others)
+      (summary_expansion (elsewhere env away) f (seen_as function there) claimed to others)
   same_summary_expansion env away f function there summary claimed into to args others k a b =
       repeats_then SameNames AlikeList (λ n. refl) _ _ _ _ (same_names env away f function there)
       (λ m n e. subst (λ z. Repeats IsFull whole AlikeList
-          (names_expansion env (summary_call m into args function.context) summary)
-          (names_expansion (elsewhere env away) (summary_call z to others function.context) claimed)) e
+      (names_expansion env (summary_call m into args function.context) summary)
+      (names_expansion (elsewhere env away) (summary_call z to others function.context) claimed)) e
       (same_names_expansion m into to args others function.context a b env away summary claimed k))

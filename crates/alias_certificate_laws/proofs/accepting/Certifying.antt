@@ -1,8 +1,8 @@
 -- The check of a function accepts the certificate that says its solution.
 use Rattle.std.specs.Prelude.{if◌then◌else◌, map, slice_get}
-use Rattle.std.proofs.Common.{◌≡◌, ℕ, zero, suc, ◌+◌, ◌<◌, ◌⊎◌, ⊎_elim, inl, inr, Bool, true, false, List, [], ◌∷◌,
-    ◌++◌, length, replicate, get_or, Option, Some, None, Ok, Err, refl, ap, sym, ◌∙◌, subst, arith, append-nil,
-    append_assoc}
+use Rattle.std.proofs.Common.{◌≡◌, ℕ, zero, suc, ◌+◌, ◌<◌, ◌⊎◌, ⊎_elim, inl, inr, Bool, true, false, List, [], ◌∷◌}
+use Rattle.std.proofs.Common.{◌++◌, length, replicate, get_or, Option, Some, None, Ok, Err, refl, ap, sym, ◌∙◌, subst}
+use Rattle.std.proofs.Common.{arith, append-nil, append_assoc}
 use Rattle.std.proofs.lemmas.List.{length-replicate, length-map, length-set}
 use Rattle.std.proofs.lemmas.Bool.{le-ltb}
 use Rattle.std.specs.Option.{is_some, option_map_or}
@@ -39,21 +39,21 @@ use Rattle.alias_cert.specs.function.Blocks.{line_numbers, are_lines}
 use Rattle.alias_cert.specs.function.Claims.{differs, is_claimed_at}
 use Rattle.alias_cert.specs.function.Entries.{state_or_fault, line_state, entry_stated, entries_stated}
 use Rattle.alias_cert.specs.function.Faults.{faulted}
-use Rattle.alias_cert.specs.function.Functions.{numbers, lines_checked, entries_checked, steps_checked, checked_end,
-    function_solved}
+use Rattle.alias_cert.specs.function.Functions.{numbers, lines_checked, entries_checked, steps_checked, checked_end}
+use Rattle.alias_cert.specs.function.Functions.{function_solved}
 use Rattle.alias_cert.specs.function.Temporaries.{is_key_there, temporaries_stated}
-use Rattle.alias_certificate_laws.specs.accepting.Accepting.{rules, rules_of, AreClaimedAlike, IsAcceptedOrFull,
-    accepted, full}
+use Rattle.alias_certificate_laws.specs.accepting.Accepting.{rules, rules_of, AreClaimedAlike, IsAcceptedOrFull}
+use Rattle.alias_certificate_laws.specs.accepting.Accepting.{accepted, full}
 use Rattle.alias_certificate_laws.specs.accepting.Alike.{none, Elsewhere, elsewhere}
 use Rattle.alias_certificate_laws.specs.accepting.AlikeBlocks.{AlikeRecorded}
-use Rattle.alias_certificate_laws.specs.accepting.Certifying.{IsSolution, IsCertified, certified,
-    full as full_certificate, IsAcceptedAsSaid}
-use Rattle.alias_certificate_laws.specs.accepting.Saying.{NamesThere, AreCounted, said_block, said_each, those_there,
-    said_temporary, said_function}
+use Rattle.alias_certificate_laws.specs.accepting.Certifying.{IsSolution, IsCertified, certified}
+use Rattle.alias_certificate_laws.specs.accepting.Certifying.{full as full_certificate, IsAcceptedAsSaid}
+use Rattle.alias_certificate_laws.specs.accepting.Saying.{NamesThere, AreCounted, said_block, said_each, those_there}
+use Rattle.alias_certificate_laws.specs.accepting.Saying.{said_temporary, said_function}
 use Rattle.alias_certificate_laws.proofs.accepting.Calling.{same_length}
 use Rattle.alias_certificate_laws.proofs.accepting.Counting.{AreStated, counted_stated}
-use Rattle.alias_certificate_laws.proofs.accepting.Lining.{marks_of, count_is, mark_at, marks_long, same_marks, stands,
-    no_number, said_at, said_nothing, said_long, are_lines_of}
+use Rattle.alias_certificate_laws.proofs.accepting.Lining.{marks_of, count_is, mark_at, marks_long, same_marks, stands}
+use Rattle.alias_certificate_laws.proofs.accepting.Lining.{no_number, said_at, said_nothing, said_long, are_lines_of}
 use Rattle.alias_certificate_laws.proofs.accepting.Rebuilding.{state_rebuilt}
 use Rattle.alias_certificate_laws.proofs.accepting.Solutions.{reached_there, reached_here, accepts_anyway}
 use Rattle.alias_certificate_laws.proofs.accepting.Telling.{block_claimed}
@@ -70,14 +70,14 @@ some_or_none (Some x) = inl (x, refl)
 each_stated : (function : Option FunctionId) (n : ℕ) (created : List FunctionId) (lines : List CertBlock)
     (done rest : List (Option State)) (numbers : List (Option ℕ)) → length numbers ≡ length rest
     → ((i : ℕ) → entry_stated function n created lines (entry_at numbers i) ≡ Ok (entry_at rest i))
-        → entries_stated function n created lines done numbers ≡ Ok (done ++ rest)
+    → entries_stated function n created lines done numbers ≡ Ok (done ++ rest)
 each_stated function n created lines done [] [] l h = ap Ok (sym (append-nil done))
 each_stated function n created lines done (x ∷ rest) [] l h = cc
 each_stated function n created lines done [] (k ∷ ks) l h = cc
 each_stated function n created lines done (x ∷ rest) (k ∷ ks) l h =
     ap (λ r. r >>= (λ e. entries_stated function n created lines (done ++ e ∷ []) ks)) (h zero)
     ∙ each_stated function n created lines (done ++ x ∷ []) rest ks
-        (let a : suc (length ks) ≡ suc (length rest) = l in omega arith) (λ i. h (suc i))
+    (let a : suc (length ks) ≡ suc (length rest) = l in omega arith) (λ i. h (suc i))
     ∙ ap Ok (append_assoc done (x ∷ []) rest)
 
 within : {A : Type 0} (xs : List (Option A)) (b : ℕ) (s : A) → entry_at xs b ≡ Some s → b < length xs
@@ -126,7 +126,7 @@ module _ (env : Environment) (func : HirFunction) (e : Bool)
       let lt : i < length entries = within entries i x h in
       let count : length entries ≡ length func.body.blocks = s.solved.count in
       let here : entry_at each_line i ≡ Some (said_block (block_at func.body.blocks i) x r.1) =
-          said_at func.body.blocks entries recorded i x r.1 (omega (arith, lt, count)) h r.3 in
+      said_at func.body.blocks entries recorded i x r.1 (omega (arith, lt, count)) h r.3 in
       let t = stands [] each_line i (said_block (block_at func.body.blocks i) x r.1) here in
       record { number = t.number; effects = r.1; kept = r.3; is = t.is; there = t.there; said = here }
 
@@ -160,8 +160,8 @@ module _ (env : Environment) (func : HirFunction) (e : Bool)
   marks_are =
       same_marks (reached_marks (rules_of (elsewhere env o) func e)) line_marks
       (rounds_length (rules_of (elsewhere env o) func e).flow.edges (length func.body.blocks) (length func.body.blocks)
-          _ ∙ length-set (replicate (length func.body.blocks) false) (rules_of (elsewhere env o) func e).flow.entry true
-          ∙ length-replicate (length func.body.blocks) false
+      _ ∙ length-set (replicate (length func.body.blocks) false) (rules_of (elsewhere env o) func e).flow.entry true
+      ∙ length-replicate (length func.body.blocks) false
       ∙ sym (marks_long each_line ∙ said_long func.body.blocks entries recorded s.solved.count s.count))
       mark_of
 
@@ -169,9 +169,14 @@ module _ (env : Environment) (func : HirFunction) (e : Bool)
 
   counted_elsewhere : (done rest : List Temporary) → AreCounted env done rest → AreCounted (elsewhere env o) done rest
   counted_elsewhere done [] c = tt
-  counted_elsewhere done (x ∷ rest) c =
-      (c.0, c.1, subst (λ n. is_key_there (length env.identifiers + length done) n x.key ≡ true)
-          (same_length env.functions o.functions o.alike) c.2, c.3, counted_elsewhere (done ++ x ∷ []) rest c.4)
+  counted_elsewhere done (x ∷ rest) c = (
+    c.0,
+    c.1,
+    subst (λ n. is_key_there (length env.identifiers + length done) n x.key ≡ true)
+        (same_length env.functions o.functions o.alike) c.2,
+    c.3,
+    counted_elsewhere (done ++ x ∷ []) rest c.4,
+  )
 
   module _ (id : Option FunctionId) (summary : List (List ℕ)) where
     abbrev pub c : CertFunction
@@ -184,8 +189,11 @@ module _ (env : Environment) (func : HirFunction) (e : Bool)
         × (slice_get lines k ≡ Some b) × (b.block ≡ block_at func.body.blocks i)
     line_at_number i k h = ⊎_elim
         (λ x. let l = line_of i x.0 x.1 in let two : Some l.number ≡ Some k = sym l.is ∙ h in let same : l.number ≡ k =
-            cc in (said_block (block_at func.body.blocks i) x.0 l.effects, ap (slice_get lines) (sym same) ∙ l.there,
-            refl))
+        cc in (
+          said_block (block_at func.body.blocks i) x.0 l.effects,
+          ap (slice_get lines) (sym same) ∙ l.there,
+          refl,
+        ))
         (λ none. let two : None ≡ Some k = sym (no_number 0 each_line i (no_line i none)) ∙ h in cc)
         (some_or_none (entry_at entries i))
 
@@ -193,7 +201,7 @@ module _ (env : Environment) (func : HirFunction) (e : Bool)
     lines_ok =
         ap (λ b. if b then Ok tt else Err (fault.Blocks id))
         (ap (are_lines lines func.body.blocks) marks_are
-            ∙ are_lines_of lines func.body.blocks line_marks (count_is each_line) line_at_number)
+        ∙ are_lines_of lines func.body.blocks line_marks (count_is each_line) line_at_number)
 
     abbrev count : ℕ
     count = length env.identifiers + length (map said_temporary tables.temporaries)
@@ -204,15 +212,15 @@ module _ (env : Environment) (func : HirFunction) (e : Bool)
         (λ x.
         let l = line_of i x.0 x.1 in
         let names = subst (λ n. NamesThere (length env.identifiers + n) (created_functions func) x.0)
-            (sym (length-map tables.temporaries said_temporary)) (s.names.states i x.0 x.1) in
+        (sym (length-map tables.temporaries said_temporary)) (s.names.states i x.0 x.1) in
         ap (entry_stated id count (created_functions func) lines) l.is
         ∙ ap (line_state id count (created_functions func) lines) l.there
         ∙ ap (state_or_fault id count (created_functions func) lines (block_at func.body.blocks i))
-            (state_rebuilt x.0 (s.solved.proper i x.0 x.1) count (created_functions func) (block_at func.body.blocks i)
-            l.effects names)
+        (state_rebuilt x.0 (s.solved.proper i x.0 x.1) count (created_functions func) (block_at func.body.blocks i)
+        l.effects names)
         ∙ ap Ok (sym x.1))
         (λ none. ap (entry_stated id count (created_functions func) lines) (no_number 0 each_line i (no_line i none))
-            ∙ ap Ok (sym none))
+        ∙ ap Ok (sym none))
         (some_or_none (entry_at entries i))
 
     entries_ok : entries_checked c abroad func e ≡ Ok entries
@@ -220,7 +228,7 @@ module _ (env : Environment) (func : HirFunction) (e : Bool)
         ap (entries_stated id count (created_functions func) lines []) numbers_are
         ∙ each_stated id count (created_functions func) lines [] entries (line_numbers 0 line_marks)
         (numbers_long 0 line_marks ∙ marks_long each_line
-            ∙ said_long func.body.blocks entries recorded s.solved.count s.count ∙ sym s.solved.count) entry_ok
+        ∙ said_long func.body.blocks entries recorded s.solved.count s.count ∙ sym s.solved.count) entry_ok
 
     claimed_at : (i : ℕ) (x y : State) (k q : BlockEffects) → entry_at entries i ≡ Some x
         → (rules env func e).flow.step tables i x ≡ Stepped y tables k → AlikeRecorded k q
@@ -244,10 +252,10 @@ module _ (env : Environment) (func : HirFunction) (e : Bool)
     claimed : AreClaimedAlike env func e tables entries asked
     claimed i x y k h step t q like a =
         let long : length (map said_temporary tables.temporaries) ≡ length t.temporaries =
-            length-map tables.temporaries said_temporary ∙ same_length tables.temporaries t.temporaries like in
+        length-map tables.temporaries said_temporary ∙ same_length tables.temporaries t.temporaries like in
         ap (λ b. if b then Some MissingTemporary
-            else (if is_claimed_at lines q (entry_at (numbers c abroad func e) i) then None else Some Effects))
-            (le-ltb (length (map said_temporary tables.temporaries)) (length t.temporaries) (omega arith))
+        else (if is_claimed_at lines q (entry_at (numbers c abroad func e) i) then None else Some Effects))
+        (le-ltb (length (map said_temporary tables.temporaries)) (length t.temporaries) (omega arith))
         ∙ ap (λ b. let o : Option Difference = if b then None else Some Effects in o) (claimed_at i x y k q h step a)
 
     -- the tables that the check begins with
@@ -263,20 +271,20 @@ module _ (env : Environment) (func : HirFunction) (e : Bool)
         ≡ (steps_checked c abroad func e entries begun >>= (λ w. Ok (checked_end c abroad func e entries w)))
     before =
         ap (λ r. r >>= (λ u. entries_checked c abroad func e
-            >>= (λ xs. temporaries_stated id abroad (map said_temporary tables.temporaries) (tables_of abroad)
-            >>= (λ t. steps_checked c abroad func e xs t >>= (λ w. Ok (checked_end c abroad func e xs w)))))) lines_ok
+        >>= (λ xs. temporaries_stated id abroad (map said_temporary tables.temporaries) (tables_of abroad)
+        >>= (λ t. steps_checked c abroad func e xs t >>= (λ w. Ok (checked_end c abroad func e xs w)))))) lines_ok
         ∙ ap (λ r. r >>= (λ xs. temporaries_stated id abroad (map said_temporary tables.temporaries) (tables_of abroad)
-            >>= (λ t. steps_checked c abroad func e xs t >>= (λ w. Ok (checked_end c abroad func e xs w))))) entries_ok
+        >>= (λ t. steps_checked c abroad func e xs t >>= (λ w. Ok (checked_end c abroad func e xs w))))) entries_ok
         ∙ ap (λ r. r >>= (λ t. steps_checked c abroad func e entries t
-            >>= (λ w. Ok (checked_end c abroad func e entries w)))) remade.is
+        >>= (λ w. Ok (checked_end c abroad func e entries w)))) remade.is
 
     finished : IsAcceptedOrFull env func e tables
         (solution_checked state_join state_below (rules_of (elsewhere env o) func e) asked entries begun
         (replicate (length func.body.blocks) None)) → IsCertified env func e (function_solved c abroad func e)
     finished (accepted w is like) =
         certified (checked_end c abroad func e entries w)
-            (before ∙ ap (λ r. faulted id abroad func.body.blocks r
-            >>= (λ w. Ok (checked_end c abroad func e entries w))) is)
+        (before ∙ ap (λ r. faulted id abroad func.body.blocks r
+        >>= (λ w. Ok (checked_end c abroad func e entries w))) is)
     finished (full b i is) = full_certificate
         (before ∙ ap (λ r. faulted id abroad func.body.blocks r >>= (λ w. Ok (checked_end c abroad func e entries w)))
         is)

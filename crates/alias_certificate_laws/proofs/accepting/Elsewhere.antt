@@ -11,8 +11,9 @@ use Rattle.alias_apply.specs.freezing.Contexts.{context_of, context_in}
 use Rattle.alias_visit.specs.Operands.{context_at}
 use Rattle.alias_apply.specs.Apply.{is_error, has_error}
 use Rattle.alias_apply.specs.Contexts.{StepContext, summary_of, summary_in}
-use Rattle.alias_certificate_laws.specs.accepting.Alike.{none, more, Maybe, nothing, just, Alike, impure, mutate_frozen,
-    mutate_global, AlikeEffects, AlikeFunction, seen, Elsewhere, elsewhere}
+use Rattle.alias_certificate_laws.specs.accepting.Alike.{none, more, Maybe, nothing, just, Alike, impure, mutate_frozen}
+use Rattle.alias_certificate_laws.specs.accepting.Alike.{mutate_global, AlikeEffects, AlikeFunction, seen, Elsewhere}
+use Rattle.alias_certificate_laws.specs.accepting.Alike.{elsewhere}
 use Rattle.alias_certificate_laws.proofs.accepting.Likeness.{paired_get}
 
 -- the same context over the environment elsewhere

@@ -10,9 +10,10 @@ use Rattle.alias_hir.specs.declared.hir.BasicBlock.{BasicBlock}
 use Rattle.alias_hir.specs.declared.hir.HirFunction.{HirFunction}
 use Rattle.alias_hir.specs.declared.hir.Instruction.{Instruction}
 use Rattle.alias_hir.specs.declared.value.InstructionValue.{InstructionValue}
-use Rattle.alias_hir.specs.declared.value.InstructionValue.TheVariants.{FunctionExpression, ObjectMethod,
-    DeclareContext, CallExpression, MethodCall, PropertyLoad, JsxExpression, JsxFragment, Destructure, LoadLocal,
-    StoreLocal}
+use Rattle.alias_hir.specs.declared.value.InstructionValue.TheVariants.{FunctionExpression, ObjectMethod}
+use Rattle.alias_hir.specs.declared.value.InstructionValue.TheVariants.{DeclareContext, CallExpression, MethodCall}
+use Rattle.alias_hir.specs.declared.value.InstructionValue.TheVariants.{PropertyLoad, JsxExpression, JsxFragment}
+use Rattle.alias_hir.specs.declared.value.InstructionValue.TheVariants.{Destructure, LoadLocal, StoreLocal}
 use Rattle.alias_visit.specs.Operands.{operands_of}
 use Rattle.alias_facts.specs.Facts.{function_facts}
 use Rattle.alias_facts.specs.Handlers.{handler_bindings}
@@ -73,13 +74,13 @@ module _ (env : Environment) (o : Elsewhere env) where
     hoisted_block h b =
         ap (λ z. fold (hoisted.after_read env) z (terminal_places b.1.terminal))
         (fold_same (hoisted.after_listed func (elsewhere env o)) (hoisted.after_listed func env)
-            (λ a i. hoisted_instruction a (slice_get func.instructions i.0)) h b.1.instructions)
+        (λ a i. hoisted_instruction a (slice_get func.instructions i.0)) h b.1.instructions)
 
     spread_block : (c : Candidates) (b : BlockId × BasicBlock) → spreads.after_entry func (elsewhere env o) c b
         ≡ spreads.after_entry func env c b
     spread_block c b =
         fold_same (spreads.after_listed func (elsewhere env o)) (spreads.after_listed func env)
-            (λ a i. spread_instruction a (slice_get func.instructions i.0)) (fold after_phi c b.1.phis) b.1.instructions
+        (λ a i. spread_instruction a (slice_get func.instructions i.0)) (fold after_phi c b.1.phis) b.1.instructions
 
     pub facts_elsewhere : function_facts func (elsewhere env o) ≡ function_facts func env
     facts_elsewhere = λ i. record {

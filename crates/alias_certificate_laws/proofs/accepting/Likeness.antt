@@ -8,11 +8,14 @@ use Rattle.alias_hir.specs.declared.place.PlaceOrSpreadOrHole.TheVariants as arg
 use Rattle.alias_lattice.specs.declared.lookup.MissingLookup.{MissingLookup}
 use Rattle.alias_apply.specs.declared.progress.StepProgress.{StepProgress}
 use Rattle.std.specs.Prelude.{ℕ, slice_get, zero, suc}
-use Rattle.alias_certificate_laws.specs.accepting.Alike.{Paired, none, more, Maybe, nothing, just, moved, AlikePlace,
-    at, AlikeArgument, plain, spread, hole, Alike, apply, create_from, immutable_capture, assign, alias, capture,
-    maybe_alias, create, freeze, impure, mutate_frozen, mutate_global, render, mutate, mutate_conditionally,
-    mutate_transitive, mutate_transitive_conditionally, create_function, AlikeLookup, there, missing, AlikeProgress,
-    like}
+use Rattle.alias_certificate_laws.specs.accepting.Alike.{Paired, none, more, Maybe, nothing, just, moved, AlikePlace}
+use Rattle.alias_certificate_laws.specs.accepting.Alike.{at, AlikeArgument, plain, spread, hole, Alike, apply}
+use Rattle.alias_certificate_laws.specs.accepting.Alike.{create_from, immutable_capture, assign, alias, capture}
+use Rattle.alias_certificate_laws.specs.accepting.Alike.{maybe_alias, create, freeze, impure, mutate_frozen}
+use Rattle.alias_certificate_laws.specs.accepting.Alike.{mutate_global, render, mutate, mutate_conditionally}
+use Rattle.alias_certificate_laws.specs.accepting.Alike.{mutate_transitive, mutate_transitive_conditionally}
+use Rattle.alias_certificate_laws.specs.accepting.Alike.{create_function, AlikeLookup, there, missing, AlikeProgress}
+use Rattle.alias_certificate_laws.specs.accepting.Alike.{like}
 
 -- ---- lists
 
@@ -99,7 +102,7 @@ alike_self (effect.CreateFunction x f ps) = create_function x x f ps ps (paired_
 pub alike_sym : (e f : AliasingEffect) → Alike e f → Alike f e
 alike_sym e f (apply r s g h x y mutates args others signature span other a) =
     apply (moved r s) r (moved g h) g (moved x y) x mutates others args signature other span
-        (paired_sym AlikeArgument argument_sym a)
+    (paired_sym AlikeArgument argument_sym a)
 alike_sym e f (create_from a b x y) = create_from (moved a b) a (moved x y) x
 alike_sym e f (immutable_capture a b x y) = immutable_capture (moved a b) a (moved x y) x
 alike_sym e f (assign a b x y) = assign (moved a b) a (moved x y) x

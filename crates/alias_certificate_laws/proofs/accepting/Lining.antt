@@ -1,7 +1,7 @@
 -- The lines of the blocks that are reached stand where they are looked for.
 use Rattle.std.specs.Prelude.{slice_get}
-use Rattle.std.proofs.Common.{◌≡◌, ℕ, zero, suc, ◌+◌, ◌<◌, Bool, true, false, ◌&&◌, List, [], ◌∷◌, ◌++◌, length, get_or,
-    Option, Some, None, refl, ap, sym, ◌∙◌, arith, append_assoc, length-append, eq-eqb}
+use Rattle.std.proofs.Common.{◌≡◌, ℕ, zero, suc, ◌+◌, ◌<◌, Bool, true, false, ◌&&◌, List, [], ◌∷◌, ◌++◌, length, get_or}
+use Rattle.std.proofs.Common.{Option, Some, None, refl, ap, sym, ◌∙◌, arith, append_assoc, length-append, eq-eqb}
 use Rattle.std.specs.List.{list_all}
 use Rattle.std.specs.Option.{is_some, option_map_or}
 use Rattle.alias_base.specs.Find.{same_block}
@@ -42,7 +42,7 @@ same_marks [] (n ∷ ns) l h = cc
 same_marks (m ∷ ms) [] l h = cc
 same_marks (m ∷ ms) (n ∷ ns) l h =
     let rest : ms ≡ ns = same_marks ms ns (let a : suc (length ms) ≡ suc (length ns) = l in omega arith)
-        (λ i. h (suc i)) in
+    (λ i. h (suc i)) in
     let first : m ≡ n = h zero in
     cc
 
@@ -109,7 +109,7 @@ said_long (b ∷ bs) [] rs h k = cc
 said_long (b ∷ bs) (x ∷ xs) [] h k = cc
 said_long (b ∷ bs) (x ∷ xs) (r ∷ rs) h k =
     ap suc (said_long bs xs rs (let a : suc (length xs) ≡ suc (length bs) = h in omega arith)
-        (let a : suc (length rs) ≡ suc (length bs) = k in omega arith))
+    (let a : suc (length rs) ≡ suc (length bs) = k in omega arith))
 
 -- ---- the lines are those of the blocks
 
@@ -119,7 +119,7 @@ line_ok lines b None h = refl
 line_ok lines b (Some k) h =
     let r = h k refl in
     ap (λ o. option_map_or (λ (c : CertBlock). same_block c.block b) o false) r.1 ∙ ap (λ z. same_block z b) r.2
-        ∙ eq-eqb b.0 b.0 refl
+    ∙ eq-eqb b.0 b.0 refl
 
 all_up : (test : ℕ → Bool) (i n : ℕ) → ((b : ℕ) → test b ≡ true) → list_all test (up i n) ≡ true
 all_up test i zero h = refl
@@ -127,9 +127,9 @@ all_up test i (suc n) h = ap (λ t. t && list_all test (up (i + 1) n)) (h i) ∙
 
 pub are_lines_of : (lines : List CertBlock) (blocks : Blocks) (marks : List Bool) → length lines ≡ marked_count marks
     → ((i k : ℕ) → entry_at (line_numbers 0 marks) i ≡ Some k → (c : CertBlock) × (slice_get lines k ≡ Some c)
-        × (c.block ≡ block_at blocks i)) → are_lines lines blocks marks ≡ true
+    × (c.block ≡ block_at blocks i)) → are_lines lines blocks marks ≡ true
 are_lines_of lines blocks marks count each =
     ap (λ t. t && list_all (λ i. line_is lines (block_at blocks i) (entry_at (line_numbers 0 marks) i))
-        (up 0 (length blocks))) (eq-eqb (length lines) (marked_count marks) count)
+    (up 0 (length blocks))) (eq-eqb (length lines) (marked_count marks) count)
     ∙ all_up (λ i. line_is lines (block_at blocks i) (entry_at (line_numbers 0 marks) i)) 0 (length blocks)
-        (λ i. line_ok lines (block_at blocks i) (entry_at (line_numbers 0 marks) i) (λ k h. each i k h))
+    (λ i. line_ok lines (block_at blocks i) (entry_at (line_numbers 0 marks) i) (λ k h. each i k h))

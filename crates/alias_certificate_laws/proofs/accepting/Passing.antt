@@ -47,11 +47,11 @@ module _ (env : Environment) (func : HirFunction) (e : Bool)
   pub kept : Unit {0} × AllHold StateProper w.progress.joined_input × (length w.recorded ≡ length func.body.blocks)
   kept =
       solution_keeps state_join state_below (numbered (context_of env func e)) (λ t. Unit {0}) (λ t x. StateProper x)
-          (length func.body.blocks) (λ t x y p q. state_laws.closed x y p q)
+      (length func.body.blocks) (λ t x y p q. state_laws.closed x y p q)
       (λ b. Unit {0}) tt (λ b c r one. tt)
       (λ t b x y u k r i p step. record { tables = tt; state = laws.step_proper t b x y u k p step; still = λ z q. q })
       (tables_of env) (replicate (length func.body.blocks) None) w tt laws.initial_proper
-          (length-replicate (length func.body.blocks) None) ends
+      (length-replicate (length func.body.blocks) None) ends
 
   proper_at : (b : ℕ) (s : State) → entry_at w.progress.joined_input b ≡ Some s → StateProper s
   proper_at b s is = subst (HoldsOf StateProper) is (at_holds StateProper w.progress.joined_input b kept.1)
@@ -69,4 +69,4 @@ module _ (env : Environment) (func : HirFunction) (e : Bool)
       → IsAcceptedAsSaid env func e w.tables w.progress.joined_input w.recorded
   pass_accepted names =
       accepted_as_said env func e entered w.tables w.progress.joined_input w.recorded
-          (record { solved = pass_solves; records = solves.keeps; count = kept.2; names = names })
+      (record { solved = pass_solves; records = solves.keeps; count = kept.2; names = names })

@@ -1,6 +1,6 @@
 -- What was sent to a block is below what has arrived there.
-use Rattle.std.proofs.Common.{◌≡◌, ℕ, ◌<◌, ⊎_elim, inl, inr, Bool, IsTrue, List, [], ◌∷◌, length, Option, Some, None,
-    refl, ap, sym, ◌∙◌, subst, arith}
+use Rattle.std.proofs.Common.{◌≡◌, ℕ, ◌<◌, ⊎_elim, inl, inr, Bool, IsTrue, List, [], ◌∷◌, length, Option, Some, None}
+use Rattle.std.proofs.Common.{refl, ap, sym, ◌∙◌, subst, arith}
 use Rattle.std.proofs.lemmas.List.{get_or-set_same, get_or-set_other}
 use Rattle.std.proofs.lemmas.Bool.{cases_eq}
 use Rattle.std.specs.List.{AllByRecursion}
@@ -35,7 +35,7 @@ module _ {P : Type 0} {proper : P → Type 0} {join : P → P → P} {below : P 
       let same : s ≡ r = cc in
       let pr : proper r = k r refl in
       below_trans l u r (join r x) pu pr (l.closed r x pr p) (subst (λ z. IsTrue (below u z)) same h)
-          (below_left l r x pr p)
+      (below_left l r x pr p)
 
   -- what is sent is below what has arrived then
   send_over : (x : P) (xs : List (Option P)) (e n : ℕ) → proper x → Arrived l n xs → e < n

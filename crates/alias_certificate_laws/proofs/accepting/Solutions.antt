@@ -1,6 +1,6 @@
 -- Entry states that solve the flow of a function are accepted under the same tables.
-use Rattle.std.proofs.Common.{◌≡◌, ℕ, ◌+◌, ◌<◌, ◌≤◌, ⊎_elim, Bool, true, false, nat_lt, ◌&&◌, IsTrue, List, [], ◌∷◌,
-    length, replicate, Option, Some, None, Ok, zero, suc, refl, ap, sym, ◌∙◌, subst, arith}
+use Rattle.std.proofs.Common.{◌≡◌, ℕ, ◌+◌, ◌<◌, ◌≤◌, ⊎_elim, Bool, true, false, nat_lt, ◌&&◌, IsTrue, List, [], ◌∷◌}
+use Rattle.std.proofs.Common.{length, replicate, Option, Some, None, Ok, zero, suc, refl, ap, sym, ◌∙◌, subst, arith}
 use Rattle.std.specs.Prelude.{⊤, Result, Err, slice_get}
 use Rattle.std.proofs.lemmas.List.{length-replicate}
 use Rattle.std.proofs.lemmas.Bool.{cases_eq, ltb-true}
@@ -31,15 +31,16 @@ use Rattle.alias_effects.specs.FunctionFlow.{outcome_of}
 use Rattle.alias_step.specs.declared.block.recorded.BlockEffects.{BlockEffects}
 use Rattle.alias_effects.specs.Numbered.{numbered, step_at}
 use Rattle.alias_effects.specs.PassLaws.{pass_laws}
-use Rattle.alias_certificate_laws.specs.accepting.Alike.{none, AlikeTemporaries, Gives, given, excused, Elsewhere,
-    elsewhere}
+use Rattle.alias_certificate_laws.specs.accepting.Alike.{none, AlikeTemporaries, Gives, given, excused, Elsewhere}
+use Rattle.alias_certificate_laws.specs.accepting.Alike.{elsewhere}
 use Rattle.alias_certificate_laws.specs.accepting.AlikeBlocks.{AlikeRecorded, AlikeOut, out, IsBlockFull}
 use Rattle.alias_certificate_laws.proofs.accepting.Blocking.{away, same_infer_block}
 use Rattle.alias_certificate_laws.proofs.accepting.Knowing.{facts_elsewhere}
-use Rattle.alias_certificate_laws.specs.accepting.Passing.{AreSolved, Passes, goes, excused as excused_step, Accepts,
-    accepted, refused}
-use Rattle.alias_certificate_laws.specs.accepting.Accepting.{rules, rules_of, SolvesUnder, AreClaimed, IsAccepted,
-    AreClaimedAlike, IsAcceptedOrFull, accepted as accepted_with, full}
+use Rattle.alias_certificate_laws.specs.accepting.Passing.{AreSolved, Passes, goes, excused as excused_step, Accepts}
+use Rattle.alias_certificate_laws.specs.accepting.Passing.{accepted, refused}
+use Rattle.alias_certificate_laws.specs.accepting.Accepting.{rules, rules_of, SolvesUnder, AreClaimed, IsAccepted}
+use Rattle.alias_certificate_laws.specs.accepting.Accepting.{AreClaimedAlike, IsAcceptedOrFull}
+use Rattle.alias_certificate_laws.specs.accepting.Accepting.{accepted as accepted_with, full}
 use Rattle.alias_certificate_laws.proofs.accepting.Accepting.{check_accepts}
 
 -- ---- edges that pass the test go forward
@@ -58,7 +59,7 @@ all_up test i zero h b le lt = let no : ⊥ = omega arith in absurd no
 all_up test i (suc n) h b le lt =
     let p = both (test i) (list_all test (up (i + 1) n)) h in
     ⊎_elim (λ same. ap test same ∙ p.0) (λ other. all_up test (i + 1) n p.1 b (omega (arith, other)) (omega arith))
-        (cases_eq b i)
+    (cases_eq b i)
 
 pub forward_is : {P T K C : Type 0} (r : Rules P T K C) → goes_forward r ≡ true → IsForward r
 forward_is r h b lt = all_later b (r.flow.edges b)
@@ -122,7 +123,7 @@ module _ (env : Environment) (func : HirFunction) (is_function_expression : Bool
     steps = λ b x is. let z = s.solves.steps b x is in (z.0, (z.1, z.2), z.3);
     joins = λ forward b x u is p first later.
         (s.joins (forward_is flow_rules forward) b x is).least u p
-            (record { initial = first; stepped = λ c x y k c_is step one. later c x y c_is (k, step) one });
+        (record { initial = first; stepped = λ c x y k c_is step one. later c x y c_is (k, step) one });
   }
 
   module _ (differs : TableLists → ℕ → BlockEffects → Option ⊤)
@@ -188,7 +189,7 @@ module _ (env : Environment) (func : HirFunction) (is_function_expression : Bool
         → entry_at entries b ≡ Some x → slice_get func.body.blocks b ≡ Some block → flow_rules.flow.step tables b x
         ≡ Stepped y tables k
         → Gives IsBlockFull tables.temporaries AlikeOut (y, k) (infer_block (away context o) block.0 block.1 x t)
-            → Passes there_rules differs Likes IsBlockFull t b x y
+        → Passes there_rules differs Likes IsBlockFull t b x y
     given_passes t b x y k block is at_index step (given p v now (out _ _ q r) likes) =
         goes v q (step_there t x block b at_index ∙ ap outcome_of now) likes (claimed b x y k is step v q likes r)
     given_passes t b x y k block is at_index step (excused c now why) =
@@ -200,20 +201,20 @@ module _ (env : Environment) (func : HirFunction) (is_function_expression : Bool
         → Passes there_rules differs Likes IsBlockFull t b x y
     passes_at t b x y k None likes is at_index step =
         let here : Stepped x tables no_effects ≡ Stepped y tables k =
-            sym (ap (λ z. step_at context z tables x) at_index) ∙ step in
+        sym (ap (λ z. step_at context z tables x) at_index) ∙ step in
         let state : x ≡ y = cc in
         let nothing : no_effects ≡ k = cc in
         goes t no_effects (ap (λ z. step_at (context_of (elsewhere env o) func is_function_expression) z t x) at_index
-            ∙ ap (λ z. Stepped z t no_effects) state) likes
+        ∙ ap (λ z. Stepped z t no_effects) state) likes
         (claimed b x y k is step t no_effects likes
-            (subst (λ r. AlikeRecorded r no_effects) nothing (record { instructions = none; terminal = none })))
+        (subst (λ r. AlikeRecorded r no_effects) nothing (record { instructions = none; terminal = none })))
     passes_at t b x y k (Some block) likes is at_index step =
         let run : infer_block context block.0 block.1 x tables ≡ Ok ((y, k), tables) =
-            stepped_is (infer_block context block.0 block.1 x tables) y k tables
-            (sym (ap (λ z. step_at context z tables x) at_index) ∙ step) in
+        stepped_is (infer_block context block.0 block.1 x tables) y k tables
+        (sym (ap (λ z. step_at context z tables x) at_index) ∙ step) in
         given_passes t b x y k block is at_index step
-            ((same_infer_block context o block.0 block.1 x).again tables tables t (y, k) run
-            (grows_self tables.temporaries) likes)
+        ((same_infer_block context o block.0 block.1 x).again tables tables t (y, k) run
+        (grows_self tables.temporaries) likes)
 
     passes_anyway : (t : TableLists) (b : ℕ) (x y : State) → Likes t → entry_at entries b ≡ Some x → StepsTo b x y
         → Passes there_rules differs Likes IsBlockFull t b x y
@@ -231,8 +232,8 @@ module _ (env : Environment) (func : HirFunction) (is_function_expression : Bool
 
     pub accepts_anyway : (begun : TableLists) → Likes begun
         → IsAcceptedOrFull env func is_function_expression tables
-            (solution_checked state_join state_below there_rules differs entries begun
-            (replicate (length func.body.blocks) None))
+        (solution_checked state_join state_below there_rules differs entries begun
+        (replicate (length func.body.blocks) None))
     accepts_anyway begun likes =
         accepted_is _ (check_accepts state_laws there_laws differs entries StepsTo Likes IsBlockFull solved_there
-            s.proper s.count passes_anyway single begun likes)
+        s.proper s.count passes_anyway single begun likes)

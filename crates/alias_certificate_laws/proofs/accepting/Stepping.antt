@@ -43,32 +43,39 @@ use Rattle.alias_calls.specs.declared.legacy.Legacy.{Legacy}
 use Rattle.alias_calls.specs.Copies.{Collected}
 use Rattle.alias_calls.specs.Legacy.{legacy_expansion}
 use Rattle.alias_step.specs.declared.call.Operand.{Operand}
-use Rattle.alias_step.specs.Calls.{with_missing, apply_by_summary, apply_inner_call_by, apply_inner_call,
-    apply_inner_effect, apply_inner_effects, apply_by_legacy, apply_by_config, incompatible, apply_compatible,
-    apply_by_signature, apply_call_by, apply_call, apply_effect, apply_effects}
+use Rattle.alias_step.specs.Calls.{with_missing, apply_by_summary, apply_inner_call_by, apply_inner_call}
+use Rattle.alias_step.specs.Calls.{apply_inner_effect, apply_inner_effects, apply_by_legacy, apply_by_config}
+use Rattle.alias_step.specs.Calls.{incompatible, apply_compatible, apply_by_signature, apply_call_by, apply_call}
+use Rattle.alias_step.specs.Calls.{apply_effect, apply_effects}
 use Rattle.alias_step.specs.Defaults.{mutate_operand, iterate_operand, capture_operand, apply_operand, apply_by_default}
-use Rattle.alias_step.specs.Instructions.{written_by, is_frozen_context, record_mutate_frozen, check_write,
-    check_effect, check_summary, check_created, begun, with_result, apply_instruction, intern_reported, context_with,
-    apply_signature_with, apply_signature}
-use Rattle.alias_step.specs.Expansions.{called_function, expansion_of_summary, expansion_of_function,
-    expansion_of_called, signature_of_type, expansion_of_config}
+use Rattle.alias_step.specs.Instructions.{written_by, is_frozen_context, record_mutate_frozen, check_write}
+use Rattle.alias_step.specs.Instructions.{check_effect, check_summary, check_created, begun, with_result}
+use Rattle.alias_step.specs.Instructions.{apply_instruction, intern_reported, context_with, apply_signature_with}
+use Rattle.alias_step.specs.Instructions.{apply_signature}
+use Rattle.alias_step.specs.Expansions.{called_function, expansion_of_summary, expansion_of_function}
+use Rattle.alias_step.specs.Expansions.{expansion_of_called, signature_of_type, expansion_of_config}
 use Rattle.alias_step.specs.Operands.{Call, same_place, argument_operands, operands}
-use Rattle.alias_certificate_laws.specs.accepting.Alike.{Paired, none, more, AlikePlace, Maybe, nothing, just, moved,
-    at, plain, spread, hole, AlikeArguments, Alike, apply, assign, create, capture, maybe_alias, mutate_frozen,
-    mutate_global, mutate_transitive_conditionally, AlikeEffects, AlikeList, AlikeSite, called, AlikeLegacy, listed,
-    AlikeProgress, like, IsFull, Repeats, AlikeFunction, seen, Elsewhere, elsewhere, mutate, mutate_transitive}
-use Rattle.alias_certificate_laws.proofs.accepting.Likeness.{paired_self, paired_append, alike_self, lookup_self,
-    progress_self}
-use Rattle.alias_certificate_laws.proofs.accepting.Repeating.{repeats_gives, repeats_refuses, repeats_then,
-    repeats_each, maybe_self}
+use Rattle.alias_certificate_laws.specs.accepting.Alike.{Paired, none, more, AlikePlace, Maybe, nothing, just, moved}
+use Rattle.alias_certificate_laws.specs.accepting.Alike.{at, plain, spread, hole, AlikeArguments, Alike, apply, assign}
+use Rattle.alias_certificate_laws.specs.accepting.Alike.{create, capture, maybe_alias, mutate_frozen, mutate_global}
+use Rattle.alias_certificate_laws.specs.accepting.Alike.{mutate_transitive_conditionally, AlikeEffects, AlikeList}
+use Rattle.alias_certificate_laws.specs.accepting.Alike.{AlikeSite, called, AlikeLegacy, listed, AlikeProgress, like}
+use Rattle.alias_certificate_laws.specs.accepting.Alike.{IsFull, Repeats, AlikeFunction, seen, Elsewhere, elsewhere}
+use Rattle.alias_certificate_laws.specs.accepting.Alike.{mutate, mutate_transitive}
+use Rattle.alias_certificate_laws.proofs.accepting.Likeness.{paired_self, paired_append, alike_self, lookup_self}
+use Rattle.alias_certificate_laws.proofs.accepting.Likeness.{progress_self}
+use Rattle.alias_certificate_laws.proofs.accepting.Repeating.{repeats_gives, repeats_refuses, repeats_then}
+use Rattle.alias_certificate_laws.proofs.accepting.Repeating.{repeats_each, maybe_self}
 use Rattle.alias_certificate_laws.proofs.accepting.Tabling.{AnyNumber, repeats_report}
-use Rattle.alias_certificate_laws.proofs.accepting.Applying.{recorded_alike, first_alike, stated, Same, same_gives,
-    same_then, same_if, same_intern_and_apply_simple, same_intern_and_apply_plain, same_intern_and_apply_all_plain}
+use Rattle.alias_certificate_laws.proofs.accepting.Applying.{recorded_alike, first_alike, stated, Same, same_gives}
+use Rattle.alias_certificate_laws.proofs.accepting.Applying.{same_then, same_if, same_intern_and_apply_simple}
+use Rattle.alias_certificate_laws.proofs.accepting.Applying.{same_intern_and_apply_plain}
+use Rattle.alias_certificate_laws.proofs.accepting.Applying.{same_intern_and_apply_all_plain}
 use Rattle.alias_signature.specs.Functions.{captured, function_effects}
 use Rattle.std.specs.List.{flat_map}
 use Rattle.alias_certificate_laws.proofs.accepting.Calling.{same_config_expansion, same_summary_expansion, seen_as}
-use Rattle.alias_certificate_laws.proofs.accepting.Elsewhere.{other, function_elsewhere, summary_elsewhere,
-    context_elsewhere, context_at_elsewhere}
+use Rattle.alias_certificate_laws.proofs.accepting.Elsewhere.{other, function_elsewhere, summary_elsewhere}
+use Rattle.alias_certificate_laws.proofs.accepting.Elsewhere.{context_elsewhere, context_at_elsewhere}
 use Rattle.alias_certificate_laws.proofs.accepting.Legacies.{same_legacy_expansion}
 
 -- ---- calls
@@ -78,7 +85,7 @@ data AlikeCall : Call → Call → Type 0 where
   calls : (s t : CallSite) (f g : Place) (mutates : Bool) (args others : List PlaceOrSpreadOrHole) → AlikeSite s t
       → AlikeArguments args others
       → AlikeCall (record { site = s; function = f; mutates_function = mutates; args = args })
-          (record { site = t; function = moved f g; mutates_function = mutates; args = others })
+      (record { site = t; function = moved f g; mutates_function = mutates; args = others })
 
 data AlikeOperand : Operand → Operand → Type 0 where
   operand : (p q : Place) (is_spread : Bool)
@@ -155,8 +162,8 @@ module _ {whole : List Temporary} where
       (expansion_of_called (elsewhere env away) d (called_function t.state d.function))
   same_list env away c d s t (calls p q f g mutates args others site a) (like u r m b l) =
       same_list_of_called env away (record { site = p; function = f; mutates_function = mutates; args = args })
-          (record { site = q; function = moved f g; mutates_function = mutates; args = others })
-          (called_function u.state f) (calls p q f g mutates args others site a)
+      (record { site = q; function = moved f g; mutates_function = mutates; args = others })
+      (called_function u.state f) (calls p q f g mutates args others site a)
 
   module _ (x : StepContext) (o₀ : Elsewhere x.env) where
     -- ---- by default
@@ -165,19 +172,19 @@ module _ {whole : List Temporary} where
         → AlikeProgress s t → Same whole (mutate_operand x c o s) (mutate_operand (other x o₀) d p t)
     same_mutate_operand c d o p s t (calls u v f g mutates args others site a) (operand q r b) e =
         same_if (same_place q f && not mutates) _ _ _ _ (same_gives s t e)
-            (same_intern_and_apply_simple x o₀ _ _ s t (mutate_transitive_conditionally q r) e)
+        (same_intern_and_apply_simple x o₀ _ _ s t (mutate_transitive_conditionally q r) e)
 
     same_iterate_operand : (o p : Operand) (s t : StepProgress) → AlikeOperand o p → AlikeProgress s t
         → Same whole (iterate_operand x o s) (iterate_operand (other x o₀) p t)
     same_iterate_operand o p s t (operand q r b) e =
         same_if (b && not (is_builtin_collection_at x.env q.identifier)) _ _ _ _
-            (same_intern_and_apply_simple x o₀ _ _ s t (mutate_transitive_conditionally q r) e) (same_gives s t e)
+        (same_intern_and_apply_simple x o₀ _ _ s t (mutate_transitive_conditionally q r) e) (same_gives s t e)
 
     same_capture_operand : (o p m n : Operand) (s t : StepProgress) → AlikeOperand o p → AlikeOperand m n
         → AlikeProgress s t → Same whole (capture_operand x o m s) (capture_operand (other x o₀) p n t)
     same_capture_operand o p m n s t (operand q r b) (operand u v d) e =
         same_if (same_place u q && not b) _ _ _ _ (same_gives s t e)
-            (same_intern_and_apply_simple x o₀ _ _ s t (capture q r u v) e)
+        (same_intern_and_apply_simple x o₀ _ _ s t (capture q r u v) e)
 
     same_operand : (c d : Call) (all every : List Operand) (o p : Operand) (s t : StepProgress) → AlikeCall c d
         → Paired AlikeOperand all every → AlikeOperand o p → AlikeProgress s t
@@ -187,15 +194,15 @@ module _ {whole : List Temporary} where
         same_then _ _ _ _ (same_iterate_operand o p u v e j) (λ w y k.
         same_then _ _ _ _ (same_intern_and_apply_simple x o₀ _ _ w y (linked c d o p a e) k) (λ z n l.
         repeats_each AlikeOperand AlikeProgress progress_self (capture_operand x o) (capture_operand (other x o₀) p)
-            (λ m q f g h r. same_capture_operand o p m q g h e f r) all every b z n l)))
+        (λ m q f g h r. same_capture_operand o p m q g h e f r) all every b z n l)))
 
     same_by_default : (c d : Call) (s t : StepProgress) → AlikeCall c d → AlikeProgress s t
         → Same whole (apply_by_default x c s) (apply_by_default (other x o₀) d t)
     same_by_default c d s t a b =
         same_then _ _ _ _ (same_intern_and_apply_simple x o₀ _ _ s t (made_alike c d a) b) (λ u v e.
         repeats_each AlikeOperand AlikeProgress progress_self (apply_operand x c (operands c))
-            (apply_operand (other x o₀) d (operands d))
-            (λ o p f g h i. same_operand c d (operands c) (operands d) o p g h a (operands_alike c d a) f i)
+        (apply_operand (other x o₀) d (operands d))
+        (λ o p f g h i. same_operand c d (operands c) (operands d) o p g h a (operands_alike c d a) f i)
         (operands c) (operands d) (operands_alike c d a) u v e)
 
     -- ---- by a summary
@@ -224,8 +231,8 @@ module _ {whole : List Temporary} where
         → Same whole (apply_inner_effect x e s) (apply_inner_effect (other x o₀) f t)
     same_inner_effect e f s t (apply r q g h i j mutates args others signature span other a) b =
         same_inner_call _ _ s t (calls _ _ g h mutates args others
-            (called (record { receiver = r; into = i; span = span }) (record { receiver = q; into = j; span = other }))
-            a) b
+        (called (record { receiver = r; into = i; span = span }) (record { receiver = q; into = j; span = other }))
+        a) b
     same_inner_effect e f s t a b = same_intern_and_apply_plain x o₀ e f s t a b
 
     same_inner_effects : (es fs : List AliasingEffect) (s t : StepProgress) → AlikeEffects es fs → AlikeProgress s t
@@ -264,7 +271,7 @@ module _ {whole : List Temporary} where
         repeats_refuses AlikeProgress (IncompatibleLibrary (incompatible_report c.site.receiver.span text)) _
     same_compatible None g c d s t a b =
         repeats_then AlikeList AlikeProgress (maybe_self AlikeEffects (paired_self Alike alike_self)) _ _ _ _
-            (same_list_of_config x.env o₀ c d g.aliasing a) (λ o p e. same_by_config o p g c d s t e a b)
+        (same_list_of_config x.env o₀ c d g.aliasing a) (λ o p e. same_by_config o p g c d s t e a b)
 
     same_by_signature : (o : Option FunctionSignature) (c d : Call) (s t : StepProgress) → AlikeCall c d
         → AlikeProgress s t → Same whole (apply_by_signature x o c s) (apply_by_signature (other x o₀) o d t)
@@ -283,14 +290,14 @@ module _ {whole : List Temporary} where
         → Same whole (apply_call x signature c s) (apply_call (other x o₀) signature d t)
     same_call signature c d s t a b =
         repeats_then AlikeList AlikeProgress (maybe_self AlikeEffects (paired_self Alike alike_self)) _ _ _ _
-            (same_list x.env o₀ c d s t a b) (λ o p e. same_call_by o p signature c d s t e a b)
+        (same_list x.env o₀ c d s t a b) (λ o p e. same_call_by o p signature c d s t e a b)
 
     same_effect : (e f : AliasingEffect) (s t : StepProgress) → Alike e f → AlikeProgress s t
         → Same whole (apply_effect x e s) (apply_effect (other x o₀) f t)
     same_effect e f s t (apply r q g h i j mutates args others signature span other a) b =
         same_call signature _ _ s t (calls _ _ g h mutates args others
-            (called (record { receiver = r; into = i; span = span }) (record { receiver = q; into = j; span = other }))
-            a) b
+        (called (record { receiver = r; into = i; span = span }) (record { receiver = q; into = j; span = other }))
+        a) b
     same_effect e f s t a b = same_intern_and_apply_plain x o₀ e f s t a b
 
     same_effects : (es fs : List AliasingEffect) (s t : StepProgress) → AlikeEffects es fs → AlikeProgress s t
@@ -312,12 +319,12 @@ function_alike : (env : Environment) (away : Elsewhere env) (l : Place) (f : Fun
     → AlikeEffects (function_effects env l f) (function_effects (elsewhere env away) l f)
 function_alike env away l f =
     subst (λ ps. AlikeEffects (function_effects env l f) (effect.CreateFunction l f (flat_map captured ps) ∷ []))
-        (context_at_elsewhere env away f) (paired_self Alike alike_self (function_effects env l f))
+    (context_at_elsewhere env away f) (paired_self Alike alike_self (function_effects env l f))
 
 value_alike : (env : Environment) (away : Elsewhere env) (facts : FunctionFacts) (d e : Option ReportId) (l : Place)
     (span : Option Span) (v : InstructionValue) → AnyReport d e
     → AlikeEffects (signature_of_value (known env facts d) l span v)
-        (signature_of_value (known (elsewhere env away) facts e) l span v)
+    (signature_of_value (known (elsewhere env away) facts e) l span v)
 value_alike env away facts d e l span (value.FunctionExpression lowered) a = function_alike env away l lowered.func
 value_alike env away facts d e l span (value.ObjectMethod lowered) a = function_alike env away l lowered.func
 value_alike env away facts d e l span (value.StoreGlobal name v) a =
@@ -352,7 +359,7 @@ module _ {whole : List Temporary} where
       → Same whole (record_mutate_frozen r v s) (record_mutate_frozen q (moved v w) t)
   same_record_mutate_frozen r q v w s t a =
       repeats_then AnyNumber AlikeProgress (λ d. tt) _ _ _ _ (repeats_report v.identifier r q)
-          (λ d e n. same_gives _ _ (recorded_alike _ _ s t (mutate_frozen v w d e) a))
+      (λ d e n. same_gives _ _ (recorded_alike _ _ s t (mutate_frozen v w d e) a))
 
   module _ (x : StepContext) (o₀ : Elsewhere x.env) where
     same_check_write : (context : List Place) (o p : Option Place) (s t : StepProgress) → Maybe AlikePlace o p
@@ -360,7 +367,7 @@ module _ {whole : List Temporary} where
     same_check_write context o p s t nothing a = same_gives s t a
     same_check_write context o p s t (just (at v w)) (like u r m a l) =
         same_if (is_frozen_context context u.state v) _ _ _ _ (same_record_mutate_frozen _ _ v w u _ (like u r m a l))
-            (same_gives u _ (like u r m a l))
+        (same_gives u _ (like u r m a l))
 
     same_check_summary : (context : List Place) (o p : Option (List AliasingEffect)) (s t : StepProgress)
         → Maybe AlikeEffects o p → AlikeProgress s t
@@ -368,17 +375,17 @@ module _ {whole : List Temporary} where
     same_check_summary context o p s t nothing a = same_gives s t a
     same_check_summary context o p s t (just {a = es} {b = fs} k) a =
         repeats_each Alike AlikeProgress progress_self (check_effect x context) (check_effect (other x o₀) context)
-            (λ e f i u v b. same_check_write context (written_by e) (written_by f) u v (written_alike e f i) b) es fs k
-            s t a
+        (λ e f i u v b. same_check_write context (written_by e) (written_by f) u v (written_alike e f i) b) es fs k
+        s t a
 
     same_check_created : (o : Option FunctionId) (s t : StepProgress) → AlikeProgress s t
         → Same whole (check_created x o s) (check_created (other x o₀) o t)
     same_check_created None s t a = same_gives s t a
     same_check_created (Some f) s t a =
         subst (λ z. Same whole (check_summary x (context_of x.env f) (summary_of x.env f) s)
-            (check_summary (other x o₀) z (summary_of (elsewhere x.env o₀) f) t)) (sym (context_elsewhere x.env o₀ f))
+        (check_summary (other x o₀) z (summary_of (elsewhere x.env o₀) f) t)) (sym (context_elsewhere x.env o₀ f))
         (same_check_summary (context_of x.env f) (summary_of x.env f) (summary_of (elsewhere x.env o₀) f) s t
-            (summary_elsewhere x.env o₀ f) a)
+        (summary_elsewhere x.env o₀ f) a)
 
     same_instruction : (o : Option FunctionId) (es fs : List AliasingEffect) (y : IdentifierId) (s t : StepProgress)
         → AlikeEffects es fs → AlikeProgress s t
@@ -399,5 +406,5 @@ module _ {whole : List Temporary} where
       → Same whole (apply_signature env facts i s) (apply_signature (elsewhere env away) facts i t)
   same_signature env away facts i s t a =
       repeats_then AnyReport AlikeProgress (maybe_self AnyNumber (λ d. tt)) _ _ _ _
-          (same_reported (instruction_report i.value i.span))
-          (λ d e b. same_signature_with env away facts i d e s t b a)
+      (same_reported (instruction_report i.value i.span))
+      (λ d e b. same_signature_with env away facts i d e s t b a)

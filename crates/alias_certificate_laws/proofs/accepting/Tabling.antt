@@ -1,6 +1,7 @@
 -- Temporaries are found again by their keys, and reports are interned as long as numbers are left.
-use Rattle.std.proofs.Common.{◌≡◌, ◌+◌, Bool, true, false, ◌&&◌, nat_lt, cond, List, [], ◌∷◌, ◌++◌, length, Option,
-    Some, None, Result, Ok, Err, refl, ap, sym, ◌∙◌, subst, arith, length-append, if◌then◌else◌}
+use Rattle.std.proofs.Common.{◌≡◌, ◌+◌, Bool, true, false, ◌&&◌, nat_lt, cond, List, [], ◌∷◌, ◌++◌, length, Option}
+use Rattle.std.proofs.Common.{Some, None, Result, Ok, Err, refl, ap, sym, ◌∙◌, subst, arith, length-append}
+use Rattle.std.proofs.Common.{if◌then◌else◌}
 use Rattle.alias_base.specs.declared.ids.IdentifierId.{IdentifierId}
 use Rattle.alias_hir.specs.declared.env.Environment.{Environment}
 use Rattle.alias_hir.specs.declared.error.Counter.TheVariants.{Diagnostics, Identifiers}
@@ -19,8 +20,9 @@ use Rattle.alias_tables.specs.declared.faults.Refusal.TheVariants.{TooMany}
 use Rattle.alias_tables.specs.declared.reads.ContextRead.{ContextRead}
 use Rattle.alias_tables.specs.declared.temp_key.TempKey.{TempKey}
 use Rattle.alias_tables.specs.declared.temporaries.Temporary.{Temporary}
-use Rattle.alias_certificate_laws.specs.accepting.Alike.{none, more, moved, AlikePlace, at, IsFull, of_key,
-    AlikeTemporaries, Gives, given, excused, Repeats, Elsewhere, elsewhere}
+use Rattle.alias_certificate_laws.specs.accepting.Alike.{none, more, moved, AlikePlace, at, IsFull, of_key}
+use Rattle.alias_certificate_laws.specs.accepting.Alike.{AlikeTemporaries, Gives, given, excused, Repeats, Elsewhere}
+use Rattle.alias_certificate_laws.specs.accepting.Alike.{elsewhere}
 
 -- ---- temporaries
 
@@ -42,7 +44,7 @@ found_alike : (key : TempKey) (ts us : List Temporary) (t : Temporary) → Alike
 found_alike key ts us t none h = cc
 found_alike key ts us t (more {xs = xs} {ys = ys} (of_key k p q) rest) h =
     found_first (same_temp k key) (record { key = k; place = p }) (record { key = k; place = moved p q }) t
-        (temp_like key xs) (temp_like key ys) (at p q) h (found_alike key xs ys t rest)
+    (temp_like key xs) (temp_like key ys) (at p q) h (found_alike key xs ys t rest)
 
 longer : {A : Type 0} (xs : List A) (x : A) {B : Type 0} → xs ++ x ∷ [] ≡ xs → B
 longer xs x h = let n : length xs + 1 ≡ length xs = sym (length-append xs (x ∷ [])) ∙ ap length h in let no : ⊥ =
@@ -58,8 +60,8 @@ module _ (env : Environment) (key : TempKey) (span : Option Span) where
   none_made true w x h =
       let p = new_place (length env.identifiers) (length w.temporaries) span in
       longer w.temporaries (temporary_of key p)
-          (ap (λ (t : TableLists). t.temporaries)
-          (tables_are p x (record w { temporaries = w.temporaries ++ temporary_of key p ∷ [] }) w h))
+      (ap (λ (t : TableLists). t.temporaries)
+      (tables_are p x (record w { temporaries = w.temporaries ++ temporary_of key p ∷ [] }) w h))
   none_made false w x h = not_given (TooMany Identifiers) x w h
 
   there_is : (o : Option Temporary) (w : TableLists) (x : Place) → temporary_after o env key span w ≡ Ok (x, w)
@@ -77,13 +79,17 @@ module _ {whole : List Temporary} where
     grows = λ t u x h. ((again_temporary env key span).grows t u x h).temporaries;
     again = λ t u v x h g like.
         let w : TableLists = record u { temporaries = whole } in
-        let extends : Extends u w = record { first = grows_self u.first; temporaries = g;
-            reports = grows_self u.reports; reads = grows_self u.reads } in
+        let extends : Extends u w = record {
+          first = grows_self u.first;
+          temporaries = g;
+          reports = grows_self u.reports;
+          reads = grows_self u.reads;
+        } in
         let again : temporary env key span w ≡ Ok (x, w) = (again_temporary env key span).again t u w x h extends in
         let here = there_is env key span (temp_like key whole) w x again in
         let z = found_alike key whole v.temporaries here.0 like here.1 in
         given z.0.place v (ap (λ o. temporary_after o (elsewhere env away) key other v) z.1)
-            (subst (λ p. AlikePlace p z.0.place) here.2 z.2) like;
+        (subst (λ p. AlikePlace p z.0.place) here.2 z.2) like;
   }
 
   -- ---- reports
@@ -91,7 +97,7 @@ module _ {whole : List Temporary} where
   report_given : (b : Bool) (d : ReportId) (v w : TableLists) (x : ReportId) → w.temporaries ≡ v.temporaries
       → AlikeTemporaries whole v.temporaries
       → Gives IsFull whole AnyNumber x (let r : Result (ReportId × TableLists) Refusal = if b then Ok (d, w)
-          else Err (TooMany Diagnostics) in r)
+      else Err (TooMany Diagnostics) in r)
   report_given true d v w x same like = given d w refl tt (subst (AlikeTemporaries whole) (sym same) like)
   report_given false d v w x same like = excused (TooMany Diagnostics) refl refl
 
@@ -101,7 +107,7 @@ module _ {whole : List Temporary} where
     grows = λ t u x h. ((again_report id r).grows t u x h).temporaries;
     again = λ t u v x h g like.
         report_given (nat_lt (number_of (same_identity id q) v.reports) 4294967295
-            && nat_lt (number_of (same_instance id q) v.reports) 4294967295) _ v _ x refl like;
+        && nat_lt (number_of (same_instance id q) v.reports) 4294967295) _ v _ x refl like;
   }
 
   -- ---- context places

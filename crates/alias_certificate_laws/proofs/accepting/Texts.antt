@@ -1,7 +1,7 @@
 -- Effects that are alike are told by each other's texts.
 use Rattle.std.specs.Prelude.{codes, decimal, if◌then◌else◌, ◌==◌}
-use Rattle.std.proofs.Common.{◌≡◌, ℕ, suc, ◌+◌, ◌⊎◌, inl, inr, Bool, true, false, ◌&&◌, nat_lt, List, [], ◌∷◌, ◌++◌,
-    length, take, drop, Option, Some, None, refl, ap, sym, ◌∙◌, arith, eq-eqb, length-append}
+use Rattle.std.proofs.Common.{◌≡◌, ℕ, suc, ◌+◌, ◌⊎◌, inl, inr, Bool, true, false, ◌&&◌, nat_lt, List, [], ◌∷◌, ◌++◌}
+use Rattle.std.proofs.Common.{length, take, drop, Option, Some, None, refl, ap, sym, ◌∙◌, arith, eq-eqb, length-append}
 use Rattle.std.specs.List.{flat_map}
 use Rattle.std.proofs.lemmas.Bool.{lt-ltb}
 use Rattle.alias_hir.specs.declared.effect.AliasingEffect.{AliasingEffect}
@@ -16,8 +16,9 @@ use Rattle.alias_cert_text.proofs.Cutting.{Lacks}
 use Rattle.alias_cert_text.proofs.Digits.{decimal_lacks}
 use Rattle.alias_cert.specs.effects.Kept.{word_end, same_text, has_more, kept_length, kept}
 use Rattle.alias_cert.specs.effects.Telling.{tells}
-use Rattle.alias_certificate_laws.specs.accepting.Alike.{none, more, at, AlikePlaces, AlikeArgument, plain, spread,
-    hole, AlikeArguments, Alike, apply, impure, mutate_frozen, mutate_global, mutate, create_function}
+use Rattle.alias_certificate_laws.specs.accepting.Alike.{none, more, at, AlikePlaces, AlikeArgument, plain, spread}
+use Rattle.alias_certificate_laws.specs.accepting.Alike.{hole, AlikeArguments, Alike, apply, impure, mutate_frozen}
+use Rattle.alias_certificate_laws.specs.accepting.Alike.{mutate_global, mutate, create_function}
 
 -- ---- what is kept of a text of two words and more
 
@@ -82,22 +83,22 @@ module _ (ds tail : List ℕ) where
     two_words =
         let t = name ++ 32 ∷ (ds ++ tail) in
         let step : ℕ → ℕ = λ n. if has_more (take n t)
-            then (if nat_lt n (length t) then n + 1 + word_end (drop (n + 1) t) else n) else length t in
+        then (if nat_lt n (length t) then n + 1 + word_end (drop (n + 1) t) else n) else length t in
         let one : kept_length t ≡ step (length name) = ap step first_word in
         let two : step (length name) ≡ (if has_more name
-            then (if nat_lt (length name) (length t) then length name + 1 + word_end (drop (length name + 1) t)
-            else length name) else length t) =
+        then (if nat_lt (length name) (length t) then length name + 1 + word_end (drop (length name + 1) t)
+        else length name) else length t) =
         ap (λ z. if has_more z then (if nat_lt (length name) (length t) then length name + 1
-            + word_end (drop (length name + 1) t) else length name) else length t) (take_name name) in
+        + word_end (drop (length name + 1) t) else length name) else length t) (take_name name) in
         let three : (if has_more name then (if nat_lt (length name) (length t) then length name + 1
-            + word_end (drop (length name + 1) t) else length name) else length t) ≡ length name + 1
-            + word_end (drop (length name + 1) t) =
+        + word_end (drop (length name + 1) t) else length name) else length t) ≡ length name + 1
+        + word_end (drop (length name + 1) t) =
         ap (λ b. if b then (if nat_lt (length name) (length t) then length name + 1
-            + word_end (drop (length name + 1) t) else length name) else length t) has
+        + word_end (drop (length name + 1) t) else length name) else length t) has
         ∙ ap (λ b. if b then length name + 1 + word_end (drop (length name + 1) t) else length name) longer in
         let next : length name + 1 ≡ suc (length name) = omega arith in
         let behind : word_end (drop (length name + 1) t) ≡ length ds = ap (λ n. word_end (drop n t)) next
-            ∙ ap word_end (drop_name name) ∙ word_before ds tail digits ends in
+        ∙ ap word_end (drop_name name) ∙ word_before ds tail digits ends in
         let four : kept_length t ≡ suc (length name + length ds) = one ∙ two ∙ three ∙ (omega arith) in
         ap (λ n. take n t) four ∙ take_both name (suc (length name + length ds)) refl
 

@@ -1,12 +1,12 @@
 -- A set of reasons is that of its members, which ascend.
-use Rattle.std.proofs.Common.{◌≡◌, ℕ, zero, suc, ◌+◌, ◌^◌, ◌<◌, ◌≤◌, ◌≢◌, ◌==◌, ◌||◌, Bool, true, false, cond, List, [],
-    ◌∷◌, refl, ap, sym, ◌∙◌, subst, arith, bit_or, max, lit<}
+use Rattle.std.proofs.Common.{◌≡◌, ℕ, zero, suc, ◌+◌, ◌^◌, ◌<◌, ◌≤◌, ◌≢◌, ◌==◌, ◌||◌, Bool, true, false, cond, List, []}
+use Rattle.std.proofs.Common.{◌∷◌, refl, ap, sym, ◌∙◌, subst, arith, bit_or, max, lit<}
 use Rattle.std.specs.Int.{bit_at}
 use Rattle.std.specs.Prelude.{filter}
 use Rattle.std.proofs.lemmas.Bool.{eqb-true, eqb-false}
 use Rattle.std.proofs.lemmas.Nat.{or_lt}
-use Rattle.std.proofs.lemmas.Nat.Bits.{bit_at_or, bit_at-pow_same, bit_at-pow_other, bit_at-lt, bit_at-zero,
-    same_from_bits_below}
+use Rattle.std.proofs.lemmas.Nat.Bits.{bit_at_or, bit_at-pow_same, bit_at-pow_other, bit_at-lt, bit_at-zero}
+use Rattle.std.proofs.lemmas.Nat.Bits.{same_from_bits_below}
 use Rattle.alias_hir.specs.declared.effect.ValueReason.{ValueReason}
 use Rattle.alias_hir.specs.declared.effect.ValueReason.TheVariants as reason
 use Rattle.alias_lattice.specs.Reasons.{reason_index, single_reason, has_reason, all_reasons, reasons_in, ReasonBits}
@@ -65,10 +65,10 @@ among_step : (n i : ℕ) (r : ValueReason) (rest : List ValueReason) (more : Boo
     → among i rest ≡ cond more (bit_at n i) 0 → among i (cond has (r ∷ rest) rest) ≡ cond (here || more) (bit_at n i) 0
 among_step n i r rest more true true h g e =
     here_in n i (reason_index r) (among i rest) (sym (eqb-true (reason_index r) i h)) g
-        (subst (λ (m : ℕ). m ≤ bit_at n i) (sym e) (taken_low n i more))
+    (subst (λ (m : ℕ). m ≤ bit_at n i) (sym e) (taken_low n i more))
 among_step n i r rest more true false h g e =
     here_out n i (reason_index r) (among i rest) (sym (eqb-true (reason_index r) i h)) g
-        (subst (λ (m : ℕ). m ≤ bit_at n i) (sym e) (taken_low n i more))
+    (subst (λ (m : ℕ). m ≤ bit_at n i) (sym e) (taken_low n i more))
 among_step n i r rest more false true h g e = elsewhere i (reason_index r) (among i rest) h ∙ e
 among_step n i r rest more false false h g e = e
 
@@ -120,7 +120,7 @@ pub all_gathered : (n : ℕ) → ReasonBits n → gathered 0 (reasons_in n) ≡ 
 all_gathered n h =
     same_from_bits_below 12 (gathered 0 (reasons_in n)) n (gathered_small 0 (reasons_in n) (omega arith)) h
     (λ i l. gathered_bit i 0 (reasons_in n)
-        ∙ (let zero_bit = bit_at-zero i in let own = members_bit n i l in omega (arith, zero_bit, own)))
+    ∙ (let zero_bit = bit_at-zero i in let own = members_bit n i l in omega (arith, zero_bit, own)))
 
 -- ---- in the order of declaration
 
@@ -143,9 +143,22 @@ members_ascend n least (r ∷ rs) h = member_step least r (filter (has_reason n)
     (members_ascend n (reason_index r + 1) rs h.1)
 
 all_ascend : Ascend 0 all_reasons
-all_ascend = (omega arith, (omega arith,
-    (omega arith, (omega arith, (omega arith,
-    (omega arith, (omega arith, (omega arith, (omega arith, (omega arith, (omega arith, (omega arith, tt))))))))))))
+all_ascend = (
+  omega arith,
+  (
+    omega arith,
+    (
+      omega arith,
+      (
+        omega arith,
+        (
+          omega arith,
+          (omega arith, (omega arith, (omega arith, (omega arith, (omega arith, (omega arith, (omega arith, tt))))))),
+        ),
+      ),
+    ),
+  ),
+)
 
 pub reasons_ascend : (n : ℕ) → Ascend 0 (reasons_in n)
 reasons_ascend n = members_ascend n 0 all_reasons all_ascend

@@ -1,6 +1,6 @@
 -- How lines lead on, one behind another.
-use Rattle.std.proofs.Common.{◌≡◌, ℕ, suc, ◌+◌, ◌<◌, ◌≤◌, true, List, [], ◌∷◌, ◌++◌, length, get_or, take, drop, Some,
-    None, refl, ap, sym, ◌∙◌, subst, arith, append_assoc, append-nil}
+use Rattle.std.proofs.Common.{◌≡◌, ℕ, suc, ◌+◌, ◌<◌, ◌≤◌, true, List, [], ◌∷◌, ◌++◌, length, get_or, take, drop, Some}
+use Rattle.std.proofs.Common.{None, refl, ap, sym, ◌∙◌, subst, arith, append_assoc, append-nil}
 use Rattle.std.specs.Prelude.{map, IsUtf8, if◌then◌else◌}
 use Rattle.std.specs.List.{AllByRecursion, flat_map}
 use Rattle.std.specs.Str.{IsCharBoundary}
@@ -82,7 +82,7 @@ read_line : (number : ℕ) (last : Place) (found : List CertFunction) (text : Li
 read_line number last found text texts l u reads follows =
     let next = λ (p : Place) (f : List CertFunction). read_on (number + 1) p f texts in
     ap (λ b. or_bad number (taken last found (if b then line_by text (cut 32 text) else None)) next)
-        (is_utf8-from_IsUtf8 text u)
+    (is_utf8-from_IsUtf8 text u)
     ∙ ap (λ o. or_bad number (taken last found o) next) reads
     ∙ ap (λ b. or_bad number (if b then Some (place_of l, with_line l found) else None) next) follows
 
@@ -104,7 +104,7 @@ pub leads_line : (last : Place) (found : List CertFunction) (printed : List ℕ)
     → may_follow last (place_of l) ≡ true → Leads last found printed (place_of l) (with_line l found)
 leads_line last found printed l spells follows =
     subst (λ (t : List ℕ). Leads last found t (place_of l) (with_line l found)) (sym spells.ended)
-        (leads_text last found spells.text l spells.whole spells.reads follows)
+    (leads_text last found spells.text l spells.whole spells.reads follows)
 
 -- ---- to a place in some range of ranks
 
@@ -135,8 +135,12 @@ pub reaches_both : (last : Place) (f g h : List CertFunction) (t u : List ℕ) (
     → Reaches last f (t ++ u) h least most
 reaches_both last f g h t u low high least most x y =
     let z = y x.place x.least x.most in
-    record { place = z.place; least = z.least; most = z.most;
-        leads = leads_both last x.place z.place f g h t u x.leads z.leads }
+    record {
+      place = z.place;
+      least = z.least;
+      most = z.most;
+      leads = leads_both last x.place z.place f g h t u x.leads z.leads;
+    }
 
 pub reaches_as : (last : Place) (f g h : List CertFunction) (t : List ℕ) (low high : ℕ) → Reaches last f t g low high
     → g ≡ h → Reaches last f t h low high
@@ -161,14 +165,14 @@ module _ {A : Type 0} (P : A → Type 0) (print : A → List ℕ) (say : A → L
       → ((x : A) (last : Place) → low ≤ rank last → rank last ≤ high → may_follow last (place_of (say x)) ≡ true)
       → ((x : A) → rank (place_of (say x)) ≡ high) → low ≤ high
       → (xs : List A) → AllByRecursion P xs → (last : Place) → low ≤ rank last → rank last ≤ high
-          → (found : List CertFunction) → Reaches last found (flat_map print xs) (add_all say xs found) low high
+      → (found : List CertFunction) → Reaches last found (flat_map print xs) (add_all say xs found) low high
   reaches_all spell follow ranked wide [] h last l m found = reaches_none last found low high l m
   reaches_all spell follow ranked wide (x ∷ xs) h last l m found =
       let r = ranked x in
       reaches_both last found (with_line (say x) found) (add_all say (x ∷ xs) found) (print x) (flat_map print xs) low
-          high low high
+      high low high
       (reaches_line last found (print x) (say x) low high (spell x h.0) (follow x last l m) (omega (arith, r, wide))
-          (omega (arith, r)))
+      (omega (arith, r)))
       (λ p pl pm. reaches_all spell follow ranked wide xs h.1 p pl pm (with_line (say x) found))
 
 module _ {A B : Type 0} (say : A → Line) (kept : A → B) (within : List B → List CertFunction) where

@@ -1,6 +1,6 @@
 -- Lists of words read back: reasons and sites.
-use Rattle.std.proofs.Common.{◌≡◌, ℕ, ◌+◌, ◌==◌, true, false, List, [], ◌∷◌, ◌++◌, Some, option_map, refl, ap, ◌∙◌,
-    arith, append-nil, bit_or}
+use Rattle.std.proofs.Common.{◌≡◌, ℕ, ◌+◌, ◌==◌, true, false, List, [], ◌∷◌, ◌++◌, Some, option_map, refl, ap, ◌∙◌}
+use Rattle.std.proofs.Common.{arith, append-nil, bit_or}
 use Rattle.std.specs.Prelude.{codes, map}
 use Rattle.std.specs.List.{AllByRecursion, flat_map, slice_split, onto_first, join_by}
 use Rattle.std.proofs.lemmas.Bool.{eq-eqb, le-ltb}
@@ -9,8 +9,8 @@ use Rattle.alias_hir.specs.declared.effect.ValueReason.TheVariants as reason
 use Rattle.alias_lattice.specs.Reasons.{reason_index, single_reason, reasons_in, ReasonBits}
 use Rattle.alias_lattice.specs.States.{Sites}
 use Rattle.alias_lattice.specs.declared.site.Site.{Site}
-use Rattle.alias_lattice.specs.declared.site.Site.TheVariants.{Parameter, Context, Created, CreatedFrom, Function,
-    AssignFrozen, AssignCopy, Default}
+use Rattle.alias_lattice.specs.declared.site.Site.TheVariants.{Parameter, Context, Created, CreatedFrom, Function}
+use Rattle.alias_lattice.specs.declared.site.Site.TheVariants.{AssignFrozen, AssignCopy, Default}
 use Rattle.alias_text.specs.Lines.{reason_word, kind_word}
 use Rattle.alias_text.specs.Certificates.{site_text, reasons_text, sites_text, form_text, both_text}
 use Rattle.alias_cert_text.specs.Lines.{sites_of}
@@ -20,8 +20,8 @@ use Rattle.alias_cert_text.proofs.Cutting.{Lacks}
 use Rattle.alias_certificate_laws.specs.text.Certifying.{sites_in}
 use Rattle.alias_text.specs.Fitting.{SmallEntry}
 use Rattle.alias_certificate_laws.proofs.text.Bits.{gathered, Ascend, all_gathered, reasons_ascend}
-use Rattle.alias_certificate_laws.proofs.text.Bytes.{AtLeast, at_least, at_least_is, at_least_append, at_least_flat,
-    lower, lacks_below, decimal_high}
+use Rattle.alias_certificate_laws.proofs.text.Bytes.{AtLeast, at_least, at_least_is, at_least_append, at_least_flat}
+use Rattle.alias_certificate_laws.proofs.text.Bytes.{lower, lacks_below, decimal_high}
 use Rattle.alias_certificate_laws.proofs.text.Pieces.{reason_back, reason_high, kind_high, site_back}
 
 split_alone : (c : ℕ) (xs : List ℕ) → Lacks c xs → slice_split (λ b. b == c) xs ≡ xs ∷ []
@@ -95,7 +95,7 @@ form_high : (form names : List ℕ) → at_least 33 form ≡ true → AtLeast 33
 form_high form names f n =
     at_least_append 33 ((form ++ codes "(") ++ names) (codes ")")
     (at_least_append 33 (form ++ codes "(") names
-        (at_least_append 33 form (codes "(") (at_least_is 33 form f) (at_least_is 33 (codes "(") refl)) n)
+    (at_least_append 33 form (codes "(") (at_least_is 33 form f) (at_least_is 33 (codes "(") refl)) n)
     (at_least_is 33 (codes ")") refl)
 
 both_high : (a b : List ℕ) → AtLeast 33 a → AtLeast 33 b → AtLeast 33 (both_text a b)
@@ -109,8 +109,8 @@ site_high (Created into k r) =
     form_high (codes "Created") _ refl
     (both_high _ _ (decimal_high into.0)
     (both_high (kind_word k) (reason_word r)
-        (lower 65 33 (kind_word k) (omega arith) (at_least_is 65 (kind_word k) (kind_high k)))
-        (lower 65 33 (reason_word r) (omega arith) (at_least_is 65 (reason_word r) (reason_high r)))))
+    (lower 65 33 (kind_word k) (omega arith) (at_least_is 65 (kind_word k) (kind_high k)))
+    (lower 65 33 (reason_word r) (omega arith) (at_least_is 65 (reason_word r) (reason_high r)))))
 site_high (CreatedFrom from into) = form_high (codes "CreatedFrom") _ refl
     (both_high _ _ (decimal_high from.0) (decimal_high into.0))
 site_high (Function f) = form_high (codes "Function") _ refl (decimal_high f.0)

@@ -1,6 +1,6 @@
 -- Numbers, words, sites and keys read back as what was printed.
-use Rattle.std.proofs.Common.{◌≡◌, ℕ, true, List, [], ◌∷◌, ◌++◌, Some, None, option_map, refl, ap, ◌∙◌, arith,
-    append_assoc}
+use Rattle.std.proofs.Common.{◌≡◌, ℕ, true, List, [], ◌∷◌, ◌++◌, Some, None, option_map, refl, ap, ◌∙◌, arith}
+use Rattle.std.proofs.Common.{append_assoc}
 use Rattle.std.specs.Prelude.{codes, decimal}
 use Rattle.std.proofs.lemmas.Cmp.{nat_list_eq_equiv}
 use Rattle.json.specs.Print.{quoted}
@@ -11,8 +11,8 @@ use Rattle.alias_hir.specs.declared.effect.ValueKind.TheVariants as kind
 use Rattle.alias_hir.specs.declared.effect.ValueReason.{ValueReason}
 use Rattle.alias_hir.specs.declared.effect.ValueReason.TheVariants as reason
 use Rattle.alias_lattice.specs.declared.site.Site.{Site}
-use Rattle.alias_lattice.specs.declared.site.Site.TheVariants.{Parameter, Context, Created, CreatedFrom, Function,
-    AssignFrozen, AssignCopy, Default}
+use Rattle.alias_lattice.specs.declared.site.Site.TheVariants.{Parameter, Context, Created, CreatedFrom, Function}
+use Rattle.alias_lattice.specs.declared.site.Site.TheVariants.{AssignFrozen, AssignCopy, Default}
 use Rattle.alias_tables.specs.declared.temp_key.TempKey.{TempKey}
 use Rattle.alias_tables.specs.declared.temp_key.TempKey.TheVariants.{Named, Rest}
 use Rattle.alias_text.specs.Lines.{kind_word, reason_word}
@@ -118,7 +118,7 @@ two_identifiers form from into s h g is =
 
 new_site : (into : IdentifierId) (k : ValueKind) (r : ValueReason) → Small into.0
     → site_named (codes "Created") (both_text (decimal into.0) (both_text (kind_word k) (reason_word r)))
-        (cut 44 (both_text (decimal into.0) (both_text (kind_word k) (reason_word r)))) ≡ Some (Created into k r)
+    (cut 44 (both_text (decimal into.0) (both_text (kind_word k) (reason_word r)))) ≡ Some (Created into k r)
 new_site into k r h =
     rw (number_comma into.0 (both_text (kind_word k) (reason_word r)))
     (rw (kind_cut k (reason_word r)) (rw (identifier_back into h) (rw (kind_back k) (rw (reason_back r) refl))))

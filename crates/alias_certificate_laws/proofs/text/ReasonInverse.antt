@@ -1,6 +1,6 @@
 -- A set of reasons is read only of what is printed so.
-use Rattle.std.proofs.Common.{◌≡◌, ℕ, ◌+◌, ◌<◌, ◌≤◌, ◌==◌, inl, inr, nat_lt, Bool, true, false, List, [], ◌∷◌, length,
-    Option, Some, None, bit_or, refl, ap, sym, ◌∙◌, subst, arith}
+use Rattle.std.proofs.Common.{◌≡◌, ℕ, ◌+◌, ◌<◌, ◌≤◌, ◌==◌, inl, inr, nat_lt, Bool, true, false, List, [], ◌∷◌, length}
+use Rattle.std.proofs.Common.{Option, Some, None, bit_or, refl, ap, sym, ◌∙◌, subst, arith}
 use Rattle.std.specs.Prelude.{codes, map, count_by, if◌then◌else◌}
 use Rattle.std.specs.Int.{bit_at}
 use Rattle.std.specs.List.{slice_split, join_by, join_with_byte}
@@ -14,8 +14,8 @@ use Rattle.alias_text.specs.Lines.{reason_word}
 use Rattle.alias_text.specs.Certificates.{reasons_text}
 use Rattle.alias_cert_text.specs.Reasons.{reasons_from, reasons_of}
 use Rattle.alias_cert_text.specs.Words.{text_is, reason_of}
-use Rattle.alias_certificate_laws.proofs.text.Bits.{gathered, among, Ascend, gathered_bit, gathered_small, all_gathered,
-    reasons_ascend}
+use Rattle.alias_certificate_laws.proofs.text.Bits.{gathered, among, Ascend, gathered_bit, gathered_small, all_gathered}
+use Rattle.alias_certificate_laws.proofs.text.Bits.{reasons_ascend}
 use Rattle.alias_certificate_laws.proofs.text.Inverse.{then_some, if_some, is_word, reason_is}
 use Rattle.alias_certificate_laws.proofs.text.Lists.{further_split}
 
@@ -92,7 +92,7 @@ same_list least most (r ∷ rs) (q ∷ qs) h g same =
     let qs_rise : Ascend (reason_index r + 1) qs = subst (λ (k : ℕ). Ascend (k + 1) qs) (sym index) g.1 in
     let both : SameBits (r ∷ rs) (r ∷ qs) = subst (λ (x : ValueReason). SameBits (r ∷ rs) (x ∷ qs)) (sym first) same in
     ap (λ l. r ∷ l) (same_list (reason_index r + 1) (reason_index r + 1) rs qs h.1 qs_rise
-        (same_rest r rs qs h.1 qs_rise both)) ∙ ap (λ x. x ∷ qs) first
+    (same_rest r rs qs h.1 qs_rise both)) ∙ ap (λ x. x ∷ qs) first
 
 own_bits : (rs : List ValueReason) (i : ℕ) → bit_at (gathered 0 rs) i ≡ among i rs
 own_bits rs i = let zero_bit = bit_at-zero i in let h = gathered_bit i 0 rs in omega (arith, zero_bit, h)
@@ -102,7 +102,7 @@ members_are rs h =
     let n = gathered 0 rs in
     let small : ReasonBits n = gathered_small 0 rs (omega arith) in
     same_list 0 0 (reasons_in n) rs (reasons_ascend n) h
-        (λ i. sym (own_bits (reasons_in n) i) ∙ ap (λ m. bit_at m i) (all_gathered n small) ∙ own_bits rs i)
+    (λ i. sym (own_bits (reasons_in n) i) ∙ ap (λ m. bit_at m i) (all_gathered n small) ∙ own_bits rs i)
 
 -- ---- words that were read
 
@@ -122,10 +122,10 @@ read_set : (set least : ℕ) (words : List (List ℕ)) (n : ℕ) → reasons_fro
 read_set set least [] n h = record { reasons = []; words_are = refl; ascend = tt; set_is = cc }
 read_set set least (w ∷ ws) n h =
     let a = then_some (reason_of w) (λ r. if nat_lt (reason_index r) least then None
-        else reasons_from (bit_or set (single_reason r)) (reason_index r + 1) ws) n h in
+    else reasons_from (bit_or set (single_reason r)) (reason_index r + 1) ws) n h in
     let r = a.0 in
     let b = else_some (nat_lt (reason_index r) least)
-        (reasons_from (bit_or set (single_reason r)) (reason_index r + 1) ws) n a.2 in
+    (reasons_from (bit_or set (single_reason r)) (reason_index r + 1) ws) n a.2 in
     let rest = read_set (bit_or set (single_reason r)) (reason_index r + 1) ws n b.1 in
     record {
       reasons = r ∷ rest.reasons;
@@ -148,7 +148,7 @@ joined t [] e = absurd (some_words t (sym e))
 joined t (r ∷ rs) e =
     let text = join_by reason_word (codes "+") (r ∷ rs) in
     sym (join_with_byte-slice_split 43 text) ∙ ap (join_with_byte 43) (further_split r rs ∙ e)
-        ∙ join_with_byte-slice_split 43 t
+    ∙ join_with_byte-slice_split 43 t
 
 pub reasons_is : (t : List ℕ) (n : ℕ) → reasons_of t ≡ Some n → (reasons_text (reasons_in n) ≡ t) × ReasonBits n
 reasons_is t n h =

@@ -47,8 +47,8 @@ module _ (env : Environment) (func : HirFunction) (is_function_expression : Bool
   IsAccepted tables entries =
       (differs : TableLists → ℕ → BlockEffects → Option ⊤) → AreClaimed tables entries differs
       → (w : Arriving State TableLists BlockEffects)
-          × (solution_checked state_join state_below rules differs entries tables
-          (replicate (length func.body.blocks) None) ≡ Ok w) × (w.tables ≡ tables)
+      × (solution_checked state_join state_below rules differs entries tables
+      (replicate (length func.body.blocks) None) ≡ Ok w) × (w.tables ≡ tables)
 
   -- what is claimed of the steps is so of all that is alike: of what each records but for spans and the numbers of
   -- reports, under tables with such temporaries
@@ -56,9 +56,9 @@ module _ (env : Environment) (func : HirFunction) (is_function_expression : Bool
       → (TableLists → ℕ → BlockEffects → Option D) → Type 0
   AreClaimedAlike tables entries differs =
       (b : ℕ) (s y : State) (k : BlockEffects) → entry_at entries b ≡ Some s → rules.flow.step tables b s
-          ≡ Stepped y tables k
+      ≡ Stepped y tables k
       → (t : TableLists) (q : BlockEffects) → AlikeTemporaries tables.temporaries t.temporaries → AlikeRecorded k q
-          → differs t b q ≡ None
+      → differs t b q ≡ None
 
   -- the check finds no fault, and ends with such temporaries; or no number is left for a report of a step
   pub data IsAcceptedOrFull {D : Type 0} (tables : TableLists)
@@ -73,7 +73,7 @@ module _ (env : Environment) (func : HirFunction) (is_function_expression : Bool
   abbrev pub IsAcceptedAnyway : TableLists → List (Option State) → Type 0
   IsAcceptedAnyway tables entries =
       (away : Elsewhere env) (begun : TableLists) → AlikeTemporaries tables.temporaries begun.temporaries
-          → (differs : TableLists → ℕ → BlockEffects → Option ⊤) → AreClaimedAlike tables entries differs
+      → (differs : TableLists → ℕ → BlockEffects → Option ⊤) → AreClaimedAlike tables entries differs
       → IsAcceptedOrFull tables (solution_checked state_join state_below
-          (rules_of (elsewhere env away) func is_function_expression) differs entries begun
-          (replicate (length func.body.blocks) None))
+      (rules_of (elsewhere env away) func is_function_expression) differs entries begun
+      (replicate (length func.body.blocks) None))

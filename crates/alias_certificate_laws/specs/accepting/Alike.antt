@@ -58,7 +58,7 @@ pub data Alike : AliasingEffect → AliasingEffect → Type 0 where
   apply : (r s f g x y : Place) (mutates : Bool) (args others : List PlaceOrSpreadOrHole) (signature : Option TypeId)
       (span other : Option Span) → AlikeArguments args others
       → Alike (effect.Apply r f mutates args x signature span)
-          (effect.Apply (moved r s) (moved f g) mutates others (moved x y) signature other)
+      (effect.Apply (moved r s) (moved f g) mutates others (moved x y) signature other)
   create_from : (a b x y : Place) → Alike (effect.CreateFrom a x) (effect.CreateFrom (moved a b) (moved x y))
   immutable_capture : (a b x y : Place) → Alike (effect.ImmutableCapture a x)
       (effect.ImmutableCapture (moved a b) (moved x y))

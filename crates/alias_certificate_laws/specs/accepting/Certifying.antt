@@ -40,5 +40,5 @@ module _ (env : Environment) (func : HirFunction) (is_function_expression : Bool
   abbrev pub IsAcceptedAsSaid : TableLists → List (Option State) → List (Option BlockEffects) → Type 0
   IsAcceptedAsSaid tables entries recorded =
       (away : Elsewhere env) (id : Option FunctionId) (summary : List (List ℕ))
-          → IsCertified (function_solved (said_function id func entries recorded tables.temporaries summary)
-          (elsewhere env away) func is_function_expression)
+      → IsCertified (function_solved (said_function id func entries recorded tables.temporaries summary)
+      (elsewhere env away) func is_function_expression)

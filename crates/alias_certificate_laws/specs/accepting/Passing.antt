@@ -27,7 +27,7 @@ pub record AreSolved {P T K C : Type 0} (proper : P → Type 0) (below : P → P
   pub joins : goes_forward rules ≡ true → (b : ℕ) (s u : P) → entry_at entries b ≡ Some s → proper u
       → (b ≡ rules.flow.entry → IsTrue (below rules.flow.initial u))
       → ((c : ℕ) (x y : P) → entry_at entries c ≡ Some x → gives c x y → IsOneOf b (rules.flow.edges c)
-          → IsTrue (below y u)) → IsTrue (below s u)
+      → IsTrue (below y u)) → IsTrue (below s u)
 
 module _ {P T K C D : Type 0} (rules : Rules P T K C) (differs : T → ℕ → K → Option D) (is_alike : T → Type 0)
     (is_excused : C → Type 0) where

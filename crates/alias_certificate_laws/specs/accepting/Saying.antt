@@ -100,5 +100,5 @@ abbrev pub AreCounted : Environment → List Temporary → List Temporary → Ty
 AreCounted env done [] = Unit {0}
 AreCounted env done (x ∷ rest) =
     (x.place.identifier.0 ≡ length env.identifiers + length done) × (temp_like x.key done ≡ None)
-        × (is_key_there (length env.identifiers + length done) (length env.functions) x.key ≡ true)
+    × (is_key_there (length env.identifiers + length done) (length env.functions) x.key ≡ true)
     × (has_room (length env.identifiers) (length env.types) (length done) ≡ true) × AreCounted env (done ++ x ∷ []) rest

@@ -1,6 +1,6 @@
 -- What callers see of a function, and what the passes keep of it.
-use Rattle.std.specs.Prelude.{◌≡◌, ℕ, ◌<◌, ◌≤◌, ◌+◌, Bool, true, false, if◌then◌else◌, List, [], ◌∷◌, ◌++◌, Option,
-    Some, None, Ok, map, length, slice_get, refl}
+use Rattle.std.specs.Prelude.{◌≡◌, ℕ, ◌<◌, ◌≤◌, ◌+◌, Bool, true, false, if◌then◌else◌, List, [], ◌∷◌, ◌++◌, Option}
+use Rattle.std.specs.Prelude.{Some, None, Ok, map, length, slice_get, refl}
 use Rattle.std.proofs.Common.{zero, suc, ap, sym, ◌∙◌, subst, arith}
 use Rattle.std.specs.List.{AllByRecursion}
 use Rattle.alias_base.specs.declared.ids.InstructionId.{InstructionId}
@@ -20,22 +20,22 @@ use Rattle.alias_graph.specs.Reach.{but_end}
 use Rattle.alias_graph.specs.recorded.Recording.{graph_listed}
 use Rattle.alias_graph.specs.declared.recorded.listing.Listing.{Listing}
 use Rattle.alias_graph.specs.declared.recorded.listing.RecordedMutation.{RecordedMutation}
-use Rattle.alias_range_pass.specs.places.Blocks.{Placed, block_merged, placed_at, block_placed, blocks_placed,
-    function_placed}
-use Rattle.alias_range_pass.specs.places.Instructions.{instruction_placed, placed_in, instruction_at,
-    instructions_placed}
+use Rattle.alias_range_pass.specs.places.Blocks.{Placed, block_merged, placed_at, block_placed, blocks_placed}
+use Rattle.alias_range_pass.specs.places.Blocks.{function_placed}
+use Rattle.alias_range_pass.specs.places.Instructions.{instruction_placed, placed_in, instruction_at}
+use Rattle.alias_range_pass.specs.places.Instructions.{instructions_placed}
 use Rattle.alias_range_pass.specs.places.Keeping.{but_effect, but_context, but_range, EnvKept}
 use Rattle.alias_range_pass.specs.places.KeepLaws.{merged_keeps, instruction_keeps}
 use Rattle.alias_range_pass.specs.summary.Keeping.{WalksKeep}
 use Rattle.alias_range_pass.specs.summary.KeepingLaws.{walk_keeps}
 use Rattle.alias_range_pass.specs.summary.MarkedPlaces.{is_marked, captured, param_captured, function_captured}
-use Rattle.alias_range_pass.specs.summary.Walking.{Walked, start_origin, expanded, after_mutation, after_mutations,
-    mutation_start, env_reported, mutations_done}
+use Rattle.alias_range_pass.specs.summary.Walking.{Walked, start_origin, expanded, after_mutation, after_mutations}
+use Rattle.alias_range_pass.specs.summary.Walking.{mutation_start, env_reported, mutations_done}
 use Rattle.alias_completeness.specs.Calling.{IsCallable, AreCallable}
 use Rattle.alias_completeness.specs.Facing.{callable}
 use Rattle.alias_completeness.specs.Summarizing.{IsSummary}
-use Rattle.alias_completeness.specs.summaries.KeptTables.{TablesKept, tables_self, tables_then, tables_alike,
-    bound_alike}
+use Rattle.alias_completeness.specs.summaries.KeptTables.{TablesKept, tables_self, tables_then, tables_alike}
+use Rattle.alias_completeness.specs.summaries.KeptTables.{bound_alike}
 
 -- ---- a face
 
@@ -111,8 +111,11 @@ face_alike n m f g same summary l h =
     }
 
 pub same_own_then : (f g h : HirFunction) → SameOwn f g → SameOwn g h → SameOwn f h
-same_own_then f g h a b = record { params = b.params ∙ a.params; context = b.context ∙ a.context;
-    returns = b.returns ∙ a.returns }
+same_own_then f g h a b = record {
+  params = b.params ∙ a.params;
+  context = b.context ∙ a.context;
+  returns = b.returns ∙ a.returns;
+}
 
 -- ---- functions in their slots
 
@@ -121,8 +124,11 @@ context_ids f g e = sym (same_ids but_effect (λ p. refl) g.context) ∙ ap (λ 
     ∙ same_ids but_effect (λ p. refl) f.context
 
 pub in_slot : (f g : HirFunction) → but_context g ≡ but_context f → SameOwn f g
-in_slot f g e = record { params = ap (λ (h : HirFunction). param_ids h.params) e; context = context_ids f g e;
-    returns = ap (λ (h : HirFunction). h.returns) e }
+in_slot f g e = record {
+  params = ap (λ (h : HirFunction). param_ids h.params) e;
+  context = context_ids f g e;
+  returns = ap (λ (h : HirFunction). h.returns) e;
+}
 
 pub faces_alike : (n m : ℕ) (fs gs : List HirFunction) → map but_context gs ≡ map but_context fs → n ≤ m
     → HaveFaces n fs → HaveFaces m gs
@@ -131,9 +137,10 @@ faces_alike n m [] (g ∷ gs) e l h = cc
 faces_alike n m (f ∷ fs) [] e l h = cc
 faces_alike n m (f ∷ fs) (g ∷ gs) e l h =
     let one : but_context g ≡ but_context f = cc in
-    let rest : map but_context gs ≡ map but_context fs = cc in
-    (face_alike n m f g (in_slot f g one) (ap (λ (h : HirFunction). h.aliasing_effects) one) l h.0,
-        faces_alike n m fs gs rest l h.1)
+    let rest : map but_context gs ≡ map but_context fs = cc in (
+      face_alike n m f g (in_slot f g one) (ap (λ (h : HirFunction). h.aliasing_effects) one) l h.0,
+      faces_alike n m fs gs rest l h.1,
+    )
 
 -- ---- environments
 
@@ -170,17 +177,22 @@ walks_stay : (r : Bool) (ms : List RecordedMutation) (w : Walked) → Stays w.1 
 walks_stay r [] w = stays_self w.1
 walks_stay r (m ∷ ms) w =
     stays_then w.1 (after_mutation r w m).1 (after_mutations r ms (after_mutation r w m)).1
-        (walk_stays w.1 (after_mutation r w m).1
-        (walk_keeps r (mutation_start m).index (start_origin (mutation_start m)) (mutation_start m).end w.0
-        (expanded w.0 (mutation_start m)) w.1 (after_mutation r w m).1 refl)) (walks_stay r ms (after_mutation r w m))
+    (walk_stays w.1 (after_mutation r w m).1
+    (walk_keeps r (mutation_start m).index (start_origin (mutation_start m)) (mutation_start m).end w.0
+    (expanded w.0 (mutation_start m)) w.1 (after_mutation r w m).1 refl)) (walks_stay r ms (after_mutation r w m))
 
 -- of a nested function, of which no report is recorded
 pub mutations_stay : (l : Listing) (env : Environment) → Stays env (mutations_done false l env).1
 mutations_stay l env =
     let begun : Environment = env_reported false l env in
-    let kept : TablesKept env begun = record
-        { identifiers = λ k h. refl; longer = omega arith; types = λ k h. refl; more_types = omega arith; shapes = refl;
-        config = refl } in
+    let kept : TablesKept env begun = record {
+      identifiers = λ k h. refl;
+      longer = omega arith;
+      types = λ k h. refl;
+      more_types = omega arith;
+      shapes = refl;
+      config = refl;
+    } in
     let reported : Stays env begun = record { functions = refl; tables = kept } in
     stays_then env begun (mutations_done false l env).1 reported (walks_stay false l.mutations (graph_listed l, begun))
 
@@ -194,7 +206,7 @@ instructions_stay : (ids : List InstructionId) (s : List Instruction × Environm
 instructions_stay [] s = stays_self s.1
 instructions_stay (id ∷ ids) s =
     stays_then s.1 (instruction_at s id).1 (instructions_placed ids (instruction_at s id)).1
-        (placed_stays s.0 s.1 id (slice_get s.0 id.0)) (instructions_stay ids (instruction_at s id))
+    (placed_stays s.0 s.1 id (slice_get s.0 id.0)) (instructions_stay ids (instruction_at s id))
 
 -- the function's own places stay, and the environment
 pub record PlacedStays (s t : Placed) : Type 0 where
@@ -217,10 +229,13 @@ blocks_stay b zero k s = record { own = own_self s.0; env = stays_self s.1 }
 blocks_stay b (suc n) k s =
     let one : PlacedStays s (block_placed b k s) = slot_stays b k _ s in
     let rest : PlacedStays (block_placed b k s) (blocks_placed b n (k + 1) (block_placed b k s)) =
-        blocks_stay b n (k + 1) (block_placed b k s) in
-    record { own = same_own_then s.0 (block_placed b k s).0 (blocks_placed b n (k + 1) (block_placed b k s)).0 one.own
-        rest.own; env = stays_then s.1 (block_placed b k s).1 (blocks_placed b n (k + 1) (block_placed b k s)).1 one.env
-        rest.env }
+    blocks_stay b n (k + 1) (block_placed b k s) in
+    record {
+      own = same_own_then s.0 (block_placed b k s).0 (blocks_placed b n (k + 1) (block_placed b k s)).0 one.own
+          rest.own;
+      env = stays_then s.1 (block_placed b k s).1 (blocks_placed b n (k + 1) (block_placed b k s)).1 one.env
+          rest.env;
+    }
 
 pub function_stays : (b : Bool) (s : Placed) → PlacedStays s (function_placed b s)
 function_stays b s = blocks_stay b (length s.0.body.blocks) 0 s
@@ -241,5 +256,8 @@ captured_params g (p ∷ ps) = ap (λ z. z.0 ∷ param_ids (map (param_captured 
 
 -- marked places keep their identifiers
 pub captured_own : (g : Nodes) (f : HirFunction) → SameOwn f (function_captured g f)
-captured_own g f = record { params = captured_params g f.params;
-    context = same_ids (captured g) (λ p. marked_or_not (is_marked g p.identifier) p) f.context; returns = refl }
+captured_own g f = record {
+  params = captured_params g f.params;
+  context = same_ids (captured g) (λ p. marked_or_not (is_marked g p.identifier) p) f.context;
+  returns = refl;
+}

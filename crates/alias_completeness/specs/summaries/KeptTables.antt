@@ -1,6 +1,6 @@
 -- What the passes keep of the tables of an environment.
-use Rattle.std.specs.Prelude.{◌≡◌, ℕ, ◌+◌, ◌<◌, ◌≤◌, List, [], ◌∷◌, ◌++◌, Option, option_map, map, length, slice_get,
-    refl}
+use Rattle.std.specs.Prelude.{◌≡◌, ℕ, ◌+◌, ◌<◌, ◌≤◌, List, [], ◌∷◌, ◌++◌, Option, option_map, map, length, slice_get}
+use Rattle.std.specs.Prelude.{refl}
 use Rattle.std.proofs.Common.{zero, suc, ap, sym, ◌∙◌, arith, length-append}
 use Rattle.std.proofs.lemmas.List.{length-map}
 use Rattle.std.proofs.lemmas.Option.{slice_get-map}
@@ -27,8 +27,14 @@ pub record TablesKept (old new : Environment) : Type 0 where
   pub config : new.config ≡ old.config
 
 pub tables_self : (env : Environment) → TablesKept env env
-tables_self env = record { identifiers = λ k h. refl; longer = omega arith; types = λ k h. refl;
-    more_types = omega arith; shapes = refl; config = refl }
+tables_self env = record {
+  identifiers = λ k h. refl;
+  longer = omega arith;
+  types = λ k h. refl;
+  more_types = omega arith;
+  shapes = refl;
+  config = refl;
+}
 
 at_least : (k n m : ℕ) → k < n → n ≤ m → k < m
 at_least k n m h g = omega arith

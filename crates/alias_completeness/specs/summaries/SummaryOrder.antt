@@ -1,7 +1,7 @@
 -- The summary that the range pass gives is in order: reports, then writes of context places and parameters, then one
 -- value for what is returned, and then the flows.
-use Rattle.std.specs.Prelude.{◌≡◌, ◌≢◌, ℕ, ◌+◌, ◌==◌, Bool, true, false, if◌then◌else◌, nat_lt, List, [], ◌∷◌, ◌++◌,
-    Option, Some, None, Result, Ok, Err, slice_get, refl}
+use Rattle.std.specs.Prelude.{◌≡◌, ◌≢◌, ℕ, ◌+◌, ◌==◌, Bool, true, false, if◌then◌else◌, nat_lt, List, [], ◌∷◌, ◌++◌}
+use Rattle.std.specs.Prelude.{Option, Some, None, Result, Ok, Err, slice_get, refl}
 use Rattle.std.specs.List.{AllByRecursion}
 use Rattle.std.proofs.Common.{sym, ◌∙◌, subst, append_assoc}
 use Rattle.std.proofs.Math.Dec.{T, eqb→eq}
@@ -37,14 +37,17 @@ use Rattle.alias_graph.specs.declared.recorded.listing.Listing.{Listing}
 use Rattle.alias_graph.specs.recorded.Each.{each}
 use Rattle.alias_graph.proofs.FitLaws.{went_on}
 use Rattle.alias_graph.specs.recorded.IdSets.{has_made}
-use Rattle.alias_graph.specs.recorded.Listings.{position_after, with_event, made, made_once, positioned, linked,
-    mutated, summarized as summarized_more, rendered, effect_listed, effects_in, recorded_in, instruction_listed}
-use Rattle.alias_graph.specs.recorded.BlockListings.{pending_more, added_or_pending, link_of, slot_of_block,
-    operand_listed, phi_listed, returns_listed, alias_listed, aliases_in, with_pending, end_listed, block_listed,
-    blocks_listed, first_listing, listed}
+use Rattle.alias_graph.specs.recorded.Listings.{position_after, with_event, made, made_once, positioned, linked}
+use Rattle.alias_graph.specs.recorded.Listings.{mutated, summarized as summarized_more, rendered, effect_listed}
+use Rattle.alias_graph.specs.recorded.Listings.{effects_in, recorded_in, instruction_listed}
+use Rattle.alias_graph.specs.recorded.BlockListings.{pending_more, added_or_pending, link_of, slot_of_block}
+use Rattle.alias_graph.specs.recorded.BlockListings.{operand_listed, phi_listed, returns_listed, alias_listed}
+use Rattle.alias_graph.specs.recorded.BlockListings.{aliases_in, with_pending, end_listed, block_listed, blocks_listed}
+use Rattle.alias_graph.specs.recorded.BlockListings.{first_listing, listed}
 use Rattle.alias_range_pass.specs.summary.Flows.{flow_start, flow_effect, is_flow, flow_from, flows_into, flows_listed}
-use Rattle.alias_range_pass.specs.summary.MarkedPlaces.{marks_at, at_mark, local_effect, local_effects,
-    transitive_effect, transitive_effects, node_effects, mark_effects, marks_of_all}
+use Rattle.alias_range_pass.specs.summary.MarkedPlaces.{marks_at, at_mark, local_effect, local_effects}
+use Rattle.alias_range_pass.specs.summary.MarkedPlaces.{transitive_effect, transitive_effects, node_effects}
+use Rattle.alias_range_pass.specs.summary.MarkedPlaces.{mark_effects, marks_of_all}
 use Rattle.alias_range_pass.specs.summary.Summaries.{context_and_params, tracked, returns_created, summarized}
 use Rattle.alias_range_pass.specs.summary.Walking.{nodes_after, mutations_done, renders_done}
 use Rattle.alias_range_pass.specs.Passes.{records, Ranged, ranged, range_pass}
@@ -93,9 +96,12 @@ after_mutated : (i : InstructionId) (o : EvaluationOrder) (x : Place) (t : Bool)
     (r : Option MutationReason) (l m : Listing) → Reports l → mutated i o x t k r l ≡ Ok m → Reports m
 after_mutated i o x t k r l m p h =
     after_position (position_after l.next)
-        (λ n. record l { next = n; mutations = l.mutations
-        ++ record { index = l.next; instruction = i; order = o; place = x; transitive = t; kind = k; reason = r }
-        ∷ [] }) m (λ n. p) h
+    (λ n. record l {
+      next = n;
+      mutations = l.mutations
+          ++ record { index = l.next; instruction = i; order = o; place = x; transitive = t; kind = k; reason = r }
+          ∷ [];
+    }) m (λ n. p) h
 
 one_more : (e : AliasingEffect) (l : Listing) → IsReport e → Reports l → AllByRecursion IsReport (l.summary ++ e ∷ [])
 one_more e l q p = all_both IsReport l.summary (e ∷ []) p (q, tt)
@@ -103,8 +109,11 @@ one_more e l q p = all_both IsReport l.summary (e ∷ []) p (q, tt)
 after_rendered : (i : InstructionId) (x : Place) (l m : Listing) → Reports l → rendered i x l ≡ Ok m → Reports m
 after_rendered i x l m p h =
     after_position (position_after l.next)
-        (λ n. record l { next = n; renders = l.renders ++ record { index = l.next; instruction = i; place = x } ∷ [];
-        summary = l.summary ++ effect.Render x ∷ [] }) m (λ n. one_more (effect.Render x) l tt p) h
+    (λ n. record l {
+      next = n;
+      renders = l.renders ++ record { index = l.next; instruction = i; place = x } ∷ [];
+      summary = l.summary ++ effect.Render x ∷ [];
+    }) m (λ n. one_more (effect.Render x) l tt p) h
 
 made_or_not : (b : Bool) (x : Place) (l : Listing) → Reports l → Reports (if b then l else made Object x l)
 made_or_not true x l p = p
@@ -165,7 +174,7 @@ after_operand : (blocks : List (BlockId × BasicBlock)) (k : ℕ) (x : Place) (e
     → Reports l → operand_listed blocks k x e l ≡ Ok m → Reports m
 after_operand blocks k x e l m p h =
     after_position (position_after l.next)
-        (λ n. added_or_pending k (slot_of_block blocks e.0) (link_of l.next e.1 x) (record l { next = n })) m
+    (λ n. added_or_pending k (slot_of_block blocks e.0) (link_of l.next e.1 x) (record l { next = n })) m
     (λ n. added_or_waits k (slot_of_block blocks e.0) (link_of l.next e.1 x) (record l { next = n }) p) h
 
 after_phi : (blocks : List (BlockId × BasicBlock)) (k : ℕ) (phi : Phi) (l m : Listing) → Reports l
@@ -196,13 +205,13 @@ after_block : (f : HirFunction) (k : ℕ) (b : BasicBlock) (l m : Listing) → R
     → Reports m
 after_block f k b l m p h =
     let v = went_on (each (phi_listed f.body.blocks k) b.phis l)
-        (λ z. each (instruction_listed f.instructions) b.instructions z >>= (λ y. end_listed f.returns k b.terminal y))
-        m h in
+    (λ z. each (instruction_listed f.instructions) b.instructions z >>= (λ y. end_listed f.returns k b.terminal y))
+    m h in
     let w = went_on (each (instruction_listed f.instructions) b.instructions v.0)
-        (λ y. end_listed f.returns k b.terminal y) m v.2 in
+    (λ y. end_listed f.returns k b.terminal y) m v.2 in
     let first : Reports v.0 = steps_keep (phi_listed f.body.blocks k) (after_phi f.body.blocks k) b.phis l v.0 p v.1 in
     let second : Reports w.0 = steps_keep (instruction_listed f.instructions) (after_instruction f.instructions)
-        b.instructions v.0 w.0 first w.1 in
+    b.instructions v.0 w.0 first w.1 in
     after_end f.returns k b.terminal w.0 m second w.2
 
 after_blocks : (f : HirFunction) (k : ℕ) (bs : List (BlockId × BasicBlock)) (l m : Listing) → Reports l
@@ -245,7 +254,7 @@ module _ (returns : ℕ) where
   node_marks None x h = tt
   node_marks (Some n) x h =
       all_both (IsMark returns) (local_effects n.local n.mutation_reason x) (transitive_effects n.transitive x)
-          (local_marks n.local n.mutation_reason x h) (transitive_marks n.transitive x h)
+      (local_marks n.local n.mutation_reason x h) (transitive_marks n.transitive x h)
 
   all_marks : (g : Nodes) (xs : List Place) → AllByRecursion IsApart xs
       → AllByRecursion (IsMark returns) (marks_of_all g xs)
@@ -274,7 +283,7 @@ all_into : (g : Nodes) (index : ℕ) (returns into : Place) (froms : List Place)
 all_into g index returns into [] = tt
 all_into g index returns into (from ∷ froms) =
     all_both (IsFlow returns.identifier.0) (flow_from g index returns into from) (flows_into g index returns froms into)
-        (flow_if (is_flow g index returns into from) returns from into) (all_into g index returns into froms)
+    (flow_if (is_flow g index returns into from) returns from into) (all_into g index returns into froms)
 
 all_flows : (g : Nodes) (index : ℕ) (returns : Place) (places intos : List Place)
     → AllByRecursion (IsFlow returns.identifier.0) (flows_listed g index returns places intos)
@@ -282,8 +291,8 @@ all_flows g index returns places [] = tt
 all_flows g index returns places (into ∷ intos) =
     let after : Nodes = nodes_after (flow_start index into) g in
     all_both (IsFlow returns.identifier.0) (flows_into after index returns places into)
-        (flows_listed after (index + 1) returns places intos) (all_into after index returns into places)
-        (all_flows after (index + 1) returns places intos)
+    (flows_listed after (index + 1) returns places intos) (all_into after index returns into places)
+    (all_flows after (index + 1) returns places intos)
 
 -- ---- the whole summary
 
@@ -316,5 +325,5 @@ summary_in_order o b f env r distinct h =
     let w = mutations_done (records b env) l env in
     let made_in_order : IsSummary f.returns.identifier.0 (ranged b f env l).summary
     = summarized_in_order w.0 l.next f (renders_done (records b env) l w) l.summary
-        (reports_alone f l (recorded_is_listed f l p.1)) (returns_apart o f distinct) in
+    (reports_alone f l (recorded_is_listed f l p.1)) (returns_apart o f distinct) in
     subst (λ (z : Ranged). IsSummary f.returns.identifier.0 z.summary) p.2 made_in_order

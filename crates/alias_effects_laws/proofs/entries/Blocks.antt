@@ -27,8 +27,8 @@ use Rattle.alias_tables.specs.Tables.{TableLists}
 use Rattle.alias_step.specs.block.Actions.{handler_binding}
 use Rattle.alias_step.specs.block.Blocks.{infer_phis, infer_block}
 use Rattle.alias_step.specs.block.Contexts.{BlockContext}
-use Rattle.alias_step.specs.block.Initial.{context_value, with_context_place, with_context_from, with_context,
-    param_value, with_param, with_param_at, with_params, initial_state}
+use Rattle.alias_step.specs.block.Initial.{context_value, with_context_place, with_context_from, with_context}
+use Rattle.alias_step.specs.block.Initial.{param_value, with_param, with_param_at, with_params, initial_state}
 use Rattle.alias_step.specs.declared.block.recorded.BlockEffects.{BlockEffects}
 use Rattle.alias_walks.specs.Blocking.{BlockLaw, IfKnown, AreKnown, Placed, Returned, block_inferred}
 use Rattle.alias_effects_laws.proofs.entries.Counting.{Counted}
@@ -50,8 +50,8 @@ module _ (N : ℕ → Type 0) (F : FunctionId → Type 0) where
   named_context values index [] s n h = h
   named_context values index (p ∷ ps) s n h =
       named_context values (index + 1) ps (with_context_place (slice_get values index) p s) n.1
-          (named_given N F p.identifier (site.Context p.identifier) (context_value (slice_get values index)) s n.0 n.0
-          h)
+      (named_given N F p.identifier (site.Context p.identifier) (context_value (slice_get values index)) s n.0 n.0
+      h)
 
   named_param : (v : AbstractValue) (s : State) (p : ParamPattern) → OfParam p → Stating N F s
       → Stating N F (with_param v s p)
@@ -81,14 +81,14 @@ module _ (N : ℕ → Type 0) (F : FunctionId → Type 0) where
       → Stating N F s → Stating N F (with_params t v ps s)
   named_params func_is.Component v ps s n h =
       named_param_at mutable_other (slice_get ps 1) (with_param_at v (slice_get ps 0) s) (param_in ps 1 n)
-          (named_param_at v (slice_get ps 0) s (param_in ps 0 n) h)
+      (named_param_at v (slice_get ps 0) s (param_in ps 0 n) h)
   named_params t v ps s n h = named_all_params v ps s n h
 
   pub named_initial_state : (c : BlockContext) → AllByRecursion Of c.func.context → AllByRecursion OfParam c.func.params
       → Stating N F (initial_state c)
   named_initial_state c n m =
       named_params c.func.fn_type (param_value c.is_function_expression) c.func.params
-          (with_context c.func.context_values c.func.context empty_state) m
+      (with_context c.func.context_values c.func.context empty_state) m
       (named_context c.func.context_values 0 c.func.context empty_state n (named_empty N F))
 
   abbrev pub PhisNamed : List Phi → Type 0
@@ -156,8 +156,8 @@ module _ (c : BlockContext) (N : TableLists → ℕ → Type 0) (F : FunctionId 
   pub block_named : (b : BlockId) (block : BasicBlock) (x : State) (t u : TableLists) (y : State) (k : BlockEffects)
       → PhisNamed (N t) F block.phis → AreNamed c.env F c.func block.instructions → ReturnNamed c.env block.terminal
       → Counted c.env F t → Stating (N t) F x → infer_block c b block x t ≡ Ok ((y, k), u) → Counted c.env F u
-          × Stating (N u) F y
+      × Stating (N u) F y
   block_named b block x t u y k phis is end h g e =
       let r = (block_inferred c law bound_named b block x t h (are_known block.instructions is)
-          (returned block.terminal end) (named_phis (N t) F block.phis x phis g)).leads u (y, k) e in
+      (returned block.terminal end) (named_phis (N t) F block.phis x phis g)).leads u (y, k) e in
       (r.kept, r.value.0)

@@ -1,6 +1,6 @@
 -- What adds to tables that are counted leaves such tables.
-use Rattle.std.proofs.Common.{◌≡◌, ℕ, ◌+◌, ◌≤◌, ◌<◌, Bool, true, false, cond, ◌&&◌, nat_lt, List, [], ◌∷◌, ◌++◌, length,
-    Option, Some, None, refl, subst, sym, append_assoc, append-nil, length-append, arith}
+use Rattle.std.proofs.Common.{◌≡◌, ℕ, ◌+◌, ◌≤◌, ◌<◌, Bool, true, false, cond, ◌&&◌, nat_lt, List, [], ◌∷◌, ◌++◌, length}
+use Rattle.std.proofs.Common.{Option, Some, None, refl, subst, sym, append_assoc, append-nil, length-append, arith}
 use Rattle.std.specs.Prelude.{Result, Ok, Err, if◌then◌else◌}
 use Rattle.std.specs.List.{AllByRecursion}
 use Rattle.alias_base.specs.Indexes.{has_key, first_of}
@@ -20,8 +20,8 @@ use Rattle.alias_tables.specs.InternedEffects.{same_key, first_like}
 use Rattle.alias_tables.specs.Keys.{key_of, with_error_of}
 use Rattle.alias_tables.specs.ReplayLaws.{first_is, tables_are, not_given}
 use Rattle.alias_tables.specs.Reads.{is_noted}
-use Rattle.alias_tables.specs.Tables.{TableLists, intern, intern_by, intern_after, has_room, new_place, temporary,
-    temporary_after, with_reports, intern_report, note_read}
+use Rattle.alias_tables.specs.Tables.{TableLists, intern, intern_by, intern_after, has_room, new_place, temporary}
+use Rattle.alias_tables.specs.Tables.{temporary_after, with_reports, intern_report, note_read}
 use Rattle.alias_tables.specs.Temporaries.{same_temp, key_in, temp_like, temporary_of}
 use Rattle.alias_tables.specs.declared.faults.Refusal.{Refusal}
 use Rattle.alias_tables.specs.declared.faults.Refusal.TheVariants.{TooMany}
@@ -63,8 +63,10 @@ module _ (env : Environment) (F : FunctionId → Type 0) where
 
   left_as : {A C : Type 0} (Q : TableLists → A → Type 0) (x y : A) (v u : TableLists)
       → ◌≡◌ {A = Result (A × TableLists) C} (Ok (x, v)) (Ok (y, u)) → Counted v → Q v x → Counted u × Q u y
-  left_as Q x y v u e h q = (subst Counted (tables_are x y v u e) h,
-      subst (λ w. Q w y) (tables_are x y v u e) (subst (Q v) (first_is x y v u e) q))
+  left_as Q x y v u e h q = (
+    subst Counted (tables_are x y v u e) h,
+    subst (λ w. Q w y) (tables_are x y v u e) (subst (Q v) (first_is x y v u e) q),
+  )
 
   -- ---- effects
 
@@ -81,8 +83,11 @@ module _ (env : Environment) (F : FunctionId → Type 0) where
       → Counted u × EffectNamed u y
   interned_after k None e t u y is n h i =
       left_as EffectNamed e y (record t { first = t.first ++ e ∷ [] }) u i
-          (record { first = all_appended (EffectNamed t) t.first (e ∷ []) h.first (n, tt); temporaries = h.temporaries;
-          reads = h.reads }) n
+      (record {
+        first = all_appended (EffectNamed t) t.first (e ∷ []) h.first (n, tt);
+        temporaries = h.temporaries;
+        reads = h.reads;
+      }) n
   interned_after k (Some z) e t u y is n h i =
       left_as EffectNamed (with_error_of z e) y t u i h
       (error_taken t z e (first_has same_key key_of (EffectNamed t) k t.first z is h.first))
@@ -102,8 +107,10 @@ module _ (env : Environment) (F : FunctionId → Type 0) where
   numbered_more : (done xs : List Temporary) (x : Temporary) → AreNumbered env done xs → IsNext env (done ++ xs) x
       → AreNumbered env done (xs ++ x ∷ [])
   numbered_more done [] x h n = (subst (λ l. IsNext env l x) (append-nil done) n, tt)
-  numbered_more done (y ∷ ys) x h n = (h.0,
-      numbered_more (done ++ y ∷ []) ys x h.1 (subst (λ l. IsNext env l x) (sym (append_assoc done (y ∷ []) ys)) n))
+  numbered_more done (y ∷ ys) x h n = (
+    h.0,
+    numbered_more (done ++ y ∷ []) ys x h.1 (subst (λ l. IsNext env l x) (sym (append_assoc done (y ∷ []) ys)) n),
+  )
 
   -- those that are counted on are below the next
   abbrev Below : ℕ → Temporary → Type 0
@@ -138,7 +145,7 @@ module _ (env : Environment) (F : FunctionId → Type 0) where
         → has_room (length env.identifiers) (length env.types) (length t.temporaries) ≡ b → temp_like key t.temporaries
         ≡ None
         → (let r : Result (Place × TableLists) Refusal = if b then Ok (next, added) else Err (TooMany Identifiers) in r
-            ≡ Ok (y, u)) → Counted u × PlaceWithin env u y
+        ≡ Ok (y, u)) → Counted u × PlaceWithin env u y
     new_counted u y true room none e =
         left_as (PlaceWithin env) next y added u e
         (record {
@@ -153,7 +160,7 @@ module _ (env : Environment) (F : FunctionId → Type 0) where
     old_within : (x : Temporary) → temp_like key t.temporaries ≡ Some x → PlaceWithin env t x.place
     old_within x is =
         let i = first_has same_temp key_in (Below (length {A = Temporary} [] + length t.temporaries)) key t.temporaries
-            x is (numbered_below [] t.temporaries h.temporaries) in
+        x is (numbered_below [] t.temporaries h.temporaries) in
         let z : length {A = Temporary} [] ≡ 0 = refl in
         omega (arith, i, z)
 
@@ -178,11 +185,13 @@ module _ (env : Environment) (F : FunctionId → Type 0) where
   pub counted_report : (id : IdentifierId) (r : Report) (t u : TableLists) (d : ReportId) → Counted t
       → intern_report id r t ≡ Ok (d, u) → Counted u
   counted_report id r t u d h e =
-      report_counted u d (record { identity = number_of (same_identity id r) t.reports;
-          instance = number_of (same_instance id r) t.reports }) (with_reports t (with_interned t.reports id r))
+      report_counted u d (record {
+        identity = number_of (same_identity id r) t.reports;
+        instance = number_of (same_instance id r) t.reports;
+      }) (with_reports t (with_interned t.reports id r))
       (nat_lt (number_of (same_identity id r) t.reports) 4294967295
-          && nat_lt (number_of (same_instance id r) t.reports) 4294967295)
-          (record { first = h.first; temporaries = h.temporaries; reads = h.reads }) e
+      && nat_lt (number_of (same_instance id r) t.reports) 4294967295)
+      (record { first = h.first; temporaries = h.temporaries; reads = h.reads }) e
 
   noted_have : (b : Bool) (r : ContextRead) (rs : List ContextRead) → F r.function → ReadsHave F rs
       → ReadsHave F (if b then rs else rs ++ r ∷ [])
@@ -190,5 +199,8 @@ module _ (env : Environment) (F : FunctionId → Type 0) where
   noted_have false r rs h g = all_appended (λ (q : ContextRead). F q.function) rs (r ∷ []) g (h, tt)
 
   pub counted_note : (r : ContextRead) (t : TableLists) → F r.function → Counted t → Counted (note_read r t)
-  counted_note r t own h = record { first = h.first; temporaries = h.temporaries;
-      reads = noted_have (is_noted r t.reads) r t.reads own h.reads }
+  counted_note r t own h = record {
+    first = h.first;
+    temporaries = h.temporaries;
+    reads = noted_have (is_noted r t.reads) r t.reads own h.reads;
+  }

@@ -1,7 +1,7 @@
 -- The entry states that an effects pass ends with name only what is there, and its temporaries are counted on from the
 -- identifiers.
-use Rattle.std.specs.Prelude.{◌≡◌, ℕ, ◌+◌, ◌<◌, Bool, true, List, [], ◌∷◌, ◌++◌, length, Option, Some, None, Result, Ok,
-    replicate, slice_get, refl, ⊤}
+use Rattle.std.specs.Prelude.{◌≡◌, ℕ, ◌+◌, ◌<◌, Bool, true, List, [], ◌∷◌, ◌++◌, length, Option, Some, None, Result, Ok}
+use Rattle.std.specs.Prelude.{replicate, slice_get, refl, ⊤}
 use Rattle.std.specs.List.{list_all, AllByRecursion}
 use Rattle.std.specs.Option.{option_map_or}
 use Rattle.std.proofs.Common.{zero, suc, subst, ap, arith, length-append}
@@ -55,8 +55,8 @@ use Rattle.alias_effects.specs.Numbered.{step_at, numbered, visits_end}
 use Rattle.alias_effects.specs.PassLaws.{outcome_is}
 use Rattle.alias_effects.proofs.StillFits.{begun_within, position_within}
 use Rattle.alias_effects_laws.specs.entries.Named.{StateNamed, CreatesHas, CreatesAt, BlocksCreate, EntriesNamed}
-use Rattle.alias_effects_laws.proofs.entries.Blocks.{named_initial_state, PhisNamed, OptionNamed, AreNamed, ReturnNamed,
-    block_named}
+use Rattle.alias_effects_laws.proofs.entries.Blocks.{named_initial_state, PhisNamed, OptionNamed, AreNamed, ReturnNamed}
+use Rattle.alias_effects_laws.proofs.entries.Blocks.{block_named}
 use Rattle.alias_effects_laws.proofs.entries.Counting.{Counted}
 use Rattle.alias_effects_laws.proofs.entries.Instructions.{InstructionNamed}
 use Rattle.alias_effects_laws.proofs.entries.Keeping.{Kept, solution_keeps}
@@ -130,7 +130,7 @@ module _ (func : HirFunction) (env : Environment) (f : Bool) (fits : function_fi
 module _ (func : HirFunction) (env : Environment) (f : Bool) (fits : function_fits func env ≡ true)
     (F : FunctionId → Type 0) (functions : (g : FunctionId) → F g → IsThere env g)
     (creates : (n : ℕ) (b : BlockId × BasicBlock) → IsReached (numbered (context_of env func f)).flow n
-        → slice_get func.body.blocks n ≡ Some b → CreateIn F func b) where
+    → slice_get func.body.blocks n ≡ Some b → CreateIn F func b) where
   abbrev c : BlockContext
   c = context_of env func f
 
@@ -151,9 +151,12 @@ module _ (func : HirFunction) (env : Environment) (f : Bool) (fits : function_fi
 
   instruction_named : (x : Instruction) → InstructionWithin env x → CreatesHas F (created x.value)
       → InstructionNamed env F x
-  instruction_named x h g = record { lvalue = in_table env x.lvalue h.lvalue;
-      places = all_in_table env (places_of x.value) h.places; context = created_there env (created x.value) h.created;
-      created = g }
+  instruction_named x h g = record {
+    lvalue = in_table env x.lvalue h.lvalue;
+    places = all_in_table env (places_of x.value) h.places;
+    context = created_there env (created x.value) h.created;
+    created = g;
+  }
 
   option_named : (o : Option Instruction) → ((x : Instruction) → o ≡ Some x → InstructionWithin env x) → CreatesAt F o
       → OptionNamed env F o
@@ -163,22 +166,24 @@ module _ (func : HirFunction) (env : Environment) (f : Bool) (fits : function_fi
   are_named : (is : List InstructionId) → AllByRecursion
       (λ (i : InstructionId). CreatesAt F (slice_get func.instructions i.0)) is → AreNamed env F func is
   are_named [] g = tt
-  are_named (i ∷ is) g =
-      (option_named (slice_get func.instructions i.0)
-          (λ x e. at_of (InstructionWithin env) func.instructions i.0 x (context_within func env f fits).instructions e)
-          g.0, are_named is g.1)
+  are_named (i ∷ is) g = (
+    option_named (slice_get func.instructions i.0)
+        (λ x e. at_of (InstructionWithin env) func.instructions i.0 x (context_within func env f fits).instructions e)
+        g.0,
+    are_named is g.1,
+  )
 
   phis_named : (t : TableLists) (n : ℕ) (b : BlockId × BasicBlock) → slice_get func.body.blocks n ≡ Some b
       → PhisNamed (N t) F b.1.phis
   phis_named t n b e =
       let blocks = each_passes (λ (e : BlockId × BasicBlock). block_fits env func e.1)
-          (λ (e : BlockId × BasicBlock). AllByRecursion (λ (p : Phi). InTable env p.place) e.1.phis)
-          (λ e. phis_pass env func e.1) func.body.blocks
-          (numbers_of env func (fits_has func env fits).numbers).blocks in
+      (λ (e : BlockId × BasicBlock). AllByRecursion (λ (p : Phi). InTable env p.place) e.1.phis)
+      (λ e. phis_pass env func e.1) func.body.blocks
+      (numbers_of env func (fits_has func env fits).numbers).blocks in
       all_on (λ (p : Phi). InTable env p.place) (λ (p : Phi). N t p.place.identifier.0)
-          (λ p. known t p.place.identifier.0) b.1.phis
+      (λ p. known t p.place.identifier.0) b.1.phis
       (at_of (λ (e : BlockId × BasicBlock). AllByRecursion (λ (p : Phi). InTable env p.place) e.1.phis) func.body.blocks
-          n b blocks e)
+      n b blocks e)
 
   -- ---- the entry
 
@@ -186,17 +191,17 @@ module _ (func : HirFunction) (env : Environment) (f : Bool) (fits : function_fi
   initial_good t =
       let fit = fits_has func env fits in
       let context = each_passes (place_fits env) (InTable env) (place_passes env) func.context
-          (numbers_of env func fit.numbers).context in
+      (numbers_of env func fit.numbers).context in
       let params = each_passes (λ (p : ParamPattern). place_fits env (param_place p))
-          (λ (p : ParamPattern). InTable env (param_place p)) (λ p. place_passes env (param_place p)) func.params
-          (both_pass (all_pass (λ (p : ParamPattern). place_fits env (param_place p)) func.params) _ fit.numbers).0 in (
+      (λ (p : ParamPattern). InTable env (param_place p)) (λ p. place_passes env (param_place p)) func.params
+      (both_pass (all_pass (λ (p : ParamPattern). place_fits env (param_place p)) func.params) _ fit.numbers).0 in (
         (proper_initial_state c, has_initial_state (FunctionWithin env) c),
         named_initial_state (N t) F c
             (all_on (InTable env) (λ (p : Place). N t p.identifier.0) (λ p. known t p.identifier.0) func.context
-                context)
+            context)
             (all_on (λ (p : ParamPattern). InTable env (param_place p))
-                (λ (p : ParamPattern). N t (param_place p).identifier.0) (λ p. known t (param_place p).identifier.0)
-                func.params params),
+            (λ (p : ParamPattern). N t (param_place p).identifier.0) (λ p. known t (param_place p).identifier.0)
+            func.params params),
       )
 
   joins_good : (t : TableLists) (x y : State) → Good t x → Good t y → Good t (state_join x y)
@@ -226,8 +231,8 @@ module _ (func : HirFunction) (env : Environment) (f : Bool) (fits : function_fi
   block_kept n b t x y u k reached at_index tables state i g e =
       let grown : Extends t u = (again_infer_block c b.0 b.1 x).grows t u (y, k) e in
       let r = block_named c N F names (bindings_named func env f fits) b.0 b.1 x t u y k (phis_named t n b at_index)
-          (are_named b.1.instructions (creates n b reached at_index)) (return_named func env f fits n b at_index) i.1
-          g.1 e in
+      (are_named b.1.instructions (creates n b reached at_index)) (return_named func env f fits n b at_index) i.1
+      g.1 e in
       record { tables = (tables, r.0); state = (state, r.1); still = good_on t u grown.temporaries }
 
   step_kept : (n : ℕ) (o : Option (BlockId × BasicBlock)) (t : TableLists) (x y : State) (u : TableLists)
@@ -238,8 +243,11 @@ module _ (func : HirFunction) (env : Environment) (f : Bool) (fits : function_fi
       let same : t ≡ u = cc in
       let still : x ≡ y = cc in
       let here : Good t y = subst (Good t) still g in
-      record { tables = subst Invariant same i; state = subst (λ v. Good v y) same here;
-          still = λ z q. subst (λ v. Good v z) same q }
+      record {
+        tables = subst Invariant same i;
+        state = subst (λ v. Good v y) same here;
+        still = λ z q. subst (λ v. Good v z) same q;
+      }
   step_kept n (Some b) t x y u k reached o tables state i g e =
       block_kept n b t x y u k reached o tables state i g (outcome_is (infer_block c b.0 b.1 x t) y u k e)
 
@@ -250,12 +258,12 @@ module _ (func : HirFunction) (env : Environment) (f : Bool) (fits : function_fi
       → AllHold (Good w.tables) w.progress.joined_input × Counted env F w.tables
   entries_kept w e =
       let r = solution_keeps state_join state_below (numbered c) Invariant Good (length func.body.blocks) joins_good
-          (IsReached (numbered c).flow) at_entry (λ b d reached one. by_edge b d reached one)
+      (IsReached (numbered c).flow) at_entry (λ b d reached one. by_edge b d reached one)
       (λ t n x y u k reached i g s. let q = position_within func env f fits n t x y u k i.0 g.0 s in
-          step_kept n (slice_get func.body.blocks n) t x y u k reached refl q.tables q.state i g s)
+      step_kept n (slice_get func.body.blocks n) t x y u k reached refl q.tables q.state i g s)
       (tables_of env) (replicate (length func.body.blocks) None) w
-          (begun_within func env f fits, record { first = tt; temporaries = tt; reads = tt })
-          (initial_good (tables_of env)) (length-replicate (length func.body.blocks) None) e in
+      (begun_within func env f fits, record { first = tt; temporaries = tt; reads = tt })
+      (initial_good (tables_of env)) (length-replicate (length func.body.blocks) None) e in
       (r.1, r.0.1)
 
 -- ---- with functions that have F, which are those of the table where they are created
@@ -263,14 +271,19 @@ module _ (func : HirFunction) (env : Environment) (f : Bool) (fits : function_fi
 module _ (func : HirFunction) (env : Environment) (f : Bool) (fits : function_fits func env ≡ true)
     (F : FunctionId → Type 0)
     (creates : (n : ℕ) (b : BlockId × BasicBlock) → IsReached (numbered (context_of env func f)).flow n
-        → slice_get func.body.blocks n ≡ Some b → CreateIn F func b) where
+    → slice_get func.body.blocks n ≡ Some b → CreateIn F func b) where
   abbrev pub There : FunctionId → Type 0
   There g = F g × IsThere env g
 
   created_in_table : (o : Option FunctionId) → CreatedWithin env o → CreatesHas F o → CreatesHas There o
   created_in_table None h g = tt
-  created_in_table (Some k) h g = (g, (ltb-true k.0 (length env.functions) h.there,
-      all_in_table env (context_at env k) h.context))
+  created_in_table (Some k) h g = (
+    g,
+    (
+      ltb-true k.0 (length env.functions) h.there,
+      all_in_table env (context_at env k) h.context,
+    ),
+  )
 
   creates_at : (o : Option Instruction) → ((x : Instruction) → o ≡ Some x → InstructionWithin env x) → CreatesAt F o
       → CreatesAt There o
@@ -281,10 +294,10 @@ module _ (func : HirFunction) (env : Environment) (f : Bool) (fits : function_fi
       → slice_get func.body.blocks n ≡ Some b → CreateIn There func b
   reached_create n b reached at =
       all_on (λ (i : InstructionId). CreatesAt F (slice_get func.instructions i.0))
-          (λ (i : InstructionId). CreatesAt There (slice_get func.instructions i.0))
+      (λ (i : InstructionId). CreatesAt There (slice_get func.instructions i.0))
       (λ i. creates_at (slice_get func.instructions i.0)
-          (λ x e. at_of (InstructionWithin env) func.instructions i.0 x (context_within func env f fits).instructions
-          e)) b.1.instructions (creates n b reached at)
+      (λ x e. at_of (InstructionWithin env) func.instructions i.0 x (context_within func env f fits).instructions
+      e)) b.1.instructions (creates n b reached at)
 
   all_named : (t : TableLists) (xs : List (Option State))
       → AllHold (λ s. StateWithin env s × Stating (λ n. n < length env.identifiers + length t.temporaries) There s) xs
@@ -300,7 +313,7 @@ module _ (func : HirFunction) (env : Environment) (f : Bool) (fits : function_fi
   pub tables_named : (w : SolverState (VisitLog State) TableLists BlockEffects) → visits_end (context_of env func f)
       ≡ end.Solved w
       → AllHold (λ s. StateWithin env s × Stating (λ n. n < length env.identifiers + length w.tables.temporaries) There
-          s) w.progress.joined_input × Counted env There w.tables
+      s) w.progress.joined_input × Counted env There w.tables
   tables_named w e = entries_kept func env f fits There (λ k i. i.1) reached_create w e
 
   -- what the instructions of a reached block name

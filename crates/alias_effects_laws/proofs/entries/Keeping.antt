@@ -1,12 +1,12 @@
 -- What steps keep of tables and states, the entry states have in the end.
 use Rattle.std.specs.Prelude.{slice_set, slice_index_or, replicate}
-use Rattle.std.proofs.Common.{◌≡◌, ◌∙◌, ℕ, zero, suc, Bool, true, false, if◌then◌else◌, List, [], ◌∷◌, length, Option,
-    Some, None, inl, inr, refl, subst}
+use Rattle.std.proofs.Common.{◌≡◌, ◌∙◌, ℕ, zero, suc, Bool, true, false, if◌then◌else◌, List, [], ◌∷◌, length, Option}
+use Rattle.std.proofs.Common.{Some, None, inl, inr, refl, subst}
 use Rattle.std.proofs.lemmas.List.{length-set}
 use Rattle.alias_lattice.specs.Flows.{Outcome, Stepped, Refused, IsOneOf}
-use Rattle.alias_flow.specs.Machine.{Rules, VisitLog, SolverState, Run, Going, Stopped, End, Solved, NotSettled, after,
-    ending, up, joined, send, send_all, visited, dirty, outcome_after, visit_at, visit, turn, round, any_dirty, rounds,
-    start, solution}
+use Rattle.alias_flow.specs.Machine.{Rules, VisitLog, SolverState, Run, Going, Stopped, End, Solved, NotSettled, after}
+use Rattle.alias_flow.specs.Machine.{ending, up, joined, send, send_all, visited, dirty, outcome_after, visit_at, visit}
+use Rattle.alias_flow.specs.Machine.{turn, round, any_dirty, rounds, start, solution}
 use Rattle.alias_flow.specs.RecordingLaws.{HoldsOf, AllHold}
 use Rattle.alias_step_laws.specs.blocks.SolutionLaws.{set_holds, all_held_on}
 
@@ -49,9 +49,9 @@ module _ {P T K C : Type 0} (join : P → P → P) (below : P → P → Bool) (r
     (good : T → P → Type 0) (n : ℕ)
     (joins : (t : T) (x y : P) → good t x → good t y → good t (join x y))
     (reached : ℕ → Type 0) (begins : reached rules.flow.entry)
-        (edge : (b c : ℕ) → reached b → IsOneOf c (rules.flow.edges b) → reached c)
+    (edge : (b c : ℕ) → reached b → IsOneOf c (rules.flow.edges b) → reached c)
     (step : (t : T) (b : ℕ) (x y : P) (u : T) (k : K) → reached b → inv t → good t x → rules.flow.step t b x
-        ≡ Stepped y u k → Kept inv good t u y) where
+    ≡ Stepped y u k → Kept inv good t u y) where
   abbrev W : Type 0
   W = SolverState (VisitLog P) T K
 
@@ -82,14 +82,17 @@ module _ {P T K C : Type 0} (join : P → P → P) (below : P → P → Bool) (r
   sends_reach x xs [] h f b y e = h b y e
   sends_reach x xs (to ∷ es) h f b y e =
       sends_reach x (send join x xs to) es (set_reach reached xs to (Some (joined join (slice_index_or xs to None) x)) h
-          (f to (inl refl))) (λ c i. f c (inr i)) b y e
+      (f to (inl refl))) (λ c i. f c (inr i)) b y e
 
   outcome_stands : (w v : W) (b : ℕ) (x : P) (o : Outcome P T K C) → rules.flow.step w.tables b x ≡ o → reached b
       → good w.tables x → Stands w → outcome_after join below rules w b x o ≡ Going v → Stands v
   outcome_stands w v b x (Stepped y t k) s r g h e =
       let i = step w.tables b x y t k r h.tables g s in
-      let made : W = record { progress = visited join w.progress b x y (rules.flow.edges b); tables = t;
-          recorded = slice_set w.recorded b (Some k) } in
+      let made : W = record {
+        progress = visited join w.progress b x y (rules.flow.edges b);
+        tables = t;
+        recorded = slice_set w.recorded b (Some k);
+      } in
       let same : made ≡ v = cc in
       subst Stands same (record {
         tables = i.tables;
@@ -122,7 +125,7 @@ module _ {P T K C : Type 0} (join : P → P → P) (below : P → P → Bool) (r
   round_stands [] w v h e = let same : w ≡ v = cc in subst Stands same h
   round_stands (b ∷ bs) w v h e =
       after_stands (turn join below rules w b) (λ u. round join below rules u bs) v
-          (λ u g. turn_stands w u b (dirty below w.progress b) h g) (λ u g f. round_stands bs u v g f) e
+      (λ u g. turn_stands w u b (dirty below w.progress b) h g) (λ u g f. round_stands bs u v g f) e
 
   ending_stands : (r : Run (VisitLog P) T K C) (f : W → End (VisitLog P) T K C) (v : W)
       → ((u : W) → r ≡ Going u → Stands u) → ((u : W) → Stands u → f u ≡ Solved v → Stands v) → ending r f ≡ Solved v
@@ -156,9 +159,13 @@ module _ {P T K C : Type 0} (join : P → P → P) (below : P → P → Bool) (r
   unfolding solution
   solution_keeps tables recorded v i g l e =
       let s = rounds_stand 100 (start join below rules tables recorded) v
-          (record { tables = i; inputs = sent tables rules.flow.initial (replicate rules.blocks None) rules.flow.entry g
-          (none_hold (good tables) rules.blocks);
-          reach = set_reach reached (replicate rules.blocks None) rules.flow.entry
-          (Some (joined join (slice_index_or (replicate rules.blocks None) rules.flow.entry None) rules.flow.initial))
-          (none_reached reached rules.blocks) begins; long = l }) e in
+      (record {
+        tables = i;
+        inputs = sent tables rules.flow.initial (replicate rules.blocks None) rules.flow.entry g
+            (none_hold (good tables) rules.blocks);
+        reach = set_reach reached (replicate rules.blocks None) rules.flow.entry
+            (Some (joined join (slice_index_or (replicate rules.blocks None) rules.flow.entry None) rules.flow.initial))
+            (none_reached reached rules.blocks) begins;
+        long = l;
+      }) e in
       (s.tables, s.inputs, s.long)

@@ -14,8 +14,8 @@ use Rattle.alias_hir.specs.declared.place.Place.{Place}
 use Rattle.alias_hir.specs.declared.report.ReportId.{ReportId}
 use Rattle.alias_lattice.specs.States.{State, Sites, sites_of, given, mutable_other}
 use Rattle.alias_lattice.specs.declared.site.Site.{Site}
-use Rattle.alias_lattice.specs.declared.site.Site.TheVariants.{Created, CreatedFrom, Function, AssignFrozen, AssignCopy,
-    Default}
+use Rattle.alias_lattice.specs.declared.site.Site.TheVariants.{Created, CreatedFrom, Function, AssignFrozen, AssignCopy}
+use Rattle.alias_lattice.specs.declared.site.Site.TheVariants.{Default}
 use Rattle.alias_lattice.specs.declared.value.AbstractValue.{AbstractValue}
 use Rattle.alias_tables.specs.GrowingLaws.{Extends}
 use Rattle.alias_tables.specs.Tables.{TableLists}
@@ -27,17 +27,17 @@ use Rattle.alias_apply.specs.freezing.Contexts.{context_of}
 use Rattle.alias_apply.specs.freezing.Sites.{listed}
 use Rattle.alias_step.specs.Expansions.{function_of_site, only_function, called_function}
 use Rattle.alias_walks.specs.Knowing.{among_known}
-use Rattle.alias_walks.specs.Law.{InternedNames, KeyKnown, of_name, of_rest, Puts, creates, creates_from,
-    assigns_frozen, assigns_copy, creates_function, has_result, Copied, Law}
+use Rattle.alias_walks.specs.Law.{InternedNames, KeyKnown, of_name, of_rest, Puts, creates, creates_from}
+use Rattle.alias_walks.specs.Law.{assigns_frozen, assigns_copy, creates_function, has_result, Copied, Law}
 use Rattle.alias_walks.specs.OfProgress.{Any}
 use Rattle.alias_walks.specs.Words.{all_of, all_mapped}
 use Rattle.alias_step_laws.specs.steps.TableLaws.{place_grows}
 use Rattle.alias_step_laws.specs.steps.Within.{PlaceWithin}
 use Rattle.alias_effects_laws.specs.entries.Named.{SiteNamed, KeyNamed, CreatesHas}
-use Rattle.alias_effects_laws.proofs.entries.Counting.{EffectNamed, Counted, counted_intern, counted_temporary,
-    counted_report, counted_note}
-use Rattle.alias_effects_laws.proofs.entries.States.{Stating, IfNamed, set_found, named_given, named_assigned,
-    named_frozen, named_place_frozen_transitively, stating_on}
+use Rattle.alias_effects_laws.proofs.entries.Counting.{EffectNamed, Counted, counted_intern, counted_temporary}
+use Rattle.alias_effects_laws.proofs.entries.Counting.{counted_report, counted_note}
+use Rattle.alias_effects_laws.proofs.entries.States.{Stating, IfNamed, set_found, named_given, named_assigned}
+use Rattle.alias_effects_laws.proofs.entries.States.{named_frozen, named_place_frozen_transitively, stating_on}
 
 abbrev pub InTable : Environment → Place → Type 0
 InTable env p = p.identifier.0 < length env.identifiers
@@ -144,6 +144,9 @@ naming env N F names = record {
   contexts = λ f t k m. contexts_within env N F names t f m;
   summaries = λ f t k m.
       all_of (Copied env (PlaceWithin env t) (Any {X = Option ReportId}) f)
-      (λ e. (tt, λ v is among. among_known (λ n. n < length env.identifiers + length t.temporaries) (context_of env f) v
-          (contexts_within env N F names t f m) among)) (summary (slice_get env.functions f.0));
+      (λ e. (
+        tt,
+        λ v is among. among_known (λ n. n < length env.identifiers + length t.temporaries) (context_of env f) v
+            (contexts_within env N F names t f m) among,
+      )) (summary (slice_get env.functions f.0));
 }

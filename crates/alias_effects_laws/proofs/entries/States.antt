@@ -1,6 +1,6 @@
 -- What is done to a state leaves it named so: it names no more than what is put into it.
-use Rattle.std.proofs.Common.{◌≡◌, ℕ, zero, suc, Bool, true, false, cond, List, [], ◌∷◌, Option, Some, None, refl,
-    subst}
+use Rattle.std.proofs.Common.{◌≡◌, ℕ, zero, suc, Bool, true, false, cond, List, [], ◌∷◌, Option, Some, None, refl}
+use Rattle.std.proofs.Common.{subst}
 use Rattle.std.proofs.Math.Dec.{T}
 use Rattle.std.specs.Cmp.{IsTotalOrder}
 use Rattle.std.specs.FinMap.{find, put, is_sorted, entries_sorted}
@@ -22,17 +22,18 @@ use Rattle.alias_lattice.specs.Maps.{join_option, join_value, map_join}
 use Rattle.alias_lattice.specs.ProperStates.{StateProper}
 use Rattle.alias_lattice.specs.SiteOrder.{site_cmp}
 use Rattle.alias_lattice.specs.SiteOrderLaws.{sites_total}
-use Rattle.alias_lattice.specs.States.{State, Sites, sites_of, empty_state, one_site, initialized, defined_as,
-    defined_at, defaulted, defaulted_at, value_at, given, assigned, assigned_at, appended, both_sites, sites_join,
-    phied, operand_ids, union_over, state_join, frozen, frozen_at, frozen_for, all_set, does_freeze, mutable_other}
+use Rattle.alias_lattice.specs.States.{State, Sites, sites_of, empty_state, one_site, initialized, defined_as}
+use Rattle.alias_lattice.specs.States.{defined_at, defaulted, defaulted_at, value_at, given, assigned, assigned_at}
+use Rattle.alias_lattice.specs.States.{appended, both_sites, sites_join, phied, operand_ids, union_over, state_join}
+use Rattle.alias_lattice.specs.States.{frozen, frozen_at, frozen_for, all_set, does_freeze, mutable_other}
 use Rattle.alias_lattice.specs.Units.{unit_join}
 use Rattle.alias_lattice.specs.declared.site.Site.{Site}
 use Rattle.alias_lattice.specs.declared.site.Site.TheVariants as site
 use Rattle.alias_lattice.specs.declared.site.Site.TheVariants.{Function, Default}
 use Rattle.alias_lattice.specs.declared.value.AbstractValue.{AbstractValue}
 use Rattle.alias_lattice.proofs.Belows.{joined_is}
-use Rattle.alias_apply.specs.freezing.Transitive.{at_sites, where_frozen, at_place, at_places, at_site, live,
-    levels_frozen, frozen_transitively, place_frozen_transitively}
+use Rattle.alias_apply.specs.freezing.Transitive.{at_sites, where_frozen, at_place, at_places, at_site, live}
+use Rattle.alias_apply.specs.freezing.Transitive.{levels_frozen, frozen_transitively, place_frozen_transitively}
 use Rattle.alias_apply.specs.freezing.Sites.{sites_at}
 use Rattle.alias_effects_laws.specs.entries.Named.{SiteNamed, SitesNamed, StateNamed}
 use Rattle.alias_walks.specs.Words.{all_mapped as all_on}
@@ -72,9 +73,9 @@ module _ {K X : Type 0} (R : K → K → Ordering) (E : K × X → Type 0)
     each_joined xs [] h g = h
     each_joined xs (e ∷ es) h g =
         let now : E (e.0, join_value j (find R e.0 xs) e.1) =
-            joined_value e.0 e.1 (find R e.0 xs) (λ w f. found_in e.0 xs w f h) g.0 in
+        joined_value e.0 e.1 (find R e.0 xs) (λ w f. found_in e.0 xs w f h) g.0 in
         each_joined (put R e.0 (join_value j (find R e.0 xs) e.1) xs) es
-            (all_put e.0 (join_value j (find R e.0 xs) e.1) xs now h) g.1
+        (all_put e.0 (join_value j (find R e.0 xs) e.1) xs now h) g.1
 
     -- lists that ascend, joined
     all_joined : (xs es : List (K × X)) → T (is_sorted R xs) → T (is_sorted R es) → AllByRecursion E xs
@@ -140,14 +141,18 @@ module _ (N : ℕ → Type 0) (F : FunctionId → Type 0) where
 
   named_defined_as : (x : IdentifierId) (t : Sites) (s : State) → N x.0 → SetNamed t → Stating s
       → Stating (defined_as x t s)
-  named_defined_as x t s n g h = record { values = h.values;
-      variables = all_put id_cmp OfVariable mixed x t s.variables (n, g) h.variables }
+  named_defined_as x t s n g h = record {
+    values = h.values;
+    variables = all_put id_cmp OfVariable mixed x t s.variables (n, g) h.variables;
+  }
 
   named_initialized : (k : Site) (v : AbstractValue) (s : State) → SiteNamed N F k → Stating s
       → Stating (initialized k v s)
-  named_initialized k v s n h = record { values =
-      all_put site_cmp (OfSite {X = AbstractValue}) (λ x y v w p q. p) k v s.values n h.values;
-      variables = h.variables }
+  named_initialized k v s n h = record {
+    values =
+        all_put site_cmp (OfSite {X = AbstractValue}) (λ x y v w p q. p) k v s.values n h.values;
+    variables = h.variables;
+  }
 
   pub named_given : (x : IdentifierId) (k : Site) (v : AbstractValue) (s : State) → N x.0 → SiteNamed N F k → Stating s
       → Stating (given x k v s)
@@ -168,7 +173,7 @@ module _ (N : ℕ → Type 0) (F : FunctionId → Type 0) where
       → Stating s → Stating (assigned_at o into from s)
   named_assigned_at None into from s g n m h =
       named_defined_as into (one_site (Default from)) (defaulted (Default from) s) n (set_one (Default from) m)
-          (named_defaulted_at (value_at s (Default from)) (Default from) s m h)
+      (named_defaulted_at (value_at s (Default from)) (Default from) s m h)
   named_assigned_at (Some t) into from s g n m h = named_defined_as into t s n g h
 
   pub named_assigned : (into from : IdentifierId) (s : State) → N into.0 → N from.0 → Stating s
@@ -184,15 +189,15 @@ module _ (N : ℕ → Type 0) (F : FunctionId → Type 0) where
   pub named_appended : (x v : IdentifierId) (s : State) → N x.0 → Stating s → Stating (appended x v s)
   named_appended x v s n h =
       named_defined_at (both_sites (sites_of s x) (sites_of s v)) x s
-          (both_named (sites_of s x) (sites_of s v) (set_found s x (sites_of s x) refl h)
-          (set_found s v (sites_of s v) refl h)) n h
+      (both_named (sites_of s x) (sites_of s v) (set_found s x (sites_of s x) refl h)
+      (set_found s v (sites_of s v) refl h)) n h
 
   union_named : (s : State) (xs : List IdentifierId) (o : Option Sites) → Stating s → IfNamed o
       → IfNamed (union_over s.variables xs o)
   union_named s [] o h g = g
   union_named s (x ∷ xs) o h g =
       union_named s xs (join_option sites_join o (find id_cmp x s.variables)) h
-          (join_named o (find id_cmp x s.variables) g (set_found s x (find id_cmp x s.variables) refl h))
+      (join_named o (find id_cmp x s.variables) g (set_found s x (find id_cmp x s.variables) refl h))
 
   pub named_phied : (phi : IdentifierId) (operands : List (BlockId × Place)) (s : State) → N phi.0 → Stating s
       → Stating (phied phi operands s)
@@ -206,7 +211,7 @@ module _ (N : ℕ → Type 0) (F : FunctionId → Type 0) where
         (λ x v w i k. i) a.values b.values p.values.0 q.values.0 h.values g.values;
     variables =
         all_joined id_cmp OfVariable mixed ids_total sites_join (λ x v w i k. (i.0, set_join v w i.1 k.1)) a.variables
-            b.variables p.variables.0 q.variables.0 h.variables g.variables;
+        b.variables p.variables.0 q.variables.0 h.variables g.variables;
   }
 
   -- ---- freezing
@@ -227,9 +232,12 @@ module _ (N : ℕ → Type 0) (F : FunctionId → Type 0) where
   frozen_values v false o m g h = h
 
   pub named_frozen : (x : IdentifierId) (r : ValueReason) (s : State) → Stating s → Stating (frozen x r s)
-  named_frozen x r s h = record { values =
-      frozen_values (frozen_for r) (does_freeze s x) (sites_of s x) s.values (set_found s x (sites_of s x) refl h)
-      h.values; variables = h.variables }
+  named_frozen x r s h = record {
+    values =
+        frozen_values (frozen_for r) (does_freeze s x) (sites_of s x) s.values (set_found s x (sites_of s x) refl h)
+        h.values;
+    variables = h.variables;
+  }
 
   module _ (going : Site → State → State) (kept : (k : Site) (s : State) → Stating s → Stating (going k s)) where
     named_at_sites : (ks : List Site) (s : State) → Stating s → Stating (at_sites going ks s)
@@ -282,7 +290,13 @@ module _ (N M : ℕ → Type 0) (F G : FunctionId → Type 0) (on : (n : ℕ) �
         (λ e. site_on e.0) s.values h.values;
     variables =
         all_on (λ (e : IdentifierId × Sites). N e.0.0 × SetNamed N F e.1)
-            (λ (e : IdentifierId × Sites). M e.0.0 × SetNamed M G e.1)
-        (λ e i. (on e.0.0 i.0, (all_on (λ (k : Site × Unit {0}). SiteNamed N F k.0)
-            (λ (k : Site × Unit {0}). SiteNamed M G k.0) (λ k. site_on k.0) e.1 i.1.0, i.1.1))) s.variables h.variables;
+        (λ (e : IdentifierId × Sites). M e.0.0 × SetNamed M G e.1)
+        (λ e i. (
+          on e.0.0 i.0,
+          (
+            all_on (λ (k : Site × Unit {0}). SiteNamed N F k.0)
+                (λ (k : Site × Unit {0}). SiteNamed M G k.0) (λ k. site_on k.0) e.1 i.1.0,
+            i.1.1,
+          ),
+        )) s.variables h.variables;
   }

@@ -54,7 +54,7 @@ KeyNamed identifiers functions (key.Rest f) = f.0 < functions
 abbrev pub IsNext : Environment → List Temporary → Temporary → Type 0
 IsNext env done x =
     (x.place.identifier.0 ≡ length env.identifiers + length done) × (temp_like x.key done ≡ None)
-        × KeyNamed (length env.identifiers + length done) (length env.functions) x.key
+    × KeyNamed (length env.identifiers + length done) (length env.functions) x.key
     × (has_room (length env.identifiers) (length env.types) (length done) ≡ true)
 
 -- behind those that are done, each temporary is the next

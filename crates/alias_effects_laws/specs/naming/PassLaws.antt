@@ -1,8 +1,8 @@
 -- What the effects pass records of a function names only what P holds of, where P holds of the places that stand in the
 -- function and of the identifiers that the
 -- pass may add.
-use Rattle.std.specs.Prelude.{◌≡◌, ℕ, ◌≤◌, Bool, true, false, cond, List, [], ◌∷◌, ◌++◌, length, Option, Some, None, Ok,
-    replicate, slice_get}
+use Rattle.std.specs.Prelude.{◌≡◌, ℕ, ◌≤◌, Bool, true, false, cond, List, [], ◌∷◌, ◌++◌, length, Option, Some, None, Ok}
+use Rattle.std.specs.Prelude.{replicate, slice_get}
 use Rattle.std.specs.List.{flat_map, AllByRecursion, fold}
 use Rattle.std.specs.Option.{option_map_or}
 use Rattle.std.specs.Ordering.{nat_cmp, match_ordering}
@@ -12,8 +12,8 @@ use Rattle.std.specs.declared.cmp.Ordering.TheVariants.{Less, Equal, Greater}
 use Rattle.std.proofs.Common.{zero, suc, subst, refl}
 use Rattle.alias_base.specs.declared.ids.BlockId.{BlockId}
 use Rattle.alias_base.specs.declared.ids.FunctionId.{FunctionId}
-use Rattle.alias_facts.specs.Handlers.{Bindings, binding_at, with_binding, after_terminal, after_entry,
-    handler_bindings}
+use Rattle.alias_facts.specs.Handlers.{Bindings, binding_at, with_binding, after_terminal, after_entry}
+use Rattle.alias_facts.specs.Handlers.{handler_bindings}
 use Rattle.alias_hir.specs.Parts.{param_place, optional_place}
 use Rattle.alias_hir.specs.Terminals.{terminal_places}
 use Rattle.alias_hir.specs.Values.{places_of, created}
@@ -52,8 +52,8 @@ use Rattle.alias_effects.specs.declared.solved.Solved.{Solved}
 use Rattle.alias_effects.specs.Inference.{instructions_recorded, terminal_recorded, end_of, answer_of, pass_end}
 use Rattle.alias_effects.specs.Numbered.{step_at, numbered, visits_end}
 use Rattle.alias_effects.specs.PassLaws.{outcome_is}
-use Rattle.alias_effects_laws.specs.naming.BlockLaws.{EntriesOwn, EndsOwn, BlockEffectsOwn, StateOwns, ReturnOwns,
-    ContextOwns, block_inferred}
+use Rattle.alias_effects_laws.specs.naming.BlockLaws.{EntriesOwn, EndsOwn, BlockEffectsOwn, StateOwns, ReturnOwns}
+use Rattle.alias_effects_laws.specs.naming.BlockLaws.{ContextOwns, block_inferred}
 use Rattle.alias_effects_laws.specs.naming.Owning.{Owns, OwnsAll, OwnsContext, OwnsCreated, EffectsOwn, TablesOwn}
 use Rattle.alias_effects_laws.specs.naming.StepLaws.{InstructionOwns}
 
@@ -167,15 +167,15 @@ module _ (env : Environment) (P : ℕ → Type 0) where
     terminals : TerminalsOwn func.body.blocks
     terminals =
         let b = parts_of (Owns env P) _ (flat_map (λ (e : BlockId × BasicBlock). block_places e.1) func.body.blocks)
-            places in
+        places in
         all_on (λ (e : BlockId × BasicBlock). OwnsAll env P (block_places e.1))
-            (λ (e : BlockId × BasicBlock). OwnsAll env P (terminal_places e.1.terminal)) block_there func.body.blocks
+        (λ (e : BlockId × BasicBlock). OwnsAll env P (terminal_places e.1.terminal)) block_there func.body.blocks
         (each_of (Owns env P) (λ (e : BlockId × BasicBlock). block_places e.1) func.body.blocks b.1)
 
     context_owns : ContextOwns c P
     context_owns =
         let b = parts_of (Owns env P) _ (flat_map (λ (e : BlockId × BasicBlock). block_places e.1) func.body.blocks)
-            places in
+        places in
         let d = parts_of (Owns env P) _ (func.returns ∷ flat_map (instruction_places env) func.instructions) b.0 in
         record {
           fresh = fresh;
@@ -202,14 +202,18 @@ module _ (env : Environment) (P : ℕ → Type 0) where
         let tables : t ≡ u = cc in
         let state : x ≡ y = cc in
         let said : no_effects ≡ k = cc in
-        record { tables = subst (TablesOwn env P) tables i; state = subst (StateOwns env P) state g;
-            said = subst (BlockEffectsOwn env P) said (tt, tt); still = λ j q. q }
+        record {
+          tables = subst (TablesOwn env P) tables i;
+          state = subst (StateOwns env P) state g;
+          said = subst (BlockEffectsOwn env P) said (tt, tt);
+          still = λ j q. q;
+        }
     step_owns n (Some b) t x y u k o i g e =
         let there = returned b.1.terminal (at_of
-            (λ (z : BlockId × BasicBlock). OwnsAll env P (terminal_places z.1.terminal)) func.body.blocks n b terminals
-            o) in
+        (λ (z : BlockId × BasicBlock). OwnsAll env P (terminal_places z.1.terminal)) func.body.blocks n b terminals
+        o) in
         let r = (block_inferred c P context_owns b.0 b.1 x there g).leads t u (y, k) i
-            (outcome_is (infer_block c b.0 b.1 x t) y u k e) in
+        (outcome_is (infer_block c b.0 b.1 x t) y u k e) in
         record { tables = r.0; state = r.1.0; said = r.1.1; still = λ j q. q }
 
     end_owns : (w : SolverState (VisitLog State) TableLists BlockEffects) → visits_end c ≡ end.Solved w
@@ -218,7 +222,7 @@ module _ (env : Environment) (P : ℕ → Type 0) where
         (solution_stands state_join state_below (numbered c) (TablesOwn env P) (StateOwns env P) Said joins_own
         (λ t n x y u k i g s. step_owns n (slice_get func.body.blocks n) t x y u k refl i g s)
         (tables_of env) (replicate (length func.body.blocks) None) w (record { first = tt; temporaries = tt })
-            initial_owns (none_hold (BlockEffectsOwn env P) (length func.body.blocks)) e).1
+        initial_owns (none_hold (BlockEffectsOwn env P) (length func.body.blocks)) e).1
 
     all_instructions : (recorded : List (Option BlockEffects)) → AllHold (BlockEffectsOwn env P) recorded
         → EntriesOwn env P (flat_map instructions_recorded recorded)
@@ -240,7 +244,7 @@ module _ (env : Environment) (P : ℕ → Type 0) where
         let same : end_of func w ≡ e = cc in
         let a = end_owns w v in
         subst (λ (z : PassEnd). SolvedNames env P z.solved) same
-            (record { instructions = all_instructions w.recorded a; terminals = all_terminals w.recorded a })
+        (record { instructions = all_instructions w.recorded a; terminals = all_terminals w.recorded a })
     answer_names (end.Fault n k) e v i = cc
     answer_names (end.NotSettled n) e v i = cc
 

@@ -1,6 +1,6 @@
 -- In what a solution hands out, each forbidden write of a reached block stands as an error.
-use Rattle.std.specs.Prelude.{◌≡◌, ℕ, Bool, true, false, cond, List, [], ◌∷◌, ◌++◌, Option, None, Some, Result, Ok, Err,
-    refl}
+use Rattle.std.specs.Prelude.{◌≡◌, ℕ, Bool, true, false, cond, List, [], ◌∷◌, ◌++◌, Option, None, Some, Result, Ok, Err}
+use Rattle.std.specs.Prelude.{refl}
 use Rattle.std.specs.List.{AllByRecursion, flat_map, list_any}
 use Rattle.std.proofs.Common.{ap, sym, ◌∙◌, subst, eqb-true}
 use Rattle.alias_base.specs.Find.{same_block, value_at}
@@ -41,7 +41,7 @@ module _ (env : Environment) (func : HirFunction) (is_function_expression : Bool
   TellsWrites s =
       (b : BlockId) (x : State) → entry_state s.entries b ≡ Some x
       → AllByRecursion (ReportedIn context s.effects)
-          (writes_of_block context (value_at func.body.blocks b) x (tables env func is_function_expression))
+      (writes_of_block context (value_at func.body.blocks b) x (tables env func is_function_expression))
 
 any_later : {X : Type 0} (p : X → Bool) (xs ys : List X) → list_any p ys ≡ true → list_any p (xs ++ ys) ≡ true
 any_later p [] ys h = h
@@ -73,13 +73,13 @@ module _ (env : Environment) (func : HirFunction) (is_function_expression : Bool
   reported_after : (w : InstructionId × Write) (b : BlockId) (x : State) (e : BlockEntry) (es : List BlockEntry)
       (k : Bool) → same_block b e.block ≡ k
       → is_reported (recorded (entry_of b x)) w ≡ true
-          → (entry_state es b ≡ Some x → is_reported (flat_map recorded es) w ≡ true)
+      → (entry_state es b ≡ Some x → is_reported (flat_map recorded es) w ≡ true)
       → cond k (Some e.state) (entry_state es b) ≡ Some x → is_reported (recorded e ++ flat_map recorded es) w ≡ true
   reported_after w b x e es true same h later i =
       let is : e.state ≡ x = cc in
       let entry = ap (λ (c : BlockId). entry_of c x) (block_is b e.block same) ∙ ap (entry_of e.block) (sym is) in
       any_more (is_reported_by w) (recorded e) (flat_map recorded es)
-          (subst (λ (z : BlockEntry). is_reported (recorded z) w ≡ true) entry h)
+      (subst (λ (z : BlockEntry). is_reported (recorded z) w ≡ true) entry h)
   reported_after w b x e es false same h later i =
       any_later (is_reported_by w) (recorded e) (flat_map recorded es) (later i)
 
@@ -93,16 +93,17 @@ module _ (env : Environment) (func : HirFunction) (is_function_expression : Bool
   all_in_all : (ws : List (InstructionId × Write)) (b : BlockId) (x : State) (es : List BlockEntry)
       (effects : List InstructionEffects) → effects ≡ flat_map recorded es → entry_state es b ≡ Some x
       → AllByRecursion (ReportedIn (context env func is_function_expression) (recorded (entry_of b x))) ws
-          → AllByRecursion (ReportedIn (context env func is_function_expression) effects) ws
+      → AllByRecursion (ReportedIn (context env func is_function_expression) effects) ws
   all_in_all [] b x es effects is h k = tt
-  all_in_all (w ∷ ws) b x es effects is h k =
-      ((λ f. subst (λ z. is_reported z w ≡ true) (sym is) (reported_in_all w b x es (k.0 f) h)),
-          all_in_all ws b x es effects is h k.1)
+  all_in_all (w ∷ ws) b x es effects is h k = (
+    (λ f. subst (λ z. is_reported z w ≡ true) (sym is) (reported_in_all w b x es (k.0 f) h)),
+    all_in_all ws b x es effects is h k.1,
+  )
 
   block_reported : (b : BlockId) (o : Option BasicBlock) (x y : State) (t : TableLists) (k : BlockEffects)
       → outcome_at (context env func is_function_expression) b o t x ≡ Stepped y t k
       → AllByRecursion (ReportedIn (context env func is_function_expression) k.instructions)
-          (writes_of_block (context env func is_function_expression) o x t)
+      (writes_of_block (context env func is_function_expression) o x t)
   block_reported b None x y t k h = tt
   block_reported b (Some block) x y t k h =
       let c = context env func is_function_expression in
@@ -119,4 +120,4 @@ module _ (env : Environment) (func : HirFunction) (is_function_expression : Bool
       let recorded_is : recorded (entry_of b x) ≡ k.instructions = ap (λ o. (effects_recorded o).instructions) out.2 in
       all_in_all (writes_of_block c (value_at func.body.blocks b) x t) b x s.entries s.effects solved.effects e
       (subst (λ es. AllByRecursion (ReportedIn c es) (writes_of_block c (value_at func.body.blocks b) x t))
-          (sym recorded_is) (block_reported b (value_at func.body.blocks b) x out.0 t k out.2))
+      (sym recorded_is) (block_reported b (value_at func.body.blocks b) x out.0 t k out.2))

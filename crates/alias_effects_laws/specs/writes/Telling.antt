@@ -24,7 +24,7 @@ module _ {C : Type 0} where
   bound_leads : {A B : Type 0} (P : A → Type 0) (Q : B → Type 0) (r : Result (A × TableLists) C) (g : A → StepOf C B)
       (u : TableLists) (y : B)
       → ((x : A) (v : TableLists) → r ≡ Ok (x, v) → P x) → ((x : A) → P x → LeadsTo Q (g x)) → and_then r g ≡ Ok (y, u)
-          → Q y
+      → Q y
   bound_leads P Q (Ok p) g u y f h e = h p.0 (f p.0 p.1 refl) p.1 u y e
   bound_leads P Q (Err c) g u y f h e = not_given c y u e
 
@@ -58,7 +58,7 @@ module _ {C : Type 0} where
 
     tells_first : (ws : List W) (r : Result (A × TableLists) C) (g : A → StepOf C A) (u : TableLists) (y : A)
         → ((z : A) (v : TableLists) → r ≡ Ok (z, v) → All Q ws z) → ((z : A) → All Q ws z → LeadsTo (All Q ws) (g z))
-            → and_then r g ≡ Ok (y, u) → All Q ws y
+        → and_then r g ≡ Ok (y, u) → All Q ws y
     tells_first ws r g u y f h e = bound_leads (All Q ws) (All Q ws) r g u y f h e
 
     -- a step, and then another whose items are none and which keeps what is reported
@@ -72,7 +72,7 @@ module _ {C : Type 0} where
         (keeps : (ws : List W) (x : X) (a : A) → All Q ws a → LeadsTo (All Q ws) (step x a)) where
       tells_both : (x : X) (xs : List X) (a : A) (t u : TableLists) (y : A) (r : Result (A × TableLists) C)
           → ((z : A) → Tells (each step xs z) (over_each step items xs z)) → step x a t ≡ r → and_then r (each step xs)
-              ≡ Ok (y, u) → All Q (items x a t ++ after_answer r (over_each step items xs)) y
+          ≡ Ok (y, u) → All Q (items x a t ++ after_answer r (over_each step items xs)) y
       tells_both x xs a t u y (Ok p) later is e =
           let ws = items x a t in
           all_appended (Q y) ws (over_each step items xs p.0 p.1)

@@ -1,6 +1,6 @@
 -- What an instruction writes for certain, where the value isn't to be written, it records as an error.
-use Rattle.std.specs.Prelude.{◌≡◌, ℕ, Bool, true, false, ◌&&◌, ◌||◌, not, ◌==◌, List, [], ◌∷◌, ◌++◌, Option, None, Some,
-    refl, if◌then◌else◌}
+use Rattle.std.specs.Prelude.{◌≡◌, ℕ, Bool, true, false, ◌&&◌, ◌||◌, not, ◌==◌, List, [], ◌∷◌, ◌++◌, Option, None, Some}
+use Rattle.std.specs.Prelude.{refl, if◌then◌else◌}
 use Rattle.std.specs.List.{AllByRecursion, list_any}
 use Rattle.std.specs.Option.{is_some}
 use Rattle.std.specs.Cmp.{unsigned_tied}
@@ -38,32 +38,34 @@ use Rattle.alias_tables.specs.ReplayLaws.{first_is}
 use Rattle.alias_tables.specs.Steps.{◌>>=◌, gives, each}
 use Rattle.alias_tables.specs.Tables.{TableLists, Step, intern, intern_after, intern_report}
 use Rattle.alias_apply.specs.declared.progress.StepProgress.{StepProgress}
-use Rattle.alias_apply.specs.Apply.{apply_plain, intern_and_apply_plain, intern_and_apply_all_plain,
-    intern_and_apply_simple}
+use Rattle.alias_apply.specs.Apply.{apply_plain, intern_and_apply_plain, intern_and_apply_all_plain}
+use Rattle.alias_apply.specs.Apply.{intern_and_apply_simple}
 use Rattle.alias_apply.specs.Contexts.{StepContext, hoisted_access}
 use Rattle.alias_apply.specs.Kinds.{is_frozen}
 use Rattle.alias_apply.specs.Leaves.{apply_leaf, intern_and_apply_leaf}
-use Rattle.alias_apply.specs.Mutation.{intern_and_apply_mutate_frozen, intern_and_apply_mutate_global, report_write,
-    report_hoisted_write, record_mutation, apply_mutate}
+use Rattle.alias_apply.specs.Mutation.{intern_and_apply_mutate_frozen, intern_and_apply_mutate_global, report_write}
+use Rattle.alias_apply.specs.Mutation.{report_hoisted_write, record_mutation, apply_mutate}
 use Rattle.alias_apply.specs.Progress.{kind_at, looked_up_with_span}
 use Rattle.alias_apply.specs.ProperLaws.{Sound, sound_gives, sound_then, sound_after, sound_if}
 use Rattle.alias_apply.specs.Reports.{write_report, hoisting_report}
 use Rattle.alias_calls.specs.Copies.{Collected}
 use Rattle.alias_calls.specs.Legacy.{legacy_expansion}
-use Rattle.alias_step.specs.Calls.{call_of, with_missing, apply_by_summary, apply_inner_call_by, apply_inner_call,
-    apply_inner_effect, apply_by_legacy, apply_by_config, incompatible, apply_compatible, apply_by_signature,
-    apply_call_by, apply_call, apply_effect, apply_effects}
-use Rattle.alias_step.specs.Instructions.{written_by, check_created, begun, with_result, apply_instruction,
-    intern_reported, context_with, apply_signature_with, apply_signature}
+use Rattle.alias_step.specs.Calls.{call_of, with_missing, apply_by_summary, apply_inner_call_by, apply_inner_call}
+use Rattle.alias_step.specs.Calls.{apply_inner_effect, apply_by_legacy, apply_by_config, incompatible, apply_compatible}
+use Rattle.alias_step.specs.Calls.{apply_by_signature, apply_call_by, apply_call, apply_effect, apply_effects}
+use Rattle.alias_step.specs.Instructions.{written_by, check_created, begun, with_result, apply_instruction}
+use Rattle.alias_step.specs.Instructions.{intern_reported, context_with, apply_signature_with, apply_signature}
 use Rattle.alias_step.specs.Expansions.{called_function, expansion_of_called, signature_of_type, expansion_of_config}
 use Rattle.alias_step.specs.Operands.{Call}
 use Rattle.alias_step_laws.specs.steps.KeepingLaws.{keeps_intern_and_apply_plain, keeps_inner_effect, keeps_effect}
-use Rattle.alias_effects_laws.specs.writes.Telling.{LeadsTo, All, Tells, tells_nothing, tells_after, tells_before,
-    tells_each}
-use Rattle.alias_effects_laws.specs.writes.Writes.{Write, over_each, write_of, plain_writes, list_writes,
-    summary_writes, inner_call_writes_by, inner_call_writes, inner_writes, legacy_writes, config_writes,
-    compatible_writes, signature_writes, call_writes_by, call_writes, effect_writes, writes_of_effects, writes_with,
-    instruction_writes, is_protected, is_forbidden, is_write_error, has_write_error}
+use Rattle.alias_effects_laws.specs.writes.Telling.{LeadsTo, All, Tells, tells_nothing, tells_after, tells_before}
+use Rattle.alias_effects_laws.specs.writes.Telling.{tells_each}
+use Rattle.alias_effects_laws.specs.writes.Writes.{Write, over_each, write_of, plain_writes, list_writes}
+use Rattle.alias_effects_laws.specs.writes.Writes.{summary_writes, inner_call_writes_by, inner_call_writes}
+use Rattle.alias_effects_laws.specs.writes.Writes.{inner_writes, legacy_writes, config_writes, compatible_writes}
+use Rattle.alias_effects_laws.specs.writes.Writes.{signature_writes, call_writes_by, call_writes, effect_writes}
+use Rattle.alias_effects_laws.specs.writes.Writes.{writes_of_effects, writes_with, instruction_writes, is_protected}
+use Rattle.alias_effects_laws.specs.writes.Writes.{is_forbidden, is_write_error, has_write_error}
 
 -- ---- lists
 
@@ -134,13 +136,13 @@ sound_first x e (Some f) h g t u y i = subst (IsErrorOf x) (first_is (with_error
 sound_frozen : (v : Place) (d : ReportId) → Sound (IsErrorOf v.identifier) (intern (effect.MutateFrozen v d))
 sound_frozen v d t =
     sound_first v.identifier (effect.MutateFrozen v d) (first_like (frozen_key v.identifier d) t.first)
-        (eq-eqb v.identifier.0 v.identifier.0 refl)
+    (eq-eqb v.identifier.0 v.identifier.0 refl)
     (λ f i. frozen_first v d f (first_has_key (frozen_key v.identifier d) t.first f i)) t
 
 sound_global : (v : Place) (d : ReportId) → Sound (IsErrorOf v.identifier) (intern (effect.MutateGlobal v d))
 sound_global v d t =
     sound_first v.identifier (effect.MutateGlobal v d) (first_like (global_key v.identifier d) t.first)
-        (eq-eqb v.identifier.0 v.identifier.0 refl)
+    (eq-eqb v.identifier.0 v.identifier.0 refl)
     (λ f i. global_first v d f (first_has_key (global_key v.identifier d) t.first f i)) t
 
 -- ---- a forbidden write is reported
@@ -220,9 +222,10 @@ module _ (c : StepContext) where
   all_reported_more : (e : AliasingEffect) (ws : List Write) (recorded : List AliasingEffect) → AllReported ws recorded
       → AllReported ws (recorded ++ e ∷ [])
   all_reported_more e [] recorded h = tt
-  all_reported_more e (w ∷ ws) recorded h =
-      ((λ f. any_more (is_write_error w.place.identifier) recorded (e ∷ []) (h.0 f)),
-      all_reported_more e ws recorded h.1)
+  all_reported_more e (w ∷ ws) recorded h = (
+    (λ f. any_more (is_write_error w.place.identifier) recorded (e ∷ []) (h.0 f)),
+    all_reported_more e ws recorded h.1,
+  )
 
   -- each forbidden write that the step comes to is told in what it gives
   abbrev pub Reported : StepProgress → Write → Type 0
@@ -266,8 +269,8 @@ module _ (c : StepContext) where
       → TellsWrites (apply_inner_call c call s) (inner_call_writes c call s)
   tells_inner_call call s =
       tells_after Reported (expansion_of_called c.env call (called_function s.state call.function))
-          (λ list. apply_inner_call_by c list call s) (λ list. inner_call_writes_by c list call s)
-          (λ list. tells_inner_call_by list call s)
+      (λ list. apply_inner_call_by c list call s) (λ list. inner_call_writes_by c list call s)
+      (λ list. tells_inner_call_by list call s)
 
   tells_inner_effect : (e : AliasingEffect) (s : StepProgress)
       → TellsWrites (apply_inner_effect c e s) (inner_writes c e s)
@@ -284,9 +287,9 @@ module _ (c : StepContext) where
       → TellsWrites (apply_by_legacy c signature call s) (legacy_writes c signature call s)
   tells_by_legacy signature call s =
       tells_after Reported (legacy_expansion c.env signature call.site call.args s.state)
-          (λ legacy. intern_and_apply_all_plain c legacy.effects (with_missing legacy.missing s))
-          (λ legacy. list_writes c legacy.effects (with_missing legacy.missing s))
-          (λ legacy. tells_list legacy.effects (with_missing legacy.missing s))
+      (λ legacy. intern_and_apply_all_plain c legacy.effects (with_missing legacy.missing s))
+      (λ legacy. list_writes c legacy.effects (with_missing legacy.missing s))
+      (λ legacy. tells_list legacy.effects (with_missing legacy.missing s))
 
   tells_by_config : (o : Collected) (signature : FunctionSignature) (call : Call) (s : StepProgress)
       → TellsWrites (apply_by_config c o signature call s) (config_writes c o signature call s)
@@ -299,8 +302,8 @@ module _ (c : StepContext) where
       tells_nothing Reported (apply_compatible c (Some text) signature call s)
   tells_compatible None signature call s =
       tells_after Reported (expansion_of_config c.env call signature.aliasing)
-          (λ list. apply_by_config c list signature call s) (λ list. config_writes c list signature call s)
-          (λ list. tells_by_config list signature call s)
+      (λ list. apply_by_config c list signature call s) (λ list. config_writes c list signature call s)
+      (λ list. tells_by_config list signature call s)
 
   tells_by_signature : (o : Option FunctionSignature) (call : Call) (s : StepProgress)
       → TellsWrites (apply_by_signature c o call s) (signature_writes c o call s)
@@ -316,8 +319,8 @@ module _ (c : StepContext) where
       → TellsWrites (apply_call c signature call s) (call_writes c signature call s)
   tells_call signature call s =
       tells_after Reported (expansion_of_called c.env call (called_function s.state call.function))
-          (λ list. apply_call_by c list signature call s) (λ list. call_writes_by c list signature call s)
-          (λ list. tells_call_by list signature call s)
+      (λ list. apply_call_by c list signature call s) (λ list. call_writes_by c list signature call s)
+      (λ list. tells_call_by list signature call s)
 
   tells_effect : (e : AliasingEffect) (s : StepProgress) → TellsWrites (apply_effect c e s) (effect_writes c e s)
   tells_effect (effect.Apply receiver function mutates args into signature span) s =
@@ -360,6 +363,6 @@ pub tells_signature : (env : Environment) (facts : FunctionFacts) (i : Instructi
     → TellsWrites (context_with env facts) (apply_signature env facts i s) (instruction_writes env facts i s)
 tells_signature env facts i s =
     tells_after (Reported (context_with env facts)) (intern_reported (instruction_report i.value i.span))
-        (λ error. apply_signature_with env facts i error s) (λ error. writes_with env facts i error s)
+    (λ error. apply_signature_with env facts i error s) (λ error. writes_with env facts i error s)
     (λ error. tells_instruction (context_with env facts) (created i.value) (signature_of (known env facts error) i)
-        i.lvalue.identifier s)
+    i.lvalue.identifier s)

@@ -1,6 +1,6 @@
 -- The definite writes that a step comes to, each with the state in which it comes to it.
-use Rattle.std.specs.Prelude.{Bool, true, false, ◌&&◌, not, ◌==◌, ℕ, List, [], ◌∷◌, ◌++◌, map, Option, Some, None,
-    Result, Ok, Err, slice_get}
+use Rattle.std.specs.Prelude.{Bool, true, false, ◌&&◌, not, ◌==◌, ℕ, List, [], ◌∷◌, ◌++◌, map, Option, Some, None}
+use Rattle.std.specs.Prelude.{Result, Ok, Err, slice_get}
 use Rattle.std.specs.List.{list_any}
 use Rattle.alias_base.specs.declared.ids.FunctionId.{FunctionId}
 use Rattle.alias_base.specs.declared.ids.IdentifierId.{IdentifierId}
@@ -99,7 +99,7 @@ module _ (c : StepContext) where
   abbrev pub legacy_writes : FunctionSignature → Call → StepProgress → TableLists → List Write
   legacy_writes signature call s =
       after (legacy_expansion c.env signature call.site call.args s.state)
-          (λ legacy. list_writes legacy.effects (with_missing legacy.missing s))
+      (λ legacy. list_writes legacy.effects (with_missing legacy.missing s))
 
   abbrev pub config_writes : Collected → FunctionSignature → Call → StepProgress → TableLists → List Write
   config_writes (Some list) signature call s = over_each (apply_inner_effect c) inner_writes list s
@@ -158,7 +158,7 @@ writes_at c i (Some x) s t = by_instruction i (instruction_writes c.env c.facts 
 abbrev pub writes_of_all : BlockContext → List InstructionId → BlockProgress → TableLists → List (InstructionId × Write)
 writes_of_all c =
     over_each (λ i. infer_instruction_at c i (slice_get c.func.instructions i.0))
-        (λ i. writes_at c i (slice_get c.func.instructions i.0))
+    (λ i. writes_at c i (slice_get c.func.instructions i.0))
 
 -- what the instructions of a block write for certain, from a state
 abbrev pub block_writes : BlockContext → BasicBlock → State → TableLists → List (InstructionId × Write)

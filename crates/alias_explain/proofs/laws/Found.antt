@@ -1,7 +1,7 @@
 -- A cause is found.
-use Rattle.std.proofs.Common.{◌≡◌, ℕ, ◌+◌, ◌<◌, ◌≤◌, ◌⊎◌, ◌==◌, ◌&&◌, ◌||◌, inl, inr, ⊎_elim, Bool, true, false, not,
-    if◌then◌else◌, nat_eq, List, [], ◌∷◌, Option, Some, None, length, map, slice_get, refl, ap, sym, ◌∙◌, arith, suc,
-    zero}
+use Rattle.std.proofs.Common.{◌≡◌, ℕ, ◌+◌, ◌<◌, ◌≤◌, ◌⊎◌, ◌==◌, ◌&&◌, ◌||◌, inl, inr, ⊎_elim, Bool, true, false, not}
+use Rattle.std.proofs.Common.{if◌then◌else◌, nat_eq, List, [], ◌∷◌, Option, Some, None, length, map, slice_get, refl}
+use Rattle.std.proofs.Common.{ap, sym, ◌∙◌, arith, suc, zero}
 use Rattle.std.specs.Prelude.{Result, Ok}
 use Rattle.std.specs.List.{flat_map, range_with_len}
 use Rattle.std.specs.Option.{option_map_or}
@@ -10,8 +10,8 @@ use Rattle.alias_base.specs.declared.ids.BlockId.{BlockId}
 use Rattle.alias_base.specs.declared.ids.FunctionId.{FunctionId}
 use Rattle.alias_base.specs.declared.ids.IdentifierId.{IdentifierId}
 use Rattle.alias_base.specs.declared.ids.InstructionId.{InstructionId}
-use Rattle.alias_rules.specs.function_rules.Rules.{is_among, first_missing, missing, listed_instructions,
-    instructions_listed}
+use Rattle.alias_rules.specs.function_rules.Rules.{is_among, first_missing, missing, listed_instructions}
+use Rattle.alias_rules.specs.function_rules.Rules.{instructions_listed}
 use Rattle.alias_hir.specs.declared.env.Identifier.{Identifier}
 use Rattle.alias_hir.specs.declared.error.HirError.{HirError}
 use Rattle.alias_hir.specs.declared.hir.BasicBlock.{BasicBlock}
@@ -31,8 +31,8 @@ use Rattle.alias_range_pass.specs.places.Causes.{numbers_of, stored_places, writ
 use Rattle.alias_visit.specs.Operands.{lvalues_of}
 use Rattle.alias_explain.specs.declared.cause.Cause.{Cause}
 use Rattle.alias_explain.specs.declared.cause.Cause.TheVariants.{Unset, NoCause}
-use Rattle.alias_explain.specs.Causes.{writes, ends_range, defines, or_else, first_defining, first_defining_of,
-    defined_by, defined_or, mutated_or_not, cause_of}
+use Rattle.alias_explain.specs.Causes.{writes, ends_range, defines, or_else, first_defining, first_defining_of}
+use Rattle.alias_explain.specs.Causes.{defined_by, defined_or, mutated_or_not, cause_of}
 use Rattle.alias_explain.specs.Standing.{has_place}
 use Rattle.alias_explain.proofs.Explaining.{cause_nothing}
 use Rattle.alias_explain.proofs.Lists.{find_none}
@@ -115,7 +115,7 @@ module _ (is : List Instruction) (id : IdentifierId) (end : ℕ) (k : ℕ)
   in_block [] i h = i
   in_block (x ∷ ids) i h =
       elim (defines is id end x) as (λ b. defines is id end x ≡ b → (if b then Some x else first_defining is id end ids)
-          ≡ None → ⊥) [
+      ≡ None → ⊥) [
         | true ↦ λ e none. cc
         | false ↦ λ e none. ⊎_elim (λ same. let t = found x (sym same) in cc) (λ later. in_block ids later none) i
       ] refl h
@@ -132,18 +132,18 @@ module _ (is : List Instruction) (id : IdentifierId) (end : ℕ) (k : ℕ)
       let n = neither (first_defining is id end b.1.instructions) (first_defining_of is id end bs) h in
       ⊎_elim (λ here. in_block b.1.instructions here n.0) (λ later. in_blocks bs later n.1)
       (in_either (map (λ (j : InstructionId). j.0) b.1.instructions)
-          (flat_map (λ (e : BlockId × BasicBlock). map (λ (j : InstructionId). j.0) e.1.instructions) bs) k i)
+      (flat_map (λ (e : BlockId × BasicBlock). map (λ (j : InstructionId). j.0) e.1.instructions) bs) k i)
 
 instruction_found : (f : HirFunction) (id : IdentifierId) (end : ℕ) → instructions_listed None f ≡ Ok tt
     → InstructionCause f.instructions id.0 end → defined_by f id end ≡ None → ⊥
 instruction_found f id end all c none =
     let at = index_of f.instructions c.0 c.1 in
     let ends : ends_range id end c.0 ≡ true =
-        both_one (c.0.id.0 + 1 == end) (writes id c.0) (ap (λ n. n == end) (sym c.3) ∙ eqb_itself end)
-        (written_writes id c.0 c.2) in
+    both_one (c.0.id.0 + 1 == end) (writes id c.0) (ap (λ n. n == end) (sym c.3) ∙ eqb_itself end)
+    (written_writes id c.0 c.2) in
     let found : (i : InstructionId) → i.0 ≡ at.0 → defines f.instructions id end i ≡ true =
     λ i same. ap (λ n. option_map_or (ends_range id end) (slice_get f.instructions n) false) same
-        ∙ ap (λ o. option_map_or (ends_range id end) o false) at.2 ∙ ends in
+    ∙ ap (λ o. option_map_or (ends_range id end) o false) at.2 ∙ ends in
     in_blocks f.instructions id end at.0 found f.body.blocks (all_listed f all at.0 at.1) none
 
 -- ---- no cause

@@ -18,8 +18,8 @@ use Rattle.alias_hir.specs.declared.hir.ParamPattern.TheVariants as param
 use Rattle.alias_hir.specs.declared.hir.Phi.{Phi}
 use Rattle.alias_hir.specs.declared.place.Place.{Place}
 use Rattle.alias_visit.specs.Places.{created_places, instruction_places, phi_places, block_places, identifiers_in}
-use Rattle.alias_range_pass.specs.places.Keeping.{but_effect, but_value, but_instruction, but_terminal, but_operand,
-    but_phi, but_block, but_entry}
+use Rattle.alias_range_pass.specs.places.Keeping.{but_effect, but_value, but_instruction, but_terminal, but_operand}
+use Rattle.alias_range_pass.specs.places.Keeping.{but_phi, but_block, but_entry}
 use Rattle.alias_rules.specs.Sharing.{context_of, context_at}
 use Rattle.alias_fitting_laws.specs.bare.Bare.{ids, but_param_effect, but_place_effects}
 use Rattle.alias_fitting_laws.specs.bare.BareParts.{ids_append, effects_ids, value_ids, value_creates, terminal_ids}
@@ -74,7 +74,7 @@ entry_ids e = ids (block_places e.1)
 abbrev parts : (ℕ → List ℕ) → HirFunction → List ℕ
 parts contexts f =
     map (λ p. (param_place p).identifier.0) f.params ++ ids f.context ++ f.returns.identifier.0
-        ∷ flat_map (instruction_ids contexts) f.instructions ++ flat_map entry_ids f.body.blocks
+    ∷ flat_map (instruction_ids contexts) f.instructions ++ flat_map entry_ids f.body.blocks
 
 context_of_places : (o : Option HirFunction) → ids (option_map_or (λ (g : HirFunction). g.context) o []) ≡ context_of o
 context_of_places None = refl
@@ -89,7 +89,7 @@ instruction_in_parts : (env : Environment) (i : Instruction) → ids (instructio
     ≡ instruction_ids (context_at env) i
 instruction_in_parts env i =
     ids_append (i.lvalue ∷ created_places env (created i.value)) (places_of i.value)
-        ∙ ap (λ l. i.lvalue.identifier.0 ∷ l ++ ids (places_of i.value)) (created_in_parts env (created i.value))
+    ∙ ap (λ l. i.lvalue.identifier.0 ∷ l ++ ids (places_of i.value)) (created_in_parts env (created i.value))
 
 in_parts : (env : Environment) (f : HirFunction) → identifiers_in env f ≡ parts (context_at env) f
 in_parts env f =
@@ -97,15 +97,15 @@ in_parts env f =
     let blocks : List Place = flat_map (λ (e : BlockId × BasicBlock). block_places e.1) f.body.blocks in
     ids_append (map param_place f.params ++ f.context ++ f.returns ∷ instructions) blocks
     ∙ ap (λ l. l ++ ids blocks) (ids_append (map param_place f.params ++ f.context) (f.returns ∷ instructions)
-        ∙ ap (λ l. l ++ ids (f.returns ∷ instructions)) (ids_append (map param_place f.params) f.context))
+    ∙ ap (λ l. l ++ ids (f.returns ∷ instructions)) (ids_append (map param_place f.params) f.context))
     ∙ ap (λ l. l ++ ids f.context ++ f.returns.identifier.0 ∷ ids instructions ++ ids blocks)
-        (places_of_params f.params)
+    (places_of_params f.params)
     ∙ ap (λ l. map (λ p. (param_place p).identifier.0) f.params ++ ids f.context ++ f.returns.identifier.0 ∷ l
-        ++ ids blocks) (ids_flat (instruction_places env) (instruction_ids (context_at env)) (instruction_in_parts env)
-        f.instructions)
+    ++ ids blocks) (ids_flat (instruction_places env) (instruction_ids (context_at env)) (instruction_in_parts env)
+    f.instructions)
     ∙ ap (λ l. map (λ p. (param_place p).identifier.0) f.params ++ ids f.context ++ f.returns.identifier.0
-        ∷ flat_map (instruction_ids (context_at env)) f.instructions ++ l)
-        (ids_flat (λ (e : BlockId × BasicBlock). block_places e.1) entry_ids (λ e. refl) f.body.blocks)
+    ∷ flat_map (instruction_ids (context_at env)) f.instructions ++ l)
+    (ids_flat (λ (e : BlockId × BasicBlock). block_places e.1) entry_ids (λ e. refl) f.body.blocks)
 
 -- ---- other environments
 
@@ -120,10 +120,10 @@ pub identifiers_across : (env more : Environment) → ((k : ℕ) → context_at 
 identifiers_across env more h f =
     in_parts more f
     ∙ ap (λ l. map (λ p. (param_place p).identifier.0) f.params ++ ids f.context ++ f.returns.identifier.0 ∷ l
-        ++ flat_map entry_ids f.body.blocks)
+    ++ flat_map entry_ids f.body.blocks)
     (flat_same (instruction_ids (context_at more)) (instruction_ids (context_at env))
-        (λ i. ap (λ l. i.lvalue.identifier.0 ∷ l ++ ids (places_of i.value))
-        (created_across (context_at more) (context_at env) h (created i.value))) f.instructions)
+    (λ i. ap (λ l. i.lvalue.identifier.0 ∷ l ++ ids (places_of i.value))
+    (created_across (context_at more) (context_at env) h (created i.value))) f.instructions)
     ∙ sym (in_parts env f)
 
 -- ---- other effects of places
@@ -140,7 +140,7 @@ phis_ids : (ps : List Phi) → ids (flat_map phi_places (map but_phi ps)) ≡ id
 phis_ids ps =
     let g : Phi → List ℕ = λ p. ids (phi_places p) in
     ids_flat phi_places g (λ p. refl) (map but_phi ps) ∙ flat_mapped g but_phi g phi_ids ps
-        ∙ sym (ids_flat phi_places g (λ p. refl) ps)
+    ∙ sym (ids_flat phi_places g (λ p. refl) ps)
 
 block_ids : (b : BasicBlock) → ids (block_places (but_block b)) ≡ ids (block_places b)
 block_ids b =
@@ -153,8 +153,8 @@ instruction_same : (contexts : ℕ → List ℕ) (i : Instruction) → instructi
     ≡ instruction_ids contexts i
 instruction_same contexts i =
     ap (λ o. i.lvalue.identifier.0 ∷ created_ids contexts o ++ ids (places_of (but_value i.value)))
-        (value_creates i.value) ∙ ap (λ l. i.lvalue.identifier.0 ∷ created_ids contexts (created i.value) ++ l)
-        (value_ids i.value)
+    (value_creates i.value) ∙ ap (λ l. i.lvalue.identifier.0 ∷ created_ids contexts (created i.value) ++ l)
+    (value_ids i.value)
 
 -- the identifiers are those that they were
 pub identifiers_alike : (env : Environment) (f : HirFunction) → identifiers_in env (but_place_effects f)
@@ -165,13 +165,13 @@ identifiers_alike env f =
     let n : ℕ = f.returns.identifier.0 in
     in_parts env (but_place_effects f)
     ∙ ap (λ l. l ++ ids (map but_effect f.context) ++ n
-        ∷ flat_map (instruction_ids contexts) (map but_instruction f.instructions)
-        ++ flat_map entry_ids (map but_entry f.body.blocks)) (params_ids f.params)
+    ∷ flat_map (instruction_ids contexts) (map but_instruction f.instructions)
+    ++ flat_map entry_ids (map but_entry f.body.blocks)) (params_ids f.params)
     ∙ ap (λ l. params ++ l ++ n ∷ flat_map (instruction_ids contexts) (map but_instruction f.instructions)
-        ++ flat_map entry_ids (map but_entry f.body.blocks)) (effects_ids f.context)
+    ++ flat_map entry_ids (map but_entry f.body.blocks)) (effects_ids f.context)
     ∙ ap (λ l. params ++ ids f.context ++ n ∷ l ++ flat_map entry_ids (map but_entry f.body.blocks))
-        (flat_mapped (instruction_ids contexts) but_instruction (instruction_ids contexts) (instruction_same contexts)
-        f.instructions)
+    (flat_mapped (instruction_ids contexts) but_instruction (instruction_ids contexts) (instruction_same contexts)
+    f.instructions)
     ∙ ap (λ l. params ++ ids f.context ++ n ∷ flat_map (instruction_ids contexts) f.instructions ++ l)
-        (flat_mapped entry_ids but_entry entry_ids (λ e. block_ids e.1) f.body.blocks)
+    (flat_mapped entry_ids but_entry entry_ids (λ e. block_ids e.1) f.body.blocks)
     ∙ sym (in_parts env f)

@@ -6,10 +6,10 @@ use Rattle.std.proofs.Common.{ap, sym, ◌∙◌}
 use Rattle.std.proofs.lemmas.List.{map-append}
 use Rattle.alias_base.specs.declared.ids.BlockId.{BlockId}
 use Rattle.alias_rules.specs.function_rules.Rules.{handler_of, argument_count}
-use Rattle.alias_hir.specs.Parts.{optional_place, arg_places, element_places, property_places, item_places,
-    target_places, pattern_places, places_in_pattern, attribute_places}
-use Rattle.alias_hir.specs.Terminals.{evaluation_order, case_places, terminal_places, successors, terminal_effects,
-    with_terminal_effects}
+use Rattle.alias_hir.specs.Parts.{optional_place, arg_places, element_places, property_places, item_places}
+use Rattle.alias_hir.specs.Parts.{target_places, pattern_places, places_in_pattern, attribute_places}
+use Rattle.alias_hir.specs.Terminals.{evaluation_order, case_places, terminal_places, successors, terminal_effects}
+use Rattle.alias_hir.specs.Terminals.{with_terminal_effects}
 use Rattle.alias_hir.specs.Values.{places_of, created}
 use Rattle.alias_hir.specs.declared.place.Place.{Place}
 use Rattle.alias_hir.specs.declared.place.PlaceOrSpread.{PlaceOrSpread}
@@ -31,8 +31,9 @@ use Rattle.alias_hir.specs.declared.value.ObjectPropertyOrSpread.{ObjectProperty
 use Rattle.alias_hir.specs.declared.value.ObjectPropertyOrSpread.TheVariants as property
 use Rattle.alias_hir.specs.declared.value.Pattern.{Pattern}
 use Rattle.alias_hir.specs.declared.value.Pattern.TheVariants as pattern
-use Rattle.alias_visit.specs.Rebuilt.{rest, with_places, with_args, with_elements, with_key, after_key, with_properties,
-    with_attributes, after_attributes, with_items, with_targets, with_pattern, with_cases}
+use Rattle.alias_visit.specs.Rebuilt.{rest, with_places, with_args, with_elements, with_key, after_key, with_properties}
+use Rattle.alias_visit.specs.Rebuilt.{with_attributes, after_attributes, with_items, with_targets, with_pattern}
+use Rattle.alias_visit.specs.Rebuilt.{with_cases}
 use Rattle.alias_range_pass.specs.places.Keeping.{but_effect, but_value, but_terminal}
 use Rattle.alias_fitting_laws.specs.bare.Bare.{ids}
 
@@ -124,7 +125,7 @@ destructured_ids p x =
 -- attributes, and the children behind them
 attributes_ids : (xs : List JsxAttribute) (ps : List Place)
     → ids (flat_map attribute_places (with_attributes xs (map but_effect (flat_map attribute_places xs ++ ps)))
-        ++ with_places ps (after_attributes xs (map but_effect (flat_map attribute_places xs ++ ps))))
+    ++ with_places ps (after_attributes xs (map but_effect (flat_map attribute_places xs ++ ps))))
     ≡ ids (flat_map attribute_places xs ++ ps)
 attributes_ids [] ps = places_ids ps
 attributes_ids (attribute.Attribute p ∷ xs) ps = ap (λ z. p.identifier.0 ∷ z) (attributes_ids xs ps)

@@ -1,7 +1,7 @@
 -- What analysing nested functions changes of an environment breaks no rule: a function that the inference takes is
 -- taken again.
-use Rattle.std.specs.Prelude.{◌≡◌, ℕ, ◌+◌, ◌-◌, ◌≤◌, true, false, ◌&&◌, List, [], ◌∷◌, ◌++◌, length, slice_get, Option,
-    Some, None, option_map, Ok, is_ok, is_none, refl, if◌then◌else◌}
+use Rattle.std.specs.Prelude.{◌≡◌, ℕ, ◌+◌, ◌-◌, ◌≤◌, true, false, ◌&&◌, List, [], ◌∷◌, ◌++◌, length, slice_get, Option}
+use Rattle.std.specs.Prelude.{Some, None, option_map, Ok, is_ok, is_none, refl, if◌then◌else◌}
 use Rattle.std.specs.List.{list_all}
 use Rattle.std.specs.Option.{option_map_or}
 use Rattle.std.proofs.Common.{zero, suc, ap, sym, ◌∙◌, subst, length-append, arith}
@@ -12,14 +12,14 @@ use Rattle.alias_hir.specs.Tables.{fresh_identifier, with_identifier}
 use Rattle.alias_hir.specs.declared.env.Environment.{Environment}
 use Rattle.alias_hir.specs.declared.hir.HirFunction.{HirFunction}
 use Rattle.alias_rules.specs.function_rules.Rules.{first_again, tables_fit, types_fit, signatures_fit}
-use Rattle.alias_rules.specs.Fitting.{effects_fit, effects_fit_at, reports_no_invariant, family_rules, function_rules,
-    function_fits_with, function_fits}
-use Rattle.alias_rules.specs.Functions.{rule_holds, of_function, at_function, each_function, FamilyRule, Tables, Types,
-    Signatures, Apart, Each, family_holds}
+use Rattle.alias_rules.specs.Fitting.{effects_fit, effects_fit_at, reports_no_invariant, family_rules, function_rules}
+use Rattle.alias_rules.specs.Fitting.{function_fits_with, function_fits}
+use Rattle.alias_rules.specs.Functions.{rule_holds, of_function, at_function, each_function, FamilyRule, Tables, Types}
+use Rattle.alias_rules.specs.Functions.{Signatures, Apart, Each, family_holds}
 use Rattle.alias_rules.specs.Nesting.{created_in, created_of, created_at, next_level, tree_from, tree_below}
 use Rattle.alias_rules.specs.RuleLaws.{fitting_tree, fitting_rules}
-use Rattle.alias_rules.specs.Sharing.{identifiers_of, identifiers_at, context_of, context_at, inside, outside,
-    first_shared, in_two, nested_is_apart, identifiers_apart}
+use Rattle.alias_rules.specs.Sharing.{identifiers_of, identifiers_at, context_of, context_at, inside, outside}
+use Rattle.alias_rules.specs.Sharing.{first_shared, in_two, nested_is_apart, identifiers_apart}
 use Rattle.alias_rules.specs.declared.rules.Rule.{Rule}
 use Rattle.alias_rules.specs.declared.rules.Rule.TheVariants.{Numbers}
 use Rattle.alias_nesting_laws.specs.FittingLaws.{together}
@@ -46,8 +46,14 @@ pub record Evolves (env more : Environment) : Type 0 where
 
 -- nothing need change
 pub evolves_self : (env : Environment) → Evolves env env
-evolves_self env = record { identifiers = omega arith; types = omega arith; count = refl; slots = λ k. refl;
-    effects = λ g h. h; effects_at = λ k h. h }
+evolves_self env = record {
+  identifiers = omega arith;
+  types = omega arith;
+  count = refl;
+  slots = λ k. refl;
+  effects = λ g h. h;
+  effects_at = λ k h. h;
+}
 
 -- one change and then another
 pub evolves_through : (a b c : Environment) → Evolves a b → Evolves b c → Evolves a c
@@ -71,7 +77,7 @@ module _ (env more : Environment) (creates : (k : ℕ) → created_at more k ≡
   tree_across (suc n) found level =
       ap (λ r. if is_none (first_again [] (found ++ level)) then r else None)
       (tree_across n (found ++ level) (next_level more level)
-          ∙ ap (tree_from n env (found ++ level)) (flat_same (created_at more) (created_at env) creates level))
+      ∙ ap (tree_from n env (found ++ level)) (flat_same (created_at more) (created_at env) creates level))
 
 -- ---- slots
 
@@ -112,8 +118,12 @@ module _ (env more : Environment) (as_many : length more.identifiers ≡ length 
   beside = record more { types = env.types; interned = env.interned }
 
   wider : Wider env beside
-  wider = record { identifiers = (let e = as_many in omega arith); types = omega arith;
-      functions = (let e = count in omega arith); interned = grows_self env.interned }
+  wider = record {
+    identifiers = (let e = as_many in omega arith);
+    types = omega arith;
+    functions = (let e = count in omega arith);
+    interned = grows_self env.interned;
+  }
 
   rule_beside : (r : Rule) (o : Option FunctionId) (g : HirFunction) → rule_holds r beside o g ≡ rule_holds r more o g
   rule_beside Numbers o g = refl
@@ -130,19 +140,19 @@ module _ (env more : Environment) (as_many : length more.identifiers ≡ length 
   nested_rule : (r : Rule) (k : ℕ) → at_function r env k ≡ Ok tt → at_function r more k ≡ Ok tt
   nested_rule r k h =
       at_slot (of_function r more k) (λ f g e. rule_of_bare r more (Some (record { 0 = k })) f g e) k
-          ∙ of_rule r k (slice_get env.functions k) h
+      ∙ of_rule r k (slice_get env.functions k) h
 
   each_rule : (r : Rule) (g : HirFunction) (ks : List ℕ) → each_function r env g ks ≡ Ok tt → each_function r more g ks
       ≡ Ok tt
   each_rule r g ks h =
       then_passes (rule_holds r env None g) (all_pass (at_function r env) ks) (rule_holds r more None g)
-          (all_pass (at_function r more) ks) (own_rule r None g)
-          (passes_on (at_function r env) (at_function r more) (nested_rule r) ks) h
+      (all_pass (at_function r more) ks) (own_rule r None g)
+      (passes_on (at_function r env) (at_function r more) (nested_rule r) ks) h
 
   nested_apart : (g : HirFunction) (ks : List ℕ) (k : ℕ) → nested_is_apart more g ks k ≡ nested_is_apart env g ks k
   nested_apart g ks k =
       shared_same env more created_same count identifiers_same contexts_same g ks k
-          (identifiers_across env more contexts_same g)
+      (identifiers_across env more contexts_same g)
       ∙ ap (λ n. in_two k (first_shared n (inside env k) (outside env g ks k) (context_at env k))) as_many
 
   apart_same : (g : HirFunction) (ks : List ℕ) → identifiers_apart more g ks ≡ identifiers_apart env g ks
@@ -226,7 +236,7 @@ module _ (env more : Environment) (e : Evolves env more) (tables : tables_fit mo
       let s = fitting_tree g enough (grown_fits further env g fits) in
       subst (λ js. function_rules more g js ≡ Ok tt) (some_is s.0 ks (sym s.1 ∙ t))
       (rules_there enough more enough_identifiers enough_count enough_slots tables types signatures g s.0
-          (fitting_rules g enough s.0 s.2))
+      (fitting_rules g enough s.0 s.2))
 
   fits_more : reports_no_invariant more ≡ true → function_fits g more ≡ true
   fits_more reports =
@@ -238,12 +248,12 @@ module _ (env more : Environment) (e : Evolves env more) (tables : tables_fit mo
       let tree : tree_below enough g ≡ Some ks = tree_of_enough ∙ t.1 in
       let rules : is_ok (function_rules more g ks) ≡ true = ap is_ok (rules_enough ks tree) in
       let below : list_all (effects_fit_at more) ks ≡ true =
-          all_weaker (effects_fit_at env) (effects_fit_at more) e.effects_at ks b.1 in
+      all_weaker (effects_fit_at env) (effects_fit_at more) e.effects_at ks b.1 in
       let with_below : function_fits_with more g ks ≡ true =
       together (is_ok (function_rules more g ks) && effects_fit more g && list_all (effects_fit_at more) ks)
-          (reports_no_invariant more)
+      (reports_no_invariant more)
       (together (is_ok (function_rules more g ks) && effects_fit more g) (list_all (effects_fit_at more) ks)
-          (together (is_ok (function_rules more g ks)) (effects_fit more g) rules (e.effects g c.1)) below) reports in
+      (together (is_ok (function_rules more g ks)) (effects_fit more g) rules (e.effects g c.1)) below) reports in
       ap (λ (o : Option (List ℕ)). option_map_or (function_fits_with more g) o false) (tree_enough ∙ tree) ∙ with_below
 
 -- a function that the inference takes is taken again over what its environment has become, where the tables keep their

@@ -91,9 +91,9 @@ tables_alike env more ids types h =
     sym (rules_without_ranges (length more.identifiers) (length more.types) more.identifiers)
     ∙ ap (all_pass (entry_fits (length more.identifiers) (length more.types))) ids
     ∙ ap (λ n. all_pass (entry_fits n (length more.types)) (map without_range env.identifiers))
-        (length_of_alike env.identifiers more.identifiers ids)
+    (length_of_alike env.identifiers more.identifiers ids)
     ∙ ap (λ (ts : List Ty). all_pass (entry_fits (length env.identifiers) (length ts))
-        (map without_range env.identifiers)) types
+    (map without_range env.identifiers)) types
     ∙ rules_without_ranges (length env.identifiers) (length env.types) env.identifiers
     ∙ h
 
@@ -124,12 +124,16 @@ module _ (env more : Environment) (same : but_ranges_and_contexts more ≡ but_r
   wider_alike : Wider env more
   wider_alike =
       let i : length more.identifiers ≡ length env.identifiers =
-          length_of_alike env.identifiers more.identifiers ids_same in
+      length_of_alike env.identifiers more.identifiers ids_same in
       let t : length more.types ≡ length env.types = ap length types_same in
       let f : length more.functions ≡ length env.functions = sym (length-map more.functions but_context)
-          ∙ ap length contexts_same ∙ length-map env.functions but_context in
-      record { identifiers = omega arith; types = omega arith; functions = omega arith;
-          interned = grows_equal env.interned more.interned interned_same }
+      ∙ ap length contexts_same ∙ length-map env.functions but_context in
+      record {
+        identifiers = omega arith;
+        types = omega arith;
+        functions = omega arith;
+        interned = grows_equal env.interned more.interned interned_same;
+      }
 
   abbrev reported : List Report → List Interned → Environment
   reported es is = record env { errors = es; interned = is }

@@ -10,8 +10,9 @@ use Rattle.alias_hir.specs.declared.hir.HirFunction.{HirFunction}
 use Rattle.alias_rules.specs.function_rules.Rules.{is_among, first_again}
 use Rattle.alias_rules.specs.Nesting.{created_in, created_at, next_level, ended, tree_from, tree_below}
 use Rattle.alias_nesting_laws.specs.FittingLaws.{first_among}
-use Rattle.alias_nesting_laws.specs.PartLaws.{Part, nothing, left_out, kept, part_nothing, part_all, part_rest,
-    part_both, part_of_nothing, part_at, part_among, among_cases, append_cases, not_both, part_distinct, front_apart}
+use Rattle.alias_nesting_laws.specs.PartLaws.{Part, nothing, left_out, kept, part_nothing, part_all, part_rest}
+use Rattle.alias_nesting_laws.specs.PartLaws.{part_both, part_of_nothing, part_at, part_among, among_cases}
+use Rattle.alias_nesting_laws.specs.PartLaws.{append_cases, not_both, part_distinct, front_apart}
 use Rattle.alias_nesting_laws.specs.SubtreeLaws.{ended_parts, tree_parts}
 use Rattle.alias_rules.specs.TreeLaws.{tree_step}
 
@@ -35,7 +36,7 @@ source_of g (k ∷ ks) x h =
     append_cases (g k) (flat_map g ks) x (Source g (k ∷ ks) x) h
     (λ i. record { number = k; among = part_among (part_front_one k ks) k (here k); taken = i })
     (λ i. let s : Source g ks x = source_of g ks x i in
-        record { number = s.number; among = part_among (part_rest (k ∷ []) ks) s.number s.among; taken = s.taken })
+    record { number = s.number; among = part_among (part_rest (k ∷ []) ks) s.number s.among; taken = s.taken })
   where
     part_front_one : (k : ℕ) (ks : List ℕ) → Part (k ∷ []) (k ∷ ks)
     part_front_one k ks = kept (part_nothing ks)
@@ -49,14 +50,14 @@ pub one_source : (g : ℕ → List ℕ) (ks : List ℕ) (x a b : ℕ) → first_
 one_source g [] x a b d ha ta hb tb = cc
 one_source g (k ∷ ks) x a b d ha ta hb tb =
     let none_later : is_among (g k) x ≡ true → (c : ℕ) → is_among ks c ≡ true → is_among (g c) x ≡ true → ⊥ =
-        λ t c hc tc. not_both (is_among (flat_map g ks) x) (among_flat g ks c x hc tc)
-        (front_apart [] (g k) (flat_map g ks) x d t) in
+    λ t c hc tc. not_both (is_among (flat_map g ks) x) (among_flat g ks c x hc tc)
+    (front_apart [] (g k) (flat_map g ks) x d t) in
     among_cases k ks a (a ≡ b) ha
     (λ ea. among_cases k ks b (a ≡ b) hb (λ eb. ea ∙ sym eb)
-        (λ lb. absurd (none_later (subst (λ z. is_among (g z) x ≡ true) ea ta) b lb tb)))
+    (λ lb. absurd (none_later (subst (λ z. is_among (g z) x ≡ true) ea ta) b lb tb)))
     (λ la. among_cases k ks b (a ≡ b) hb (λ eb.
-        absurd (none_later (subst (λ z. is_among (g z) x ≡ true) eb tb) a la ta))
-        (λ lb. one_source g ks x a b (part_distinct [] [] (part_rest (g k) (flat_map g ks)) (λ j i. i) d) la ta lb tb))
+    absurd (none_later (subst (λ z. is_among (g z) x ≡ true) eb tb) a la ta))
+    (λ lb. one_source g ks x a b (part_distinct [] [] (part_rest (g k) (flat_map g ks)) (λ j i. i) d) la ta lb tb))
 
 -- ---- the steps of a tree
 
@@ -80,7 +81,7 @@ behind zero env found level ks h =
 behind (suc n) env found level ks h =
     let p = tree_parts n env found level ks h in
     let b : Behind env (found ++ level) (next_level env level) ks =
-        behind n env (found ++ level) (next_level env level) ks p.1 in
+    behind n env (found ++ level) (next_level env level) ks p.1 in
     record {
       rest = level ++ b.rest;
       all = b.all ∙ append_assoc found level b.rest;
@@ -111,9 +112,9 @@ pub created_once : (env : Environment) (g : HirFunction) (ks : List ℕ) (k j : 
     → is_among ks k ≡ true → is_among (created_at env k) j ≡ true → is_among (created_in g) j ≡ true → ⊥
 created_once env g ks k j h i there own =
     let d : first_again [] (created_in g ++ flat_map (created_at env) ks) ≡ None =
-        subst (λ zs. first_again [] zs ≡ None) (below_are env g ks h) (below_distinct env g ks h) in
+    subst (λ zs. first_again [] zs ≡ None) (below_are env g ks h) (below_distinct env g ks h) in
     not_both (is_among (flat_map (created_at env) ks) j) (among_flat (created_at env) ks k j i there)
-        (front_apart [] (created_in g) (flat_map (created_at env) ks) j d own)
+    (front_apart [] (created_in g) (flat_map (created_at env) ks) j d own)
 
 -- ---- where functions create fewer
 
@@ -134,14 +135,17 @@ module _ (env more : Environment) (fewer : (k : ℕ) → Part (created_at more k
   pruned_from zero found level ks found2 level2 h p q =
       let e = ended_parts found level ks (sym (tree_end env found level) ∙ h) in
       let nothing2 : level2 ≡ [] = part_of_nothing (subst (λ zs. Part level2 zs) e.0 q) in
-      record { below = found2; tree = tree_end more found2 level2 ∙ ap (ended found2) nothing2;
-          part = subst (λ zs. Part found2 zs) e.1 p }
+      record {
+        below = found2;
+        tree = tree_end more found2 level2 ∙ ap (ended found2) nothing2;
+        part = subst (λ zs. Part found2 zs) e.1 p;
+      }
   pruned_from (suc n) found level ks found2 level2 h p q =
       let e = tree_parts n env found level ks h in
       let distinct : first_again [] (found2 ++ level2) ≡ None = part_distinct [] [] (part_both p q) (λ k i. i) e.0 in
       let s : Pruned n more (found2 ++ level2) (next_level more level2) ks =
-          pruned_from n (found ++ level) (next_level env level) ks (found2 ++ level2) (next_level more level2) e.1
-          (part_both p q) (next_fewer q) in
+      pruned_from n (found ++ level) (next_level env level) ks (found2 ++ level2) (next_level more level2) e.1
+      (part_both p q) (next_fewer q) in
       record { below = s.below; tree = tree_step n more found2 level2 distinct ∙ s.tree; part = s.part }
 
   -- the functions below a function are still a tree
@@ -152,18 +156,19 @@ module _ (env more : Environment) (fewer : (k : ℕ) → Part (created_at more k
   pub creator_stays : (g : HirFunction) (ks left : List ℕ) → tree_below env g ≡ Some ks → tree_below more g ≡ Some left
       → Part left ks
       → (k j : ℕ) → is_among ks k ≡ true → is_among (created_at env k) j ≡ true → is_among left j ≡ true
-          → (is_among left k ≡ true) × (is_among (created_at more k) j ≡ true)
+      → (is_among left k ≡ true) × (is_among (created_at more k) j ≡ true)
   creator_stays g ks left t t2 part k j h there stays =
       let d : first_again [] (created_in g ++ flat_map (created_at env) ks) ≡ None =
-          subst (λ zs. first_again [] zs ≡ None) (below_are env g ks t) (below_distinct env g ks t) in
+      subst (λ zs. first_again [] zs ≡ None) (below_are env g ks t) (below_distinct env g ks t) in
       append_cases (created_in g) (flat_map (created_at more) left) j
-          ((is_among left k ≡ true) × (is_among (created_at more k) j ≡ true))
-          (subst (λ zs. is_among zs j ≡ true) (below_are more g left t2) stays)
+      ((is_among left k ≡ true) × (is_among (created_at more k) j ≡ true))
+      (subst (λ zs. is_among zs j ≡ true) (below_are more g left t2) stays)
       (λ own. absurd (created_once env g ks k j t h there own))
       (λ later.
       let s : Source (created_at more) left j = source_of (created_at more) left j later in
       let same : s.number ≡ k = one_source (created_at env) ks j s.number k
-          (part_distinct [] [] (part_rest (created_in g) (flat_map (created_at env) ks)) (λ z i. i) d)
-          (part_among part s.number s.among) (part_among (fewer s.number) j s.taken) h there in
-      (subst (λ z. is_among left z ≡ true) same s.among,
-          subst (λ z. is_among (created_at more z) j ≡ true) same s.taken))
+      (part_distinct [] [] (part_rest (created_in g) (flat_map (created_at env) ks)) (λ z i. i) d)
+      (part_among part s.number s.among) (part_among (fewer s.number) j s.taken) h there in (
+        subst (λ z. is_among left z ≡ true) same s.among,
+        subst (λ z. is_among (created_at more z) j ≡ true) same s.taken,
+      ))

@@ -20,7 +20,7 @@ fresh_has : (found level : List ℕ) → Among (found ++ fresh found level) leve
 fresh_has found [] k h = cc
 fresh_has found (x ∷ xs) k h =
     elim (is_among found x) as (λ b. is_among found x ≡ b
-        → is_among (found ++ (if b then fresh found xs else x ∷ fresh (found ++ x ∷ []) xs)) k ≡ true) [
+    → is_among (found ++ (if b then fresh found xs else x ∷ fresh (found ++ x ∷ []) xs)) k ≡ true) [
       | true ↦ λ e. among_cases x xs k (is_among (found ++ fresh found xs) k ≡ true) h
           (λ s. among_front found (fresh found xs) k (subst (λ z. is_among found z ≡ true) (sym s) e))
           (λ l. fresh_has found xs k l)
@@ -29,7 +29,7 @@ fresh_has found (x ∷ xs) k h =
           among_cases x xs k (is_among (found ++ x ∷ rest) k ≡ true) h
           (λ s. among_rest found (x ∷ rest) k (subst (λ z. is_among (x ∷ rest) z ≡ true) (sym s) (first_among x rest)))
           (λ l. subst (λ zs. is_among zs k ≡ true) (append_assoc found (x ∷ []) rest)
-              (fresh_has (found ++ x ∷ []) xs k l))
+          (fresh_has (found ++ x ∷ []) xs k l))
     ] refl
 
 -- ---- ways from one function to another
@@ -56,13 +56,23 @@ module _ (env : Environment) where
   way_to (suc n) found level j h =
       elim (way_to n (found ++ fresh found level) (next_level env (fresh found level)) j h) [
         | inl i ↦ append_cases found (fresh found level) j ((is_among found j ≡ true) ⊎ Way env (suc n) level j) i inl
-            (λ f. inr (record { first = j; among = fresh_among found level j f; steps = 0; fewer = omega arith;
-            leads = refl }))
+            (λ f. inr (record {
+              first = j;
+              among = fresh_among found level j f;
+              steps = 0;
+              fewer = omega arith;
+              leads = refl;
+            }))
         | inr w ↦
             let s : Source (created_at env) (fresh found level) w.first =
-                source_of (created_at env) (fresh found level) w.first w.among in
-            inr (record { first = s.number; among = fresh_among found level s.number s.among; steps = suc w.steps;
-                fewer = (let l = w.fewer in omega arith); leads = (w.first, s.taken, w.leads) })
+            source_of (created_at env) (fresh found level) w.first w.among in
+            inr (record {
+              first = s.number;
+              among = fresh_among found level s.number s.among;
+              steps = suc w.steps;
+              fewer = (let l = w.fewer in omega arith);
+              leads = (w.first, s.taken, w.leads);
+            })
       ]
 
   -- what was found stays
@@ -83,7 +93,7 @@ module _ (env : Environment) where
       let next : List ℕ = next_level env (fresh found level) in
       append_cases found (fresh found level) k (is_among (now ++ next) j ≡ true) h
       (λ f. among_front now next j (append_cases found level j (is_among now j ≡ true) (o k f j i)
-          (among_front found (fresh found level) j) (fresh_has found level j)))
+      (among_front found (fresh found level) j) (fresh_has found level j)))
       (λ f. among_rest now next j (among_flat (created_at env) (fresh found level) k j f i))
 
   -- where there is a way, it is reached
@@ -94,22 +104,26 @@ module _ (env : Environment) where
   reached_by (suc n) found level o zero k j l h w =
       reached_has n (found ++ fresh found level) (next_level env (fresh found level)) j
       (subst (λ z. is_among (found ++ fresh found level) z ≡ true) w
-          (append_cases found level k (is_among (found ++ fresh found level) k ≡ true) h
-          (among_front found (fresh found level) k) (fresh_has found level k)))
+      (append_cases found level k (is_among (found ++ fresh found level) k ≡ true) h
+      (among_front found (fresh found level) k) (fresh_has found level k)))
   reached_by (suc n) found level o (suc m) k j l h w =
       let now : List ℕ = found ++ fresh found level in
       let there : is_among now k ≡ true = append_cases found level k (is_among now k ≡ true) h
-          (among_front found (fresh found level) k) (fresh_has found level k) in
+      (among_front found (fresh found level) k) (fresh_has found level k) in
       reached_by n now (next_level env (fresh found level)) (open_next found level o) m w.0 j (omega arith)
-          (open_next found level o k there w.0 w.1) w.2
+      (open_next found level o k there w.0 w.1) w.2
 
   -- a function below one: there is a way from that, and where there is one it is below it
   family_way : (k j : ℕ) → is_among (family env k) j ≡ true → (m : ℕ) × (m < length env.functions) × Leads env m k j
   family_way k j h =
       elim (way_to (length env.functions) [] (k ∷ []) j h) [
         | inl none ↦ cc
-        | inr w ↦ (w.steps, w.fewer, among_cases k [] w.first (Leads env w.steps k j) w.among
-            (λ e. subst (λ z. Leads env w.steps z j) e w.leads) (λ no. cc))
+        | inr w ↦ (
+          w.steps,
+          w.fewer,
+          among_cases k [] w.first (Leads env w.steps k j) w.among
+              (λ e. subst (λ z. Leads env w.steps z j) e w.leads) (λ no. cc),
+        )
       ]
 
   way_family : (k j m : ℕ) → m < length env.functions → Leads env m k j → is_among (family env k) j ≡ true

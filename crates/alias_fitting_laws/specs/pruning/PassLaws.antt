@@ -1,6 +1,6 @@
 -- What a pass of the caller keeps is enough: the function is the same to others, and the inference takes what it took.
-use Rattle.std.specs.Prelude.{◌≡◌, ℕ, Bool, true, false, List, [], ◌∷◌, ◌++◌, length, slice_get, Option, Some, None,
-    refl}
+use Rattle.std.specs.Prelude.{◌≡◌, ℕ, Bool, true, false, List, [], ◌∷◌, ◌++◌, length, slice_get, Option, Some, None}
+use Rattle.std.specs.Prelude.{refl}
 use Rattle.std.specs.List.{flat_map}
 use Rattle.std.specs.Option.{option_map, option_map_or}
 use Rattle.std.proofs.Common.{zero, suc, ap, sym, ◌∙◌, subst, arith}
@@ -65,14 +65,18 @@ pub pass_prunes : (f : HirFunction) (env : Environment) (g : HirFunction) (more 
     → FunctionPruned f env g more
 pass_prunes f env g more k =
     let ids : length more.identifiers ≡ length env.identifiers =
-        sym (length-map more.identifiers declaration_name_and_type) ∙ ap length k.identifiers
-        ∙ length-map env.identifiers declaration_name_and_type in
+    sym (length-map more.identifiers declaration_name_and_type) ∙ ap length k.identifiers
+    ∙ length-map env.identifiers declaration_name_and_type in
     let types : length more.types ≡ length env.types = ap length k.tables.types in
     let count : length more.functions ≡ length env.functions = ap length k.tables.functions in
-    let w : Wider env more = record { identifiers = omega arith; types = omega arith; functions = omega arith;
-        interned = grows_equal env.interned more.interned k.tables.interned } in
+    let w : Wider env more = record {
+      identifiers = omega arith;
+      types = omega arith;
+      functions = omega arith;
+      interned = grows_equal env.interned more.interned k.tables.interned;
+    } in
     let slot : (j : ℕ) → slice_get more.functions j ≡ slice_get env.functions j =
-        λ j. ap (λ fs. slice_get fs j) k.tables.functions in
+    λ j. ap (λ fs. slice_get fs j) k.tables.functions in
     let e : Evolves env more = record {
       identifiers = omega arith;
       types = omega arith;
@@ -86,9 +90,13 @@ pass_prunes f env g more k =
     = ap (λ ps. interface (record g { params = ps })) k.outside.params
     ∙ ap (λ ps. interface (record g { params = f.params; context = ps })) k.outside.context
     ∙ ap (λ vs. interface (record g { params = f.params; context = f.context; context_values = vs }))
-        k.outside.context_values
-    ∙ ap (λ p. interface (record g { params = f.params; context = f.context; context_values = f.context_values;
-        returns = p })) k.outside.returns in
+    k.outside.context_values
+    ∙ ap (λ p. interface (record g {
+      params = f.params;
+      context = f.context;
+      context_values = f.context_values;
+      returns = p;
+    })) k.outside.returns in
     record {
       prunes = prunes_evolved env more e;
       interface = same;

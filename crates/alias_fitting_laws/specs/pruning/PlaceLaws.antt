@@ -37,7 +37,7 @@ names_rest ps qs x h = subst (λ zs. is_among zs x ≡ true) (sym (map-append (�
 names_cases : (ps qs : List Place) (x : ℕ) (C : Type 0) → Names (ps ++ qs) x → (Names ps x → C) → (Names qs x → C) → C
 names_cases ps qs x C h here there =
     append_cases (map (λ (p : Place). p.identifier.0) ps) (map (λ (p : Place). p.identifier.0) qs) x C
-        (subst (λ zs. is_among zs x ≡ true) (map-append (λ (p : Place). p.identifier.0) ps qs) h) here there
+    (subst (λ zs. is_among zs x ≡ true) (map-append (λ (p : Place). p.identifier.0) ps qs) h) here there
 
 -- ---- a function by its own places and the contexts of those that it creates
 
@@ -69,16 +69,19 @@ module _ (env : Environment) (x : ℕ) where
 
   created_cases : (o : Option FunctionId) → Names (created_places env o) x → InContext (number_of o)
   created_cases None h = cc
-  created_cases (Some f) h = record { number = f.0; among = first_among f.0 [];
-      there = context_names (slice_get env.functions f.0) x h }
+  created_cases (Some f) h = record {
+    number = f.0;
+    among = first_among f.0 [];
+    there = context_names (slice_get env.functions f.0) x h;
+  }
 
   names_created : (o : Option FunctionId) (k : ℕ) → is_among (number_of o) k ≡ true → is_among (context_at env k) x
       ≡ true → Names (created_places env o) x
   names_created None k h i = cc
   names_created (Some f) k h i =
       let there : is_among (context_at env f.0) x ≡ true =
-          among_cases f.0 [] k (is_among (context_at env f.0) x ≡ true) h
-          (λ e. subst (λ z. is_among (context_at env z) x ≡ true) e i) (λ none. cc) in
+      among_cases f.0 [] k (is_among (context_at env f.0) x ≡ true) h
+      (λ e. subst (λ z. is_among (context_at env z) x ≡ true) e i) (λ none. cc) in
       names_context (slice_get env.functions f.0) x there
 
   instruction_cases : (i : Instruction) (C : Type 0) → Names (instruction_places env i) x → (Names (own_of i) x → C)
@@ -86,15 +89,15 @@ module _ (env : Environment) (x : ℕ) where
   instruction_cases i C h own context =
       names_cases (i.lvalue ∷ created_places env (created i.value)) (places_of i.value) x C h
       (λ front. names_cases (i.lvalue ∷ []) (created_places env (created i.value)) x C front
-          (λ l. own (names_front (i.lvalue ∷ []) (places_of i.value) x l))
-          (λ c. context (created_cases (created i.value) c)))
+      (λ l. own (names_front (i.lvalue ∷ []) (places_of i.value) x l))
+      (λ c. context (created_cases (created i.value) c)))
       (λ rest. own (names_rest (i.lvalue ∷ []) (places_of i.value) x rest))
 
   own_instruction : (i : Instruction) → Names (own_of i) x → Names (instruction_places env i) x
   own_instruction i h =
       names_cases (i.lvalue ∷ []) (places_of i.value) x (Names (instruction_places env i) x) h
       (λ l. names_front (i.lvalue ∷ created_places env (created i.value)) (places_of i.value) x
-          (names_front (i.lvalue ∷ []) (created_places env (created i.value)) x l))
+      (names_front (i.lvalue ∷ []) (created_places env (created i.value)) x l))
       (names_rest (i.lvalue ∷ created_places env (created i.value)) (places_of i.value) x)
 
   instructions_cases : (is : List Instruction) (C : Type 0) → Names (flat_map (instruction_places env) is) x
@@ -106,9 +109,9 @@ module _ (env : Environment) (x : ℕ) where
       let rest : List ℕ = flat_map (λ (i : Instruction). number_of (created i.value)) is in
       names_cases (instruction_places env i) (flat_map (instruction_places env) is) x C h
       (λ a. instruction_cases i C a (λ o. own (names_front (own_of i) (flat_map own_of is) x o))
-          (λ c. context (record { number = c.number; among = among_front ks rest c.number c.among; there = c.there })))
+      (λ c. context (record { number = c.number; among = among_front ks rest c.number c.among; there = c.there })))
       (λ b. instructions_cases is C b (λ o. own (names_rest (own_of i) (flat_map own_of is) x o))
-          (λ c. context (record { number = c.number; among = among_rest ks rest c.number c.among; there = c.there })))
+      (λ c. context (record { number = c.number; among = among_rest ks rest c.number c.among; there = c.there })))
 
   own_instructions : (is : List Instruction) → Names (flat_map own_of is) x
       → Names (flat_map (instruction_places env) is) x
@@ -124,13 +127,13 @@ module _ (env : Environment) (x : ℕ) where
   created_instructions [] k h c = cc
   created_instructions (i ∷ is) k h c =
       append_cases (number_of (created i.value)) (flat_map (λ (i : Instruction). number_of (created i.value)) is) k
-          (Names (flat_map (instruction_places env) (i ∷ is)) x) h
+      (Names (flat_map (instruction_places env) (i ∷ is)) x) h
       (λ a. names_front (instruction_places env i) (flat_map (instruction_places env) is) x
       (names_front (i.lvalue ∷ created_places env (created i.value)) (places_of i.value) x
-          (names_rest (i.lvalue ∷ []) (created_places env (created i.value)) x
-          (names_created (created i.value) k a c))))
+      (names_rest (i.lvalue ∷ []) (created_places env (created i.value)) x
+      (names_created (created i.value) k a c))))
       (λ b. names_rest (instruction_places env i) (flat_map (instruction_places env) is) x
-          (created_instructions is k b c))
+      (created_instructions is k b c))
 
   module _ (g : HirFunction) where
     abbrev before : List Place
@@ -150,10 +153,10 @@ module _ (env : Environment) (x : ℕ) where
         (λ b. own (names_front (before ++ g.returns ∷ owns) after x (names_front before (g.returns ∷ owns) x b)))
         (λ r. names_cases (g.returns ∷ []) instructions x C r
         (λ b. own (names_front (before ++ g.returns ∷ owns) after x
-            (names_rest before (g.returns ∷ owns) x (names_front (g.returns ∷ []) owns x b))))
+        (names_rest before (g.returns ∷ owns) x (names_front (g.returns ∷ []) owns x b))))
         (λ i. instructions_cases g.instructions C i
         (λ o. own (names_front (before ++ g.returns ∷ owns) after x
-            (names_rest before (g.returns ∷ owns) x (names_rest (g.returns ∷ []) owns x o))))
+        (names_rest before (g.returns ∷ owns) x (names_rest (g.returns ∷ []) owns x o))))
         (λ c. context c.number c.among c.there))))
         (λ b. own (names_rest (before ++ g.returns ∷ owns) after x b))
 
@@ -162,7 +165,7 @@ module _ (env : Environment) (x : ℕ) where
     in_instructions h =
         let instructions : List Place = flat_map (instruction_places env) g.instructions in
         names_front (before ++ g.returns ∷ instructions) after x
-            (names_rest before (g.returns ∷ instructions) x (names_rest (g.returns ∷ []) instructions x h))
+        (names_rest before (g.returns ∷ instructions) x (names_rest (g.returns ∷ []) instructions x h))
 
     -- those of its own places are in it
     pub own_among : Names (own_places g) x → is_among (identifiers_in env g) x ≡ true
@@ -172,10 +175,10 @@ module _ (env : Environment) (x : ℕ) where
         names_cases (before ++ g.returns ∷ owns) after x (is_among (identifiers_in env g) x ≡ true) h
         (λ a. names_cases before (g.returns ∷ owns) x (is_among (identifiers_in env g) x ≡ true) a
         (λ b. names_front (before ++ g.returns ∷ instructions) after x
-            (names_front before (g.returns ∷ instructions) x b))
+        (names_front before (g.returns ∷ instructions) x b))
         (λ r. names_cases (g.returns ∷ []) owns x (is_among (identifiers_in env g) x ≡ true) r
         (λ b. names_front (before ++ g.returns ∷ instructions) after x
-            (names_rest before (g.returns ∷ instructions) x (names_front (g.returns ∷ []) instructions x b)))
+        (names_rest before (g.returns ∷ instructions) x (names_front (g.returns ∷ []) instructions x b)))
         (λ o. in_instructions (own_instructions g.instructions o))))
         (λ b. names_rest (before ++ g.returns ∷ instructions) after x b)
 
@@ -190,4 +193,4 @@ pub identifiers_with_contexts : (env more : Environment) (g : HirFunction)
     → Among (identifiers_in more g) (identifiers_in env g)
 identifiers_with_contexts env more g h x i =
     identifier_cases env x g (is_among (identifiers_in more g) x ≡ true) i (own_among more x g)
-        (λ k c t. context_among more x g k c (h k c x t))
+    (λ k c t. context_among more x g k c (h k c x t))

@@ -28,8 +28,12 @@ pub record Interface : Type 0 where
   pub returns : Place
 
 abbrev pub interface : HirFunction → Interface
-interface f = record { params = map but_param_effect f.params; context = map but_effect f.context;
-    context_values = f.context_values; returns = f.returns }
+interface f = record {
+  params = map but_param_effect f.params;
+  context = map but_effect f.context;
+  context_values = f.context_values;
+  returns = f.returns;
+}
 
 -- each slot holds its own function: one with the same interface
 abbrev pub SlotsKept : Environment → Environment → Type 0

@@ -1,6 +1,6 @@
 -- A function that the inference takes is taken again over what analysing nested functions leaves of its environment.
-use Rattle.std.specs.Prelude.{◌≡◌, ℕ, ◌+◌, ◌-◌, ◌≤◌, true, List, [], ◌++◌, length, slice_get, Option, Some, None, Ok,
-    is_none, refl, if◌then◌else◌}
+use Rattle.std.specs.Prelude.{◌≡◌, ℕ, ◌+◌, ◌-◌, ◌≤◌, true, List, [], ◌++◌, length, slice_get, Option, Some, None, Ok}
+use Rattle.std.specs.Prelude.{is_none, refl, if◌then◌else◌}
 use Rattle.std.specs.Option.{option_map}
 use Rattle.std.proofs.Common.{zero, suc, ap, sym, ◌∙◌, subst, arith}
 use Rattle.alias_base.specs.declared.ids.FunctionId.{FunctionId}
@@ -21,8 +21,8 @@ use Rattle.alias_nesting_laws.specs.PartLaws.{Part, nothing, left_out, kept, par
 use Rattle.alias_rules.specs.Fitting.{function_fits}
 use Rattle.alias_rules.specs.Functions.{rule_holds, of_function}
 use Rattle.alias_rules.specs.Nesting.{created_in, created_of, created_at, next_level, tree_from}
-use Rattle.alias_rules.specs.Sharing.{identifiers_of, identifiers_at, context_of, context_at, inside, outside,
-    first_shared, in_two, nested_is_apart, identifiers_apart}
+use Rattle.alias_rules.specs.Sharing.{identifiers_of, identifiers_at, context_of, context_at, inside, outside}
+use Rattle.alias_rules.specs.Sharing.{first_shared, in_two, nested_is_apart, identifiers_apart}
 use Rattle.alias_rules.specs.declared.rules.Rule.{Rule}
 use Rattle.alias_rules.specs.declared.rules.Rule.TheVariants.{Numbers}
 use Rattle.alias_tables.specs.GrowingLaws.{grows_self}
@@ -64,8 +64,12 @@ rule_grown env more ids count r o g h =
     beside = record more { types = env.types; interned = env.interned }
 
     wider : Wider env beside
-    wider = record { identifiers = ids; types = omega arith; functions = (let e = count in omega arith);
-        interned = grows_self env.interned }
+    wider = record {
+      identifiers = ids;
+      types = omega arith;
+      functions = (let e = count in omega arith);
+      interned = grows_self env.interned;
+    }
 
     beside_more : (r : Rule) (o : Option FunctionId) (g : HirFunction) → rule_holds r beside o g ≡ Ok tt
         → rule_holds r more o g ≡ Ok tt
@@ -107,8 +111,13 @@ prunes_through a b c p q = record {
 }
 
 pub function_self : (f : HirFunction) (env : Environment) → function_fits f env ≡ true → FunctionPruned f env f env
-function_self f env h = record { prunes = prunes_self env; interface = refl; created = part_all (created_in f);
-    places = λ x i. i; fits = h }
+function_self f env h = record {
+  prunes = prunes_self env;
+  interface = refl;
+  created = part_all (created_in f);
+  places = λ x i. i;
+  fits = h;
+}
 
 pub function_through : (f g h : HirFunction) (a b c : Environment) → FunctionPruned f a g b → FunctionPruned g b h c
     → FunctionPruned f a h c
@@ -163,12 +172,12 @@ module _ (env more : Environment) (ids : length env.identifiers ≤ length more.
   rules_of_slot r k (Some f) (Some g) e h =
       let b : bare f ≡ bare g = cc in
       rule_of_bare r more (Some (record { 0 = k })) f g b
-          ∙ rule_grown env more ids count r (Some (record { 0 = k })) f h
+      ∙ rule_grown env more ids count r (Some (record { 0 = k })) f h
 
 pub prunes_evolved : (env more : Environment) → Evolves env more → Prunes env more
 prunes_evolved env more e =
     let slots : SlotsKept env more = λ k. slot_of_bare env more e.identifiers e.count (slice_get env.functions k)
-        (slice_get more.functions k) (e.slots k) in
+    (slice_get more.functions k) (e.slots k) in
     record {
       identifiers = e.identifiers;
       types = e.types;
@@ -219,7 +228,7 @@ module _ (env more : Environment) (same : more.functions ≡ env.functions) wher
   tree_same (suc n) found level =
       ap (λ r. if is_none (first_again [] (found ++ level)) then r else None)
       (tree_same n (found ++ level) (next_level more level)
-          ∙ ap (tree_from n env (found ++ level)) (flat_same (created_at more) (created_at env) created_same level))
+      ∙ ap (tree_from n env (found ++ level)) (flat_same (created_at more) (created_at env) created_same level))
 
   own_same : (g : HirFunction) → identifiers_in more g ≡ identifiers_in env g
   own_same g = ap (λ fs. identifiers_in (record env { functions = fs }) g) same
@@ -267,16 +276,16 @@ module _ (env more : Environment) (p : Prunes env more) (t : TablesFit more) (g 
       → first_shared (length more.identifiers) (inside env k) (outside env g first.below k) (context_at env k) ≡ None
   none_shared k h =
       let apart : identifiers_apart enough g first.below ≡ Ok tt =
-          subst (λ ks. identifiers_apart enough g ks ≡ Ok tt) same_below second.apart in
+      subst (λ ks. identifiers_apart enough g ks ≡ Ok tt) same_below second.apart in
       let here : nested_is_apart enough g first.below k ≡ Ok tt =
-          pass_among (nested_is_apart enough g first.below) first.below k apart h in
+      pass_among (nested_is_apart enough g first.below) first.below k apart h in
       let shared : in_two k (first_shared (length enough.identifiers) (inside env k) (outside env g first.below k)
-          (context_at env k)) ≡ Ok tt
+      (context_at env k)) ≡ Ok tt
       = sym (shared_same env enough (created_same env enough enough_functions) (ap length enough_functions)
-          (at_same env enough enough_functions) (context_same env enough enough_functions) g first.below k
-          (own_same env enough enough_functions g)) ∙ here in
+      (at_same env enough enough_functions) (context_same env enough enough_functions) g first.below k
+      (own_same env enough enough_functions g)) ∙ here in
       ap (λ n. first_shared n (inside env k) (outside env g first.below k) (context_at env k)) (sym enough_identifiers)
-          ∙ no_fault k _ shared
+      ∙ no_fault k _ shared
 
   abbrev left : Pruned 63 more [] (created_in g) first.below
   left = pruned_tree env more p.created g first.below first.tree
@@ -302,5 +311,10 @@ module _ (env more : Environment) (p : Prunes env more) (t : TablesFit more) (g 
 
   -- so it is the same function beside another environment
   pub function_beside : FunctionPruned g env g more
-  function_beside = record { prunes = p; interface = refl; created = part_all (created_in g);
-      places = identifiers_kept env more p.slots g; fits = fits_pruned }
+  function_beside = record {
+    prunes = p;
+    interface = refl;
+    created = part_all (created_in g);
+    places = identifiers_kept env more p.slots g;
+    fits = fits_pruned;
+  }

@@ -13,8 +13,8 @@ use Rattle.alias_hir.specs.declared.env.Environment.{Environment}
 use Rattle.alias_hir.specs.declared.hir.BasicBlock.{BasicBlock}
 use Rattle.alias_hir.specs.declared.hir.HirFunction.{HirFunction}
 use Rattle.alias_hir.specs.declared.hir.Instruction.{Instruction}
-use Rattle.alias_rules.specs.Fitting.{named_within_tables, summary_within_tables, effect_within_tables,
-    recorded_within_tables, effects_within_tables, holds_no_call, effects_fit}
+use Rattle.alias_rules.specs.Fitting.{named_within_tables, summary_within_tables, effect_within_tables}
+use Rattle.alias_rules.specs.Fitting.{recorded_within_tables, effects_within_tables, holds_no_call, effects_fit}
 use Rattle.alias_nesting_laws.specs.FittingLaws.{together}
 use Rattle.alias_nesting_laws.specs.StandInLaws.{all_weaker}
 
@@ -32,7 +32,7 @@ module _ (env more : Environment) (w : Wider env more)
   effect_survives e h =
       let b = both_true (named_within_tables env e) (summary_within_tables env (function_of e)) h in
       together (named_within_tables more e) (summary_within_tables more (function_of e)) (named_kept env more w e b.0)
-          (summary_survives (function_of e) b.1)
+      (summary_survives (function_of e) b.1)
 
   recorded_survives : (o : Option (List AliasingEffect)) → recorded_within_tables env o ≡ true
       → recorded_within_tables more o ≡ true
@@ -43,24 +43,24 @@ module _ (env more : Environment) (w : Wider env more)
   effects_survive g h =
       let a = both_true (effects_within_tables env g) (holds_no_call g.aliasing_effects) h in
       let b = both_true (list_all (λ (i : Instruction). recorded_within_tables env i.effects) g.instructions
-          && list_all (λ (e : BlockId × BasicBlock). recorded_within_tables env (terminal_effects e.1.terminal))
-          g.body.blocks) (recorded_within_tables env g.aliasing_effects) a.0 in
+      && list_all (λ (e : BlockId × BasicBlock). recorded_within_tables env (terminal_effects e.1.terminal))
+      g.body.blocks) (recorded_within_tables env g.aliasing_effects) a.0 in
       let c = both_true (list_all (λ (i : Instruction). recorded_within_tables env i.effects) g.instructions)
-          (list_all (λ (e : BlockId × BasicBlock). recorded_within_tables env (terminal_effects e.1.terminal))
-          g.body.blocks) b.0 in
+      (list_all (λ (e : BlockId × BasicBlock). recorded_within_tables env (terminal_effects e.1.terminal))
+      g.body.blocks) b.0 in
       let instructions = all_weaker (λ (i : Instruction). recorded_within_tables env i.effects)
-          (λ (i : Instruction). recorded_within_tables more i.effects) (λ i. recorded_survives i.effects) g.instructions
-          c.0 in
+      (λ (i : Instruction). recorded_within_tables more i.effects) (λ i. recorded_survives i.effects) g.instructions
+      c.0 in
       let terminals = all_weaker (λ (e : BlockId × BasicBlock).
-          recorded_within_tables env (terminal_effects e.1.terminal))
-          (λ (e : BlockId × BasicBlock). recorded_within_tables more (terminal_effects e.1.terminal))
-          (λ e. recorded_survives (terminal_effects e.1.terminal)) g.body.blocks c.1 in
+      recorded_within_tables env (terminal_effects e.1.terminal))
+      (λ (e : BlockId × BasicBlock). recorded_within_tables more (terminal_effects e.1.terminal))
+      (λ e. recorded_survives (terminal_effects e.1.terminal)) g.body.blocks c.1 in
       together (effects_within_tables more g) (holds_no_call g.aliasing_effects)
       (together (list_all (λ (i : Instruction). recorded_within_tables more i.effects) g.instructions
-          && list_all (λ (e : BlockId × BasicBlock). recorded_within_tables more (terminal_effects e.1.terminal))
-          g.body.blocks) (recorded_within_tables more g.aliasing_effects)
+      && list_all (λ (e : BlockId × BasicBlock). recorded_within_tables more (terminal_effects e.1.terminal))
+      g.body.blocks) (recorded_within_tables more g.aliasing_effects)
       (together (list_all (λ (i : Instruction). recorded_within_tables more i.effects) g.instructions)
-          (list_all (λ (e : BlockId × BasicBlock). recorded_within_tables more (terminal_effects e.1.terminal))
-          g.body.blocks) instructions terminals)
+      (list_all (λ (e : BlockId × BasicBlock). recorded_within_tables more (terminal_effects e.1.terminal))
+      g.body.blocks) instructions terminals)
       (recorded_survives g.aliasing_effects b.1))
       a.1

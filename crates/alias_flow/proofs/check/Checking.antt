@@ -1,6 +1,6 @@
 -- From the parts of a check to the whole.
-use Rattle.std.proofs.Common.{◌≡◌, ℕ, ◌<◌, ◌-◌, ◌+◌, Bool, true, false, if◌then◌else◌, List, Option, Some, None, Result,
-    Ok, Err, length, replicate, ap, sym, ◌∙◌, subst}
+use Rattle.std.proofs.Common.{◌≡◌, ℕ, ◌<◌, ◌-◌, ◌+◌, Bool, true, false, if◌then◌else◌, List, Option, Some, None, Result}
+use Rattle.std.proofs.Common.{Ok, Err, length, replicate, ap, sym, ◌∙◌, subst}
 use Rattle.std.proofs.lemmas.List.{length-set, length-replicate}
 use Rattle.std.specs.Prelude.{slice_set}
 use Rattle.std.specs.declared.alloc.AllocError.{AllocError}
@@ -13,9 +13,10 @@ use Rattle.alias_flow.specs.declared.flow.StepFault.TheVariants as step
 use Rattle.alias_flow.specs.Steps.{StepGives}
 use Rattle.alias_flow.specs.declared.check.fault.Unsolved.{Unsolved}
 use Rattle.alias_flow.specs.declared.check.fault.Unsolved.TheVariants as fault
-use Rattle.alias_flow.specs.check.Checks.{Arriving, ChecksInto, refused_at, first_arriving, first_not_above,
-    is_below_entry, passed, outcome_checked, state_checked, block_checked, blocks_checked, begins, begun_with,
-    joins_checked, joined_unless, not_joined, solution_checked}
+use Rattle.alias_flow.specs.check.Checks.{Arriving, ChecksInto, refused_at, first_arriving, first_not_above}
+use Rattle.alias_flow.specs.check.Checks.{is_below_entry, passed, outcome_checked, state_checked, block_checked}
+use Rattle.alias_flow.specs.check.Checks.{blocks_checked, begins, begun_with, joins_checked, joined_unless, not_joined}
+use Rattle.alias_flow.specs.check.Checks.{solution_checked}
 use Rattle.alias_flow.proofs.check.Rounds.{up_next}
 
 -- a check that is equal comes to the same
@@ -63,10 +64,10 @@ module _ {P T K D C : Type 0} (join : P → P → P) (below : P → P → Bool) 
   pub passed_is : (b : ℕ) (w : Arriving P T K) (y : P) (t : T) (k : K) (d : Option D) (e : Option ℕ) → d ≡ differs t b k
       → e ≡ first_not_above below entries y (rules.flow.edges b)
       → outcome_checked join below rules differs entries b w (Stepped y t k)
-          ≡ passed join below rules differs entries b y t k w d e
+      ≡ passed join below rules differs entries b y t k w d e
   passed_is b w y t k d e said above =
       ap (λ z. passed join below rules differs entries b y t k w z
-          (first_not_above below entries y (rules.flow.edges b))) (sym said)
+      (first_not_above below entries y (rules.flow.edges b))) (sym said)
       ∙ ap (λ z. passed join below rules differs entries b y t k w d z) (sym above)
 
   pub differs_is : (b : ℕ) (w : Arriving P T K) (y : P) (t : T) (k : K) (d : D) → Some d ≡ differs t b k
@@ -79,8 +80,8 @@ module _ {P T K D C : Type 0} (join : P → P → P) (below : P → P → Bool) 
       (k : K) → None ≡ differs t b k → None ≡ first_not_above below entries y (rules.flow.edges b)
       → after ≡ send_all join y arriving (rules.flow.edges b) → recorded ≡ slice_set before b (Some k)
       → outcome_checked join below rules differs entries b
-          (record { progress = arriving; tables = t; recorded = before }) (Stepped y t k)
-          ≡ Ok (record { progress = after; tables = t; recorded = recorded })
+      (record { progress = arriving; tables = t; recorded = before }) (Stepped y t k)
+      ≡ Ok (record { progress = after; tables = t; recorded = recorded })
   out_passes b arriving after before recorded y t k said above sent kept =
       passed_is b (record { progress = arriving; tables = t; recorded = before }) y t k None None said above
       ∙ ap (λ z. Ok (record { progress = z; tables = t; recorded = slice_set before b (Some k) })) (sym sent)
@@ -109,7 +110,7 @@ module _ {P T K D C : Type 0} (join : P → P → P) (below : P → P → Bool) 
   -- a block that passes, and those that are left
   pub blocks_next : (i n : ℕ) (w v : Arriving P T K) → i < n → block_checked join below rules differs entries i w ≡ Ok v
       → blocks_checked join below rules differs entries (up (i + 1) (n - (i + 1))) v
-          ≡ blocks_checked join below rules differs entries (up i (n - i)) w
+      ≡ blocks_checked join below rules differs entries (up i (n - i)) w
   blocks_next i n w v h passes =
       sym (ap (λ bs. blocks_checked join below rules differs entries bs w) (up_next i n h)
       ∙ ap (λ z. z >>= blocks_checked join below rules differs entries (up (i + 1) (n - (i + 1)))) passes)
@@ -120,11 +121,11 @@ module _ {P T K D C : Type 0} (join : P → P → P) (below : P → P → Bool) 
       → ChecksInto {B = F} cause (blocks_checked join below rules differs entries (up i (n - i)) w) (Err e) z
   blocks_fault B F cause i n w v z e h at =
       checks_along {B = F} cause (blocks_checked join below rules differs entries (up i (n - i)) w)
-          (block_checked join below rules differs entries i w
-          >>= blocks_checked join below rules differs entries (up (i + 1) (n - (i + 1)))) (Err e) z
+      (block_checked join below rules differs entries i w
+      >>= blocks_checked join below rules differs entries (up (i + 1) (n - (i + 1)))) (Err e) z
       (ap (λ bs. blocks_checked join below rules differs entries bs w) (up_next i n h))
       (fault_first B F cause (block_checked join below rules differs entries i w)
-          (blocks_checked join below rules differs entries (up (i + 1) (n - (i + 1)))) e v z at)
+      (blocks_checked join below rules differs entries (up (i + 1) (n - (i + 1)))) e v z at)
 
   -- what has arrived at first, and what is recorded so far
   abbrev pub begun : T → List (Option K) → List (Option P) → Arriving P T K
@@ -139,8 +140,8 @@ module _ {P T K D C : Type 0} (join : P → P → P) (below : P → P → Bool) 
   pub has_begun : (tables : T) (recorded : List (Option K)) (xs : List (Option P)) → begins join below rules entries
       ≡ Some xs
       → solution_checked join below rules differs entries tables recorded
-          ≡ (blocks_checked join below rules differs entries (up 0 rules.blocks) (begun tables recorded xs)
-          >>= joins_checked join below rules differs entries)
+      ≡ (blocks_checked join below rules differs entries (up 0 rules.blocks) (begun tables recorded xs)
+      >>= joins_checked join below rules differs entries)
   has_begun tables recorded xs h = ap (λ o. begun_with join below rules differs entries tables recorded o
       >>= (λ w. blocks_checked join below rules differs entries (up 0 rules.blocks) w
       >>= joins_checked join below rules differs entries)) h
@@ -149,6 +150,6 @@ module _ {P T K D C : Type 0} (join : P → P → P) (below : P → P → Bool) 
   pub joins_decide : (bs : List ℕ) (w v : Arriving P T K) (o : Option ℕ)
       → blocks_checked join below rules differs entries bs w ≡ Ok v → o ≡ not_joined below rules entries v.progress
       → (blocks_checked join below rules differs entries bs w >>= joins_checked join below rules differs entries)
-          ≡ joined_unless join below rules differs entries v o
+      ≡ joined_unless join below rules differs entries v o
   joins_decide bs w v o all joined = ap (λ z. z >>= joins_checked join below rules differs entries) all
       ∙ ap (joined_unless join below rules differs entries v) (sym joined)

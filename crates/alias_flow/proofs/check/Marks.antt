@@ -1,6 +1,7 @@
 -- After as many rounds as there are blocks, exactly those that are reached are marked.
-use Rattle.std.proofs.Common.{◌≡◌, ℕ, ◌+◌, ◌-◌, ◌<◌, ◌≤◌, ◌≢◌, ◌⊎◌, inl, inr, ⊎_elim, Bool, true, false, if◌then◌else◌,
-    List, [], ◌∷◌, length, get_or, set, replicate, Option, zero, suc, refl, ap, sym, ◌∙◌, subst, arith}
+use Rattle.std.proofs.Common.{◌≡◌, ℕ, ◌+◌, ◌-◌, ◌<◌, ◌≤◌, ◌≢◌, ◌⊎◌, inl, inr, ⊎_elim, Bool, true, false, if◌then◌else◌}
+use Rattle.std.proofs.Common.{List, [], ◌∷◌, length, get_or, set, replicate, Option, zero, suc, refl, ap, sym, ◌∙◌}
+use Rattle.std.proofs.Common.{subst, arith}
 use Rattle.std.proofs.lemmas.List.{get_or-set_same, get_or-set_other, length-set, length-replicate}
 use Rattle.std.proofs.lemmas.Bool.{cases_eq, false≢true}
 use Rattle.std.specs.List.{AllByRecursion}
@@ -52,8 +53,11 @@ sinks_under : (m : Bool) (x y : List Bool) → Sinks x y → Sinks (m ∷ x) (m 
 sinks_under true x y s = record { fewer = s.fewer; same = λ e. ap (λ z. true ∷ z) (s.same e) }
 sinks_under false x y s =
     let xy : unmarked y ≤ unmarked x = s.fewer in
-    record { fewer = omega arith; same = λ e. let less : unmarked y ≡ unmarked x = omega arith in
-        ap (λ z. false ∷ z) (s.same less) }
+    record {
+      fewer = omega arith;
+      same = λ e. let less : unmarked y ≡ unmarked x = omega arith in
+          ap (λ z. false ∷ z) (s.same less);
+    }
 
 mark_sinks : (marks : List Bool) (e : ℕ) → Sinks marks (set marks e true)
 mark_sinks [] e = elim e as (λ n. Sinks [] (set [] n true)) [ zero ↦ sinks_self [] | suc n ↦ sinks_self [] ]
@@ -71,7 +75,7 @@ marks_sink marks (e ∷ es) = sinks_through marks (set marks e true) (marked_all
 mark_keeps : (marks : List Bool) (e b : ℕ) → at marks b ≡ true → at (set marks e true) b ≡ true
 mark_keeps marks e b h = ⊎_elim
     (λ same. let within : e < length marks = subst (λ k. k < length marks) same (marked_within marks b h) in
-        ap (at (set marks e true)) same ∙ get_or-set_same marks e true false within)
+    ap (at (set marks e true)) same ∙ get_or-set_same marks e true false within)
     (λ other. get_or-set_other marks e b true false other ∙ h)
     (cases_eq b e)
 
@@ -99,7 +103,7 @@ marks_source : (marks : List Bool) (es : List ℕ) (c : ℕ) → at (marked_all 
 marks_source marks [] c h = inl h
 marks_source marks (e ∷ es) c h = ⊎_elim
     (λ before. ⊎_elim (λ same. inr (inl same))
-        (λ other. inl (sym (get_or-set_other marks e c true false other) ∙ before)) (cases_eq c e))
+    (λ other. inl (sym (get_or-set_other marks e c true false other) ∙ before)) (cases_eq c e))
     (λ one. inr (inr one))
     (marks_source (set marks e true) es c h)
 
@@ -146,10 +150,10 @@ module _ (edges : ℕ → List ℕ) where
       round_keeps (marked_from edges marks d) bs c
       (subst (λ t. at (if t then marked_all marks (edges d) else marks) c ≡ true) (sym marked)
       (subst (λ k. at (marked_all marks (edges k)) c ≡ true) same
-          (marks_cover marks (edges b) n long (lt b within) c one)))
+      (marks_cover marks (edges b) n long (lt b within) c one)))
   round_covers n lt marks long (d ∷ bs) b c (inr there) h one =
       round_covers n lt (marked_from edges marks d) (from_length marks d (at marks d) ∙ long) bs b c there
-          (from_keeps marks d b (at marks d) h) one
+      (from_keeps marks d b (at marks d) h) one
 
   pub rounds_length : (count n : ℕ) (marks : List Bool) → length (marked_rounds edges count n marks) ≡ length marks
   rounds_length count zero marks = refl
@@ -180,19 +184,19 @@ module _ (edges : ℕ → List ℕ) where
 
   settle_case : (count n : ℕ) (marks : List Bool) → unmarked marks ≤ suc n
       → ((unmarked (marked_round edges marks (up 0 count)) ≤ n)
-          → marked_round edges (marked_rounds edges count n (marked_round edges marks (up 0 count))) (up 0 count)
-          ≡ marked_rounds edges count n (marked_round edges marks (up 0 count)))
+      → marked_round edges (marked_rounds edges count n (marked_round edges marks (up 0 count))) (up 0 count)
+      ≡ marked_rounds edges count n (marked_round edges marks (up 0 count)))
       → (unmarked (marked_round edges marks (up 0 count)) ≡ unmarked marks)
-          ⊎ (unmarked (marked_round edges marks (up 0 count)) ≢ unmarked marks)
+      ⊎ (unmarked (marked_round edges marks (up 0 count)) ≢ unmarked marks)
       → marked_round edges (marked_rounds edges count (suc n) marks) (up 0 count)
-          ≡ marked_rounds edges count (suc n) marks
+      ≡ marked_rounds edges count (suc n) marks
   settle_case count n marks few more (inl same) =
       let stays : marked_round edges marks (up 0 count) ≡ marks = (round_sinks marks (up 0 count)).same same in
       let all : marked_rounds edges count (suc n) marks ≡ marks = rounds_stay count (suc n) marks stays in
       ap (λ m. marked_round edges m (up 0 count)) all ∙ stays ∙ sym all
   settle_case count n marks few more (inr other) =
       let fewer : unmarked (marked_round edges marks (up 0 count)) ≤ unmarked marks =
-          (round_sinks marks (up 0 count)).fewer in
+      (round_sinks marks (up 0 count)).fewer in
       more (omega (arith, fewer, other))
 
   -- after as many rounds as blocks are not marked, a round leaves the marks
@@ -200,12 +204,12 @@ module _ (edges : ℕ → List ℕ) where
       → marked_round edges (marked_rounds edges count n marks) (up 0 count) ≡ marked_rounds edges count n marks
   rounds_settle count zero marks few =
       let fewer : unmarked (marked_round edges marks (up 0 count)) ≤ unmarked marks =
-          (round_sinks marks (up 0 count)).fewer in
+      (round_sinks marks (up 0 count)).fewer in
       let same : unmarked (marked_round edges marks (up 0 count)) ≡ unmarked marks = omega (arith, few, fewer) in
       (round_sinks marks (up 0 count)).same same
   rounds_settle count (suc n) marks few =
       settle_case count n marks few (rounds_settle count n (marked_round edges marks (up 0 count)))
-          (cases_eq (unmarked (marked_round edges marks (up 0 count))) (unmarked marks))
+      (cases_eq (unmarked (marked_round edges marks (up 0 count))) (unmarked marks))
 
 few_unmarked : (marks : List Bool) → unmarked marks ≤ length marks
 few_unmarked [] = omega arith
@@ -243,18 +247,18 @@ module _ {P T K C : Type 0} {proper : P → Type 0} {extends : T → T → Type 
   pub reached_is_marked : (b : ℕ) → IsReached rules.flow b → at marks b ≡ true
   reached_is_marked b at_entry =
       let within : rules.flow.entry < length (replicate rules.blocks false) =
-          subst (λ n. rules.flow.entry < n) (sym (length-replicate rules.blocks false)) f.entry_below in
+      subst (λ n. rules.flow.entry < n) (sym (length-replicate rules.blocks false)) f.entry_below in
       rounds_keep edges rules.blocks rules.blocks started rules.flow.entry
-          (get_or-set_same (replicate rules.blocks false) rules.flow.entry true false within)
+      (get_or-set_same (replicate rules.blocks false) rules.flow.entry true false within)
   reached_is_marked b (by_edge a c r one) =
       let marked : at marks a ≡ true = reached_is_marked a r in
       let within : a < rules.blocks = subst (λ n. a < n) marks_long (marked_within marks a marked) in
       let few : unmarked started ≤ rules.blocks =
-          subst (λ n. unmarked started ≤ n) started_length (few_unmarked started) in
+      subst (λ n. unmarked started ≤ n) started_length (few_unmarked started) in
       let settled = rounds_settle edges rules.blocks rules.blocks started few in
       subst (λ m. at m c ≡ true) settled
       (round_covers edges rules.blocks f.edges_below marks marks_long (up 0 rules.blocks) a c
-          (one_of_up a 0 rules.blocks (omega arith) (omega (arith, within))) marked one)
+      (one_of_up a 0 rules.blocks (omega arith) (omega (arith, within))) marked one)
 
   abbrev AllReached : List Bool → Type 0
   AllReached m = (b : ℕ) → at m b ≡ true → IsReached rules.flow b
@@ -263,7 +267,7 @@ module _ {P T K C : Type 0} {proper : P → Type 0} {extends : T → T → Type 
   started_reached b h = ⊎_elim
       (λ same. subst (IsReached rules.flow) (sym same) at_entry)
       (λ other. absurd (false≢true (sym (none_marked rules.blocks b)
-          ∙ sym (get_or-set_other (replicate rules.blocks false) rules.flow.entry b true false other) ∙ h)))
+      ∙ sym (get_or-set_other (replicate rules.blocks false) rules.flow.entry b true false other) ∙ h)))
       (cases_eq b rules.flow.entry)
 
   from_reached : (m : List Bool) (b : ℕ) (t : Bool) → at m b ≡ t → AllReached m

@@ -1,21 +1,22 @@
 -- Entry states that pass the check solve the flow.
-use Rattle.std.proofs.Common.{◌≡◌, ℕ, ◌+◌, ◌<◌, ◌≤◌, ◌≢◌, ◌⊎◌, ⊎_elim, inl, inr, Bool, true, false, nat_lt, ◌&&◌,
-    if◌then◌else◌, IsTrue, List, [], ◌∷◌, length, get_or, set, replicate, Option, Some, None, Result, Ok, Err, zero,
-    suc, refl, ap, sym, ◌∙◌, subst, arith}
+use Rattle.std.proofs.Common.{◌≡◌, ℕ, ◌+◌, ◌<◌, ◌≤◌, ◌≢◌, ◌⊎◌, ⊎_elim, inl, inr, Bool, true, false, nat_lt, ◌&&◌}
+use Rattle.std.proofs.Common.{if◌then◌else◌, IsTrue, List, [], ◌∷◌, length, get_or, set, replicate, Option, Some, None}
+use Rattle.std.proofs.Common.{Result, Ok, Err, zero, suc, refl, ap, sym, ◌∙◌, subst, arith}
 use Rattle.std.proofs.lemmas.List.{get_or-set_same, get_or-set_other, length-set, length-replicate}
 use Rattle.std.proofs.lemmas.Bool.{cases_eq, false≢true, lt-ltb}
 use Rattle.std.specs.List.{AllByRecursion, list_all}
 use Rattle.std.specs.Option.{is_some}
 use Rattle.alias_base.specs.Answer.{◌>>=◌}
 use Rattle.alias_lattice.specs.Laws.{LatticeLaws}
-use Rattle.alias_lattice.specs.Flows.{Outcome, Stepped, Refused, IsOneOf, IsReached, at_entry, by_edge, IsSolution,
-    AreJoins}
+use Rattle.alias_lattice.specs.Flows.{Outcome, Stepped, Refused, IsOneOf, IsReached, at_entry, by_edge, IsSolution}
+use Rattle.alias_lattice.specs.Flows.{AreJoins}
 use Rattle.alias_flow.specs.Machine.{Rules, up, send_all, FlowLaws}
 use Rattle.alias_flow.specs.Solutions.{entry_at, RecordsSteps, KeepsOthers, goes_forward, IsForward}
 use Rattle.alias_flow.proofs.Order.{below_trans}
-use Rattle.alias_flow.specs.check.Checks.{is_below_at, is_below_entry, first_not_above, is_joined, first_not_joined,
-    Arriving, passed, outcome_checked, state_checked, block_checked, blocks_checked, joined_unless, joins_checked,
-    begun_with, begins, first_arriving, not_joined, solution_checked}
+use Rattle.alias_flow.specs.check.Checks.{is_below_at, is_below_entry, first_not_above, is_joined, first_not_joined}
+use Rattle.alias_flow.specs.check.Checks.{Arriving, passed, outcome_checked, state_checked, block_checked}
+use Rattle.alias_flow.specs.check.Checks.{blocks_checked, joined_unless, joins_checked, begun_with, begins}
+use Rattle.alias_flow.specs.check.Checks.{first_arriving, not_joined, solution_checked}
 use Rattle.alias_flow.proofs.check.Arrivals.{Arrived, IsUnder, send_arrives, sends_arrive, send_least, sends_least}
 
 abbrev pub IsOk : {A E : Type 0} → Result A E → A → Type 0
@@ -91,11 +92,14 @@ none_at (suc n) (suc b) = none_at n b
 module _ {P T K C D : Type 0} {proper : P → Type 0} {join : P → P → P} {below : P → P → Bool} {extends : T → T → Type 0}
     {rules : Rules P T K C} {recorded₀ : List (Option K)}
     (l : LatticeLaws proper join below) (f : FlowLaws proper extends rules recorded₀) (differs : T → ℕ → K → Option D)
-        (entries : List (Option P)) where
+    (entries : List (Option P)) where
   -- the state, the tables and what is recorded once a block has stepped
   abbrev pub stepped_to : ℕ → P → T → K → Arriving P T K → Arriving P T K
-  stepped_to b y t k w = record { progress = send_all join y w.progress (rules.flow.edges b); tables = t;
-      recorded = set w.recorded b (Some k) }
+  stepped_to b y t k w = record {
+    progress = send_all join y w.progress (rules.flow.edges b);
+    tables = t;
+    recorded = set w.recorded b (Some k);
+  }
 
   -- the block stepped from its entry state
   pub record HasStepped (b : ℕ) (w v : Arriving P T K) : Type 0 where
@@ -124,8 +128,16 @@ module _ {P T K C D : Type 0} {proper : P → Type 0} {join : P → P → P} {be
   outcome_is b w v s is (Refused c) step h = not_error _ v h
   outcome_is b w v s is (Stepped y t k) step h =
       let p = passed_is b y t k w v (differs t b k) (first_not_above below entries y (rules.flow.edges b)) h in
-      record { state = s; out = y; tables = t; gives = k; is = is; step = step;
-          above = all_above below entries y (rules.flow.edges b) p.0; leaves = p.1 }
+      record {
+        state = s;
+        out = y;
+        tables = t;
+        gives = k;
+        is = is;
+        step = step;
+        above = all_above below entries y (rules.flow.edges b) p.0;
+        leaves = p.1;
+      }
 
   state_is : (b : ℕ) (w v : Arriving P T K) (o : Option P) → entry_at entries b ≡ o
       → state_checked join below rules differs entries b w o ≡ Ok v → IsChecked b w v
@@ -188,8 +200,8 @@ module _ {P T K C D : Type 0} {proper : P → Type 0} {join : P → P → P} {be
     module _ (i n : ℕ) (within : i < rules.blocks) (w v : Arriving P T K) (long : length w.recorded ≡ rules.blocks)
         (s y : P) (t : T) (k : K) (is : entry_at entries i ≡ Some s)
         (step : rules.flow.step w.tables i s ≡ Stepped y t k)
-            (above : AllByRecursion (Above below entries y) (rules.flow.edges i))
-            (c : AreChecked (i + 1) n (stepped_to i y t k w) v) where
+        (above : AllByRecursion (Above below entries y) (rules.flow.edges i))
+        (c : AreChecked (i + 1) n (stepped_to i y t k w) v) where
       again : rules.flow.step v.tables i s ≡ Stepped y v.tables k
       again = f.replay w.tables i s y t v.tables k step c.grows
 
@@ -221,28 +233,28 @@ module _ {P T K C D : Type 0} {proper : P → Type 0} {join : P → P → P} {be
             (f.edges_below i within));
         least = λ a q u p under old.
             c.least (sends_arrive l y w.progress (rules.flow.edges i) rules.blocks out_proper a
-                (f.edges_below i within)) q u p under
+            (f.edges_below i within)) q u p under
             (sends_least l y w.progress (rules.flow.edges i) rules.blocks out_proper a (f.edges_below i within) q u p
-                old (λ one. under i s y k is again one));
+            old (λ one. under i s y k is again one));
       }
 
     one_first : (i n : ℕ) → i < rules.blocks → (w a v : Arriving P T K) → length w.recorded ≡ rules.blocks
         → IsChecked i w a → (length a.recorded ≡ rules.blocks → AreChecked (i + 1) n a v) → AreChecked i (suc n) w v
     one_first i n within w a v long (inl none) rest =
         none_first i n w v none.0 (subst (λ z. AreChecked (i + 1) n z v) (sym none.1)
-            (rest (subst (λ (z : Arriving P T K). length z.recorded ≡ rules.blocks) none.1 long)))
+        (rest (subst (λ (z : Arriving P T K). length z.recorded ≡ rules.blocks) none.1 long)))
     one_first i n within w a v long (inr h) rest =
         stepped_first i n within w v long h.state h.out h.tables h.gives h.is h.step h.above
         (subst (λ z. AreChecked (i + 1) n z v) (sym h.leaves)
-            (rest (subst (λ (z : Arriving P T K). length z.recorded ≡ rules.blocks) h.leaves
-            (length-set w.recorded i (Some h.gives) ∙ long))))
+        (rest (subst (λ (z : Arriving P T K). length z.recorded ≡ rules.blocks) h.leaves
+        (length-set w.recorded i (Some h.gives) ∙ long))))
 
     pub are_checked : (i n : ℕ) → i + n ≡ rules.blocks → (w v : Arriving P T K) → length w.recorded ≡ rules.blocks
         → blocks_checked {C = C} join below rules differs entries (up i n) w ≡ Ok v → AreChecked i n w v
     are_checked i zero all w v long h = let same : w ≡ v = cc in subst (AreChecked i 0 w) same (none_left i w)
     are_checked i (suc n) all w v long h =
         let a = after (block_checked join below rules differs entries i w)
-            (blocks_checked join below rules differs entries (up (i + 1) n)) v h in
+        (blocks_checked join below rules differs entries (up (i + 1) n)) v h in
         one_first i n (omega arith) w a.was v long (state_is i w a.was (entry_at entries i) refl a.first)
         (λ more. are_checked (i + 1) n (omega arith) a.was v more a.then_is)
 
@@ -251,8 +263,8 @@ module _ {P T K C D : Type 0} {proper : P → Type 0} {join : P → P → P} {be
     module _ (count : length entries ≡ rules.blocks)
         (only_reached : (b : ℕ) (s : P) → entry_at entries b ≡ Some s → IsReached rules.flow b) (tables : T)
         (initial : Above below entries rules.flow.initial rules.flow.entry) (v : Arriving P T K)
-            (c : AreChecked 0 rules.blocks (record
-            { progress = first_arriving join below rules entries; tables = tables; recorded = recorded₀ }) v) where
+        (c : AreChecked 0 rules.blocks (record
+        { progress = first_arriving join below rules entries; tables = tables; recorded = recorded₀ }) v) where
       within_entries : (xs : List (Option P)) (b : ℕ) (s : P) → entry_at xs b ≡ Some s → b < length xs
       within_entries [] b s h = cc
       within_entries (x ∷ xs) zero s h = omega arith
@@ -287,17 +299,17 @@ module _ {P T K C D : Type 0} {proper : P → Type 0} {join : P → P → P} {be
       started : Arrived l rules.blocks (first_arriving join below rules entries)
       started = send_arrives l rules.flow.initial (replicate rules.blocks None) rules.flow.entry rules.blocks
           f.initial_proper (record {
-        long = length-replicate rules.blocks None;
-        proper_at = λ q s is. let none : entry_at (replicate rules.blocks None) q ≡ None = none_at rules.blocks q in
-            let two : None ≡ Some s = sym none ∙ is in cc;
-      }) f.entry_below
+            long = length-replicate rules.blocks None;
+            proper_at = λ q s is. let none : entry_at (replicate rules.blocks None) q ≡ None = none_at rules.blocks q in
+                let two : None ≡ Some s = sym none ∙ is in cc;
+          }) f.entry_below
 
       pub joins : ((b : ℕ) → b < rules.blocks → is_joined below (entry_at entries b) (entry_at v.progress b) ≡ true)
           → AreJoins below rules.flow proper v.tables (entry_at entries)
       joins joined b s is =
           let within : b < length entries = within_entries entries b s is in
           let t = below_arrived below entries v.progress b s (entry_at entries b) (entry_at v.progress b) is refl
-              (joined b (omega (arith, within, count))) in
+          (joined b (omega (arith, within, count))) in
           record {
             above = record {
               initial = λ same. let one : initial.0 ≡ s = let two : Some initial.0 ≡ Some s = sym initial.1
@@ -306,7 +318,7 @@ module _ {P T K C D : Type 0} {proper : P → Type 0} {join : P → P → P} {be
               stepped = λ d x y k d_is step one.
                   let z = settles_at d x d_is in
                   let out_is : z.out ≡ y = let two : Stepped z.out v.tables z.gives ≡ Stepped y v.tables k = sym z.step
-                      ∙ step in cc in
+                  ∙ step in cc in
                   let a = above_one below entries z.out (rules.flow.edges d) z.above b one in
                   let state_is : a.0 ≡ s = let two : Some a.0 ≡ Some s = sym a.1 ∙ is in cc in
                   subst (λ z. IsTrue (below y z)) state_is (subst (λ o. IsTrue (below o a.0)) out_is a.2);
@@ -315,14 +327,14 @@ module _ {P T K C D : Type 0} {proper : P → Type 0} {join : P → P → P} {be
                 let arrived = c.arrives started in
                 let first : IsUnder l (first_arriving join below rules entries) b u =
                 send_least l rules.flow.initial (replicate rules.blocks None) rules.flow.entry rules.blocks
-                    f.initial_proper (record {
+                f.initial_proper (record {
                   long = length-replicate rules.blocks None;
                   proper_at = λ q s is. let none : entry_at (replicate rules.blocks None) q ≡ None =
                       none_at rules.blocks q in let two : None ≡ Some s = sym none ∙ is in cc;
                 }) f.entry_below b u p (λ r r_is. let none : entry_at (replicate rules.blocks None) b ≡ None =
-                    none_at rules.blocks b in let two : None ≡ Some r = sym none ∙ r_is in cc) under.initial in
+                none_at rules.blocks b in let two : None ≡ Some r = sym none ∙ r_is in cc) under.initial in
                 let last = c.least started b u p (λ d x y k d_is step one. under.stepped d x y k d_is step one) first
-                    t.0 t.1 in
+                t.0 t.1 in
                 below_trans l s t.0 u (known b s is) (arrived.proper_at b t.0 t.1) p t.2 last;
           }
 
@@ -336,9 +348,9 @@ module _ {P T K C D : Type 0} {proper : P → Type 0} {join : P → P → P} {be
     begun_is : (tables : T) (w : Arriving P T K) (t : Bool)
         → is_below_entry below entries rules.flow.initial rules.flow.entry ≡ t
         → begun_with {C = C} join below rules differs entries tables recorded₀
-            (if t then Some (first_arriving join below rules entries) else None) ≡ Ok w
+        (if t then Some (first_arriving join below rules entries) else None) ≡ Ok w
         → (is_below_entry below entries rules.flow.initial rules.flow.entry ≡ true)
-            × (record { progress = first_arriving join below rules entries; tables = tables; recorded = recorded₀ } ≡ w)
+        × (record { progress = first_arriving join below rules entries; tables = tables; recorded = recorded₀ } ≡ w)
     begun_is tables w true is h = (is, cc)
     begun_is tables w false is h = not_error _ w h
 
@@ -352,19 +364,22 @@ module _ {P T K C D : Type 0} {proper : P → Type 0} {join : P → P → P} {be
         → solution_checked {C = C} join below rules differs entries tables recorded₀ ≡ Ok v → Passed tables v
     passed_check tables v h =
         let a = after (begun_with {C = C} join below rules differs entries tables recorded₀
-            (begins join below rules entries)) (λ w.
-            blocks_checked join below rules differs entries (up 0 rules.blocks) w
-            >>= joins_checked join below rules differs entries) v h in
+        (begins join below rules entries)) (λ w.
+        blocks_checked join below rules differs entries (up 0 rules.blocks) w
+        >>= joins_checked join below rules differs entries) v h in
         let begun = begun_is tables a.was (is_below_entry below entries rules.flow.initial rules.flow.entry) refl
-            a.first in
+        a.first in
         let b = after (blocks_checked {C = C} join below rules differs entries (up 0 rules.blocks) a.was)
-            (joins_checked join below rules differs entries) v a.then_is in
+        (joins_checked join below rules differs entries) v a.then_is in
         let joined = joined_is b.was v (not_joined below rules entries b.was.progress) refl b.then_is in
-        let w : Arriving P T K = record { progress = first_arriving join below rules entries; tables = tables;
-            recorded = recorded₀ } in
+        let w : Arriving P T K = record {
+          progress = first_arriving join below rules entries;
+          tables = tables;
+          recorded = recorded₀;
+        } in
         let long : length w.recorded ≡ rules.blocks = f.recorded_length in
         let run : blocks_checked {C = C} join below rules differs entries (up 0 rules.blocks) w ≡ Ok b.was =
-            ap (blocks_checked join below rules differs entries (up 0 rules.blocks)) begun.1 ∙ b.first in
+        ap (blocks_checked join below rules differs entries (up 0 rules.blocks)) begun.1 ∙ b.first in
         record {
           initial = above_at below entries rules.flow.initial rules.flow.entry (entry_at entries rules.flow.entry) refl
               begun.0;
@@ -378,8 +393,8 @@ module _ {P T K C D : Type 0} {proper : P → Type 0} {join : P → P → P} {be
         → (b : ℕ) → b < rules.blocks → is_joined below (entry_at entries b) (entry_at v.progress b) ≡ true
     all_below v forward h b lt =
         let none : first_not_joined below entries v.progress (up 0 rules.blocks) ≡ None =
-            ap (λ t. if t then first_not_joined below entries v.progress (up 0 rules.blocks) else None) (sym forward)
-            ∙ h in
+        ap (λ t. if t then first_not_joined below entries v.progress (up 0 rules.blocks) else None) (sym forward)
+        ∙ h in
         all_joined below entries v.progress 0 rules.blocks none b (omega arith) (omega (arith, lt))
 
 -- ---- edges that go forward pass the test
@@ -402,11 +417,11 @@ is_forward rules h = up_all (λ b. list_all (λ e. nat_lt b e) (rules.flow.edges
 module _ {P T K C D : Type 0} {proper : P → Type 0} {join : P → P → P} {below : P → P → Bool} {extends : T → T → Type 0}
     {rules : Rules P T K C} {recorded₀ : List (Option K)}
     (l : LatticeLaws proper join below) (f : FlowLaws proper extends rules recorded₀) (differs : T → ℕ → K → Option D)
-        (entries : List (Option P))
+    (entries : List (Option P))
     (known : (b : ℕ) (s : P) → entry_at entries b ≡ Some s → proper s) (count : length entries ≡ rules.blocks)
-        (only_reached : (b : ℕ) (s : P) → entry_at entries b ≡ Some s → IsReached rules.flow b)
+    (only_reached : (b : ℕ) (s : P) → entry_at entries b ≡ Some s → IsReached rules.flow b)
     (tables : T) (v : Arriving P T K) (h : solution_checked {C = C} join below rules differs entries tables recorded₀
-        ≡ Ok v) where
+    ≡ Ok v) where
   passed_all : Passed l f differs entries known tables v
   passed_all = passed_check l f differs entries known tables v h
 

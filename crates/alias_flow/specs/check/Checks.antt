@@ -1,6 +1,6 @@
 -- A check of entry states against a flow over numbered blocks: the first fault, or what the steps from them record.
-use Rattle.std.specs.Prelude.{◌≡◌, ℕ, Bool, true, false, if◌then◌else◌, List, [], ◌∷◌, Option, Some, None, Result, Ok,
-    Err, ⊤, slice_set, replicate}
+use Rattle.std.specs.Prelude.{◌≡◌, ℕ, Bool, true, false, if◌then◌else◌, List, [], ◌∷◌, Option, Some, None, Result, Ok}
+use Rattle.std.specs.Prelude.{Err, ⊤, slice_set, replicate}
 use Rattle.alias_base.specs.Answer.{◌>>=◌}
 use Rattle.alias_lattice.specs.Flows.{Outcome, Stepped, Refused}
 use Rattle.alias_flow.specs.Machine.{Rules, SolverState, up, send, send_all}
@@ -60,9 +60,11 @@ module _ {P T K C D : Type 0} (join : P → P → P) (below : P → P → Bool) 
   abbrev pub passed : ℕ → P → T → K → Arriving P T K → Option D → Option ℕ → Result (Arriving P T K) (Unsolved C D)
   passed b y tables k w (Some d) e = Err (fault.Differs b d)
   passed b y tables k w None (Some e) = Err (fault.NotBelow b e)
-  passed b y tables k w None None = Ok (record
-      { progress = send_all join y w.progress (rules.flow.edges b); tables = tables;
-      recorded = slice_set w.recorded b (Some k) })
+  passed b y tables k w None None = Ok (record {
+    progress = send_all join y w.progress (rules.flow.edges b);
+    tables = tables;
+    recorded = slice_set w.recorded b (Some k);
+  })
 
   abbrev pub outcome_checked : ℕ → Arriving P T K → Outcome P T K C → Result (Arriving P T K) (Unsolved C D)
   outcome_checked b w (Refused c) = Err (fault.Step b c)

@@ -10,7 +10,7 @@ abbrev pub AreClaims : {S C T K D : Type 0} → (S → T) → (S → List (Optio
     → (T → ℕ → K → Option D) → Type 0
 AreClaims {S = S} {K = K} tables recorded found claims differs =
     (flow : S) (b : ℕ) (k : K) → slice_index_or (recorded flow) b None ≡ Some k → found flow claims b
-        ≡ differs (tables flow) b k
+    ≡ differs (tables flow) b k
 
 module _ {P T K C D : Type 0} (join : P → P → P) (below : P → P → Bool) (rules : Rules P T K C)
     (differs : T → ℕ → K → Option D) (entries : List (Option P)) where

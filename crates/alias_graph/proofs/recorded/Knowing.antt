@@ -1,6 +1,6 @@
 -- The set of what a list of events makes, after one more.
-use Rattle.std.proofs.Common.{◌≡◌, Bool, true, false, cond, ◌||◌, ◌==◌, List, [], ◌∷◌, ◌++◌, Option, Some, None,
-    is_some, if◌then◌else◌, refl, ap, sym, ◌∙◌}
+use Rattle.std.proofs.Common.{◌≡◌, Bool, true, false, cond, ◌||◌, ◌==◌, List, [], ◌∷◌, ◌++◌, Option, Some, None}
+use Rattle.std.proofs.Common.{is_some, if◌then◌else◌, refl, ap, sym, ◌∙◌}
 use Rattle.std.specs.Map.{lookup}
 use Rattle.std.specs.List.{list_any}
 use Rattle.alias_base.specs.declared.ids.IdentifierId.{IdentifierId}
@@ -48,17 +48,17 @@ one_in [] id q = elim (same_id q id) as (λ b. is_some (cond b (Some (tt {0})) N
 one_in (p ∷ ids) id q = elim (same_id id p.0) as
     (λ b. same_id id p.0 ≡ b → is_some (lookup (same_id q) (if b then (p.0, tt {0}) ∷ ids else p ∷ with_id ids id))
     ≡ (same_id q id || is_some (cond (same_id q p.0) (Some p.1) (lookup (same_id q) ids)))) [
-  | true ↦ λ is.
-      let at : id.0 ≡ p.0.0 = eqb_is id.0 p.0.0 is in
-      in_again (same_id q p.0) (lookup (same_id q) ids)
+      | true ↦ λ is.
+          let at : id.0 ≡ p.0.0 = eqb_is id.0 p.0.0 is in
+          in_again (same_id q p.0) (lookup (same_id q) ids)
           ∙ ap (λ k. (q.0 == k) || is_some (cond (same_id q p.0) (Some p.1) (lookup (same_id q) ids))) (sym at)
-  | false ↦ λ is. elim (same_id q p.0) as
-      (λ b. is_some (cond b (Some p.1) (lookup (same_id q) (with_id ids id)))
-      ≡ (same_id q id || is_some (cond b (Some p.1) (lookup (same_id q) ids)))) [
-    | true ↦ or_true (same_id q id)
-    | false ↦ one_in ids id q
-  ]
-] refl
+      | false ↦ λ is. elim (same_id q p.0) as
+          (λ b. is_some (cond b (Some p.1) (lookup (same_id q) (with_id ids id)))
+          ≡ (same_id q id || is_some (cond b (Some p.1) (lookup (same_id q) ids)))) [
+            | true ↦ or_true (same_id q id)
+            | false ↦ one_in ids id q
+          ]
+    ] refl
 
 pub knows_same : (ids : Ids) (es : List GraphEvent) (e : GraphEvent) → made_id e ≡ None → Knows ids es
     → Knows ids (es ++ e ∷ [])
@@ -71,9 +71,9 @@ pub knows_more : (ids : Ids) (es : List GraphEvent) (e : GraphEvent) (id : Ident
 knows_more ids es (Make at value) id some k q =
     let is : at ≡ id = cc in
     one_in ids id q ∙ ap (λ z. same_id q id || z) (k q) ∙ ap (λ z. same_id q z || has_made es q) (sym is)
-        ∙ sym (made_more es (Make at value) q)
+    ∙ sym (made_more es (Make at value) q)
 knows_more ids es (CreateFrom index from into) id some k q =
     let is : into ≡ id = cc in
     one_in ids id q ∙ ap (λ z. same_id q id || z) (k q) ∙ ap (λ z. same_id q z || has_made es q) (sym is)
-        ∙ sym (made_more es (CreateFrom index from into) q)
+    ∙ sym (made_more es (CreateFrom index from into) q)
 knows_more ids es (Link kind index from into) id none k q = cc

@@ -1,6 +1,6 @@
 -- What the blocks of a function record, and the function.
-use Rattle.std.specs.Prelude.{ℕ, ◌+◌, List, [], ◌∷◌, ◌++◌, Option, Some, None, Result, Ok, if◌then◌else◌, nat_lt, map,
-    position, replicate, length, slice_get, slice_set}
+use Rattle.std.specs.Prelude.{ℕ, ◌+◌, List, [], ◌∷◌, ◌++◌, Option, Some, None, Result, Ok, if◌then◌else◌, nat_lt, map}
+use Rattle.std.specs.Prelude.{position, replicate, length, slice_get, slice_set}
 use Rattle.std.specs.Option.{option_map_or}
 use Rattle.std.specs.Map.{keys_of}
 use Rattle.alias_base.specs.Answer.{◌>>=◌}
@@ -134,8 +134,14 @@ abbrev pub first_events : HirFunction → List GraphEvent
 first_events f = map (λ p. object_of (param_place p)) f.params ++ map object_of f.context ++ object_of f.returns ∷ []
 
 abbrev pub first_listing : HirFunction → Listing
-first_listing f = record { next = 0; events = first_events f; mutations = []; renders = [];
-    pending = replicate (length f.body.blocks) []; summary = [] }
+first_listing f = record {
+  next = 0;
+  events = first_events f;
+  mutations = [];
+  renders = [];
+  pending = replicate (length f.body.blocks) [];
+  summary = [];
+}
 
 -- what the function's effects record
 abbrev pub listed : HirFunction → Result Listing HirError

@@ -1,7 +1,7 @@
 -- What the effects of instructions record: the events of the alias graph, mutations and renders at their positions, and
 -- what the summary begins with.
-use Rattle.std.specs.Prelude.{◌≡◌, ℕ, ◌+◌, Bool, true, false, List, [], ◌∷◌, ◌++◌, Option, Some, None, Result, Ok, Err,
-    ⊤, if◌then◌else◌, nat_lt, slice_get}
+use Rattle.std.specs.Prelude.{◌≡◌, ℕ, ◌+◌, Bool, true, false, List, [], ◌∷◌, ◌++◌, Option, Some, None, Result, Ok, Err}
+use Rattle.std.specs.Prelude.{⊤, if◌then◌else◌, nat_lt, slice_get}
 use Rattle.alias_base.specs.Answer.{◌>>=◌}
 use Rattle.alias_base.specs.declared.ids.InstructionId.{InstructionId}
 use Rattle.alias_base.specs.declared.ids.EvaluationOrder.{EvaluationOrder}
@@ -64,9 +64,19 @@ abbrev pub mutated : InstructionId → EvaluationOrder → Place → Bool → Mu
     → Result Listing HirError
 mutated i order x transitive kind reason l = do
   after ← position_after l.next
-  Ok (record l { next = after; mutations = l.mutations
-      ++ record { index = l.next; instruction = i; order = order; place = x; transitive = transitive; kind = kind;
-      reason = reason } ∷ [] })
+  Ok (record l {
+    next = after;
+    mutations = l.mutations
+        ++ record {
+          index = l.next;
+          instruction = i;
+          order = order;
+          place = x;
+          transitive = transitive;
+          kind = kind;
+          reason = reason;
+        } ∷ [];
+  })
 
 -- the effect goes into the summary
 abbrev pub summarized : AliasingEffect → Listing → Listing
@@ -76,8 +86,11 @@ summarized e l = record l { summary = l.summary ++ e ∷ [] }
 abbrev pub rendered : InstructionId → Place → Listing → Result Listing HirError
 rendered i x l = do
   after ← position_after l.next
-  Ok (record l { next = after; renders = l.renders ++ record { index = l.next; instruction = i; place = x } ∷ [];
-      summary = l.summary ++ effect.Render x ∷ [] })
+  Ok (record l {
+    next = after;
+    renders = l.renders ++ record { index = l.next; instruction = i; place = x } ∷ [];
+    summary = l.summary ++ effect.Render x ∷ [];
+  })
 
 -- what an effect of an instruction of this order records
 abbrev pub effect_listed : InstructionId → EvaluationOrder → AliasingEffect → Listing → Result Listing HirError

@@ -36,7 +36,7 @@ first_counts : (id k : FunctionId) (ks : List FunctionId) → id ≡ k → times
 first_counts id k ks is =
     times_cons k.0 (numbers ks) id.0
     ∙ ap (λ (z : FunctionId). cond (nat_eq z.0 id.0) 1 0 + times (numbers ks) id.0) (sym is)
-        ∙ ap (λ b. cond b 1 0 + times (numbers ks) id.0) (number_itself id.0)
+    ∙ ap (λ b. cond b 1 0 + times (numbers ks) id.0) (number_itself id.0)
 
 named_counts : (id : FunctionId) (zs : List Analysed) (ids : List FunctionId) → names_of zs ≡ map Some ids
     → IsNamed id zs → 1 ≤ times (numbers ids) id.0
@@ -46,10 +46,10 @@ named_counts id (z ∷ zs) (k ∷ ks) e i =
     let first : z.solved.function ≡ Some k = cc in
     let rest : names_of zs ≡ map Some ks = cc in
     let c : times (numbers (k ∷ ks)) id.0 ≡ cond (nat_eq k.0 id.0) 1 0 + times (numbers ks) id.0 =
-        times_cons k.0 (numbers ks) id.0 in
+    times_cons k.0 (numbers ks) id.0 in
     ⊎_elim
     (λ (here : Some id ≡ z.solved.function). let is : id ≡ k = cc in let f : times (numbers (k ∷ ks)) id.0 ≡ 1
-        + times (numbers ks) id.0 = first_counts id k ks is in omega arith)
+    + times (numbers ks) id.0 = first_counts id k ks is in omega arith)
     (λ there. let more : 1 ≤ times (numbers ks) id.0 = named_counts id zs ks rest there in omega arith)
     i
 
@@ -61,7 +61,7 @@ named_twice id (x ∷ xs) zs (k ∷ ks) e i j =
     let first : x.solved.function ≡ Some k = cc in
     let rest : names_of (xs ++ zs) ≡ map Some ks = cc in
     let c : times (numbers (k ∷ ks)) id.0 ≡ cond (nat_eq k.0 id.0) 1 0 + times (numbers ks) id.0 =
-        times_cons k.0 (numbers ks) id.0 in
+    times_cons k.0 (numbers ks) id.0 in
     ⊎_elim
     (λ (here : Some id ≡ x.solved.function).
     let is : id ≡ k = cc in
@@ -95,9 +95,9 @@ module _ (u : HirUnit) (a : UnitAnalysis) (rules : rules_hold u ≡ Ok tt) (anal
       → ⊥
   not_again xs zs id split before again =
       let names : names_of nested.functions ≡ map Some (nested_innermost_first u) =
-          (over u a rules analysed_is).functions in
+      (over u a rules analysed_is).functions in
       let two : 2 ≤ times (numbers (nested_innermost_first u)) id.0 =
-          named_twice id xs zs (nested_innermost_first u) (ap names_of (sym split) ∙ names) before again in
+      named_twice id xs zs (nested_innermost_first u) (ap names_of (sym split) ∙ names) before again in
       let once = (root_apart u rules).once id.0 in
       absurd (omega arith)
 
@@ -107,9 +107,9 @@ module _ (u : HirUnit) (a : UnitAnalysis) (rules : rules_hold u ≡ Ok tt) (anal
       slots_stay nested.env a.inferred.unit.env contexts id.0
       ∙ ⊎_elim
       (λ (n : IsNew nested.functions last xs ys x).
-          ap (λ (z : Analysed). option_map but_context (slice_get z.env.functions id.0)) n.same)
+      ap (λ (z : Analysed). option_map but_context (slice_get z.env.functions id.0)) n.same)
       (λ (t : WasThere nested.functions last xs ys x).
-          nested_stay xs t.rest x id t.all named (not_again xs (x ∷ t.rest) id t.all named) refl)
+      nested_stay xs t.rest x id t.all named (not_again xs (x ∷ t.rest) id t.all named) refl)
       (new_or_there nested.functions xs ys x last split)
 
   -- the solutions that are handed out are those of the functions that were analysed

@@ -1,7 +1,7 @@
 -- While functions are analysed, one that was analysed before another stands as the effects pass on the other one found
 -- it.
-use Rattle.std.specs.Prelude.{◌≡◌, ◌⊎◌, ℕ, nat_eq, true, false, List, [], ◌∷◌, ◌++◌, Option, Some, None, Result, Ok,
-    map, option_map, slice_get, refl}
+use Rattle.std.specs.Prelude.{◌≡◌, ◌⊎◌, ℕ, nat_eq, true, false, List, [], ◌∷◌, ◌++◌, Option, Some, None, Result, Ok}
+use Rattle.std.specs.Prelude.{map, option_map, slice_get, refl}
 use Rattle.std.proofs.Common.{zero, suc, inl, inr, ⊎_elim, ap, sym, ◌∙◌, subst}
 use Rattle.std.proofs.lemmas.Bool.{eqb-true}
 use Rattle.alias_base.specs.declared.ids.FunctionId.{FunctionId}
@@ -12,8 +12,8 @@ use Rattle.alias_rules.specs.function_rules.Rules.{is_among}
 use Rattle.alias_nesting_laws.specs.SlotLaws.{set_other}
 use Rattle.alias_nesting_laws.specs.Slots.{with_function}
 use Rattle.alias_range_pass.specs.places.Keeping.{but_context}
-use Rattle.alias_nested.specs.Analysis.{numbered, Analysed, Analysis, each, function_analysed, taken_analysed, put_back,
-    found_analysed, slot_analysed, analysed}
+use Rattle.alias_nested.specs.Analysis.{numbered, Analysed, Analysis, each, function_analysed, taken_analysed, put_back}
+use Rattle.alias_nested.specs.Analysis.{found_analysed, slot_analysed, analysed}
 use Rattle.alias_nested.specs.Created.{created_functions}
 use Rattle.alias_nested.specs.Order.{SameInSlot}
 use Rattle.alias_nested.specs.Slots.{emptied}
@@ -50,9 +50,9 @@ new_or_there (f ∷ fs) (z ∷ xs) ys x y h =
     let rest : fs ++ y ∷ [] ≡ xs ++ x ∷ ys = cc in
     ⊎_elim
     (λ (n : IsNew fs y xs ys x). inl (record
-        { before = ap (λ zs. f ∷ zs) n.before ∙ ap (λ w. w ∷ xs) same; same = n.same }))
+    { before = ap (λ zs. f ∷ zs) n.before ∙ ap (λ w. w ∷ xs) same; same = n.same }))
     (λ (t : WasThere fs y xs ys x). inr (record
-        { rest = t.rest; all = ap (λ zs. f ∷ zs) t.all ∙ ap (λ w. w ∷ xs ++ x ∷ t.rest) same; behind = t.behind }))
+    { rest = t.rest; all = ap (λ zs. f ∷ zs) t.all ∙ ap (λ w. w ∷ xs ++ x ∷ t.rest) same; behind = t.behind }))
     (new_or_there fs xs ys x y rest)
 
 named_last : (id : FunctionId) (xs : List Analysed) (y : Analysed) → y.solved.function ≡ Some id
@@ -71,7 +71,7 @@ named_more id (x ∷ xs) zs i = ⊎_elim (λ here. inl here) (λ there. inr (nam
 abbrev pub Stay : List ℕ → Analysis → Type 0
 Stay out a =
     (xs ys : List Analysed) (x : Analysed) (id : FunctionId) → a.functions ≡ xs ++ x ∷ ys → IsNamed id xs
-        → (IsNamed id (x ∷ ys) → ⊥) → is_among out id.0 ≡ false → SameInSlot x.env a.env id.0
+    → (IsNamed id (x ∷ ys) → ⊥) → is_among out id.0 ≡ false → SameInSlot x.env a.env id.0
 
 abbrev Taken : Type 0
 Taken = HirFunction × Analysis
@@ -81,7 +81,7 @@ taken_out : (id : FunctionId) (out : List ℕ) (a : Analysis) (g : HirFunction) 
 taken_out id out a g stay = λ xs ys x j split named once free.
     let n = neither (nat_eq j.0 id.0) (is_among out j.0) free in
     ap (option_map but_context) (set_other a.env.functions id.0 j.0 g (λ e. differs j.0 id.0 n.0 e))
-        ∙ stay xs ys x j split named once n.1
+    ∙ stay xs ys x j split named once n.1
 
 module _ (id : FunctionId) (out : List ℕ) (a : Analysis) (s : HirFunction × Analysis) (y : Analysed)
     (at : y.env ≡ a.env) (entered : Entered id a s y) where
@@ -91,7 +91,7 @@ module _ (id : FunctionId) (out : List ℕ) (a : Analysis) (s : HirFunction × A
       ⊎_elim
       (λ (n : IsNew a.functions y xs ys x). inl (sym entered.number ∙ ap (λ (z : Analysed). z.solved.function) n.same))
       (λ (t : WasThere a.functions y xs ys x).
-          inr (subst (IsNamed id) (sym t.behind) (named_last id t.rest y entered.number)))
+      inr (subst (IsNamed id) (sym t.behind) (named_last id t.rest y entered.number)))
       (new_or_there a.functions xs ys x y split)
 
   -- the others stand as before
@@ -101,10 +101,10 @@ module _ (id : FunctionId) (out : List ℕ) (a : Analysis) (s : HirFunction × A
   others_stay stay xs ys x j split named once free =
       ⊎_elim
       (λ (n : IsNew a.functions y xs ys x). ap (λ (e : Environment). option_map but_context (slice_get e.functions j.0))
-          (sym at ∙ ap (λ (z : Analysed). z.env) n.same))
+      (sym at ∙ ap (λ (z : Analysed). z.env) n.same))
       (λ (t : WasThere a.functions y xs ys x).
-          stay xs t.rest x j t.all named (λ again.
-          once (subst (λ zs. IsNamed j (x ∷ zs)) (sym t.behind) (named_more j (x ∷ t.rest) (y ∷ []) again))) free)
+      stay xs t.rest x j t.all named (λ again.
+      once (subst (λ zs. IsNamed j (x ∷ zs)) (sym t.behind) (named_more j (x ∷ t.rest) (y ∷ []) again))) free)
       (new_or_there a.functions xs ys x y split)
 
   back : Stay (id.0 ∷ out) a → map but_context s.1.env.functions ≡ map but_context a.env.functions
@@ -135,13 +135,17 @@ module _ (below : HirFunction → Analysis → Result Analysis InferError) (keep
       let mid : Analysis = v.0 in
       let is : put_back id s ≡ b = cc in
       let first : Stay (id.0 ∷ out) mid = keeps f (id.0 ∷ out) taken mid (taken_out id out a (emptied f.returns) stay)
-          v.1 in
+      v.1 in
       let fin : Finished id f mid s.0 s.1 = function_finished id f mid s v.2 in
       let p : Passed id f mid s = function_passed id f mid s v.2 in
-      let y : Analysed = record { env = mid.env; func = f; is_function_expression = true;
-          solved = numbered id p.end.solved } in
+      let y : Analysed = record {
+        env = mid.env;
+        func = f;
+        is_function_expression = true;
+        solved = numbered id p.end.solved;
+      } in
       let entered : Entered id mid s y = record
-          { functions = ap (λ (q : Taken). q.1.functions) (sym p.is); number = refl } in
+      { functions = ap (λ (q : Taken). q.1.functions) (sym p.is); number = refl } in
       subst (Stay out) is (back id out mid s y refl entered first fin.contexts)
 
   each_stay : (ids : List FunctionId) (out : List ℕ) (a b : Analysis) → Stay out a → each (slot_analysed below) ids a

@@ -1,6 +1,6 @@
 -- The functions of the unit that is handed out carry their solutions.
-use Rattle.std.specs.Prelude.{◌≡◌, ℕ, nat_eq, true, false, cond, List, [], ◌∷◌, Option, Some, None, Ok, map, slice_get,
-    refl}
+use Rattle.std.specs.Prelude.{◌≡◌, ℕ, nat_eq, true, false, cond, List, [], ◌∷◌, Option, Some, None, Ok, map, slice_get}
+use Rattle.std.specs.Prelude.{refl}
 use Rattle.std.proofs.Common.{⊎_elim, ap, sym, ◌∙◌, subst, arith, ◌+◌, ◌≤◌}
 use Rattle.std.proofs.lemmas.Bool.{eqb-true}
 use Rattle.alias_base.specs.declared.ids.FunctionId.{FunctionId}
@@ -21,8 +21,8 @@ use Rattle.alias_answer_laws.specs.order.Order.{nested_innermost_first}
 use Rattle.alias_answer_laws.proofs.order.Solving.{end_names_none, root_apart}
 use Rattle.alias_inferred_laws.specs.inferred.Solutions.{CarriesItsSolution, SolutionsAreCarried}
 use Rattle.alias_inferred_laws.proofs.inferred.Explaining.{root, over, leaves, slot_recorded}
-use Rattle.alias_inferred_laws.proofs.inferred.Lasting.{is_numbered, later, own, number_itself, some_number, last_of,
-    SlotHolds}
+use Rattle.alias_inferred_laws.proofs.inferred.Lasting.{is_numbered, later, own, number_itself, some_number, last_of}
+use Rattle.alias_inferred_laws.proofs.inferred.Lasting.{SlotHolds}
 use Rattle.alias_inferred_laws.proofs.inferred.Listing.{IsRecorded, still_recorded, function_recorded, without_summary}
 use Rattle.alias_inferred_laws.proofs.inferred.Rooting.{root_entry}
 
@@ -46,7 +46,7 @@ none_last id (x ∷ xs) (k ∷ ks) e t =
     let first : x.solved.function ≡ Some k = cc in
     let rest : names_of xs ≡ map Some ks = cc in
     let c : times (k.0 ∷ numbers ks) id.0 ≡ cond (nat_eq k.0 id.0) 1 0 + times (numbers ks) id.0 =
-        times_cons k.0 (numbers ks) id.0 in
+    times_cons k.0 (numbers ks) id.0 in
     elim (nat_eq id.0 k.0) as (λ b. nat_eq id.0 k.0 ≡ b → last_of id (x ∷ xs) ≡ None) [
       | true ↦ λ n. let f : times (k.0 ∷ numbers ks) id.0 ≡ 1 + times (numbers ks) id.0 =
           first_counted k.0 (numbers ks) id.0 (sym (eqb-true id.0 k.0 n)) in absurd (omega arith)
@@ -60,15 +60,15 @@ last_is id (y ∷ ys) [] x e t i n = cc
 last_is id (y ∷ ys) (k ∷ ks) x e t i n =
     let rest : names_of ys ≡ map Some ks = cc in
     let c : times (k.0 ∷ numbers ks) id.0 ≡ cond (nat_eq k.0 id.0) 1 0 + times (numbers ks) id.0 =
-        times_cons k.0 (numbers ks) id.0 in
+    times_cons k.0 (numbers ks) id.0 in
     ⊎_elim
     (λ (same : x ≡ y).
     let mine : y.solved.function ≡ Some id = ap (λ (z : Analysed). z.solved.function) (sym same) ∙ n in
     let is : k ≡ id = cc in
     let f : times (k.0 ∷ numbers ks) id.0 ≡ 1 + times (numbers ks) id.0 =
-        first_counted k.0 (numbers ks) id.0 (ap (λ (z : FunctionId). z.0) is) in
+    first_counted k.0 (numbers ks) id.0 (ap (λ (z : FunctionId). z.0) is) in
     ap (λ o. later o (own id y)) (none_last id ys ks rest (omega arith))
-        ∙ ap (λ b. cond b (Some y) None) (some_number id y.solved.function (sym mine)) ∙ ap Some (sym same))
+    ∙ ap (λ b. cond b (Some y) None) (some_number id y.solved.function (sym mine)) ∙ ap Some (sym same))
     (λ there. ap (λ o. later o (own id y)) (last_is id ys ks x rest (omega arith) there n))
     i
 
@@ -108,7 +108,7 @@ module _ (u : HirUnit) (a : UnitAnalysis) (rules : rules_hold u ≡ Ok tt) (anal
       let once = (root_apart u rules).once id.0 in
       let one : times (numbers (nested_innermost_first u)) id.0 ≤ 1 = omega arith in
       slot_carries (last_of id nested) (slice_get a.inferred.unit.env.functions id.0) x f
-          (last_is id nested (nested_innermost_first u) x names one i n.1)
+      (last_is id nested (nested_innermost_first u) x names one i n.1)
       (subst (λ k. function_of a.inferred.unit k ≡ Some f) n.1 e) (slot_recorded u a rules analysed_is id)
 
   root_carries : (f : HirFunction) → function_of a.inferred.unit last.solved.function ≡ Some f
@@ -116,10 +116,10 @@ module _ (u : HirUnit) (a : UnitAnalysis) (rules : rules_hold u ≡ Ok tt) (anal
   root_carries f e =
       let r = root u a rules analysed_is in
       let nameless : last.solved.function ≡ None =
-          end_names_none r.nested.env u.function (visits_end (context_of r.nested.env u.function false)) r.end
-          r.ended in
+      end_names_none r.nested.env u.function (visits_end (context_of r.nested.env u.function false)) r.end
+      r.ended in
       let here : function_of a.inferred.unit None ≡ Some f =
-          subst (λ k. function_of a.inferred.unit k ≡ Some f) nameless e in
+      subst (λ k. function_of a.inferred.unit k ≡ Some f) nameless e in
       let same : a.inferred.unit.function ≡ f = cc in
       subst (CarriesItsSolution last) (sym r.root ∙ same) (ap without_summary (leaves u a rules analysed_is).still)
 
@@ -127,5 +127,5 @@ module _ (u : HirUnit) (a : UnitAnalysis) (rules : rules_hold u ≡ Ok tt) (anal
   solutions_carried x f i e =
       ⊎_elim (λ there. nested_carries x f there e)
       (λ (same : x ≡ last). subst (λ z. CarriesItsSolution z f) (sym same)
-          (root_carries f (subst (λ (z : Analysed). function_of a.inferred.unit z.solved.function ≡ Some f) same e)))
+      (root_carries f (subst (λ (z : Analysed). function_of a.inferred.unit z.solved.function ≡ Some f) same e)))
       (in_longer nested last x (subst (IsOneOf x) (root u a rules analysed_is).all i))

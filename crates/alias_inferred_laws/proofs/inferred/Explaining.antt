@@ -1,6 +1,6 @@
 -- In the unit that is handed out no explanation is refused for want of numbers.
-use Rattle.std.specs.Prelude.{◌≡◌, ℕ, ◌<◌, ◌≤◌, ◌==◌, ◌||◌, ◌&&◌, nat_eq, not, Bool, true, false, List, [], ◌∷◌, ◌++◌,
-    Option, Some, None, Result, Ok, Err, length, map, slice_get, if◌then◌else◌, refl}
+use Rattle.std.specs.Prelude.{◌≡◌, ℕ, ◌<◌, ◌≤◌, ◌==◌, ◌||◌, ◌&&◌, nat_eq, not, Bool, true, false, List, [], ◌∷◌, ◌++◌}
+use Rattle.std.specs.Prelude.{Option, Some, None, Result, Ok, Err, length, map, slice_get, if◌then◌else◌, refl}
 use Rattle.std.proofs.Common.{zero, suc, inl, inr, ⊎_elim, ap, sym, ◌∙◌, subst, arith}
 use Rattle.std.proofs.lemmas.Bool.{eqb-true}
 use Rattle.alias_base.specs.Answer.{◌>>=◌}
@@ -46,8 +46,8 @@ use Rattle.alias_answer_laws.proofs.order.Solving.{root_apart}
 use Rattle.alias_answer_laws.proofs.order.Staying.{count_alike}
 use Rattle.alias_answer_laws.proofs.order.Unit.{order_once}
 use Rattle.alias_inferred_laws.specs.inferred.Explanations.{NeverTooMany}
-use Rattle.alias_inferred_laws.proofs.inferred.Lasting.{last_of, last_there, SlotHolds, slot_holds, analysed_holds,
-    none_hold}
+use Rattle.alias_inferred_laws.proofs.inferred.Lasting.{last_of, last_there, SlotHolds, slot_holds, analysed_holds}
+use Rattle.alias_inferred_laws.proofs.inferred.Lasting.{none_hold}
 use Rattle.alias_inferred_laws.proofs.inferred.Listing.{IsListed, IsRecorded, still_recorded, function_recorded}
 use Rattle.alias_inferred_laws.proofs.inferred.Ranging.{PassLeaves, pass_leaves, lists_still}
 use Rattle.alias_inferred_laws.proofs.inferred.Rooting.{root_entry, root_begun, root_validated, root_ended}
@@ -132,10 +132,10 @@ module _ (u : HirUnit) (a : UnitAnalysis) (rules : rules_hold u ≡ Ok tt) (anal
       (last_of id root.nested.functions) (slice_get a.inferred.unit.env.functions id.0)
   slot_recorded id =
       slot_holds IsRecorded still_recorded function_recorded (last_of id root.nested.functions)
-          (slice_get root.nested.env.functions id.0) (slice_get a.inferred.unit.env.functions id.0)
+      (slice_get root.nested.env.functions id.0) (slice_get a.inferred.unit.env.functions id.0)
       (slots_stay root.nested.env a.inferred.unit.env contexts id.0)
       (analysed_holds IsRecorded still_recorded function_recorded most_levels u.function [] (analysis u.env [])
-          root.nested (none_hold IsRecorded still_recorded function_recorded u.env) root.analyses id refl)
+      root.nested (none_hold IsRecorded still_recorded function_recorded u.env) root.analyses id refl)
 
   recorded_is_listed : (l : Option Analysed) (x : Analysed) (g : HirFunction) → l ≡ Some x
       → SlotHolds IsRecorded still_recorded function_recorded l (Some g) → IsListed g
@@ -148,16 +148,16 @@ module _ (u : HirUnit) (a : UnitAnalysis) (rules : rules_hold u ≡ Ok tt) (anal
       (λ (there : id.0 < length u.env.functions).
       let once = order_once u rules id.0 there in
       let among : is_among (numbers (nested_innermost_first u)) id.0 ≡ true =
-          there_among (numbers (nested_innermost_first u)) id.0 (omega arith) in
+      there_among (numbers (nested_innermost_first u)) id.0 (omega arith) in
       let is_done : IsOneOf (Some id) (done root.nested) =
-          subst (IsOneOf (Some id)) (sym over.functions) (named_there (nested_innermost_first u) id among) in
+      subst (IsOneOf (Some id)) (sym over.functions) (named_there (nested_innermost_first u) id among) in
       let last = last_there id root.nested.functions is_done in
       recorded_is_listed (last_of id root.nested.functions) last.0 g last.1
-          (subst (SlotHolds IsRecorded still_recorded function_recorded (last_of id root.nested.functions)) e
-          (slot_recorded id)))
+      (subst (SlotHolds IsRecorded still_recorded function_recorded (last_of id root.nested.functions)) e
+      (slot_recorded id)))
       (λ (past : length u.env.functions ≤ id.0).
       let count : length a.inferred.unit.env.functions ≡ length u.env.functions =
-          count_alike root.nested.env.functions a.inferred.unit.env.functions contexts ∙ over.stands.count in
+      count_alike root.nested.env.functions a.inferred.unit.env.functions contexts ∙ over.stands.count in
       absurd (none_past a.inferred.unit.env.functions id.0 g (omega arith) e))
       (lt_or_le id.0 (length u.env.functions))
 
@@ -166,8 +166,10 @@ module _ (u : HirUnit) (a : UnitAnalysis) (rules : rules_hold u ≡ Ok tt) (anal
       → IsListed g
   each_is_listed None g e =
       let same : a.inferred.unit.function ≡ g = cc in
-      subst IsListed (sym root.root ∙ same) (leaves.listing,
-          lists_still false begun (env_after root.nested.env root.end) root.ranged leaves)
+      subst IsListed (sym root.root ∙ same) (
+        leaves.listing,
+        lists_still false begun (env_after root.nested.env root.end) root.ranged leaves,
+      )
   each_is_listed (Some id) g e = slot_listed id g e
 
 -- ---- explanations
@@ -182,11 +184,11 @@ cause_there : (f : HirFunction) (id : IdentifierId) (end : ℕ) → IsListed f �
 cause_there f id end l =
     let c : Cause = first_cause (graph_listed l.0) id end l.0.mutations in
     let m : mutated_or_not f id end ≡ Ok c =
-        ap (λ (r : Result Listing HirError). r
-        >>= (λ (k : Listing). Ok (first_cause (graph_listed k) id end k.mutations))) l.1 in
+    ap (λ (r : Result Listing HirError). r
+    >>= (λ (k : Listing). Ok (first_cause (graph_listed k) id end k.mutations))) l.1 in
     let d = defined_there (defined_by f id end) (mutated_or_not f id end) c m in
     elim (end == 0) as (λ b. (c : Cause) × ((if b then Ok Unset
-        else defined_or (defined_by f id end) (mutated_or_not f id end)) ≡ Ok c)) [ true ↦ (Unset, refl) | false ↦ d ]
+    else defined_or (defined_by f id end) (mutated_or_not f id end)) ≡ Ok c)) [ true ↦ (Unset, refl) | false ↦ d ]
 
 abbrev NeverRefused : Result Explanation ExplainFault → Type 0
 NeverRefused r = (which : Counter) → r ≡ Err (TooMany which) → ⊥
@@ -204,8 +206,8 @@ explained_never env function id (Some f) None h = λ which e. cc
 explained_never env function id (Some f) (Some x) h =
     let c = cause_there f id x.mutable_range.end.0 (h f refl) in
     elim (stands_in env f id && not (is_reset function f id)) as
-        (λ b. NeverRefused (if b then with_range x.mutable_range (cause_of f id x.mutable_range.end.0)
-        else Err NotHere)) [
+    (λ b. NeverRefused (if b then with_range x.mutable_range (cause_of f id x.mutable_range.end.0)
+    else Err NotHere)) [
       | true ↦ ranged_never x.mutable_range (cause_of f id x.mutable_range.end.0) c.0 c.1
       | false ↦ λ which e. cc
     ]
@@ -214,4 +216,4 @@ pub never_too_many : (u : HirUnit) (a : UnitAnalysis) → rules_hold u ≡ Ok tt
     → NeverTooMany a.inferred
 never_too_many u a rules h = λ function id.
     explained_never a.inferred.unit.env function id (function_of a.inferred.unit function)
-        (slice_get a.inferred.unit.env.identifiers id.0) (each_is_listed u a rules h function)
+    (slice_get a.inferred.unit.env.identifiers id.0) (each_is_listed u a rules h function)

@@ -1,6 +1,6 @@
 -- What holds of a function once it is analysed, whatever the effects of its context places are, holds of it ever after.
-use Rattle.std.specs.Prelude.{◌≡◌, ℕ, nat_eq, Bool, true, false, cond, List, [], ◌∷◌, ◌++◌, Option, Some, None, Result,
-    Ok, map, option_map, slice_get, slice_set, refl}
+use Rattle.std.specs.Prelude.{◌≡◌, ℕ, nat_eq, Bool, true, false, cond, List, [], ◌∷◌, ◌++◌, Option, Some, None, Result}
+use Rattle.std.specs.Prelude.{Ok, map, option_map, slice_get, slice_set, refl}
 use Rattle.std.proofs.Common.{zero, suc, ⊎_elim, ap, sym, ◌∙◌, subst, arith}
 use Rattle.std.proofs.lemmas.Bool.{eqb-true}
 use Rattle.std.proofs.lemmas.Bool.Decides.{nat_tests}
@@ -13,8 +13,8 @@ use Rattle.alias_nesting_laws.specs.SlotLaws.{set_other}
 use Rattle.alias_nesting_laws.specs.Slots.{with_function}
 use Rattle.alias_range_pass.specs.places.Keeping.{but_context}
 use Rattle.alias_graph.specs.Walks.{IsOneOf}
-use Rattle.alias_nested.specs.Analysis.{Analysed, Analysis, each, function_analysed, taken_analysed, put_back,
-    found_analysed, slot_analysed, analysed}
+use Rattle.alias_nested.specs.Analysis.{Analysed, Analysis, each, function_analysed, taken_analysed, put_back}
+use Rattle.alias_nested.specs.Analysis.{found_analysed, slot_analysed, analysed}
 use Rattle.alias_nested.specs.Created.{created_functions}
 use Rattle.alias_nested.specs.Slots.{emptied}
 use Rattle.alias_nested.proofs.Changing.{slots_stay}
@@ -75,7 +75,7 @@ last_there id [] i = absurd i
 last_there id (x ∷ xs) i =
     ⊎_elim
     (λ here. is_later (last_of id xs) (own id x) x
-        (ap (λ b. cond b (Some x) None) (some_number id x.solved.function here)))
+    (ap (λ b. cond b (Some x) None) (some_number id x.solved.function here)))
     (λ there. let r = last_there id xs there in (r.0, ap (λ o. later o (own id x)) r.1))
     i
   where
@@ -130,26 +130,26 @@ module _ (Holds : Analysed → HirFunction → Type 0)
     taken_out id out a g d = λ j h.
         let n = neither (nat_eq j.0 id.0) (is_among out j.0) h in
         subst (SlotHolds (last_of j a.functions))
-            (sym (set_other a.env.functions id.0 j.0 g (λ e. differs j.0 id.0 n.0 e))) (d j n.1)
+        (sym (set_other a.env.functions id.0 j.0 g (λ e. differs j.0 id.0 n.0 e))) (d j n.1)
 
     back : (id : FunctionId) (out : List ℕ) (a : Analysis) (s : Taken) (x : Analysed) → AllHold (id.0 ∷ out) a
         → Entered id a s x → map but_context s.1.env.functions ≡ map but_context a.env.functions → Holds x s.0
         → AllHold out (put_back id s)
     back id out a s x d entered contexts own_holds = λ j h.
         subst (λ fs. SlotHolds (last_of j fs) (slice_get (slice_set s.1.env.functions id.0 s.0) j.0))
-            (sym entered.functions)
+        (sym entered.functions)
         (subst (λ l. SlotHolds l (slice_get (slice_set s.1.env.functions id.0 s.0) j.0))
-            (sym (last_put id j a.functions x entered.number))
+        (sym (last_put id j a.functions x entered.number))
         (elim (nat_eq j.0 id.0) as (λ b. nat_eq j.0 id.0 ≡ b
-            → SlotHolds (later (cond b (Some x) None) (last_of j a.functions))
-            (slice_get (slice_set s.1.env.functions id.0 s.0) j.0)) [
+        → SlotHolds (later (cond b (Some x) None) (last_of j a.functions))
+        (slice_get (slice_set s.1.env.functions id.0 s.0) j.0)) [
           | true ↦ λ e. subst (λ k. SlotHolds (Some x) (slice_get (slice_set s.1.env.functions id.0 s.0) k))
               (sym (eqb-true j.0 id.0 e)) (slot_put x s.1.env.functions id.0 s.0 own_holds)
           | false ↦ λ e.
               subst (SlotHolds (last_of j a.functions))
-                  (sym (set_other s.1.env.functions id.0 j.0 s.0 (λ same. differs j.0 id.0 e same)))
+              (sym (set_other s.1.env.functions id.0 j.0 s.0 (λ same. differs j.0 id.0 e same)))
               (slot_holds (last_of j a.functions) (slice_get a.env.functions j.0) (slice_get s.1.env.functions j.0)
-                  (slots_stay a.env s.1.env contexts j.0) (d j (both_false (nat_eq j.0 id.0) (is_among out j.0) e h)))
+              (slots_stay a.env s.1.env contexts j.0) (d j (both_false (nat_eq j.0 id.0) (is_among out j.0) e h)))
         ] refl))
 
     found_holds : (id : FunctionId) (out : List ℕ) (a b : Analysis) (o : Option HirFunction) → AllHold out a
@@ -163,7 +163,7 @@ module _ (Holds : Analysed → HirFunction → Type 0)
         let mid : Analysis = v.0 in
         let is : put_back id s ≡ b = cc in
         let first : AllHold (id.0 ∷ out) mid =
-            keeps f (id.0 ∷ out) taken mid (taken_out id out a (emptied f.returns) d) v.1 in
+        keeps f (id.0 ∷ out) taken mid (taken_out id out a (emptied f.returns) d) v.1 in
         let fin : Finished id f mid s.0 s.1 = function_finished id f mid s v.2 in
         let new = begins id f mid s v.2 in
         subst (AllHold out) is (back id out mid s new.0 first new.1 fin.contexts new.2)

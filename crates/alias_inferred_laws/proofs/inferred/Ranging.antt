@@ -32,8 +32,9 @@ use Rattle.alias_range_pass.specs.summary.Laws.{Covers, MutationCause, MutationC
 use Rattle.alias_range_pass.specs.summary.MarkedPlaces.{function_captured}
 use Rattle.alias_range_pass.specs.summary.Summaries.{tracked, summarized}
 use Rattle.alias_range_pass.specs.summary.WalkLaws.{listing_covers, listing_causes, done_links, done_before}
-use Rattle.alias_range_pass.specs.summary.Walking.{start_origin, expanded, mutation_start, Walked, after_mutation,
-    after_mutations, after_render, after_renders, env_reported, mutations_done, renders_done}
+use Rattle.alias_range_pass.specs.summary.Walking.{start_origin, expanded, mutation_start, Walked, after_mutation}
+use Rattle.alias_range_pass.specs.summary.Walking.{after_mutations, after_render, after_renders, env_reported}
+use Rattle.alias_range_pass.specs.summary.Walking.{mutations_done, renders_done}
 use Rattle.alias_rules.specs.Fitting.{function_fits}
 
 -- ---- the walks
@@ -43,15 +44,15 @@ walked_keep c [] w = keeps_same w.1
 walked_keep c (m ∷ ms) w =
     let s = mutation_start m in
     keeps_trans w.1 (after_mutation c w m).1 (after_mutations c (m ∷ ms) w).1
-        (walk_keeps c s.index (start_origin s) s.end w.0 (expanded w.0 s) w.1 (after_mutation c w m).1 refl)
-        (walked_keep c ms (after_mutation c w m))
+    (walk_keeps c s.index (start_origin s) s.end w.0 (expanded w.0 s) w.1 (after_mutation c w m).1 refl)
+    (walked_keep c ms (after_mutation c w m))
 
 rendered_keep : (g : Nodes) (rs : List RecordedRender) (env : Environment) → WalksKeep env (after_renders g rs env)
 rendered_keep g [] env = keeps_same env
 rendered_keep g (r ∷ rs) env =
     keeps_trans env (after_render g env r) (after_renders g (r ∷ rs) env)
-        (reports_keep env (after_render g env r) (render_reports env g (rendered g r.index r.place.identifier).done)
-        refl) (rendered_keep g rs (after_render g env r))
+    (reports_keep env (after_render g env r) (render_reports env g (rendered g r.index r.place.identifier).done)
+    refl) (rendered_keep g rs (after_render g env r))
 
 renders_keep : (c : Bool) (l : Listing) (w : Walked) → WalksKeep w.1 (renders_done c l w)
 renders_keep true l w = rendered_keep w.0 l.renders w.1
@@ -64,7 +65,7 @@ walks_keep c l env =
     let mid : Environment = env_reported c l env in
     keeps_trans env w.1 (renders_done c l w)
     (keeps_trans env mid w.1 (reports_keep env mid (cond c (effect_reports env.interned l.summary) []) refl)
-        (walked_keep c l.mutations (graph_listed l, mid)))
+    (walked_keep c l.mutations (graph_listed l, mid)))
     (renders_keep c l w)
 
 -- ---- the pass
@@ -74,7 +75,7 @@ causes_both : (g : Nodes) (ms : List RecordedMutation) (f : HirFunction) (old wa
 causes_both g ms f old walked new first last k =
     ⊎_elim
     (λ same. ⊎_elim (λ before. inl (same ∙ before)) (λ cause. inr (inl (subst (MutationCause g ms k) (sym same) cause)))
-        (first k))
+    (first k))
     (λ cause. inr (inr cause))
     (last k)
 
@@ -130,9 +131,12 @@ ranged_covers b f env r fits h =
     let k = function_keeps b begun in
     let covers : Covers (graph_listed l) l.mutations walked.identifiers
     = listing_covers c l env (graph_listed l) walked
-        (listed_fits (length env.identifiers) f l (checked_fits f env fits) (recorded_is_listed f l p.1)) refl refl in
-    (l, p.1, subst (λ (z : Ranged). Covers (graph_listed l) l.mutations z.after.1.identifiers) p.2
-        (λ m i e legal. let low = covers m i e legal in let up = k.ends e.id.0 in omega arith))
+    (listed_fits (length env.identifiers) f l (checked_fits f env fits) (recorded_is_listed f l p.1)) refl refl in (
+      l,
+      p.1,
+      subst (λ (z : Ranged). Covers (graph_listed l) l.mutations z.after.1.identifiers) p.2
+          (λ m i e legal. let low = covers m i e legal in let up = k.ends e.id.0 in omega arith),
+    )
 
 -- and the summary ends with the flows of legal paths
 pub ranged_flows : (b : Bool) (f : HirFunction) (env : Environment) (r : Ranged) → function_fits f env ≡ true
@@ -148,6 +152,6 @@ ranged_flows b f env r fits h =
       p.1,
       subst (λ (z : Ranged). EndsWithFlows (graph_listed l) l.next f.returns (tracked f) z.summary) p.2
           (ends_with_flows (graph_listed l) w.0 l.next f (renders_done c l w) l.summary
-              (summarized w.0 l.next f (renders_done c l w) l.summary) refl (done_links c l env)
-              (done_before c l env fit.before)),
+          (summarized w.0 l.next f (renders_done c l w) l.summary) refl (done_links c l env)
+          (done_before c l env fit.before)),
     )

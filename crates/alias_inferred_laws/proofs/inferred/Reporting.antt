@@ -1,6 +1,6 @@
 -- The lints of what is inferred of a unit are there, and without their places they are its reports.
-use Rattle.std.specs.Prelude.{◌≡◌, ◌==◌, ◌&&◌, Bool, true, false, List, [], ◌∷◌, ◌++◌, Option, Some, None, Result, Ok,
-    length, option_map, slice_get, refl}
+use Rattle.std.specs.Prelude.{◌≡◌, ◌==◌, ◌&&◌, Bool, true, false, List, [], ◌∷◌, ◌++◌, Option, Some, None, Result, Ok}
+use Rattle.std.specs.Prelude.{length, option_map, slice_get, refl}
 use Rattle.std.specs.List.{list_all}
 use Rattle.std.proofs.Common.{ap, sym, ◌∙◌, subst, arith}
 use Rattle.std.proofs.lemmas.Bool.{eqb-true}
@@ -57,8 +57,8 @@ same_reports : (begun env : Environment) → PassKeeps begun env → (k : Functi
 same_reports begun env kept k =
     ap (λ (e : Environment). effect_reports e.interned (summary (slice_get begun.functions k.0))) (sym kept.rest)
     ∙ ap (effect_reports env.interned) (sym
-        (summary_alike (slice_get begun.functions k.0) (slice_get env.functions k.0)
-        (slots_stay begun env (ap (λ (e : Environment). e.functions) kept.rest) k.0)))
+    (summary_alike (slice_get begun.functions k.0) (slice_get env.functions k.0)
+    (slots_stay begun env (ap (λ (e : Environment). e.functions) kept.rest) k.0)))
 
 -- ---- the root
 
@@ -84,11 +84,12 @@ module _ (begun : Environment) (g : HirFunction) (r : Ranged) (ran : range_pass 
   lints_there : (ls : List Lint) × (root_lints f env ≡ Ok ls)
   lints_there =
       let xs = reported_all f env (reassigned_lints env f) rs
-          (reassigned_same env f ∙ sym (reassigned_alike env r.after.1.errors f) ∙ reported) in
-      ((walk_lints env f p.listing ++ xs.0) ++ frozen_lints env f,
-          listed_rest f env p.listing (lists_still false g begun r p)
-          ∙ ap (λ (z : Result (List Lint) InferError). z
-          >>= (λ ys. Ok ((walk_lints env f p.listing ++ ys) ++ frozen_lints env f))) xs.1)
+      (reassigned_same env f ∙ sym (reassigned_alike env r.after.1.errors f) ∙ reported) in (
+        (walk_lints env f p.listing ++ xs.0) ++ frozen_lints env f,
+        listed_rest f env p.listing (lists_still false g begun r p)
+            ∙ ap (λ (z : Result (List Lint) InferError). z
+            >>= (λ ys. Ok ((walk_lints env f p.listing ++ ys) ++ frozen_lints env f))) xs.1,
+      )
 
   walks_there : (let c = env.config.enable_validations in
       (renders_done c p.listing (mutations_done c p.listing begun)).errors) ≡ r.after.1.errors
@@ -99,7 +100,7 @@ module _ (begun : Environment) (g : HirFunction) (r : Ranged) (ran : range_pass 
   lints_recorded ls is =
       ap (λ es. es ++ reports_of ls) (sym none)
       ∙ sym (root_reports f env ls is p.listing begun rs r.after.1.errors (r.after.1.errors ++ rs)
-          (lists_still false g begun r p) same (sym (ap (λ (e : Environment). e.interned) p.kept.rest)) reported)
+      (lists_still false g begun r p) same (sym (ap (λ (e : Environment). e.interned) p.kept.rest)) reported)
       ∙ ap (λ es. (es ++ rs) ++ frozen_reports (with_reports r.after.1 rs) f) walks_there
 
 -- ---- the unit
@@ -114,8 +115,12 @@ finished_reports g begun fs ra none h =
     let e = root_ended g begun fs ra h in
     let ls = lints_there begun g e.ranged e.ran e.reassigned e.reported none in
     subst (λ (z : RootAnalysis). LintsAreReports (handed_out z).inferred) e.is
-        (record { lints = ls.0; are = ls.1; reports =
-        lints_recorded begun g e.ranged e.ran e.reassigned e.reported none ls.0 ls.1 })
+    (record {
+      lints = ls.0;
+      are = ls.1;
+      reports =
+          lints_recorded begun g e.ranged e.ran e.reassigned e.reported none ls.0 ls.1;
+    })
 
 -- the lints of what is inferred of a unit that is well formed are there, and are its reports
 pub unit_lints : (u : HirUnit) (a : UnitAnalysis) → rules_hold u ≡ Ok tt → unit_analysed u ≡ Ok a
@@ -123,14 +128,14 @@ pub unit_lints : (u : HirUnit) (a : UnitAnalysis) → rules_hold u ≡ Ok tt →
 unit_lints u a rules h =
     let parts = parts_of_rules u rules in
     let uninferred = both_true ((length u.env.errors == 0) && (length u.env.interned == 0)
-        && list_all identifier_is_uninferred u.env.identifiers) (list_all function_is_uninferred u.env.functions)
-        parts.environment in
+    && list_all identifier_is_uninferred u.env.identifiers) (list_all function_is_uninferred u.env.functions)
+    parts.environment in
     let empty : u.env.errors ≡ [] = no_errors u.env.errors
-        (both_true (length u.env.errors == 0) (length u.env.interned == 0)
-        (both_true _ (list_all identifier_is_uninferred u.env.identifiers) uninferred.0).0).0 in
+    (both_true (length u.env.errors == 0) (length u.env.interned == 0)
+    (both_true _ (list_all identifier_is_uninferred u.env.identifiers) uninferred.0).0).0 in
     let b = root_begun u a h in
     let none : (env_after b.nested.env b.end).errors ≡ [] = effects_silent b.nested.env b.end
-        ∙ analysed_silent most_levels u.function (analysis u.env []) b.nested b.analyses ∙ empty in
+    ∙ analysed_silent most_levels u.function (analysis u.env []) b.nested b.analyses ∙ empty in
     subst (λ (z : UnitAnalysis). LintsAreReports z.inferred) b.out
-        (finished_reports (with_effects_of b.end.solved u.function) (env_after b.nested.env b.end)
-        (b.nested.functions ++ root_entry u b.nested b.end ∷ []) b.root none b.finishes)
+    (finished_reports (with_effects_of b.end.solved u.function) (env_after b.nested.env b.end)
+    (b.nested.functions ++ root_entry u b.nested b.end ∷ []) b.root none b.finishes)

@@ -16,8 +16,9 @@ use Rattle.alias_range_pass.specs.Passes.{Ranged, range_pass}
 use Rattle.alias_tables.specs.declared.temporaries.Temporary.{Temporary}
 use Rattle.alias_tables.specs.write_back.WriteBack.{with_identifiers}
 use Rattle.alias_nesting_laws.specs.Slots.{with_function}
-use Rattle.alias_nested.specs.Analysis.{naming, numbered, Analysis, analysis, each, effects_analysed, completed,
-    completed_with, function_analysed, taken_analysed, put_back, found_analysed, slot_analysed, analysed}
+use Rattle.alias_nested.specs.Analysis.{naming, numbered, Analysis, analysis, each, effects_analysed, completed}
+use Rattle.alias_nested.specs.Analysis.{completed_with, function_analysed, taken_analysed, put_back, found_analysed}
+use Rattle.alias_nested.specs.Analysis.{slot_analysed, analysed}
 use Rattle.alias_nested.specs.Created.{created_functions}
 use Rattle.alias_nested.specs.Annotating.{annotated}
 use Rattle.alias_nested.specs.Slots.{emptied}
@@ -46,18 +47,18 @@ function_silent id f a s h =
     let x = went (naming id (pass_end a.env f true)) (λ e. Ok (effects_made id f a e)) p w.1 in
     let made : effects_made id f a x.0 ≡ p = cc in
     let first : p.1.env.errors ≡ a.env.errors = ap (λ (z : Taken). z.1.env.errors) (sym made)
-        ∙ effects_silent a.env x.0 in
+    ∙ effects_silent a.env x.0 in
     let v = went (completed id p.0 p.1.env) (λ (c : HirFunction × Environment). Ok (c.0, analysis c.1 p.1.functions)) s
-        w.2 in
+    w.2 in
     let c : HirFunction × Environment = v.0 in
     let y = went (naming id (range_pass true p.0 p.1.env)) (λ (r : Ranged). Ok (annotated r.summary r.after)) c v.1 in
     let r : Ranged = y.0 in
     let second : r.after.1.errors ≡ p.1.env.errors =
-        expression_reports p.0 p.1.env r (naming_ok id (range_pass true p.0 p.1.env) r y.1) in
+    expression_reports p.0 p.1.env r (naming_ok id (range_pass true p.0 p.1.env) r y.1) in
     let set : annotated r.summary r.after ≡ c = cc in
     let is : ◌≡◌ {A = Taken} (c.0, analysis c.1 p.1.functions) s = cc in
     ap (λ (z : Taken). z.1.env.errors) (sym is) ∙ ap (λ (z : HirFunction × Environment). z.1.errors) (sym set) ∙ second
-        ∙ first
+    ∙ first
 
 -- reports stay
 abbrev IsSilent : (HirFunction → Analysis → Result Analysis InferError) → Type 0

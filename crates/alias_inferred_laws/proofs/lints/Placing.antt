@@ -1,6 +1,6 @@
 -- What a function records doesn't depend on the effects of its places.
-use Rattle.std.proofs.Common.{◌≡◌, ℕ, ◌+◌, List, [], ◌∷◌, ◌++◌, Option, Some, None, length, map, option_map, position,
-    replicate, slice_get, refl, ap, sym, ◌∙◌}
+use Rattle.std.proofs.Common.{◌≡◌, ℕ, ◌+◌, List, [], ◌∷◌, ◌++◌, Option, Some, None, length, map, option_map, position}
+use Rattle.std.proofs.Common.{replicate, slice_get, refl, ap, sym, ◌∙◌}
 use Rattle.std.specs.Prelude.{Result, Ok, Err}
 use Rattle.std.specs.Map.{keys_of}
 use Rattle.std.proofs.lemmas.Option.{slice_get-map}
@@ -23,14 +23,14 @@ use Rattle.alias_hir.specs.Parts.{param_place}
 use Rattle.alias_hir.specs.Terminals.{terminal_effects}
 use Rattle.alias_graph.specs.declared.events.GraphEvent.{GraphEvent}
 use Rattle.alias_graph.specs.declared.recorded.listing.Listing.{Listing}
-use Rattle.alias_graph.specs.recorded.BlockListings.{link_of, added_or_pending, operand_listed, phi_listed,
-    returns_listed, aliases_in, with_pending, end_listed, block_listed, blocks_listed, object_of, first_events,
-    first_listing, listed}
+use Rattle.alias_graph.specs.recorded.BlockListings.{link_of, added_or_pending, operand_listed, phi_listed}
+use Rattle.alias_graph.specs.recorded.BlockListings.{returns_listed, aliases_in, with_pending, end_listed, block_listed}
+use Rattle.alias_graph.specs.recorded.BlockListings.{blocks_listed, object_of, first_events, first_listing, listed}
 use Rattle.alias_graph.specs.recorded.Each.{each}
 use Rattle.alias_graph.specs.recorded.Listings.{position_after, recorded_in, instruction_listed}
 use Rattle.alias_range_pass.specs.Laws.{but_param, but_places}
-use Rattle.alias_range_pass.specs.places.Keeping.{but_effect, but_instruction, but_terminal, but_operand, but_phi,
-    but_block, but_entry}
+use Rattle.alias_range_pass.specs.places.Keeping.{but_effect, but_instruction, but_terminal, but_operand, but_phi}
+use Rattle.alias_range_pass.specs.places.Keeping.{but_block, but_entry}
 
 bind_same : {A B E : Type 0} (r : Result A E) (f g : A → Result B E) → ((x : A) → f x ≡ g x) → (r >>= f) ≡ (r >>= g)
 bind_same (Ok x) f g same = same x
@@ -42,7 +42,7 @@ each_same : {A B : Type 0} (f : A → Listing → Result Listing HirError) (g : 
 each_same f g h same [] l = refl
 each_same f g h same (x ∷ xs) l =
     ap (λ r. r >>= (λ t. each g (map h xs) t)) (same x l)
-        ∙ bind_same (f x l) (λ t. each g (map h xs) t) (λ t. each f xs t) (each_same f g h same xs)
+    ∙ bind_same (f x l) (λ t. each g (map h xs) t) (λ t. each f xs t) (each_same f g h same xs)
 
 each_alike : {A : Type 0} (f g : A → Listing → Result Listing HirError) → ((x : A) (l : Listing) → g x l ≡ f x l)
     → (xs : List A) (l : Listing) → each g xs l ≡ each f xs l
@@ -87,8 +87,8 @@ module _ (f : HirFunction) where
       → operand_listed (map but_entry bs) k (but_effect x) (but_operand e) l ≡ operand_listed bs k x e l
   operand_same k x e l =
       ap (λ ks. position_after l.next >>= (λ after. let r : Result Listing HirError =
-          Ok (added_or_pending k (position (same_block e.0) ks) (link_of l.next e.1 x) (record l { next = after })) in
-          r)) (keys_same bs)
+      Ok (added_or_pending k (position (same_block e.0) ks) (link_of l.next e.1 x) (record l { next = after })) in
+      r)) (keys_same bs)
 
   phi_same : (k : ℕ) (phi : Phi) (l : Listing) → phi_listed (map but_entry bs) k (but_phi phi) l ≡ phi_listed bs k phi l
   phi_same k phi l = each_same (operand_listed bs k phi.place)
@@ -99,18 +99,18 @@ module _ (f : HirFunction) where
   block_same k b l =
       let is = map but_instruction f.instructions in
       let there : Listing → Result Listing HirError = λ p. each (instruction_listed is) b.instructions p
-          >>= (λ q. end_listed f.returns k (but_terminal b.terminal) q) in
+      >>= (λ q. end_listed f.returns k (but_terminal b.terminal) q) in
       let here : Listing → Result Listing HirError = λ p. each (instruction_listed f.instructions) b.instructions p
-          >>= (λ q. end_listed f.returns k b.terminal q) in
+      >>= (λ q. end_listed f.returns k b.terminal q) in
       ap (λ r. r >>= there) (each_same (phi_listed bs k) (phi_listed (map but_entry bs) k) but_phi (phi_same k) b.phis
-          l)
+      l)
       ∙ bind_same (each (phi_listed bs k) b.phis l) there here (λ p.
       ap (λ r. r >>= (λ q. end_listed f.returns k (but_terminal b.terminal) q))
-          (each_alike (instruction_listed f.instructions) (instruction_listed is) (instruction_same f.instructions)
-          b.instructions p)
+      (each_alike (instruction_listed f.instructions) (instruction_listed is) (instruction_same f.instructions)
+      b.instructions p)
       ∙ bind_same (each (instruction_listed f.instructions) b.instructions p)
-          (λ q. end_listed f.returns k (but_terminal b.terminal) q) (λ q. end_listed f.returns k b.terminal q)
-          (end_same f.returns k b.terminal))
+      (λ q. end_listed f.returns k (but_terminal b.terminal) q) (λ q. end_listed f.returns k b.terminal q)
+      (end_same f.returns k b.terminal))
 
   blocks_same : (xs : List (BlockId × BasicBlock)) (k : ℕ) (l : Listing)
       → blocks_listed (but_places f) k (map but_entry xs) l ≡ blocks_listed f k xs l
@@ -118,7 +118,7 @@ module _ (f : HirFunction) where
   blocks_same (b ∷ xs) k l =
       ap (λ r. r >>= (λ m. blocks_listed (but_places f) (k + 1) (map but_entry xs) m)) (block_same k b.1 l)
       ∙ bind_same (block_listed f k b.1 l) (λ m. blocks_listed (but_places f) (k + 1) (map but_entry xs) m)
-          (λ m. blocks_listed f (k + 1) xs m) (blocks_same xs (k + 1))
+      (λ m. blocks_listed f (k + 1) xs m) (blocks_same xs (k + 1))
 
   params_same : (ps : List ParamPattern) → map (λ p. object_of (param_place p)) (map but_param ps)
       ≡ map (λ p. object_of (param_place p)) ps
@@ -133,11 +133,11 @@ module _ (f : HirFunction) where
   first_same : first_listing (but_places f) ≡ first_listing f
   first_same =
       let begun : List GraphEvent → List (List GraphEvent) → Listing =
-          λ es ps. record { next = 0; events = es; mutations = []; renders = []; pending = ps; summary = [] } in
+      λ es ps. record { next = 0; events = es; mutations = []; renders = []; pending = ps; summary = [] } in
       ap (λ es. begun es (replicate (length (map but_entry bs)) []))
       (ap (λ ps. ps ++ map object_of (map but_effect f.context) ++ object_of f.returns ∷ []) (params_same f.params)
       ∙ ap (λ cs. map (λ p. object_of (param_place p)) f.params ++ cs ++ object_of f.returns ∷ [])
-          (context_same f.context))
+      (context_same f.context))
       ∙ ap (λ n. begun (first_events f) (replicate n [])) (length-map bs but_entry)
 
   placed_same : listed (but_places f) ≡ listed f

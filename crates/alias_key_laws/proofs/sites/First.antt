@@ -52,7 +52,7 @@ by_makes : (o : Option EffectKey) (e : AliasingEffect) → key_of e ≡ o → So
 by_makes None e own t u y i = subst (MakesAs e) (first_is e y t u i) refl
 by_makes (Some k) e own t u y i =
     after_makes (first_like k t.first) e (λ z is. named z ∙ ap named_by (first_has_it k t.first z is ∙ sym own)
-        ∙ sym (named e)) t u y i
+    ∙ sym (named e)) t u y i
 
 -- what is stepped in place of the effect makes what it makes
 pub interned_makes : (e : AliasingEffect) → Sound (MakesAs e) (intern e)

@@ -10,8 +10,8 @@ use Rattle.alias_base.specs.declared.ids.IdentifierId.{IdentifierId}
 use Rattle.alias_hir.specs.declared.effect.AliasingEffect.{AliasingEffect}
 use Rattle.alias_hir.specs.declared.effect.AliasingEffect.TheVariants as effect
 use Rattle.alias_hir.specs.declared.effect.ValueKind.{ValueKind}
-use Rattle.alias_hir.specs.declared.effect.ValueKind.TheVariants.{Primitive, Global, Frozen, Mutable, Context,
-    MaybeFrozen}
+use Rattle.alias_hir.specs.declared.effect.ValueKind.TheVariants.{Primitive, Global, Frozen, Mutable, Context}
+use Rattle.alias_hir.specs.declared.effect.ValueKind.TheVariants.{MaybeFrozen}
 use Rattle.alias_hir.specs.declared.effect.ValueReason.{ValueReason}
 use Rattle.alias_hir.specs.declared.place.Place.{Place}
 use Rattle.alias_lattice.specs.Keys.{id_cmp}
@@ -25,12 +25,13 @@ use Rattle.alias_apply.specs.freezing.Contexts.{context_of}
 use Rattle.alias_tables.specs.Steps.{gives, each}
 use Rattle.alias_tables.specs.Tables.{intern}
 use Rattle.alias_apply.specs.declared.progress.StepProgress.{StepProgress}
-use Rattle.alias_apply.specs.Apply.{apply_simple, intern_and_apply_simple, note_read_capture, is_mutable_function,
-    function_value, capture_each, apply_create_function, apply_plain, intern_and_apply_plain}
+use Rattle.alias_apply.specs.Apply.{apply_simple, intern_and_apply_simple, note_read_capture, is_mutable_function}
+use Rattle.alias_apply.specs.Apply.{function_value, capture_each, apply_create_function, apply_plain}
+use Rattle.alias_apply.specs.Apply.{intern_and_apply_plain}
 use Rattle.alias_apply.specs.Contexts.{StepContext}
 use Rattle.alias_apply.specs.Kinds.{is_constant, may_be_frozen, captures, may_alias, value_with}
-use Rattle.alias_apply.specs.Leaves.{apply_immutable_capture, apply_leaf, intern_and_apply_leaf, apply_maybe_alias,
-    apply_aliasing, intern_and_apply_aliasing}
+use Rattle.alias_apply.specs.Leaves.{apply_immutable_capture, apply_leaf, intern_and_apply_leaf, apply_maybe_alias}
+use Rattle.alias_apply.specs.Leaves.{apply_aliasing, intern_and_apply_aliasing}
 use Rattle.alias_apply.specs.Progress.{record_of, with_state, looked_up_at, looked_up_with_span, kind_at, made}
 use Rattle.alias_apply.specs.ProperLaws.{Sound, sound_gives, sound_then, sound_after, sound_if, sound_each}
 use Rattle.alias_apply.specs.Values.{apply_create, record_create_from, apply_create_from, apply_link}
@@ -73,7 +74,7 @@ module _ (P : State → Type 0) where
   maybe_alias_has a x s h =
       let u = looked_up_with_span a (looked_up_with_span x s) in
       sound_if Has (may_be_frozen (kind_at a s)) _ _ (intern_and_apply_leaf_has (effect.ImmutableCapture a x) u h)
-          (sound_gives Has (record_of (effect.MaybeAlias a x) u) h)
+      (sound_gives Has (record_of (effect.MaybeAlias a x) u) h)
 
   aliasing_has : (e : AliasingEffect) (s : StepProgress) → Has s → Sound Has (apply_aliasing e s)
   aliasing_has (effect.MaybeAlias a x) s h = maybe_alias_has a x s h
@@ -89,7 +90,7 @@ module _ (P : State → Type 0) where
       sound_if Has (may_be_frozen (kind_at a s)) _ _ (intern_and_apply_leaf_has (effect.ImmutableCapture a x) u h)
       (sound_if Has (captures (kind_at a s) (kind_at x s)) _ _ (sound_gives Has (record_of e u) h)
       (sound_if Has (may_alias (kind_at a s) (kind_at x s)) _ _
-          (intern_and_apply_aliasing_has (effect.MaybeAlias a x) u h) (sound_gives Has u h)))
+      (intern_and_apply_aliasing_has (effect.MaybeAlias a x) u h) (sound_gives Has u h)))
 
   module _ (c : StepContext) where
     capture_has : (e : AliasingEffect) (s : StepProgress) → Has s → IsCapture e → Sound Has (apply_simple c e s)
@@ -126,8 +127,8 @@ create_gives x k r s =
     let site = Created x.identifier k r in
     sound_after (Leaves x.identifier site) (made x.identifier s) _
     (λ u. sound_gives (Leaves x.identifier site)
-        (record_of (effect.Create x k r) (with_state (given x.identifier site (value_with k r) u.state) u))
-        (given_has x.identifier site (value_with k r) u.state))
+    (record_of (effect.Create x k r) (with_state (given x.identifier site (value_with k r) u.state) u))
+    (given_has x.identifier site (value_with k r) u.state))
 
 create_from_gives : (a x : Place) (s : StepProgress)
     → Sound (Leaves x.identifier (CreatedFrom a.identifier x.identifier)) (apply_create_from a x s)
@@ -136,7 +137,7 @@ create_from_gives a x s =
     sound_after (Leaves x.identifier site) (made x.identifier s) _
     (λ u. let v = lookup u.state a.identifier in
     record_has (HasSite x.identifier site) v.kind (primary_reason v.reason) a x
-        (with_state (given x.identifier site v u.state) (looked_up_at a u)) (given_has x.identifier site v u.state))
+    (with_state (given x.identifier site v u.state) (looked_up_at a u)) (given_has x.identifier site v u.state))
 
 module _ (c : StepContext) where
   create_function_gives : (x : Place) (f : FunctionId) (taken : List Place) (s : StepProgress)
@@ -145,12 +146,12 @@ module _ (c : StepContext) where
       let P = HasSite x.identifier (Function f) in
       sound_after (Leaves x.identifier (Function f)) (made x.identifier s) _
       (λ u. sound_after (Leaves x.identifier (Function f))
-          (each (note_read_capture f) (context_of c.env f) (record_of (effect.CreateFunction x f taken) u)) _
+      (each (note_read_capture f) (context_of c.env f) (record_of (effect.CreateFunction x f taken) u)) _
       (λ v. let value = function_value (is_mutable_function c f taken v.state) in
       sound_each (Leaves x.identifier (Function f)) (λ p. intern_and_apply_simple c (effect.Capture p x))
-          (λ p w h. captured_has P c p x w h) taken
+      (λ p w h. captured_has P c p x w h) taken
       (with_state (given x.identifier (Function f) value v.state) v)
-          (given_has x.identifier (Function f) value v.state)))
+      (given_has x.identifier (Function f) value v.state)))
 
   -- what the effect makes is given its site
   abbrev Gives : AliasingEffect → StepProgress → Type 0

@@ -1,8 +1,8 @@
 -- Blocks that are noted for the instructions that they list.
 use Rattle.std.proofs.lemmas.Option.{get_or_from_slice_get, slice_get_within}
-use Rattle.std.proofs.Common.{◌≡◌, ℕ, ◌+◌, ◌<◌, add-one, drop, drop-cons, ◌==◌, Bool, true, false, cond, ◌&&◌, ◌||◌,
-    List, [], ◌∷◌, Option, Some, None, find, get_or, length, nat_lt, option_map, set, refl, ap, sym, ◌∙◌, ⊎_elim, subst,
-    arith, zero, suc}
+use Rattle.std.proofs.Common.{◌≡◌, ℕ, ◌+◌, ◌<◌, add-one, drop, drop-cons, ◌==◌, Bool, true, false, cond, ◌&&◌, ◌||◌}
+use Rattle.std.proofs.Common.{List, [], ◌∷◌, Option, Some, None, find, get_or, length, nat_lt, option_map, set, refl}
+use Rattle.std.proofs.Common.{ap, sym, ◌∙◌, ⊎_elim, subst, arith, zero, suc}
 use Rattle.std.specs.Prelude.{slice_get}
 use Rattle.std.specs.List.{list_any}
 use Rattle.std.specs.Option.{option_map_or}
@@ -14,8 +14,8 @@ use Rattle.alias_base.specs.declared.ids.InstructionId.{InstructionId}
 use Rattle.alias_hir.specs.declared.hir.BasicBlock.{BasicBlock}
 use Rattle.alias_hir.specs.declared.hir.HirFunction.{HirFunction}
 use Rattle.alias_lint.specs.Sites.{lists, block_of}
-use Rattle.alias_lint.specs.lines.BlockTables.{Table, numbered, first_block, is_free, noted, noted_or, IsNoted,
-    IsBlockTable}
+use Rattle.alias_lint.specs.lines.BlockTables.{Table, numbered, first_block, is_free, noted, noted_or, IsNoted}
+use Rattle.alias_lint.specs.lines.BlockTables.{IsBlockTable}
 
 pub unlisted : (b : BlockId) (o : Option BlockId) → noted_or false b o ≡ o
 unlisted b None = refl
@@ -37,15 +37,15 @@ not_equal a b h = ⊎_elim (λ t. absurd (h t.1)) (λ f. f.0) (eqb_tells a b)
 pub noted_size : (t : Table) (b : BlockId) (j : InstructionId) → length (noted t b j) ≡ length t
 noted_size t b j = elim (nat_lt j.0 (length t) && is_free (get_or t j.0 None)) as
     (λ c. length (cond c (set t j.0 (Some b)) t) ≡ length t) [
-  | true ↦ length-set t j.0 (Some b)
-  | false ↦ refl
-]
+      | true ↦ length-set t j.0 (Some b)
+      | false ↦ refl
+    ]
 
 here : (t : Table) (b : BlockId) (k : ℕ) (o : Option BlockId) → get_or t k None ≡ o → k < length t
     → get_or (cond (nat_lt k (length t) && is_free o) (set t k (Some b)) t) k None ≡ noted_or true b o
 here t b k None is lt =
     ap (λ c. get_or (cond (c && true) (set t k (Some b)) t) k None) (lt-ltb k (length t) lt)
-        ∙ get_or-set_same t k (Some b) None lt
+    ∙ get_or-set_same t k (Some b) None lt
 here t b k (Some a) is lt =
     ap (λ c. get_or (cond (c && false) (set t k (Some b)) t) k None) (lt-ltb k (length t) lt) ∙ is
 
@@ -61,7 +61,7 @@ noted_at t b j i lt = ⊎_elim
     (λ same.
     subst (λ (k : ℕ). get_or (noted t b j) k None ≡ noted_or (j.0 == k) b (get_or t k None)) same
     (here t b j.0 (get_or t j.0 None) refl (let e : j.0 ≡ i = same in omega arith)
-        ∙ ap (λ p. noted_or p b (get_or t j.0 None)) (sym (eq-eqb j.0 j.0 refl))))
+    ∙ ap (λ p. noted_or p b (get_or t j.0 None)) (sym (eq-eqb j.0 j.0 refl))))
     (λ other.
     there (nat_lt j.0 (length t) && is_free (get_or t j.0 None)) t b j.0 i (λ e. other (sym e))
     ∙ sym (unlisted b (get_or t i None))
@@ -83,7 +83,7 @@ noting_more b left rest all first now j is h = record {
   size = noted_size now b j ∙ h.size;
   each = λ i lt.
       ap (λ o. noted_or (lists_number i rest) b o)
-          (noted_at now b j i (let e : length now ≡ length first = h.size in omega arith))
+      (noted_at now b j i (let e : length now ≡ length first = h.size in omega arith))
       ∙ noted_twice (j.0 == i) (lists_number i rest) b (get_or now i None)
       ∙ ap (λ ids. noted_or (lists_number i ids) b (get_or now i None)) (sym is)
       ∙ h.each i lt;
@@ -94,7 +94,7 @@ pub noting_next : (b : BlockId) (k : ℕ) (ids : List InstructionId) (first now 
     → Noting b (drop (k + 1) ids) ids first new
 noting_next b k ids first now new j d lt is at h =
     let left : drop k ids ≡ j ∷ drop (k + 1) ids =
-        rw add-one (drop-cons ids k d lt ∙ ap (λ z. z ∷ drop (suc k) ids) (sym at)) in
+    rw add-one (drop-cons ids k d lt ∙ ap (λ z. z ∷ drop (suc k) ids) (sym at)) in
     let P : Table → Type 0 = λ t. Noting b (drop (k + 1) ids) ids first t in
     subst P (sym is) (noting_more b (drop k ids) (drop (k + 1) ids) ids first now j left h)
 
@@ -111,7 +111,7 @@ pub record Tabling (f : HirFunction) (left : List (BlockId × BasicBlock)) (t : 
 
 listed_first : (p : Bool) (e : BlockId × BasicBlock) (o : Option BlockId) (rest : Option (BlockId × BasicBlock))
     → noted_first (noted_or p e.0 o) (option_map (λ (d : BlockId × BasicBlock). d.0) rest)
-        ≡ noted_first o (option_map (λ (d : BlockId × BasicBlock). d.0) (cond p (Some e) rest))
+    ≡ noted_first o (option_map (λ (d : BlockId × BasicBlock). d.0) (cond p (Some e) rest))
 listed_first true e None rest = refl
 listed_first false e None rest = refl
 listed_first true e (Some a) rest = refl

@@ -1,6 +1,6 @@
 -- Where no nested function has a report, walks and renders find none.
-use Rattle.std.proofs.Common.{◌≡◌, ℕ, zero, suc, ◌==◌, Bool, true, false, cond, not, ◌||◌, List, [], ◌∷◌, ◌++◌, Option,
-    Some, None, is_some, fold, length, slice_get, refl, ap, ◌∙◌, ⊎_elim, arith}
+use Rattle.std.proofs.Common.{◌≡◌, ℕ, zero, suc, ◌==◌, Bool, true, false, cond, not, ◌||◌, List, [], ◌∷◌, ◌++◌, Option}
+use Rattle.std.proofs.Common.{Some, None, is_some, fold, length, slice_get, refl, ap, ◌∙◌, ⊎_elim, arith}
 use Rattle.std.specs.List.{list_any}
 use Rattle.std.proofs.lemmas.Bool.Decides.{eqb_tells}
 use Rattle.alias_base.specs.declared.ids.FunctionId.{FunctionId}
@@ -85,19 +85,19 @@ module _ (env : Environment) (quiet : IsSilent env) where
     mutations_silent g [] = refl
     mutations_silent g (m ∷ ms) =
         ap (λ z. lints_at (in_root f m.instruction) z ++ mutation_lints env f (after_walk g m) ms)
-            (walk_silent m.index (start_origin (mutation_start m)) g (expanded g (mutation_start m)))
+        (walk_silent m.index (start_origin (mutation_start m)) g (expanded g (mutation_start m)))
         ∙ mutations_silent (after_walk g m) ms
 
     renders_silent : (g : Nodes) (rs : List RecordedRender) → render_lints env f g rs ≡ []
     renders_silent g [] = refl
     renders_silent g (r ∷ rs) =
         ap (λ z. lints_at (in_root f r.instruction) z ++ render_lints env f g rs)
-            (render_silent g (rendered g r.index r.place.identifier).done)
+        (render_silent g (rendered g r.index r.place.identifier).done)
         ∙ renders_silent g rs
 
 pub found_none : (env : Environment) (f : HirFunction) (g : Nodes) (l : Listing) → any_report env ≡ false
     → found_lints env f g l ≡ []
 found_none env f g l h =
     ap (λ z. z ++ render_lints env f (fold after_walk g l.mutations) l.renders)
-        (mutations_silent env (silent env h) f g l.mutations)
+    (mutations_silent env (silent env h) f g l.mutations)
     ∙ renders_silent env (silent env h) f (fold after_walk g l.mutations) l.renders

@@ -49,7 +49,7 @@ module _ (env : Environment) (is_function_expression : Bool) (name : Option Func
   pub walked : (n m : ℕ) (ms new : ReassigningFunctions) (after : Shared) (more : List Lint) → n ≡ suc m → ms ≡ []
       → (r : Result WalkEnd InferError)
       → Gives is_memory (blocks m ms) (answered (noted new after more) r)
-          → Gives is_memory (reassignment n env is_function_expression name async func (sh, ls))
-          (answered (reported_after after more) r)
+      → Gives is_memory (reassignment n env is_function_expression name async func (sh, ls))
+      (answered (reported_after after more) r)
   walked n m ms new after more e none (Ok end) h = walked_more n m ms e none ∙ ap reported h
   walked n m ms new after more e none (Err f) h = λ no. walked_more n m ms e none ∙ ap reported (h no)

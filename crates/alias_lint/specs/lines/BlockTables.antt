@@ -1,6 +1,6 @@
 -- The blocks that list instructions, by the numbers of the instructions.
-use Rattle.std.specs.Prelude.{◌≡◌, ℕ, ◌==◌, ◌<◌, Bool, true, false, ◌&&◌, if◌then◌else◌, cond, List, Option, Some, None,
-    find, length, nat_lt, option_map, slice_index_or, slice_set}
+use Rattle.std.specs.Prelude.{◌≡◌, ℕ, ◌==◌, ◌<◌, Bool, true, false, ◌&&◌, if◌then◌else◌, cond, List, Option, Some, None}
+use Rattle.std.specs.Prelude.{find, length, nat_lt, option_map, slice_index_or, slice_set}
 use Rattle.std.specs.List.{list_any}
 use Rattle.alias_base.specs.declared.ids.BlockId.{BlockId}
 use Rattle.alias_base.specs.declared.ids.InstructionId.{InstructionId}

@@ -1,6 +1,6 @@
 -- What holds of the instructions of a made unit.
-use Rattle.std.proofs.Common.{◌≡◌, refl, ℕ, suc, zero, ◌+◌, ◌*◌, ◌<◌, ◌≤◌, Bool, true, false, eqb, ◌||◌, [], ◌∷◌,
-    length, None, Result, Ok, Err, arith}
+use Rattle.std.proofs.Common.{◌≡◌, refl, ℕ, suc, zero, ◌+◌, ◌*◌, ◌<◌, ◌≤◌, Bool, true, false, eqb, ◌||◌, [], ◌∷◌}
+use Rattle.std.proofs.Common.{length, None, Result, Ok, Err, arith}
 use Rattle.std.specs.Prelude.{⊤, if◌then◌else◌, nat_lt}
 use Rattle.std.specs.List.{flat_map, list_all, range_with_len}
 use Rattle.std.proofs.lemmas.Bool.Decides.{nat_tests}
@@ -11,12 +11,13 @@ use Rattle.alias_hir.specs.declared.hir.Instruction.{Instruction}
 use Rattle.alias_hir.specs.declared.place.Place.{Place}
 use Rattle.alias_hir.specs.declared.value.ArrayElement.TheVariants as element
 use Rattle.alias_hir.specs.declared.value.InstructionValue.{InstructionValue}
-use Rattle.alias_hir.specs.declared.value.InstructionValue.TheVariants.{ArrayExpression, LoadLocal, Primitive,
-    PropertyLoad}
+use Rattle.alias_hir.specs.declared.value.InstructionValue.TheVariants.{ArrayExpression, LoadLocal, Primitive}
+use Rattle.alias_hir.specs.declared.value.InstructionValue.TheVariants.{PropertyLoad}
 use Rattle.alias_rules.specs.declared.function_rules.fault.Holder.TheVariants as holder
 use Rattle.alias_rules.specs.declared.function_rules.fault.Table.{Table}
-use Rattle.alias_rules.specs.function_rules.Rules.{below, place_fits, created_fits, instruction_fits, order_fits,
-    place_is_uninferred, instruction_is_uninferred, at_most, argument_count}
+use Rattle.alias_rules.specs.function_rules.Rules.{below, place_fits, created_fits, instruction_fits, order_fits}
+use Rattle.alias_rules.specs.function_rules.Rules.{place_is_uninferred, instruction_is_uninferred, at_most}
+use Rattle.alias_rules.specs.function_rules.Rules.{argument_count}
 use Rattle.alias_made.specs.Draws.{state_before, block_drawn}
 use Rattle.alias_made.specs.Instructions.{use_of, object_of, value_of, instructions_of}
 use Rattle.alias_made.specs.Units.{drawn_instructions, made_instructions}
@@ -68,14 +69,14 @@ identifiers_there : (env : Environment) (block : ℕ) (d : BlockDraw) → d.sour
     < length env.identifiers → all_pass (instruction_fits env) (instructions_of block d) ≡ Ok tt
 identifiers_there env block d earlier there =
     let place : (n : ℕ) → n < length env.identifiers → place_fits env (use_of n) ≡ Ok tt =
-        λ n h. number_fits _ (length env.identifiers) n h in
+    λ n h. number_fits _ (length env.identifiers) n h in
     let source : place_fits env (use_of (object_of d.source)) ≡ Ok tt = place (object_of d.source) (omega arith) in
     let computed : InstructionValue → Type 0 =
-        λ v. (created_fits env (created v) >>= (λ _. all_pass (place_fits env) (places_of v))) ≡ Ok tt in
+    λ v. (created_fits env (created v) >>= (λ _. all_pass (place_fits env) (places_of v))) ≡ Ok tt in
     let alone : all_pass (place_fits env) (use_of (object_of d.source) ∷ []) ≡ Ok tt =
-        then_passes _ (Ok tt) source refl in
+    then_passes _ (Ok tt) source refl in
     let second : computed (value_of d.kind (use_of (object_of d.source))) =
-        by_kind computed d.kind _ alone alone alone refl in
+    by_kind computed d.kind _ alone alone alone refl in
     let stored : all_pass (place_fits env) (use_of (object_of d.source) ∷ use_of (object_of block + 1) ∷ []) ≡ Ok tt =
     then_passes _ _ source (then_passes _ (Ok tt) (place (object_of block + 1) (omega arith)) refl) in
     then_passes _ _ (then_passes _ _ (place (object_of block) (omega arith)) refl)
@@ -93,7 +94,7 @@ uninferred : (block : ℕ) (d : BlockDraw) → list_all instruction_is_uninferre
 uninferred block d =
     let plain : InstructionValue → Type 0 = λ v. list_all place_is_uninferred (places_of v) ≡ true in
     both (list_all place_is_uninferred (places_of (value_of d.kind (use_of (object_of d.source))))) true
-        (by_kind plain d.kind _ refl refl refl refl) refl
+    (by_kind plain d.kind _ refl refl refl refl) refl
 
 no_calls : (block : ℕ) (d : BlockDraw) → all_pass
     (λ (i : Instruction). at_most (holder.Function None) 1024 (argument_count i.value)) (instructions_of block d)
@@ -109,13 +110,13 @@ pub instructions_fit : (env : Environment) (seed size : ℕ) → length env.iden
 instructions_fit env seed size there =
     each_list_passes (instruction_fits env) (drawn_instructions seed) 0 size
     (λ block below. identifiers_there env block (block_drawn (state_before seed block) block)
-        (source_earlier (state_before seed block) block) (omega (arith, there)))
+    (source_earlier (state_before seed block) block) (omega (arith, there)))
 
 pub instruction_orders_fit : (seed size : ℕ) → size ≤ 1000
     → all_pass (λ (i : Instruction). order_fits None i.id) (made_instructions seed size) ≡ Ok tt
 instruction_orders_fit seed size limit =
     each_list_passes (λ (i : Instruction). order_fits None i.id) (drawn_instructions seed) 0 size
-        (λ block below. orders_within block (block_drawn (state_before seed block) block) (omega arith))
+    (λ block below. orders_within block (block_drawn (state_before seed block) block) (omega arith))
 
 pub instructions_uninferred : (seed size : ℕ) → list_all instruction_is_uninferred (made_instructions seed size) ≡ true
 instructions_uninferred seed size = each_list_holds instruction_is_uninferred (drawn_instructions seed) 0 size
@@ -126,7 +127,7 @@ pub instructions_call_nothing : (seed size : ℕ)
     (made_instructions seed size) ≡ Ok tt
 instructions_call_nothing seed size =
     each_list_passes (λ (i : Instruction). at_most (holder.Function None) 1024 (argument_count i.value))
-        (drawn_instructions seed) 0 size (λ block below. no_calls block (block_drawn (state_before seed block) block))
+    (drawn_instructions seed) 0 size (λ block below. no_calls block (block_drawn (state_before seed block) block))
 
 length-from : (seed a n : ℕ) → length (flat_map (drawn_instructions seed) (range_with_len a n)) ≡ 3 * n
 length-from seed a zero = refl

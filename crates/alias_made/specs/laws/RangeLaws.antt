@@ -1,6 +1,7 @@
 -- What holds of each number of a range holds of the list that is made of it.
-use Rattle.std.proofs.Common.{◌≡◌, refl, ap, ℕ, suc, zero, ◌+◌, ◌<◌, ◌≤◌, ◌≢◌, ◌⊎◌, inl, inr, Bool, true, false, cond,
-    not, eqb, ◌&&◌, ◌||◌, List, [], ◌∷◌, ◌++◌, map, Option, None, Some, Result, Ok, Err, arith}
+use Rattle.std.proofs.Common.{◌≡◌, refl, ap, ℕ, suc, zero, ◌+◌, ◌<◌, ◌≤◌, ◌≢◌, ◌⊎◌, inl, inr, Bool, true, false, cond}
+use Rattle.std.proofs.Common.{not, eqb, ◌&&◌, ◌||◌, List, [], ◌∷◌, ◌++◌, map, Option, None, Some, Result, Ok, Err}
+use Rattle.std.proofs.Common.{arith}
 use Rattle.std.specs.Prelude.{⊤, find}
 use Rattle.std.specs.List.{flat_map, list_all, range_with_len}
 use Rattle.std.proofs.lemmas.Bool.Decides.{eqb_tells}
@@ -84,8 +85,8 @@ first_again-range a zero seen unseen = refl
 first_again-range a (suc n) seen unseen =
     first_is (is_among seen a) a (first_again (a ∷ seen) (range_with_len (a + 1) n)) (unseen a (omega arith))
     (first_again-range (a + 1) n (a ∷ seen)
-        (λ k above. neither (eqb k a) (is_among seen k) (different k a (λ e. absurd (omega (arith, e))))
-        (unseen k (omega arith))))
+    (λ k above. neither (eqb k a) (is_among seen k) (different k a (λ e. absurd (omega (arith, e))))
+    (unseen k (omega arith))))
 
 pub none_twice : (n : ℕ) → first_again [] (range_with_len 0 n) ≡ None
 none_twice n = first_again-range 0 n [] (λ k above. refl)
@@ -94,8 +95,11 @@ is_among-range : (a n k : ℕ) → a ≤ k → k < a + n → is_among (range_wit
 is_among-range a zero k above below = absurd (omega arith)
 is_among-range a (suc n) k above below =
     one_of (eqb k a) (is_among (range_with_len (a + 1) n) k)
-    (elim (eqb_tells k a) [ inl p ↦ inl p.0 | inr p ↦ inr
-        (is_among-range (a + 1) n k (above_next a k above p.1) (omega arith)) ])
+    (elim (eqb_tells k a) [
+      | inl p ↦ inl p.0
+      | inr p ↦ inr
+          (is_among-range (a + 1) n k (above_next a k above p.1) (omega arith))
+    ])
   where
     above_next : (i j : ℕ) → i ≤ j → j ≢ i → i + 1 ≤ j
     above_next i j h other = omega arith

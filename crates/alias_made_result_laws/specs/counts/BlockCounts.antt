@@ -1,6 +1,6 @@
 -- How many reports the step of a block adds, and how many effects it records of an instruction and of the terminal.
-use Rattle.std.specs.Prelude.{◌≡◌, ℕ, ◌+◌, ◌*◌, ◌≤◌, Bool, true, false, List, [], ◌∷◌, length, Option, Some, None,
-    Result, Ok, Err, slice_get, is_some, refl}
+use Rattle.std.specs.Prelude.{◌≡◌, ℕ, ◌+◌, ◌*◌, ◌≤◌, Bool, true, false, List, [], ◌∷◌, length, Option, Some, None}
+use Rattle.std.specs.Prelude.{Result, Ok, Err, slice_get, is_some, refl}
 use Rattle.std.specs.List.{AllByRecursion}
 use Rattle.std.proofs.Common.{arith}
 use Rattle.alias_base.specs.declared.ids.BlockId.{BlockId}
@@ -28,8 +28,8 @@ use Rattle.alias_tables.specs.Steps.{◌>>=◌, gives}
 use Rattle.alias_tables.specs.Tables.{TableLists, Step, intern}
 use Rattle.alias_apply.specs.declared.progress.StepProgress.{StepProgress}
 use Rattle.alias_step.specs.Calls.{apply_effects}
-use Rattle.alias_step.specs.Instructions.{begun, with_result, apply_instruction, intern_reported, context_with,
-    apply_signature_with, apply_signature}
+use Rattle.alias_step.specs.Instructions.{begun, with_result, apply_instruction, intern_reported, context_with}
+use Rattle.alias_step.specs.Instructions.{apply_signature_with, apply_signature}
 use Rattle.alias_step.specs.declared.block.block.BlockProgress.{BlockProgress}
 use Rattle.alias_step.specs.declared.block.faults.BlockRefusal.{BlockRefusal}
 use Rattle.alias_step.specs.declared.block.faults.BlockRefusal.TheVariants as refused
@@ -37,16 +37,16 @@ use Rattle.alias_step.specs.declared.block.recorded.BlockEffects.{BlockEffects}
 use Rattle.alias_step.specs.declared.block.recorded.InstructionEffects.{InstructionEffects}
 use Rattle.alias_step.specs.declared.block.recorded.TerminalEffects.{TerminalEffects}
 use Rattle.alias_step.specs.block.Actions.{interned_or, record_interned, terminal_action}
-use Rattle.alias_step.specs.block.Blocks.{infer_phis, step_start, after_instruction, infer_instruction,
-    infer_instruction_at, apply_signatures, after_terminal, apply_terminal, block_start, finished_at, finished,
-    infer_block}
+use Rattle.alias_step.specs.block.Blocks.{infer_phis, step_start, after_instruction, infer_instruction}
+use Rattle.alias_step.specs.block.Blocks.{infer_instruction_at, apply_signatures, after_terminal, apply_terminal}
+use Rattle.alias_step.specs.block.Blocks.{block_start, finished_at, finished, infer_block}
 use Rattle.alias_step.specs.block.Contexts.{BlockContext}
 use Rattle.alias_step.specs.block.Faults.{BlockStep, in_block_at, in_block}
 use Rattle.alias_step.specs.block.Recorded.{recorded_as, terminal_recorded_as}
 use Rattle.alias_completeness.specs.Going.{all_both}
 use Rattle.alias_completeness.specs.Shapes.{IsAlike}
-use Rattle.alias_made_result_laws.specs.counts.Adding.{IsOther, AddsAt, Adds, adds_gives, adds_on, adds_then, adds_if,
-    adds_intern}
+use Rattle.alias_made_result_laws.specs.counts.Adding.{IsOther, AddsAt, Adds, adds_gives, adds_on, adds_then, adds_if}
+use Rattle.alias_made_result_laws.specs.counts.Adding.{adds_intern}
 use Rattle.alias_made_result_laws.specs.counts.EffectCounts.{IsWithin, IsLight, counts_effects}
 
 -- ---- an instruction
@@ -77,16 +77,16 @@ module _ (env : Environment) (facts : FunctionFacts) (x : Instruction) (h : IsLi
       >>= (λ u. gives (with_result (is_some (sites_of u.state x.lvalue.identifier)) x.lvalue.identifier u)))
   effects_add =
       let finish : StepProgress → Step StepProgress =
-          λ u. gives (with_result (is_some (sites_of u.state x.lvalue.identifier)) x.lvalue.identifier u) in
+      λ u. gives (with_result (is_some (sites_of u.state x.lvalue.identifier)) x.lvalue.identifier u) in
       adds_on IsOther (2 * length list + 0) 8 (Records 8) (Records 8)
-          (apply_effects (context_with env facts) list (begun s) >>= finish) (omega (arith, h.few)) (λ u w. w)
+      (apply_effects (context_with env facts) list (begun s) >>= finish) (omega (arith, h.few)) (λ u w. w)
       (adds_then IsOther (2 * length list) 0 (IsWithin (2 * length list) (begun s)) (Records 8)
-          (apply_effects (context_with env facts) list (begun s)) finish
-          (counts_effects (context_with env facts) list (begun s) h.light)
+      (apply_effects (context_with env facts) list (begun s)) finish
+      (counts_effects (context_with env facts) list (begun s) h.light)
       (λ u w. adds_gives IsOther 0 (Records 8)
-          (with_result (is_some (sites_of u.state x.lvalue.identifier)) x.lvalue.identifier u)
-          (with_result_records (is_some (sites_of u.state x.lvalue.identifier)) x.lvalue.identifier u
-          (omega (arith, w, h.few)))))
+      (with_result (is_some (sites_of u.state x.lvalue.identifier)) x.lvalue.identifier u)
+      (with_result_records (is_some (sites_of u.state x.lvalue.identifier)) x.lvalue.identifier u
+      (omega (arith, w, h.few)))))
 
   without_function : (o : Option FunctionId) → o ≡ None
       → Adds IsOther 8 (Records 8) (apply_instruction (context_with env facts) o list x.lvalue.identifier s)
@@ -152,12 +152,15 @@ module _ (c : BlockContext) where
       → IsShort s.effects → Adds IsOtherAt 8 IsShortSoFar (infer_instruction c i x s)
   one_adds i x s light h =
       adds_then IsOtherAt 8 0 (Records 8) IsShortSoFar (in_block i (apply_signature c.env c.facts x (step_start s)))
-          (λ u. gives (after_instruction i s.effects u))
+      (λ u. gives (after_instruction i s.effects u))
       (λ t room. in_block_adds 8 (Records 8) i t (apply_signature c.env c.facts x (step_start s) t)
-          (instruction_adds c.env c.facts x light (step_start s) t room))
+      (instruction_adds c.env c.facts x light (step_start s) t room))
       (λ u w. adds_gives IsOtherAt 0 IsShortSoFar (after_instruction i s.effects u)
-          (record { instructions = all_both (λ (y : InstructionEffects). length y.effects ≤ 8) s.effects.instructions
-          (recorded_as i u.recorded) h.instructions (recorded_short i u.recorded w); terminal = h.terminal }))
+      (record {
+        instructions = all_both (λ (y : InstructionEffects). length y.effects ≤ 8) s.effects.instructions
+            (recorded_as i u.recorded) h.instructions (recorded_short i u.recorded w);
+        terminal = h.terminal;
+      }))
 
   -- ---- the terminal
 
@@ -175,8 +178,8 @@ module _ (c : BlockContext) where
   end_adds is (MaybeThrow id continuation handler effects) s h = absurd h
   end_adds is (Return id value effects) s h =
       adds_if IsOtherAt 0 (Records 1) c.is_function_expression (gives (step_start s))
-          (record_interned (effect.Freeze value JsxCaptured) (step_start s))
-          (adds_gives IsOtherAt 0 (Records 1) (step_start s) (omega arith))
+      (record_interned (effect.Freeze value JsxCaptured) (step_start s))
+      (adds_gives IsOtherAt 0 (Records 1) (step_start s) (omega arith))
       (interned_adds (effect.Freeze value JsxCaptured) s)
   end_adds is e s h = adds_gives IsOtherAt 0 (Records 1) (step_start s) (omega arith)
 
@@ -184,10 +187,10 @@ module _ (c : BlockContext) where
       → Adds IsOtherAt 0 IsShortSoFar (apply_terminal c b block s)
   terminal_adds b block s light h =
       adds_then IsOtherAt 0 0 (Records 1) IsShortSoFar
-          (terminal_action c block.instructions block.terminal (step_start s))
-          (λ u. gives (after_terminal b s.effects u)) (end_adds block.instructions block.terminal s light)
+      (terminal_action c block.instructions block.terminal (step_start s))
+      (λ u. gives (after_terminal b s.effects u)) (end_adds block.instructions block.terminal s light)
       (λ u w. adds_gives IsOtherAt 0 IsShortSoFar (after_terminal b s.effects u)
-          (record { instructions = h.instructions; terminal = terminal_single b u.recorded w }))
+      (record { instructions = h.instructions; terminal = terminal_single b u.recorded w }))
 
   -- ---- all of it
 
@@ -211,10 +214,10 @@ module _ (c : BlockContext) where
     signatures_add [] s h = adds_gives IsOtherAt (8 * length {A = InstructionId} []) IsShortSoFar s h
     signatures_add (i ∷ is) s h =
         adds_on IsOtherAt (8 + 8 * length is) (8 * length (i ∷ is)) IsShortSoFar IsShortSoFar
-            (apply_signatures c (i ∷ is) s) (omega arith) (λ u w. w)
+        (apply_signatures c (i ∷ is) s) (omega arith) (λ u w. w)
         (adds_then IsOtherAt 8 (8 * length is) IsShortSoFar IsShortSoFar
-            (infer_instruction_at c i (slice_get c.func.instructions i.0) s) (apply_signatures c is)
-            (at_adds i (slice_get c.func.instructions i.0) s refl h) (λ u w. signatures_add is u w))
+        (infer_instruction_at c i (slice_get c.func.instructions i.0) s) (apply_signatures c is)
+        (at_adds i (slice_get c.func.instructions i.0) s refl h) (λ u w. signatures_add is u w))
 
     -- the step of a block with three instructions at most adds 24 reports at most
     pub block_adds : (b : BlockId) (block : BasicBlock) (x : State) → IsLightBlock block
@@ -222,10 +225,10 @@ module _ (c : BlockContext) where
     block_adds b block x h =
         let rest : BlockProgress → BlockStep (State × BlockEffects) = λ s. apply_terminal c b block s >>= finished in
         adds_on IsOtherAt (8 * length block.instructions + 0) 24 IsShortEnd IsShortEnd (infer_block c b block x)
-            (omega (arith, h.few)) (λ p w. w)
+        (omega (arith, h.few)) (λ p w. w)
         (adds_then IsOtherAt (8 * length block.instructions) 0 IsShortSoFar IsShortEnd
-            (apply_signatures c block.instructions (block_start (infer_phis block.phis x))) rest
+        (apply_signatures c block.instructions (block_start (infer_phis block.phis x))) rest
         (signatures_add block.instructions (block_start (infer_phis block.phis x))
-            (record { instructions = tt; terminal = tt }))
+        (record { instructions = tt; terminal = tt }))
         (λ s w. adds_then IsOtherAt 0 0 IsShortSoFar IsShortEnd (apply_terminal c b block s) finished
-            (terminal_adds b block s h.ends w) (λ u v. finished_adds u.missing u v)))
+        (terminal_adds b block s h.ends w) (λ u v. finished_adds u.missing u v)))

@@ -1,7 +1,7 @@
 -- How many reports and recorded effects the step of an effect adds, which is no call and creates no function: two at
 -- most.
-use Rattle.std.specs.Prelude.{◌≡◌, ℕ, ◌+◌, ◌*◌, ◌≤◌, Bool, true, false, if◌then◌else◌, List, [], ◌∷◌, ◌++◌, length,
-    Option, Some, None, refl}
+use Rattle.std.specs.Prelude.{◌≡◌, ℕ, ◌+◌, ◌*◌, ◌≤◌, Bool, true, false, if◌then◌else◌, List, [], ◌∷◌, ◌++◌, length}
+use Rattle.std.specs.Prelude.{Option, Some, None, refl}
 use Rattle.std.specs.List.{AllByRecursion}
 use Rattle.std.proofs.Common.{ap, ◌∙◌, arith}
 use Rattle.std.proofs.lemmas.List.{length-append}
@@ -9,8 +9,8 @@ use Rattle.alias_base.specs.declared.ids.IdentifierId.{IdentifierId}
 use Rattle.alias_hir.specs.declared.effect.AliasingEffect.{AliasingEffect}
 use Rattle.alias_hir.specs.declared.effect.AliasingEffect.TheVariants as effect
 use Rattle.alias_hir.specs.declared.effect.ValueKind.{ValueKind}
-use Rattle.alias_hir.specs.declared.effect.ValueKind.TheVariants.{Primitive, Global, Frozen, Mutable, Context,
-    MaybeFrozen}
+use Rattle.alias_hir.specs.declared.effect.ValueKind.TheVariants.{Primitive, Global, Frozen, Mutable, Context}
+use Rattle.alias_hir.specs.declared.effect.ValueKind.TheVariants.{MaybeFrozen}
 use Rattle.alias_hir.specs.declared.effect.ValueReason.{ValueReason}
 use Rattle.alias_hir.specs.declared.place.Place.{Place}
 use Rattle.alias_hir.specs.declared.report.ReportId.{ReportId}
@@ -27,18 +27,19 @@ use Rattle.alias_apply.specs.declared.progress.StepProgress.{StepProgress}
 use Rattle.alias_apply.specs.Apply.{apply_simple, apply_plain, intern_and_apply_plain}
 use Rattle.alias_apply.specs.Contexts.{StepContext, hoisted_access}
 use Rattle.alias_apply.specs.Kinds.{is_constant, is_frozen, is_writable, may_be_frozen, captures, may_alias, value_with}
-use Rattle.alias_apply.specs.Leaves.{apply_leaf, intern_and_apply_leaf, apply_maybe_alias, apply_aliasing,
-    intern_and_apply_aliasing}
-use Rattle.alias_apply.specs.Mutation.{intern_and_apply_mutate_frozen, intern_and_apply_mutate_global, report_write,
-    report_hoisted_write, record_mutation, apply_mutate, apply_mutate_conditionally, apply_freeze, freezes_on}
+use Rattle.alias_apply.specs.Leaves.{apply_leaf, intern_and_apply_leaf, apply_maybe_alias, apply_aliasing}
+use Rattle.alias_apply.specs.Leaves.{intern_and_apply_aliasing}
+use Rattle.alias_apply.specs.Mutation.{intern_and_apply_mutate_frozen, intern_and_apply_mutate_global, report_write}
+use Rattle.alias_apply.specs.Mutation.{report_hoisted_write, record_mutation, apply_mutate, apply_mutate_conditionally}
+use Rattle.alias_apply.specs.Mutation.{apply_freeze, freezes_on}
 use Rattle.alias_apply.specs.Progress.{record_of, with_state, looked_up_at, looked_up_with_span, kind_at, is_made, made}
 use Rattle.alias_apply.specs.Reports.{write_report, hoisting_report}
-use Rattle.alias_apply.specs.Values.{apply_create, record_create_from, apply_create_from, assign_value, apply_assign,
-    apply_link, apply_alias}
+use Rattle.alias_apply.specs.Values.{apply_create, record_create_from, apply_create_from, assign_value, apply_assign}
+use Rattle.alias_apply.specs.Values.{apply_link, apply_alias}
 use Rattle.alias_step.specs.Calls.{apply_effect, apply_effects}
 use Rattle.alias_completeness.specs.Shapes.{shape_at, IsAlike}
-use Rattle.alias_made_result_laws.specs.counts.Adding.{IsOther, Adds, adds_gives, adds_on, adds_then, adds_if,
-    adds_report, adds_intern}
+use Rattle.alias_made_result_laws.specs.counts.Adding.{IsOther, Adds, adds_gives, adds_on, adds_then, adds_if}
+use Rattle.alias_made_result_laws.specs.counts.Adding.{adds_report, adds_intern}
 
 -- from s at most k effects more were recorded
 abbrev pub IsWithin : ℕ → StepProgress → StepProgress → Type 0
@@ -60,8 +61,8 @@ pub counts_then : (j k : ℕ) (s : StepProgress) (f : Step StepProgress) (g : St
     → Counts j s f → ((u : StepProgress) → Counts k u (g u)) → Counts (j + k) s (f >>= g)
 counts_then j k s f g h m =
     adds_then IsOther j k (IsWithin j s) (IsWithin (j + k) s) f g h
-        (λ u w. adds_on IsOther k k (IsWithin k u) (IsWithin (j + k) s) (g u) (omega arith) (λ v x. omega (arith, w, x))
-        (m u))
+    (λ u w. adds_on IsOther k k (IsWithin k u) (IsWithin (j + k) s) (g u) (omega arith) (λ v x. omega (arith, w, x))
+    (m u))
 
 pub counts_if : (k : ℕ) (s : StepProgress) (b : Bool) (f g : Step StepProgress) → Counts k s f → Counts k s g
     → Counts k s (if b then f else g)
@@ -111,8 +112,8 @@ module _ (c : StepContext) where
   counts_maybe_alias a x s =
       let u = looked_up_with_span a (looked_up_with_span x s) in
       counts_if 1 s (may_be_frozen (kind_at a s)) (intern_and_apply_leaf (effect.ImmutableCapture a x) u)
-          (gives (record_of (effect.MaybeAlias a x) u)) (counts_intern_and_apply_leaf (effect.ImmutableCapture a x) u)
-          (counts_recorded (effect.MaybeAlias a x) u)
+      (gives (record_of (effect.MaybeAlias a x) u)) (counts_intern_and_apply_leaf (effect.ImmutableCapture a x) u)
+      (counts_recorded (effect.MaybeAlias a x) u)
 
   counts_aliasing : (e : AliasingEffect) (s : StepProgress) → Counts 1 s (apply_aliasing e s)
   counts_aliasing (effect.MaybeAlias a x) s = counts_maybe_alias a x s
@@ -132,11 +133,11 @@ module _ (c : StepContext) where
   counts_create : (x : Place) (k : ValueKind) (r : ValueReason) (s : StepProgress) → Counts 1 s (apply_create x k r s)
   counts_create x k r s =
       counts_then 0 1 s (made x.identifier s)
-          (λ u. gives (record_of (effect.Create x k r)
-          (with_state (given x.identifier (Created x.identifier k r) (value_with k r) u.state) u)))
-          (counts_made x.identifier s)
+      (λ u. gives (record_of (effect.Create x k r)
+      (with_state (given x.identifier (Created x.identifier k r) (value_with k r) u.state) u)))
+      (counts_made x.identifier s)
       (λ u. counts_recorded (effect.Create x k r)
-          (with_state (given x.identifier (Created x.identifier k r) (value_with k r) u.state) u))
+      (with_state (given x.identifier (Created x.identifier k r) (value_with k r) u.state) u))
 
   counts_record_from : (k : ValueKind) (r : ValueReason) (a x : Place) (s : StepProgress)
       → Counts 2 s (record_create_from k r a x s)
@@ -153,27 +154,27 @@ module _ (c : StepContext) where
   counts_create_from a x s =
       counts_then 0 2 s (made x.identifier s) _ (counts_made x.identifier s)
       (λ u. let v = lookup u.state a.identifier in
-          counts_record_from v.kind (primary_reason v.reason) a x
-          (with_state (given x.identifier (CreatedFrom a.identifier x.identifier) v u.state) (looked_up_at a u)))
+      counts_record_from v.kind (primary_reason v.reason) a x
+      (with_state (given x.identifier (CreatedFrom a.identifier x.identifier) v u.state) (looked_up_at a u)))
 
   counts_assigned : (v : AbstractValue) (a x : Place) (s : StepProgress) → Counts 1 s (assign_value v a x s)
   counts_assigned v a x s =
       counts_if 1 s (is_frozen v.kind) (intern_and_apply_leaf (effect.ImmutableCapture a x) s
-          >>= (λ u. gives (with_state (given x.identifier (AssignFrozen a.identifier x.identifier) v u.state) u)))
+      >>= (λ u. gives (with_state (given x.identifier (AssignFrozen a.identifier x.identifier) v u.state) u)))
       (if is_constant v.kind then gives (with_state
-          (given x.identifier (AssignCopy a.identifier x.identifier) v s.state) s)
-          else gives (record_of (effect.Assign a x) (with_state (assigned x.identifier a.identifier s.state) s)))
+      (given x.identifier (AssignCopy a.identifier x.identifier) v s.state) s)
+      else gives (record_of (effect.Assign a x) (with_state (assigned x.identifier a.identifier s.state) s)))
       (counts_then 1 0 s (intern_and_apply_leaf (effect.ImmutableCapture a x) s)
-          (λ u. gives (with_state (given x.identifier (AssignFrozen a.identifier x.identifier) v u.state) u))
-          (counts_intern_and_apply_leaf (effect.ImmutableCapture a x) s)
-          (λ u. counts_gives 0 u (with_state (given x.identifier (AssignFrozen a.identifier x.identifier) v u.state) u)
-          (omega arith)))
+      (λ u. gives (with_state (given x.identifier (AssignFrozen a.identifier x.identifier) v u.state) u))
+      (counts_intern_and_apply_leaf (effect.ImmutableCapture a x) s)
+      (λ u. counts_gives 0 u (with_state (given x.identifier (AssignFrozen a.identifier x.identifier) v u.state) u)
+      (omega arith)))
       (counts_if 1 s (is_constant v.kind) (gives
-          (with_state (given x.identifier (AssignCopy a.identifier x.identifier) v s.state) s))
-          (gives (record_of (effect.Assign a x) (with_state (assigned x.identifier a.identifier s.state) s)))
-          (counts_gives 1 s (with_state (given x.identifier (AssignCopy a.identifier x.identifier) v s.state) s)
-          (within_one s)) (counts_recorded (effect.Assign a x)
-          (with_state (assigned x.identifier a.identifier s.state) s)))
+      (with_state (given x.identifier (AssignCopy a.identifier x.identifier) v s.state) s))
+      (gives (record_of (effect.Assign a x) (with_state (assigned x.identifier a.identifier s.state) s)))
+      (counts_gives 1 s (with_state (given x.identifier (AssignCopy a.identifier x.identifier) v s.state) s)
+      (within_one s)) (counts_recorded (effect.Assign a x)
+      (with_state (assigned x.identifier a.identifier s.state) s)))
 
   counts_assign : (a x : Place) (s : StepProgress) → Counts 1 s (apply_assign a x s)
   counts_assign a x s = counts_then 0 1 s (made x.identifier s)
@@ -186,7 +187,7 @@ module _ (c : StepContext) where
       counts_if 1 s (may_be_frozen (kind_at a s)) _ _ (counts_intern_and_apply_leaf (effect.ImmutableCapture a x) u)
       (counts_if 1 s (captures (kind_at a s) (kind_at x s)) _ _ (counts_recorded e u)
       (counts_if 1 s (may_alias (kind_at a s) (kind_at x s)) _ _
-          (counts_intern_and_apply_aliasing (effect.MaybeAlias a x) u) (counts_gives 1 s u (within_one s))))
+      (counts_intern_and_apply_aliasing (effect.MaybeAlias a x) u) (counts_gives 1 s u (within_one s))))
 
   counts_alias : (a x : Place) (s : StepProgress) → Counts 1 s (apply_alias a x s)
   counts_alias a x s = counts_if 1 s (is_made x.identifier s.made) _ (refuses (AliasBeforeCreate x.identifier))
@@ -240,7 +241,7 @@ module _ (c : StepContext) where
       let u = record_of (effect.Freeze v r) (with_state (frozen v.identifier r s.state) s) in
       let one = recorded_one (effect.Freeze v r) (with_state (frozen v.identifier r s.state) s) in
       within_if 1 s (does_freeze s.state v.identifier) _ _ (within_if 1 s (freezes_on c.env.config) _ _ one one)
-          (within_one s)
+      (within_one s)
 
   -- ---- all effects but calls and functions
 
@@ -296,4 +297,4 @@ counts_effects c [] s h = counts_gives 0 s s (omega arith)
 counts_effects c (e ∷ es) s h =
     counts_on (2 + 2 * length es) (2 * length (e ∷ es)) s (apply_effects c (e ∷ es) s) (omega arith)
     (counts_then 2 (2 * length es) s (apply_effect c e s) (apply_effects c es) (counts_effect c e s h.0)
-        (λ u. counts_effects c es u h.1))
+    (λ u. counts_effects c es u h.1))

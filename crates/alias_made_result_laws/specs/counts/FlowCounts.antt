@@ -1,13 +1,14 @@
 -- The visits of a flow add no more than so many entries to its tables: a visit adds 24 at most, a round of 1,001 blocks
 -- at most 24,024,
 -- and there are 100 rounds at most.
-use Rattle.std.specs.Prelude.{◌≡◌, ℕ, ◌+◌, ◌*◌, ◌≤◌, Bool, true, false, if◌then◌else◌, List, [], ◌∷◌, length, Option,
-    Some, None, slice_index_or, slice_set, refl}
+use Rattle.std.specs.Prelude.{◌≡◌, ℕ, ◌+◌, ◌*◌, ◌≤◌, Bool, true, false, if◌then◌else◌, List, [], ◌∷◌, length, Option}
+use Rattle.std.specs.Prelude.{Some, None, slice_index_or, slice_set, refl}
 use Rattle.std.proofs.Common.{zero, suc, arith}
 use Rattle.std.specs.List.{AllByRecursion}
 use Rattle.alias_lattice.specs.Flows.{Outcome, Stepped, Refused}
-use Rattle.alias_flow.specs.Machine.{Rules, VisitLog, SolverState, Run, Going, Stopped, End, Solved, Fault, NotSettled,
-    after, ending, up, outcome_after, visit_at, visit, turn, round, any_dirty, rounds, start, solution, dirty}
+use Rattle.alias_flow.specs.Machine.{Rules, VisitLog, SolverState, Run, Going, Stopped, End, Solved, Fault, NotSettled}
+use Rattle.alias_flow.specs.Machine.{after, ending, up, outcome_after, visit_at, visit, turn, round, any_dirty, rounds}
+use Rattle.alias_flow.specs.Machine.{start, solution, dirty}
 
 length-up : (i n : ℕ) → length (up i n) ≡ n
 length-up i zero = refl
@@ -56,8 +57,10 @@ module _ {P T K C : Type 0} (join : P → P → P) (below : P → P → Bool) (r
     outcome_held : (n : ℕ) (w : W) (b : ℕ) (x : P) (o : Outcome P T K C) → Held n w → VisitIs w.tables o
         → HeldRun (n + 24) (outcome_after join below rules w b x o)
     outcome_held n w b x (Stepped y u q) h s =
-        record { within = omega (arith, h.within, s.0);
-        recorded = all_set (IsFineAt fine) w.recorded b (Some q) h.recorded s.1 }
+        record {
+          within = omega (arith, h.within, s.0);
+          recorded = all_set (IsFineAt fine) w.recorded b (Some q) h.recorded s.1;
+        }
     outcome_held n w b x (Refused c) h s = s
 
     visit_held : (n : ℕ) (w : W) (b : ℕ) (o : Option P) → Held n w → n + 24 ≤ most
@@ -85,17 +88,17 @@ module _ {P T K C : Type 0} (join : P → P → P) (below : P → P → Bool) (r
     round_held [] n w h room = held_more n (n + 24 * length {A = ℕ} []) w (omega arith) h
     round_held (b ∷ bs) n w h room =
         after_held (n + 24) (n + 24 * length (b ∷ bs)) (turn join below rules w b) (λ v. round join below rules v bs)
-            (turn_held n w b (dirty below w.progress b) h (omega (arith, room)))
+        (turn_held n w b (dirty below w.progress b) h (omega (arith, room)))
         (λ v k. run_more ((n + 24) + 24 * length bs) (n + 24 * length (b ∷ bs)) (round join below rules v bs)
-            (omega arith) (round_held bs (n + 24) v k (omega (arith, room))))
+        (omega arith) (round_held bs (n + 24) v k (omega (arith, room))))
 
     whole_round : (n : ℕ) (w : W) → Held n w → n + 24024 ≤ most
         → HeldRun (n + 24024) (round join below rules w (up 0 rules.blocks))
     whole_round n w h room =
         let bs = up 0 rules.blocks in
         run_more (n + 24 * length bs) (n + 24024) (round join below rules w bs)
-            (omega (arith, few, length-up 0 rules.blocks))
-            (round_held bs n w h (omega (arith, few, room, length-up 0 rules.blocks)))
+        (omega (arith, few, length-up 0 rules.blocks))
+        (round_held bs n w h (omega (arith, few, room, length-up 0 rules.blocks)))
 
     ending_held : (m : ℕ) (r : Run (VisitLog P) T K C) (f : W → End (VisitLog P) T K C) → HeldRun m r
         → ((w : W) → Held m w → HeldEnd (f w)) → HeldEnd (ending r f)

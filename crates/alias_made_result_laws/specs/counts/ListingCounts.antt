@@ -1,7 +1,7 @@
 -- How many positions the effects of a function take, where what its instructions and terminals carry is short: 26 for
 -- each block at most.
-use Rattle.std.specs.Prelude.{◌≡◌, ℕ, ◌+◌, ◌*◌, ◌≤◌, ◌<◌, Bool, true, false, if◌then◌else◌, List, [], ◌∷◌, length,
-    Option, Some, None, Result, Ok, Err, ⊤, nat_lt, nat_le, slice_get, refl}
+use Rattle.std.specs.Prelude.{◌≡◌, ℕ, ◌+◌, ◌*◌, ◌≤◌, ◌<◌, Bool, true, false, if◌then◌else◌, List, [], ◌∷◌, length}
+use Rattle.std.specs.Prelude.{Option, Some, None, Result, Ok, Err, ⊤, nat_lt, nat_le, slice_get, refl}
 use Rattle.std.specs.List.{AllByRecursion}
 use Rattle.std.proofs.Common.{zero, suc, subst, arith}
 use Rattle.std.proofs.lemmas.Bool.Decides.{nat_tests}
@@ -29,12 +29,12 @@ use Rattle.alias_graph.specs.declared.types.EdgeKind.{EdgeKind}
 use Rattle.alias_graph.specs.declared.types.EdgeKind.TheVariants.{Alias, Capture, MaybeAlias}
 use Rattle.alias_graph.specs.declared.types.NodeValue.TheVariants.{Object}
 use Rattle.alias_graph.specs.declared.recorded.listing.Listing.{Listing}
-use Rattle.alias_graph.specs.recorded.BlockListings.{phi_listed, returns_listed, alias_listed, aliases_in, with_pending,
-    end_listed, block_listed, blocks_listed, first_listing, listed}
+use Rattle.alias_graph.specs.recorded.BlockListings.{phi_listed, returns_listed, alias_listed, aliases_in, with_pending}
+use Rattle.alias_graph.specs.recorded.BlockListings.{end_listed, block_listed, blocks_listed, first_listing, listed}
 use Rattle.alias_graph.specs.recorded.Each.{each}
 use Rattle.alias_graph.specs.recorded.IdSets.{has_made}
-use Rattle.alias_graph.specs.recorded.Listings.{position_after, made, made_once, linked, effect_listed, effects_in,
-    recorded_in, instruction_listed}
+use Rattle.alias_graph.specs.recorded.Listings.{position_after, made, made_once, linked, effect_listed, effects_in}
+use Rattle.alias_graph.specs.recorded.Listings.{recorded_in, instruction_listed}
 use Rattle.alias_range_pass.specs.Passes.{Ranged, ranged, range_pass}
 use Rattle.alias_range_pass.specs.Refusals.{unreplaced, none_unreplaced, listing_or, positions_left, recorded}
 use Rattle.alias_range_pass.specs.summary.Summaries.{tracked}
@@ -112,7 +112,7 @@ assigned_takes : (a x : Place) → Takes 1 (λ l. linked Alias a x (made_once x 
 assigned_takes a x l room =
     let same : (made_once x l).next ≡ l.next = once_next x l in
     takes_more 1 1 l (made_once x l) (linked Alias a x (made_once x l)) (omega (arith, same))
-        (linked_takes Alias a x (made_once x l) (omega (arith, same, room)))
+    (linked_takes Alias a x (made_once x l) (omega (arith, same, room)))
 
 effect_takes : (i : InstructionId) (o : EvaluationOrder) (e : AliasingEffect) → Takes 1 (effect_listed i o e)
 effect_takes i o (effect.CreateFrom a x) l room = at_position l _ room (omega arith)
@@ -186,21 +186,21 @@ module _ (f : HirFunction) (short : AllByRecursion IsShortInstruction f.instruct
   instructions_take [] = takes_none 0
   instructions_take (i ∷ is) =
       takes_on (8 + 8 * length is) (8 * length (i ∷ is)) (each (instruction_listed f.instructions) (i ∷ is))
-          (omega arith)
+      (omega arith)
       (takes_then 8 (8 * length is) (instruction_listed f.instructions i) (each (instruction_listed f.instructions) is)
-          (recorded_takes i (slice_get f.instructions i.0) refl) (instructions_take is))
+      (recorded_takes i (slice_get f.instructions i.0) refl) (instructions_take is))
 
   without_phis : (k : ℕ) (b : BasicBlock) (phis : List Phi) → phis ≡ [] → length b.instructions ≤ 3
       → Carries 1 (terminal_effects b.terminal)
       → Takes 26 (λ l. each (phi_listed f.body.blocks k) phis l
-          >>= (λ p. each (instruction_listed f.instructions) b.instructions p >>= end_listed f.returns k b.terminal))
+      >>= (λ p. each (instruction_listed f.instructions) b.instructions p >>= end_listed f.returns k b.terminal))
   without_phis k b [] e few ends =
       takes_on (8 * length b.instructions + 2) 26
-          (λ l. each (instruction_listed f.instructions) b.instructions l >>= end_listed f.returns k b.terminal)
-          (omega (arith, few))
+      (λ l. each (instruction_listed f.instructions) b.instructions l >>= end_listed f.returns k b.terminal)
+      (omega (arith, few))
       (takes_then (8 * length b.instructions) 2 (each (instruction_listed f.instructions) b.instructions)
-          (end_listed f.returns k b.terminal) (instructions_take b.instructions)
-          (end_takes f.returns k b.terminal ends))
+      (end_listed f.returns k b.terminal) (instructions_take b.instructions)
+      (end_takes f.returns k b.terminal ends))
   without_phis k b (p ∷ ps) e few ends = cc
 
   block_takes : (k : ℕ) (b : BlockId × BasicBlock) → IsShortBlock b → Takes 26 (block_listed f k b.1)
@@ -212,7 +212,7 @@ module _ (f : HirFunction) (short : AllByRecursion IsShortInstruction f.instruct
   blocks_take (b ∷ bs) k h =
       takes_on (26 + 26 * length bs) (26 * length (b ∷ bs)) (blocks_listed f k (b ∷ bs)) (omega arith)
       (takes_then 26 (26 * length bs) (block_listed f k b.1) (blocks_listed f (k + 1) bs) (block_takes k b h.0)
-          (blocks_take bs (k + 1) h.1))
+      (blocks_take bs (k + 1) h.1))
 
 -- ---- the range pass
 
@@ -249,19 +249,19 @@ module _ (f : HirFunction) (h : IsShortFunction f) where
   listed_few =
       no_counter (first_listing f) (listed f) refl
       (takes_on (26 * length f.body.blocks) 26026 (blocks_listed f 0 f.body.blocks) (omega (arith, h.few))
-          (blocks_take f h.instructions f.body.blocks 0 h.blocks) (first_listing f) (omega arith))
+      (blocks_take f h.instructions f.body.blocks 0 h.blocks) (first_listing f) (omega arith))
 
   recorded_avoids : Avoids is_too_many (Answered {A = Listing}) (recorded f)
   recorded_avoids =
       avoids_then is_too_many (Answered {A = ⊤}) (Answered {A = Listing}) (none_unreplaced (unreplaced f))
-          (λ q. listing_or (listed f) >>= (λ l. positions_left l.next (length (tracked f)) >>= (λ t. Ok l)))
-          (left_avoids (unreplaced f)) (λ q t.
+      (λ q. listing_or (listed f) >>= (λ l. positions_left l.next (length (tracked f)) >>= (λ t. Ok l)))
+      (left_avoids (unreplaced f)) (λ q t.
       avoids_then is_too_many Few (Answered {A = Listing}) (listing_or (listed f))
-          (λ l. positions_left l.next (length (tracked f)) >>= (λ t. Ok l)) listed_few (λ l few.
+      (λ l. positions_left l.next (length (tracked f)) >>= (λ t. Ok l)) listed_few (λ l few.
       avoids_then is_too_many (Answered {A = ⊤}) (Answered {A = Listing}) (positions_left l.next (length (tracked f)))
-          (λ t. Ok l)
+      (λ t. Ok l)
       (room_avoids (nat_le (l.next + length (tracked f)) 4294967295)
-          (within (l.next + length (tracked f)) 4294967295 (omega (arith, few, h.tracked)))) (λ t a. tt)))
+      (within (l.next + length (tracked f)) 4294967295 (omega (arith, few, h.tracked)))) (λ t a. tt)))
 
   -- the range pass of such a function is refused for no counter
   pub ranges_avoid : (b : Bool) (env : Environment) → Avoids is_too_many (Answered {A = Ranged}) (range_pass b f env)

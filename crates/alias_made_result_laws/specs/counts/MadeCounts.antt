@@ -1,6 +1,6 @@
 -- No counter comes to its last value for a made unit, and its inference gives a result.
-use Rattle.std.specs.Prelude.{◌≡◌, ℕ, ◌+◌, ◌≤◌, Bool, true, false, if◌then◌else◌, List, [], ◌∷◌, ◌++◌, length, map,
-    Option, Some, None, Result, Ok, Err, slice_get, refl}
+use Rattle.std.specs.Prelude.{◌≡◌, ℕ, ◌+◌, ◌≤◌, Bool, true, false, if◌then◌else◌, List, [], ◌∷◌, ◌++◌, length, map}
+use Rattle.std.specs.Prelude.{Option, Some, None, Result, Ok, Err, slice_get, refl}
 use Rattle.std.specs.List.{AllByRecursion, flat_map, range_with_len}
 use Rattle.std.proofs.Common.{zero, suc, ap, sym, ◌∙◌, subst, arith}
 use Rattle.std.proofs.lemmas.List.{length-append}
@@ -28,8 +28,8 @@ use Rattle.alias_effects.specs.Recording.{with_effects_of}
 use Rattle.alias_range_pass.specs.Passes.{Ranged, range_pass}
 use Rattle.alias_nested.specs.Analysis.{Analysis, Analysed, analysis, analysed, each, slot_analysed, most_levels}
 use Rattle.alias_nested.specs.Created.{one_of, created_by, created_by_all, created_functions}
-use Rattle.alias_nested.specs.Units.{RootAnalysis, UnitAnalysis, validated, root_finished, root_analysed, all_analysed,
-    handed_out, unit_analysed}
+use Rattle.alias_nested.specs.Units.{RootAnalysis, UnitAnalysis, validated, root_finished, root_analysed, all_analysed}
+use Rattle.alias_nested.specs.Units.{handed_out, unit_analysed}
 use Rattle.alias_answer_laws.specs.answers.Avoiding.{Avoids, Answered, avoids_then}
 use Rattle.alias_answer_laws.specs.answers.ValidationLaws.{validated_says}
 use Rattle.alias_completeness.specs.Going.{all_both}
@@ -47,8 +47,8 @@ use Rattle.alias_made_result_laws.specs.plain.ForwardLaws.{made_is_forward}
 use Rattle.alias_made_result_laws.specs.plain.PlainLaws.{made_is_plain}
 use Rattle.alias_made_result_laws.specs.counts.EffectCounts.{IsLight}
 use Rattle.alias_made_result_laws.specs.counts.BlockCounts.{IsLightInstruction, IsLightBlock}
-use Rattle.alias_made_result_laws.specs.counts.ListingCounts.{IsShortBlock, IsShortInstruction, all_at, IsShortFunction,
-    ranges_avoid}
+use Rattle.alias_made_result_laws.specs.counts.ListingCounts.{IsShortBlock, IsShortInstruction, all_at, IsShortFunction}
+use Rattle.alias_made_result_laws.specs.counts.ListingCounts.{ranges_avoid}
 use Rattle.alias_made_result_laws.specs.counts.PassCounts.{is_too_many, IsLightFunction, EndsShort, pass_is_short}
 use Rattle.alias_made_result_laws.specs.counts.RecordedCounts.{short_with}
 
@@ -75,8 +75,18 @@ module _ (env : Environment) (facts : FunctionFacts) where
   block_light : (k : ℕ) (d : BlockDraw) → AllByRecursion Light (instructions_of k d)
   block_light k d = (
     record { creates = refl; tells = refl; light = (tt, tt); few = omega arith },
-    (value_light _ _ _ d.kind, (record { creates = refl; tells = refl; light = (tt, (tt, (tt, tt)));
-        few = omega arith }, tt)),
+    (
+      value_light _ _ _ d.kind,
+      (
+        record {
+          creates = refl;
+          tells = refl;
+          light = (tt, (tt, (tt, tt)));
+          few = omega arith;
+        },
+        tt,
+      ),
+    ),
   )
 
   light_from : (seed a n : ℕ) → AllByRecursion Light (flat_map (drawn_instructions seed) (range_with_len a n))
@@ -115,9 +125,12 @@ short_blocks size = all_blocks IsShortBlock size (λ k. record { phis = refl; fe
     (record { phis = refl; few = omega arith; ends = tt })
 
 few_blocks : (size : ℕ) → size ≤ 1000 → length (made_blocks size) ≤ 1001
-few_blocks size limit = omega (arith, limit,
-    length-append (map block_of (range_with_len 0 size)) (last_block size ∷ []),
-    length-map-range_with_len block_of 0 size)
+few_blocks size limit = omega (
+  arith,
+  limit,
+  length-append (map block_of (range_with_len 0 size)) (last_block size ∷ []),
+  length-map-range_with_len block_of 0 size,
+)
 
 -- ---- the function
 
@@ -137,8 +150,12 @@ module _ (seed size : ℕ) (limit : size ≤ 1000) where
   }
 
   is_short : IsShortFunction func
-  is_short = record { instructions = short_from seed 0 size; blocks = short_blocks size; few = few_blocks size limit;
-      tracked = omega arith }
+  is_short = record {
+    instructions = short_from seed 0 size;
+    blocks = short_blocks size;
+    few = few_blocks size limit;
+    tracked = omega arith;
+  }
 
   -- it creates no function
   created_none : (n : ℕ) (o : Option Instruction) → slice_get (made_instructions seed size) n ≡ o → created_by o ≡ []
@@ -166,21 +183,21 @@ module _ (seed size : ℕ) (limit : size ≤ 1000) where
   root_avoids fs =
       avoids_then is_too_many EndsShort (Answered {A = RootAnalysis}) (pass_end env func false)
       (λ e. root_finished (with_effects_of e.solved func) (env_after env e)
-          (fs ++ record { env = env; func = func; is_function_expression = false; solved = e.solved } ∷ []))
+      (fs ++ record { env = env; func = func; is_function_expression = false; solved = e.solved } ∷ []))
       (pass_is_short env func false is_light refl) (λ e s.
       avoids_then is_too_many (Answered {A = Ranged}) (Answered {A = RootAnalysis})
-          (range_pass false (with_effects_of e.solved func) (env_after env e)) _
+      (range_pass false (with_effects_of e.solved func) (env_after env e)) _
       (ranges_avoid (with_effects_of e.solved func) (short_with e.solved func s is_short) false (env_after env e))
-          (λ r t.
+      (λ r t.
       avoids_then is_too_many (Answered {A = Environment}) (Answered {A = RootAnalysis}) (validated r.after.0 r.after.1)
-          _ (validated_says is_too_many (λ x. refl) r.after.0 r.after.1) (λ m q. tt)))
+      _ (validated_says is_too_many (λ x. refl) r.after.0 r.after.1) (λ m q. tt)))
 
   unit_avoids : Avoids is_too_many (Answered {A = UnitAnalysis}) (unit_analysed (made_unit seed size))
   unit_avoids =
       avoids_then is_too_many (Answered {A = RootAnalysis}) (Answered {A = UnitAnalysis})
-          (all_analysed func (analysis env [])) (λ r. Ok (handed_out r))
+      (all_analysed func (analysis env [])) (λ r. Ok (handed_out r))
       (subst (λ r. Avoids is_too_many (Answered {A = RootAnalysis}) (r >>= root_analysed func))
-          (sym (none_below most_levels (analysis env []))) (root_avoids [])) (λ r t. tt)
+      (sym (none_below most_levels (analysis env []))) (root_avoids [])) (λ r t. tt)
 
   -- no counter comes to its last value
   pub never_too_many : (which : Counter) → unit_analysed (made_unit seed size) ≡ Err (error.TooMany which) → ⊥
@@ -198,7 +215,7 @@ module _ (seed size : ℕ) (limit : size ≤ 1000) where
   answer_is some (Err e) q =
       let u = made_unit seed size in
       absurd (too_many_is e q ((blames_no_plain u e (unit_caused u (made_unit_keeps_rules seed size some limit) e q)
-          (made_is_plain seed size)).1 (made_is_forward seed size)))
+      (made_is_plain seed size)).1 (made_is_forward seed size)))
 
   -- so it gives a result
   pub made_is_inferred : 1 ≤ size → (a : UnitAnalysis) × (unit_analysed (made_unit seed size) ≡ Ok a)

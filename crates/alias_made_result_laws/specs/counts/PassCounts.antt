@@ -1,8 +1,8 @@
 -- The effects pass of a function with few blocks of few instructions, none of which calls or creates a function: no
 -- counter comes to
 -- its last value, and what it records of each instruction and terminal is short.
-use Rattle.std.specs.Prelude.{◌≡◌, ℕ, ◌+◌, ◌≤◌, Bool, true, false, List, [], ◌∷◌, length, replicate, Option, Some, None,
-    Result, Ok, Err, slice_get, refl}
+use Rattle.std.specs.Prelude.{◌≡◌, ℕ, ◌+◌, ◌≤◌, Bool, true, false, List, [], ◌∷◌, length, replicate, Option, Some, None}
+use Rattle.std.specs.Prelude.{Result, Ok, Err, slice_get, refl}
 use Rattle.std.specs.List.{AllByRecursion, flat_map}
 use Rattle.std.proofs.Common.{zero, suc, arith}
 use Rattle.alias_base.specs.declared.ids.BlockId.{BlockId}
@@ -32,14 +32,14 @@ use Rattle.alias_tables.specs.write_back.WriteBack.{tables_of}
 use Rattle.alias_effects.specs.declared.output.PassEnd.{PassEnd}
 use Rattle.alias_effects.specs.declared.solved.Solved.{Solved}
 use Rattle.alias_effects.specs.FunctionFlow.{outcome_of}
-use Rattle.alias_effects.specs.Inference.{instruction_refusal, refusal, block_at, instructions_recorded,
-    terminal_recorded, answer_of, pass_end}
+use Rattle.alias_effects.specs.Inference.{instruction_refusal, refusal, block_at, instructions_recorded}
+use Rattle.alias_effects.specs.Inference.{terminal_recorded, answer_of, pass_end}
 use Rattle.alias_effects.specs.Numbered.{numbered, step_at, visits_end}
 use Rattle.alias_answer_laws.specs.answers.Avoiding.{Avoids}
 use Rattle.alias_completeness.specs.Going.{all_both}
 use Rattle.alias_made_result_laws.specs.counts.Adding.{IsOther, AddsAt}
-use Rattle.alias_made_result_laws.specs.counts.BlockCounts.{IsLightInstruction, IsOtherAt, AreShort, AreSingle, IsShort,
-    IsLightBlock, IsShortEnd, block_adds}
+use Rattle.alias_made_result_laws.specs.counts.BlockCounts.{IsLightInstruction, IsOtherAt, AreShort, AreSingle, IsShort}
+use Rattle.alias_made_result_laws.specs.counts.BlockCounts.{IsLightBlock, IsShortEnd, block_adds}
 use Rattle.alias_made_result_laws.specs.counts.FlowCounts.{IsFineAt, VisitIs, HeldEnd, solution_held}
 
 -- a counter is said to be at its last value
@@ -132,9 +132,9 @@ module _ (env : Environment) (func : HirFunction) (is_function_expression : Bool
   visits_held : length env.interned ≡ 0 → IsHeld (visits_end c)
   visits_held none =
       solution_held state_join state_below (numbered c) count IsShort IsOtherAt 4294967295 light.few
-          (λ t n x room. visit_is t (slice_get func.body.blocks n) n x refl room)
+      (λ t n x room. visit_is t (slice_get func.body.blocks n) n x refl room)
       0 (tables_of env) (replicate (length func.body.blocks) None) (omega (arith, none))
-          (nothing_recorded (length func.body.blocks)) (omega arith)
+      (nothing_recorded (length func.body.blocks)) (omega arith)
 
   answer_is : (e : End (VisitLog State) TableLists BlockEffects BlockRefusal) → IsHeld e
       → Avoids is_too_many EndsShort (answer_of env func e)

@@ -1,6 +1,6 @@
 -- A function that is short stays so with what is recorded of it, where that is short.
-use Rattle.std.specs.Prelude.{◌≡◌, ℕ, ◌≤◌, List, [], ◌∷◌, length, Option, Some, None, position, slice_get, slice_set,
-    refl}
+use Rattle.std.specs.Prelude.{◌≡◌, ℕ, ◌≤◌, List, [], ◌∷◌, length, Option, Some, None, position, slice_get, slice_set}
+use Rattle.std.specs.Prelude.{refl}
 use Rattle.std.specs.List.{AllByRecursion}
 use Rattle.std.specs.Map.{keys_of}
 use Rattle.std.specs.Option.{option_map_or}
@@ -19,12 +19,12 @@ use Rattle.alias_hir.specs.declared.terminal.Terminal.TheVariants.{MaybeThrow, R
 use Rattle.alias_step.specs.declared.block.recorded.InstructionEffects.{InstructionEffects}
 use Rattle.alias_step.specs.declared.block.recorded.TerminalEffects.{TerminalEffects}
 use Rattle.alias_effects.specs.declared.solved.Solved.{Solved}
-use Rattle.alias_effects.specs.Recording.{recorded_instructions, block_with, with_terminal_at, recorded_terminals,
-    with_effects_of}
+use Rattle.alias_effects.specs.Recording.{recorded_instructions, block_with, with_terminal_at, recorded_terminals}
+use Rattle.alias_effects.specs.Recording.{with_effects_of}
 use Rattle.alias_made_result_laws.specs.counts.BlockCounts.{AreShort, AreSingle}
 use Rattle.alias_made_result_laws.specs.counts.FlowCounts.{all_set}
-use Rattle.alias_made_result_laws.specs.counts.ListingCounts.{Carries, IsShortBlock, IsShortInstruction, all_at,
-    IsShortFunction}
+use Rattle.alias_made_result_laws.specs.counts.ListingCounts.{Carries, IsShortBlock, IsShortInstruction, all_at}
+use Rattle.alias_made_result_laws.specs.counts.ListingCounts.{IsShortFunction}
 use Rattle.alias_made_result_laws.specs.counts.PassCounts.{IsShortSolution}
 
 -- ---- instructions
@@ -32,7 +32,7 @@ use Rattle.alias_made_result_laws.specs.counts.PassCounts.{IsShortSolution}
 found_recorded : (e : InstructionEffects) (xs : List Instruction) (o : Option Instruction) → length e.effects ≤ 8
     → AllByRecursion IsShortInstruction xs
     → AllByRecursion IsShortInstruction (option_map_or
-        (λ (x : Instruction). slice_set xs e.instruction.0 (record x { effects = Some e.effects })) o xs)
+    (λ (x : Instruction). slice_set xs e.instruction.0 (record x { effects = Some e.effects })) o xs)
 found_recorded e xs None s h = h
 found_recorded e xs (Some x) s h = all_set IsShortInstruction xs e.instruction.0 (record x { effects = Some e.effects })
     h s
@@ -69,10 +69,11 @@ found_terminal : (n : ℕ) (es : List AliasingEffect) (bs : List (BlockId × Bas
     (o : Option (BlockId × BasicBlock)) → slice_get bs i ≡ o → length es ≤ 1 → AreBlocks n bs
     → AreBlocks n (option_map_or (λ (x : BlockId × BasicBlock). set_value_at bs i (block_with x.1 es)) o bs)
 found_terminal n es bs i None e s h = h
-found_terminal n es bs i (Some x) e s h =
-    (all_value_set IsShortBlock bs i (block_with x.1 es) h.0
-        (λ k. block_short x es k s (all_at IsShortBlock bs i x h.0 e)),
-        length-set_value_at bs i (block_with x.1 es) ∙ h.1)
+found_terminal n es bs i (Some x) e s h = (
+  all_value_set IsShortBlock bs i (block_with x.1 es) h.0
+      (λ k. block_short x es k s (all_at IsShortBlock bs i x h.0 e)),
+  length-set_value_at bs i (block_with x.1 es) ∙ h.1,
+)
 
 terminal_at : (n : ℕ) (e : TerminalEffects) (bs : List (BlockId × BasicBlock)) (o : Option ℕ) → length e.effects ≤ 1
     → AreBlocks n bs → AreBlocks n (option_map_or (with_terminal_at e.effects bs) o bs)
@@ -91,6 +92,10 @@ pub short_with : (s : Solved) (f : HirFunction) → IsShortSolution s → IsShor
     → IsShortFunction (with_effects_of s f)
 short_with s f short h =
     let after = all_terminals (length f.body.blocks) s.terminal_effects f.body.blocks short.terminals
-        (h.blocks, refl) in
-    record { instructions = all_recorded s.effects f.instructions short.instructions h.instructions; blocks = after.0;
-        few = omega (arith, after.1, h.few); tracked = h.tracked }
+    (h.blocks, refl) in
+    record {
+      instructions = all_recorded s.effects f.instructions short.instructions h.instructions;
+      blocks = after.0;
+      few = omega (arith, after.1, h.few);
+      tracked = h.tracked;
+    }

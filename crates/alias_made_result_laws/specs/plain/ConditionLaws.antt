@@ -1,6 +1,6 @@
 -- The instructions of a made unit pass the conditions of plainness, where the objects that they use are sure.
-use Rattle.std.specs.Prelude.{◌≡◌, ℕ, ◌+◌, Bool, true, false, ◌&&◌, ◌||◌, not, List, [], ◌∷◌, ◌++◌, filter, None,
-    if◌then◌else◌, refl}
+use Rattle.std.specs.Prelude.{◌≡◌, ℕ, ◌+◌, Bool, true, false, ◌&&◌, ◌||◌, not, List, [], ◌∷◌, ◌++◌, filter, None}
+use Rattle.std.specs.Prelude.{if◌then◌else◌, refl}
 use Rattle.std.specs.List.{list_all}
 use Rattle.std.proofs.Common.{ap, ◌∙◌, arith}
 use Rattle.std.proofs.lemmas.Bool.Decides.{nat_tests}
@@ -13,13 +13,13 @@ use Rattle.alias_hir.specs.declared.env.Environment.{Environment}
 use Rattle.alias_hir.specs.declared.hir.HirFunction.{HirFunction}
 use Rattle.alias_hir.specs.declared.value.ArrayElement.TheVariants as element
 use Rattle.alias_hir.specs.declared.value.InstructionValue.{InstructionValue}
-use Rattle.alias_hir.specs.declared.value.InstructionValue.TheVariants.{ArrayExpression, ObjectExpression,
-    PropertyStore}
+use Rattle.alias_hir.specs.declared.value.InstructionValue.TheVariants.{ArrayExpression, ObjectExpression}
+use Rattle.alias_hir.specs.declared.value.InstructionValue.TheVariants.{PropertyStore}
 use Rattle.alias_hir.specs.declared.value.PropertyLiteral.{PropertyLiteral}
 use Rattle.alias_hir.specs.Types.{is_primitive_at}
 use Rattle.alias_signature.specs.Created.{created}
-use Rattle.alias_plainness.specs.Conditions.{first_broken, first_failing, are_distinct, makes_well, is_compatible,
-    freezes_no_spread}
+use Rattle.alias_plainness.specs.Conditions.{first_broken, first_failing, are_distinct, makes_well, is_compatible}
+use Rattle.alias_plainness.specs.Conditions.{freezes_no_spread}
 use Rattle.alias_plainness.specs.Making.{all_made, needed}
 use Rattle.alias_plainness.specs.Sureness.{Sure}
 use Rattle.alias_made.specs.Instructions.{use_of, instruction, value_of}
@@ -71,7 +71,7 @@ module _ (func : HirFunction) (env : Environment) (s : Sure) where
     array_passes order n =
         let kept : List ℕ = filter (λ y. not (is_among (n ∷ []) y)) (o ∷ n ∷ []) in
         let need : list_all s kept ≡ true = all_kept s (n ∷ []) o (n ∷ []) (λ h. sure)
-            (all_kept s (n ∷ []) n [] (λ h. contrary (is_among (n ∷ []) n) (among_itself n) h (s n ≡ true)) refl) in
+        (all_kept s (n ∷ []) n [] (λ h. contrary (is_among (n ∷ []) n) (among_itself n) h (s n ≡ true)) refl) in
         first_of (list_all s ((kept ++ []) ++ [])) (ap (list_all s) (append-nil (kept ++ []) ∙ append-nil kept) ∙ need)
 
     property_passes : (n : ℕ) (b : Bool) → Passes
@@ -85,7 +85,7 @@ module _ (func : HirFunction) (env : Environment) (s : Sure) where
     value_passes order n which =
         by_kind (λ (v : InstructionValue). first_failing func env s (instruction order n v) ≡ None) which (use_of o)
         (first_of (list_all s (o ∷ [])) one_sure) (array_passes order n)
-            (property_passes n (is_primitive_at env (use_of n).identifier)) refl
+        (property_passes n (is_primitive_at env (use_of n).identifier)) refl
 
     -- a store needs the object and the value
     pub store_passes : (order n v : ℕ) (name : PropertyLiteral) → s v ≡ true

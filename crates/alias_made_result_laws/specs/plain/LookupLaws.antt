@@ -1,6 +1,6 @@
 -- What is found in a made function: the block of a number, and the instructions of a block.
-use Rattle.std.specs.Prelude.{◌≡◌, ℕ, ◌+◌, ◌*◌, ◌<◌, ◌≤◌, Bool, true, false, cond, List, [], ◌∷◌, ◌++◌, Option, Some,
-    None, map, slice_get, refl}
+use Rattle.std.specs.Prelude.{◌≡◌, ℕ, ◌+◌, ◌*◌, ◌<◌, ◌≤◌, Bool, true, false, cond, List, [], ◌∷◌, ◌++◌, Option, Some}
+use Rattle.std.specs.Prelude.{None, map, slice_get, refl}
 use Rattle.std.specs.List.{flat_map, range_with_len}
 use Rattle.std.proofs.Common.{zero, suc, ap, sym, ◌∙◌, subst, inl, inr, arith, eqb}
 use Rattle.std.proofs.lemmas.Bool.Decides.{eqb_tells}
@@ -40,7 +40,7 @@ looked_up_from : (a n s k : ℕ) → s ≡ a + n → LookedUp s k (value_at (blo
 looked_up_from a zero s k is = last_found s k (eqb k s)
 looked_up_from a (suc n) s k is =
     first_found a s k (value_at (blocks_from (a + 1) n s) (record { 0 = k })) (eqb k a) (omega (arith, is))
-        (equal_if k a) (looked_up_from (a + 1) n s k (omega (arith, is)))
+    (equal_if k a) (looked_up_from (a + 1) n s k (omega (arith, is)))
 
 pub looked_up : (size k : ℕ) → LookedUp size k (value_at (made_blocks size) (record { 0 = k }))
 looked_up size k = looked_up_from 0 size size k (omega arith)
@@ -84,14 +84,14 @@ drawn_at seed a (suc n) zero r below part =
     let here : 3 * 0 + r ≡ r = omega arith in
     let start : a ≡ a + 0 = omega arith in
     ap (slice_get (flat_map (drawn_instructions seed) (range_with_len a (suc n)))) here
-        ∙ one_of_three _ _ _ (flat_map (drawn_instructions seed) (range_with_len (a + 1) n)) r part
-        ∙ ap (λ k. slice_get (drawn_instructions seed k) r) start
+    ∙ one_of_three _ _ _ (flat_map (drawn_instructions seed) (range_with_len (a + 1) n)) r part
+    ∙ ap (λ k. slice_get (drawn_instructions seed k) r) start
 drawn_at seed a (suc n) (suc m) r below part =
     let on : 3 * suc m + r ≡ suc (suc (suc (3 * m + r))) = omega arith in
     let there : (a + 1) + m ≡ a + suc m = omega arith in
     ap (slice_get (flat_map (drawn_instructions seed) (range_with_len a (suc n)))) on
-        ∙ drawn_at seed (a + 1) n m r (omega (arith, below)) part
-        ∙ ap (λ k. slice_get (drawn_instructions seed k) r) there
+    ∙ drawn_at seed (a + 1) n m r (omega (arith, below)) part
+    ∙ ap (λ k. slice_get (drawn_instructions seed k) r) there
 
 -- the instruction of this number in the block of this number
 pub instruction_at : (seed size m r : ℕ) → m < size → r < 3 → slice_get (made_instructions seed size) (3 * m + r)

@@ -1,6 +1,6 @@
 -- A made unit is plain: along each path what an instruction uses is sure before it.
-use Rattle.std.specs.Prelude.{◌≡◌, ◌⊎◌, ℕ, ◌+◌, ◌*◌, ◌<◌, ◌≤◌, Bool, true, false, ◌||◌, List, [], ◌∷◌, ◌++◌, Option,
-    Some, None, codes, nat_eq, slice_get, refl}
+use Rattle.std.specs.Prelude.{◌≡◌, ◌⊎◌, ℕ, ◌+◌, ◌*◌, ◌<◌, ◌≤◌, Bool, true, false, ◌||◌, List, [], ◌∷◌, ◌++◌, Option}
+use Rattle.std.specs.Prelude.{Some, None, codes, nat_eq, slice_get, refl}
 use Rattle.std.specs.Option.{option_map_or}
 use Rattle.std.proofs.Common.{ap, sym, ◌∙◌, subst, arith, ⊎_elim}
 use Rattle.std.proofs.lemmas.Bool.Decides.{nat_tests}
@@ -18,16 +18,16 @@ use Rattle.alias_plainness.specs.Conditions.{first_failing}
 use Rattle.alias_plainness.specs.Paths.{edges_of, phis_of, instructions_of, Path, begins, goes_on, sure_on}
 use Rattle.alias_plainness.specs.Plainness.{IsPlain, IsPlainUnit}
 use Rattle.alias_plainness.specs.Making.{all_made}
-use Rattle.alias_plainness.specs.Sureness.{Sure, with_sure, with_phis, list_of, adds, adds_at, after_instruction,
-    after_instructions}
+use Rattle.alias_plainness.specs.Sureness.{Sure, with_sure, with_phis, list_of, adds, adds_at, after_instruction}
+use Rattle.alias_plainness.specs.Sureness.{after_instructions}
 use Rattle.alias_made.specs.Blocks.{block_of, made_blocks}
 use Rattle.alias_made.specs.Draws.{state_before, block_drawn}
 use Rattle.alias_made.specs.Instructions.{use_of, instruction, object_of, value_of}
 use Rattle.alias_made.specs.Units.{drawn_instructions, made_instructions, made_environment, made_function, made_unit}
 use Rattle.alias_made.specs.laws.InstructionLaws.{source_earlier}
 use Rattle.alias_made_result_laws.specs.plain.ConditionLaws.{object_passes, value_passes, store_passes}
-use Rattle.alias_made_result_laws.specs.plain.LookupLaws.{LookedUp, is_block, is_last, is_none, looked_up,
-    instruction_at}
+use Rattle.alias_made_result_laws.specs.plain.LookupLaws.{LookedUp, is_block, is_last, is_none, looked_up}
+use Rattle.alias_made_result_laws.specs.plain.LookupLaws.{instruction_at}
 
 -- ---- what becomes sure
 
@@ -130,8 +130,8 @@ module _ (seed size : ℕ) where
     second_passes s before =
         let t : Sure = after_instruction func env s (id_of (3 * k)) in
         subst (Passes t) (sym second_is) (passes_some t _
-            (value_passes func env t (object_of source) (source_sure s before) (4 * k + 2) (object_of k + 1)
-            (block_drawn (state_before seed k) k).kind))
+        (value_passes func env t (object_of source) (source_sure s before) (4 * k + 2) (object_of k + 1)
+        (block_drawn (state_before seed k) k).kind))
 
     third_passes : (s : Sure) → Before s → Passes
         (after_instruction func env (after_instruction func env s (id_of (3 * k))) (id_of (3 * k + 1)))
@@ -141,8 +141,8 @@ module _ (seed size : ℕ) where
         let v : Sure = after_instruction func env t (id_of (3 * k + 1)) in
         subst (Passes v) (sym third_is)
         (passes_some v _ (store_passes func env v (object_of source)
-            (still_sure (adds_at func env (id_of (3 * k + 1))) t (object_of source) (source_sure s before)) (4 * k + 3)
-            (object_of k + 2) (object_of k + 1) (String (codes "a")) (value_sure t)))
+        (still_sure (adds_at func env (id_of (3 * k + 1))) t (object_of source) (source_sure s before)) (4 * k + 3)
+        (object_of k + 2) (object_of k + 1) (String (codes "a")) (value_sure t)))
 
     -- behind all three the objects of the blocks up to this one are sure
     abbrev behind : Sure → Sure
@@ -152,7 +152,7 @@ module _ (seed size : ℕ) where
     still_behind s x sure =
         let t : Sure = after_instruction func env s (id_of (3 * k)) in
         still_sure (adds_at func env (id_of (3 * k + 2))) (after_instruction func env t (id_of (3 * k + 1))) x
-            (still_sure (adds_at func env (id_of (3 * k + 1))) t x sure)
+        (still_sure (adds_at func env (id_of (3 * k + 1))) t x sure)
 
     behind_sure : (s : Sure) → Before s → (j : ℕ) → j < k + 1 → behind s (object_of j) ≡ true
     behind_sure s before j h = ⊎_elim earlier here (split j k h)
@@ -205,8 +205,8 @@ module _ (seed size : ℕ) where
   on_path (goes_on b c p edge) =
       let s : Sure = after_instructions func env (instructions_of (blocks b.0)) (sure_on func env p) in
       subst (λ phis. AllBefore c.0 (with_phis (Some b) phis s))
-          (sym (without_phis c.0 (blocks c.0) (looked_up size c.0)))
-          (next_before b.0 c (sure_on func env p) (on_path p) (blocks b.0) (looked_up size b.0) edge)
+      (sym (without_phis c.0 (blocks c.0) (looked_up size c.0)))
+      (next_before b.0 c (sure_on func env p) (on_path p) (blocks b.0) (looked_up size b.0) edge)
 
   -- ---- all instructions of all blocks
 
@@ -240,7 +240,7 @@ module _ (seed size : ℕ) where
       ∷ rest → PassesBehind s done i
   block_passes b s before o (is_block below e) done i rest q =
       one_of_three (PassesBehind s) (id_of (3 * b)) (id_of (3 * b + 1)) (id_of (3 * b + 2)) (first_passes b below s)
-          (second_passes b below s before) (third_passes b below s before) done i rest (sym (ap instructions_of e) ∙ q)
+      (second_passes b below s before) (third_passes b below s before) done i rest (sym (ap instructions_of e) ∙ q)
   block_passes b s before o (is_last e) done i rest q =
       absurd (nothing_listed done i rest (sym (ap instructions_of e) ∙ q))
   block_passes b s before o (is_none e) done i rest q =

@@ -1,6 +1,6 @@
 -- What isn't sure is a flow over the positions of blocks.
-use Rattle.std.specs.Prelude.{◌≡◌, ℕ, ◌<◌, ◌+◌, Bool, true, false, List, [], ◌∷◌, length, Option, Some, None, is_some,
-    slice_get, refl, cond, if◌then◌else◌}
+use Rattle.std.specs.Prelude.{◌≡◌, ℕ, ◌<◌, ◌+◌, Bool, true, false, List, [], ◌∷◌, length, Option, Some, None, is_some}
+use Rattle.std.specs.Prelude.{slice_get, refl, cond, if◌then◌else◌}
 use Rattle.std.proofs.Common.{ap, sym, ◌∙◌, subst}
 use Rattle.std.proofs.Math.Dec.{T}
 use Rattle.std.specs.Cmp.{tied_itself}
@@ -34,9 +34,10 @@ use Rattle.alias_hir.specs.PositionLaws.{found_has_position}
 use Rattle.alias_hir.specs.Positions.{Blocks, position_in, with_position, positions_of, edges_at}
 use Rattle.alias_plain.specs.laws.Scopes.{Scope}
 use Rattle.alias_plain.specs.unsure.Ways.{UnsureState, StateProper}
-use Rattle.alias_plain.specs.laws.UnsureFlow.{with_members, without_members, sure_numbers, unsure_at_first, source_of,
-    operand_is_unsure, with_phi, with_phis, entered_from, entered, rows_or_none, adds_in, through_at, through,
-    through_all, out_set, step_at, unsure_flow}
+use Rattle.alias_plain.specs.laws.UnsureFlow.{with_members, without_members, sure_numbers, unsure_at_first, source_of}
+use Rattle.alias_plain.specs.laws.UnsureFlow.{operand_is_unsure, with_phi, with_phis, entered_from, entered}
+use Rattle.alias_plain.specs.laws.UnsureFlow.{rows_or_none, adds_in, through_at, through, through_all, out_set, step_at}
+use Rattle.alias_plain.specs.laws.UnsureFlow.{unsure_flow}
 
 -- ---- positions
 
@@ -79,7 +80,7 @@ others_proper (x ∷ xs) s h = others_proper xs (without_member x s) (proper_wit
 phi_proper : (from : Option BlockId) (s : Rows) (phi : Phi) → RowsProper s → RowsProper (with_phi from s phi)
 phi_proper from s phi h =
     elim (operand_is_unsure from phi s) as
-        (λ b. RowsProper (if b then with_member (number phi.place) s else without_member (number phi.place) s)) [
+    (λ b. RowsProper (if b then with_member (number phi.place) s else without_member (number phi.place) s)) [
       | true ↦ proper_with (number phi.place) s h
       | false ↦ proper_without (number phi.place) s h
     ]
@@ -108,7 +109,7 @@ pub find_behind : (q k : ℕ) (es : List (ℕ × Rows)) → nat_cmp q k ≡ Equa
 find_behind q k [] t h = refl
 find_behind q k (e ∷ es) t h =
     ap (λ r. cond (is_eq r) (Some e.1) (find nat_cmp q es))
-        (nat_cmp_total.congr q k e.0 t ∙ lesser _ (T-first (is_lt (nat_cmp k e.0)) (below_all nat_cmp k es) h))
+    (nat_cmp_total.congr q k e.0 t ∙ lesser _ (T-first (is_lt (nat_cmp k e.0)) (below_all nat_cmp k es) h))
     ∙ find_behind q k es t (T-second (is_lt (nat_cmp k e.0)) (below_all nat_cmp k es) h)
 
 pub first_found : (e : ℕ × Rows) (es : List (ℕ × Rows)) → find nat_cmp e.0 (e ∷ es) ≡ Some e.1
@@ -124,7 +125,7 @@ later_proper : (e : ℕ × Rows) (es : UnsureState) (q : ℕ) (t : Bool) → T (
     → ProperOption RowsProper (find nat_cmp q es)
 later_proper e es q true s g h =
     subst (ProperOption RowsProper) (sym (find_behind q e.0 es (equal (nat_cmp q e.0) (subst T (sym g) tt))
-        (T-first (below_all nat_cmp e.0 es) (is_sorted nat_cmp es) s))) tt
+    (T-first (below_all nat_cmp e.0 es) (is_sorted nat_cmp es) s))) tt
 later_proper e es q false s g h = h
 
 pub rest_proper : (e : ℕ × Rows) (es : UnsureState) → StateProper (e ∷ es) → StateProper es
@@ -138,7 +139,7 @@ entered_from_proper blocks phis o [] h i = h
 entered_from_proper blocks phis o (e ∷ es) h i =
     entered_from_proper blocks phis (Some (joined union o (with_phis (source_of blocks e.0) phis e.1))) es
     (joined_proper o (with_phis (source_of blocks e.0) phis e.1) h
-        (phis_proper (source_of blocks e.0) phis e.1 (first_proper e es i)))
+    (phis_proper (source_of blocks e.0) phis e.1 (first_proper e es i)))
     (rest_proper e es i)
 
 pub entered_proper : (blocks : Blocks) (phis : List Phi) (x : UnsureState) → StateProper x

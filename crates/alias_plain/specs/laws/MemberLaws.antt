@@ -1,6 +1,6 @@
 -- Which members sets have after phis and instructions, and where blocks are entered.
-use Rattle.std.specs.Prelude.{◌≡◌, ◌≢◌, ◌⊎◌, ℕ, ◌+◌, ◌<◌, ◌≤◌, ◌||◌, ◌&&◌, not, nat_eq, Bool, true, false, List, [],
-    ◌∷◌, Option, Some, None, slice_get, refl, if◌then◌else◌}
+use Rattle.std.specs.Prelude.{◌≡◌, ◌≢◌, ◌⊎◌, ℕ, ◌+◌, ◌<◌, ◌≤◌, ◌||◌, ◌&&◌, not, nat_eq, Bool, true, false, List, []}
+use Rattle.std.specs.Prelude.{◌∷◌, Option, Some, None, slice_get, refl, if◌then◌else◌}
 use Rattle.std.proofs.Common.{zero, suc, ap, sym, ◌∙◌, subst, inl, inr, arith, eq-eqb}
 use Rattle.std.proofs.Math.Dec.{T, eqb→eq}
 use Rattle.std.proofs.lemmas.Bool.{false≢true}
@@ -18,13 +18,14 @@ use Rattle.alias_lattice.specs.Flows.{IsOneOf}
 use Rattle.alias_flow.specs.Machine.{joined}
 use Rattle.alias_plainness.specs.Making.{number}
 use Rattle.alias_plain.specs.unsure.Sets.{Rows, RowsProper, has, with_member, without_member, union}
-use Rattle.alias_plain.specs.unsure.SetLaws.{has-none, has-union, has-with_same, has-with_other, has-without_same,
-    has-without_other}
+use Rattle.alias_plain.specs.unsure.SetLaws.{has-none, has-union, has-with_same, has-with_other, has-without_same}
+use Rattle.alias_plain.specs.unsure.SetLaws.{has-without_other}
 use Rattle.alias_plain.specs.laws.FlowLaws.{phis_proper, ProperIfThere, joined_proper, first_proper, rest_proper}
 use Rattle.alias_plain.specs.laws.Scopes.{Scope}
 use Rattle.alias_plain.specs.unsure.Ways.{UnsureState, StateProper}
-use Rattle.alias_plain.specs.laws.UnsureFlow.{with_members, without_members, source_of, operand_is_unsure, with_phi,
-    with_phis, entered_from, rows_or_none, adds_in, through_at, through, through_all}
+use Rattle.alias_plain.specs.laws.UnsureFlow.{with_members, without_members, source_of, operand_is_unsure, with_phi}
+use Rattle.alias_plain.specs.laws.UnsureFlow.{with_phis, entered_from, rows_or_none, adds_in, through_at, through}
+use Rattle.alias_plain.specs.laws.UnsureFlow.{through_all}
 
 -- ---- equal numbers
 
@@ -194,12 +195,12 @@ module _ (blocks : Blocks) (phis : List Phi) (z : ℕ) where
       let s : Rows = after_phis x in
       let p : RowsProper s = phis_proper (source_of blocks x.0) phis x.1 (first_proper x es i) in
       elim (from_entered (Some (joined union o s)) es (joined_proper o s h p) (rest_proper x es i) e) as
-          (λ r. (has (rows_or_none o) z ≡ true) ⊎ Comes blocks phis (x ∷ es) z) [
+      (λ r. (has (rows_or_none o) z ≡ true) ⊎ Comes blocks phis (x ∷ es) z) [
         | inl m ↦ elim (joined_which o s z h p m) as
             (λ r. (has (rows_or_none o) z ≡ true) ⊎ Comes blocks phis (x ∷ es) z) [
-          | inl before ↦ inl before
-          | inr now ↦ inr (record { way = x; entry = inl refl; member = now })
-        ]
+              | inl before ↦ inl before
+              | inr now ↦ inr (record { way = x; entry = inl refl; member = now })
+            ]
         | inr k ↦ inr (later x es k)
       ]
 

@@ -1,6 +1,6 @@
 -- A function whose instructions are gone through is plain, and one that is stopped at breaks a condition first.
-use Rattle.std.specs.Prelude.{◌≡◌, ℕ, ◌+◌, ◌<◌, ◌≤◌, ◌&&◌, not, Bool, true, false, List, [], ◌∷◌, ◌++◌, length, Option,
-    Some, None, Ok, Err, ⊤, is_some, slice_get, slice_index_or, refl}
+use Rattle.std.specs.Prelude.{◌≡◌, ℕ, ◌+◌, ◌<◌, ◌≤◌, ◌&&◌, not, Bool, true, false, List, [], ◌∷◌, ◌++◌, length, Option}
+use Rattle.std.specs.Prelude.{Some, None, Ok, Err, ⊤, is_some, slice_get, slice_index_or, refl}
 use Rattle.std.specs.List.{AllByRecursion, IsDistinct, list_all}
 use Rattle.std.specs.Map.{keys_of}
 use Rattle.std.proofs.Common.{zero, suc, ap, sym, ◌∙◌, subst, arith}
@@ -19,8 +19,8 @@ use Rattle.alias_tables.specs.Tables.{TableLists}
 use Rattle.alias_plainness.specs.Making.{all_made}
 use Rattle.alias_plainness.specs.Sureness.{list_of}
 use Rattle.alias_plainness.specs.Paths.{Path, instructions_of, sure_on, sure_before}
-use Rattle.alias_plainness.specs.Conditions.{needs, are_distinct, makes_well, is_compatible, freezes_no_spread,
-    first_broken, first_failing}
+use Rattle.alias_plainness.specs.Conditions.{needs, are_distinct, makes_well, is_compatible, freezes_no_spread}
+use Rattle.alias_plainness.specs.Conditions.{first_broken, first_failing}
 use Rattle.alias_plainness.specs.Plainness.{AllPass, IsPlain, Breaks, BreaksFirst}
 use Rattle.alias_plain.specs.unsure.Sets.{Rows, has}
 use Rattle.alias_plain.specs.declared.laws.stop.Stop.TheVariants.{Broken}
@@ -66,12 +66,18 @@ and_no false b h = refl
 
 lacks_case : (s : Rows) (x : ℕ) (xs : List ℕ) (t : Bool) → has s x ≡ t → not t && list_all (sure_in s) xs ≡ false
     → (list_all (sure_in s) xs ≡ false → Lacks s xs) → Lacks s (x ∷ xs)
-lacks_case s x xs true g h f = record { number = x; unsure = g;
-    anywhere = λ r e. ap (λ t. not t && list_all (sure_in r) xs) e }
+lacks_case s x xs true g h f = record {
+  number = x;
+  unsure = g;
+  anywhere = λ r e. ap (λ t. not t && list_all (sure_in r) xs) e;
+}
 lacks_case s x xs false g h f =
     let l = f h in
-    record { number = l.number; unsure = l.unsure;
-        anywhere = λ r e. and_no (not (has r x)) (list_all (sure_in r) xs) (l.anywhere r e) }
+    record {
+      number = l.number;
+      unsure = l.unsure;
+      anywhere = λ r e. and_no (not (has r x)) (list_all (sure_in r) xs) (l.anywhere r e);
+    }
 
 lacks : (s : Rows) (xs : List ℕ) → list_all (sure_in s) xs ≡ false → Lacks s xs
 lacks s [] h = cc
@@ -115,7 +121,7 @@ front_placed : (bs xs : List (BlockId × BasicBlock)) (y : BlockId × BasicBlock
 front_placed bs xs y ys h j b e =
     let plain : j ≡ 0 + j = omega arith in
     subst (λ (m : ℕ). slice_get bs m ≡ Some b) plain
-        (subst (λ (l : List (BlockId × BasicBlock)). slice_get l j ≡ Some b) (sym h) (front_get xs y ys j b e))
+    (subst (λ (l : List (BlockId × BasicBlock)). slice_get l j ≡ Some b) (sym h) (front_get xs y ys j b e))
 
 -- ---- a function
 
@@ -156,7 +162,7 @@ module _ (func : HirFunction) (env : Environment) where
           let same : cover.state ≡ x = some_same cover.state x (sym cover.there ∙ there) in
           subst (λ (y : UnsureState). has (through_all c done (entered blocks block.phis y)) z ≡ true) same
           (grows (through_all c done) z (reads_through c done z) (rows_on func env p)
-              (entered blocks block.phis cover.state) cover.covers m)
+          (entered blocks block.phis cover.state) cover.covers m)
 
       record OnPath (z : ℕ) : Type 0 where
         path : Path func b
@@ -168,7 +174,7 @@ module _ (func : HirFunction) (env : Environment) where
       here_case z (Never h) m = absurd (false≢true (sym (h (entered blocks block.phis x)) ∙ m))
       here_case z (From y h) m =
           let u = entered_unsure func env distinct exists k x b block y
-              (all_sent func env distinct exists w solved k x there) at (sym (h (entered blocks block.phis x)) ∙ m) in
+          (all_sent func env distinct exists w solved k x there) at (sym (h (entered blocks block.phis x)) ∙ m) in
           record { path = u.path; member = h (rows_on func env u.path) ∙ u.member }
 
       -- and what isn't sure there isn't sure on some path
@@ -189,7 +195,7 @@ module _ (func : HirFunction) (env : Environment) where
         sure_along p =
             all_sure (length env.identifiers) (sure_before func env p done) (along p) (needs func env n)
             (all_agree func env (length env.identifiers) done (sure_on func env p) (rows_on func env p)
-                (path_agrees func env p phis)) (within i n found)
+            (path_agrees func env p phis)) (within i n found)
 
         -- where the list is sure there, it is on each path
         always_sure : sure_here ≡ true → (p : Path func b) → list_all (sure_before func env p done) (needs func env n)
@@ -228,11 +234,11 @@ module _ (func : HirFunction) (env : Environment) where
 
     all_pass : (k : ℕ) (b : BlockId) (block : BasicBlock) (ids : List InstructionId) → IsBlockAt func env k b block
         → ((x : UnsureState) → entries k ≡ Some x → AllPassFrom c (entered blocks block.phis x) ids)
-            → AllPass func env b ids
+        → AllPass func env b ids
     all_pass k b block ids at h done i rest split p n found =
         let cover = path_covered func env distinct exists w solved is p k block at in
         none_fails k b block cover.state at cover.there done i n found
-            (h cover.state cover.there done i rest split n found) p
+        (h cover.state cover.there done i rest split n found) p
 
     nothing_pass : (b : BlockId) → AllPass func env b []
     nothing_pass b [] i rest split = absurd (nothing_split i rest split)
@@ -247,10 +253,10 @@ module _ (func : HirFunction) (env : Environment) where
         let same : at.0 ≡ block = some_same at.0 block (sym (at_value blocks n.0 b at.0 distinct at.1) ∙ v) in
         let plain : 0 + n.0 ≡ n.0 = omega arith in
         let passes : BlockPasses c (b, at.0) (entries n.0) =
-            subst (λ (m : ℕ). BlockPasses c (b, at.0) (slice_index_or w.progress.joined_input m None)) plain
-            (pass_at c w.progress.joined_input blocks 0 n.0 (b, at.0) h at.1) in
+        subst (λ (m : ℕ). BlockPasses c (b, at.0) (slice_index_or w.progress.joined_input m None)) plain
+        (pass_at c w.progress.joined_input blocks 0 n.0 (b, at.0) h at.1) in
         subst (λ (y : BasicBlock). AllPass func env b y.instructions) same
-            (all_pass n.0 b at.0 at.0.instructions at.1 passes)
+        (all_pass n.0 b at.0 at.0.instructions at.1 passes)
 
     -- a function whose instructions are gone through is plain
     pub scanned_is_plain : (t : TableLists) (p : ⊤ × TableLists) → scan_from c w.progress.joined_input 0 blocks t ≡ Ok p
@@ -272,9 +278,10 @@ module _ (func : HirFunction) (env : Environment) where
         → AllByRecursion (λ (b : BlockId × BasicBlock). AllPass func env b.0 b.1.instructions) bs
     earlier_pass n [] h k = tt
     earlier_pass n (b ∷ bs) h k =
-        let here : n + 0 ≡ n = omega arith in
-        (all_pass n b.0 b.1 b.1.instructions (subst (λ (m : ℕ). slice_get blocks m ≡ Some b) here (h 0 b refl)) k.0,
-            earlier_pass (n + 1) bs (placed_later n b bs h) k.1)
+        let here : n + 0 ≡ n = omega arith in (
+          all_pass n b.0 b.1 b.1.instructions (subst (λ (m : ℕ). slice_get blocks m ≡ Some b) here (h 0 b refl)) k.0,
+          earlier_pass (n + 1) bs (placed_later n b bs h) k.1,
+        )
 
     -- a function that is stopped at an instruction breaks a condition there first
     pub stopped_breaks_first : (t : TableLists) (i : InstructionId) (rule : ℕ)
@@ -283,8 +290,8 @@ module _ (func : HirFunction) (env : Environment) where
         let r = blocks_break c w.progress.joined_input blocks 0 t i rule h in
         let plain : 0 + r.position ≡ r.position = omega arith in
         let there : entries r.position ≡ Some r.breaks.state =
-            subst (λ (m : ℕ). slice_index_or w.progress.joined_input m None ≡ Some r.breaks.state) plain
-            r.breaks.there in
+        subst (λ (m : ℕ). slice_index_or w.progress.joined_input m None ≡ Some r.breaks.state) plain
+        r.breaks.there in
         let b = r.breaks.breaks in
         record {
           before = r.before;

@@ -1,6 +1,6 @@
 -- What the rules of a unit say of the functions that plainness looks at.
-use Rattle.std.specs.Prelude.{◌≡◌, ℕ, ◌<◌, not, nat_lt, Bool, true, false, List, [], ◌∷◌, ◌++◌, length, map, filter,
-    Option, Some, None, Result, Ok, Err, ⊤, is_some, slice_get, refl, cond, if◌then◌else◌}
+use Rattle.std.specs.Prelude.{◌≡◌, ℕ, ◌<◌, not, nat_lt, Bool, true, false, List, [], ◌∷◌, ◌++◌, length, map, filter}
+use Rattle.std.specs.Prelude.{Option, Some, None, Result, Ok, Err, ⊤, is_some, slice_get, refl, cond, if◌then◌else◌}
 use Rattle.std.specs.List.{AllByRecursion, flat_map}
 use Rattle.std.specs.Option.{option_map_or}
 use Rattle.std.proofs.Common.{suc, ap, sym, ◌∙◌, subst}
@@ -11,8 +11,8 @@ use Rattle.alias_base.specs.declared.ids.BlockId.{BlockId}
 use Rattle.alias_base.specs.declared.ids.FunctionId.{FunctionId}
 use Rattle.alias_facts.specs.Facts.{function_facts}
 use Rattle.alias_rules.specs.declared.function_rules.fault.UnitFault.{UnitFault}
-use Rattle.alias_rules.specs.function_rules.Rules.{is_among, place_fits, created_fits, instruction_fits, phi_fits,
-    block_fits, numbers_fit, is_block}
+use Rattle.alias_rules.specs.function_rules.Rules.{is_among, place_fits, created_fits, instruction_fits, phi_fits}
+use Rattle.alias_rules.specs.function_rules.Rules.{block_fits, numbers_fit, is_block}
 use Rattle.alias_hir.specs.Effects.{effect_places}
 use Rattle.alias_hir.specs.Parts.{apply_arg_places, param_place}
 use Rattle.alias_hir.specs.Values.{places_of, created}
@@ -94,7 +94,7 @@ needed_below n [] made h = tt
 needed_below n (e ∷ es) made h =
     both (λ x. x < n) (filter (λ x. not (is_among made x)) (named_by e)) (needed_after (made ++ made_by e) es)
     (of_filter (λ x. x < n) (λ x. not (is_among made x)) (named_by e)
-        (of_map (λ x. x < n) number (named_places e) (named_below n e h.0)))
+    (of_map (λ x. x < n) number (named_places e) (named_below n e h.0)))
     (needed_below n es (made ++ made_by e) h.1)
 
 -- the effects of a list speak of places alone that are below
@@ -125,18 +125,18 @@ record NumberParts (env : Environment) (func : HirFunction) : Type 0 where
 number_parts : (env : Environment) (func : HirFunction) → numbers_fit env func ≡ Ok tt → NumberParts env func
 number_parts env func h =
     let a : (all_pass (λ p. place_fits env (param_place p)) func.params ≡ Ok tt) × _ =
-        both_pass (all_pass (λ p. place_fits env (param_place p)) func.params) _ h in
+    both_pass (all_pass (λ p. place_fits env (param_place p)) func.params) _ h in
     let b : (all_pass (place_fits env) func.context ≡ Ok tt) × _ =
-        both_pass (all_pass (place_fits env) func.context) _ a.1 in
+    both_pass (all_pass (place_fits env) func.context) _ a.1 in
     let r : (place_fits env func.returns ≡ Ok tt) × _ = both_pass (place_fits env func.returns) _ b.1 in
     let i : (all_pass (instruction_fits env) func.instructions ≡ Ok tt) × _ =
-        both_pass (all_pass (instruction_fits env) func.instructions) _ r.1 in
+    both_pass (all_pass (instruction_fits env) func.instructions) _ r.1 in
     record { context = b.0; instructions = i.0; blocks = i.1 }
 
 operand_case : (env : Environment) (x : BlockId × Place) (es : List (BlockId × Place)) (b : BlockId) (q : Place)
     (t : Bool) → AllByRecursion (λ (e : BlockId × Place). PlaceBelow (length env.identifiers) e.1) (x ∷ es)
     → cond t (Some x.1) (value_at es b) ≡ Some q → (value_at es b ≡ Some q → number q < length env.identifiers)
-        → number q < length env.identifiers
+    → number q < length env.identifiers
 operand_case env x es b q true h e f = let same : x.1 ≡ q = cc in subst (PlaceBelow (length env.identifiers)) same h.0
 operand_case env x es b q false h e f = f e
 
@@ -150,8 +150,8 @@ phi_within : (env : Environment) (phi : Phi) → phi_fits env phi ≡ Ok tt → 
 phi_within env phi h b q e =
     let a : (place_fits env phi.place ≡ Ok tt) × _ = both_pass (place_fits env phi.place) _ h in
     operand_found env phi.operands b q (each_passes (λ (x : BlockId × Place). place_fits env x.1)
-        (λ (x : BlockId × Place). PlaceBelow (length env.identifiers) x.1) phi.operands (λ x k. place_below env x.1 k)
-        a.1) e
+    (λ (x : BlockId × Place). PlaceBelow (length env.identifiers) x.1) phi.operands (λ x k. place_below env x.1 k)
+    a.1) e
 
 block_within : (env : Environment) (func : HirFunction) (b : BasicBlock) → block_fits env func b ≡ Ok tt
     → AllByRecursion (OperandsWithin (length env.identifiers)) b.phis
@@ -162,7 +162,7 @@ block_within env func b h =
 block_case : (env : Environment) (x : BlockId × BasicBlock) (es : List (BlockId × BasicBlock)) (b : BlockId) (t : Bool)
     → AllByRecursion (OperandsWithin (length env.identifiers)) x.1.phis
     → AllByRecursion (OperandsWithin (length env.identifiers)) (phis_of (value_at es b))
-        → AllByRecursion (OperandsWithin (length env.identifiers)) (phis_of (cond t (Some x.1) (value_at es b)))
+    → AllByRecursion (OperandsWithin (length env.identifiers)) (phis_of (cond t (Some x.1) (value_at es b)))
 block_case env x es b true h k = h
 block_case env x es b false h k = k
 
@@ -177,8 +177,8 @@ phis_within : (env : Environment) (func : HirFunction) → numbers_fit env func 
 phis_within env func h b =
     blocks_within env func.body.blocks b
     (each_passes (λ (e : BlockId × BasicBlock). block_fits env func e.1)
-        (λ (e : BlockId × BasicBlock). AllByRecursion (OperandsWithin (length env.identifiers)) e.1.phis)
-        func.body.blocks (λ e k. block_within env func e.1 k) (number_parts env func h).blocks)
+    (λ (e : BlockId × BasicBlock). AllByRecursion (OperandsWithin (length env.identifiers)) e.1.phis)
+    func.body.blocks (λ e k. block_within env func e.1 k) (number_parts env func h).blocks)
 
 -- the numbers of each nested function fit
 abbrev NestedFit : Environment → Type 0
@@ -203,14 +203,14 @@ instruction_below func env x h nested =
     let a : (place_fits env x.lvalue ≡ Ok tt) × _ = both_pass (place_fits env x.lvalue) _ h in
     let b : (created_fits env (created x.value) ≡ Ok tt) × _ = both_pass (created_fits env (created x.value)) _ a.1 in
     let places : AllByRecursion (PlaceBelow n) (places_of x.value) =
-        each_passes (place_fits env) (PlaceBelow n) (places_of x.value) (place_below env) b.1 in
+    each_passes (place_fits env) (PlaceBelow n) (places_of x.value) (place_below env) b.1 in
     let context : AllByRecursion (PlaceBelow n) (created_places env (created x.value)) =
-        created_below env (created x.value) nested in
+    created_below env (created x.value) nested in
     both (λ z. z < n) (needed (list_of func env x)) (map number (created_places env (created x.value)))
     (needed_below n (list_of func env x) [] (places_alone n (list_of func env x)
     (signature_speaks (PlaceBelow n) (λ (o : Option ReportId). Unit {0}) tt (λ (m : Named). Unit {0}) tt
-        (known env (function_facts func env) None) x.lvalue x.span x.value (place_below env x.lvalue a.0) places context
-        tt tt)))
+    (known env (function_facts func env) None) x.lvalue x.span x.value (place_below env x.lvalue a.0) places context
+    tt tt)))
     (of_map (λ z. z < n) number (created_places env (created x.value)) context)
 
 needs_within : (env : Environment) (func : HirFunction) → numbers_fit env func ≡ Ok tt → NestedFit env

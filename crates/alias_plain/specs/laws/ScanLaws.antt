@@ -1,6 +1,6 @@
 -- What it says of instructions that they were gone through, or that one broke a condition.
-use Rattle.std.specs.Prelude.{◌≡◌, ℕ, ◌+◌, List, [], ◌∷◌, ◌++◌, Option, Some, None, Result, Ok, Err, ⊤, slice_get,
-    slice_index_or, refl}
+use Rattle.std.specs.Prelude.{◌≡◌, ℕ, ◌+◌, List, [], ◌∷◌, ◌++◌, Option, Some, None, Result, Ok, Err, ⊤, slice_get}
+use Rattle.std.specs.Prelude.{slice_index_or, refl}
 use Rattle.std.proofs.Common.{zero, suc, ap, subst, arith}
 use Rattle.alias_base.specs.declared.ids.BlockId.{BlockId}
 use Rattle.alias_base.specs.declared.ids.IdentifierId.{IdentifierId}
@@ -24,8 +24,8 @@ use Rattle.alias_plain.specs.declared.laws.stop.Stop.TheVariants.{Broken, NotSet
 use Rattle.alias_plain.specs.laws.Scopes.{Scope}
 use Rattle.alias_plain.specs.unsure.Ways.{UnsureState}
 use Rattle.alias_plain.specs.laws.UnsureFlow.{list_in, through, through_all, entered}
-use Rattle.alias_plain.specs.laws.Scans.{counted, count_reported, count_part, count_row, count_call, failing_of,
-    stops_at, check, check_at, scan_instructions, scan_block, scan_from}
+use Rattle.alias_plain.specs.laws.Scans.{counted, count_reported, count_part, count_row, count_call, failing_of}
+use Rattle.alias_plain.specs.laws.Scans.{stops_at, check, check_at, scan_instructions, scan_block, scan_from}
 
 abbrev pub Scanned : Type 0
 Scanned = Result (⊤ × TableLists) Stop
@@ -110,13 +110,13 @@ module _ (c : Scope) where
       ≡ Err (Broken i rule) → (id ≡ i) × (Failing s x ≡ Some rule)
   check_breaks s id i x t rule h =
       elim (one_stops (count_reported (instruction_report x.value x.span) t) _ (Broken i rule) h) as
-          (λ w. (id ≡ i) × (Failing s x ≡ Some rule)) [
+      (λ w. (id ≡ i) × (Failing s x ≡ Some rule)) [
         | InFirst e ↦ absurd (reported_breaks (instruction_report x.value x.span) t i rule e)
         | InSecond q e f ↦ elim (one_stops (count_call c.env (called_by (list_in c x)) q.1) _ (Broken i rule) f) as
             (λ w. (id ≡ i) × (Failing s x ≡ Some rule)) [
-          | InFirst g ↦ absurd (call_breaks c.env (called_by (list_in c x)) q.1 i rule g)
-          | InSecond r g k ↦ stop_breaks id i (Failing s x) r.1 rule k
-        ]
+              | InFirst g ↦ absurd (call_breaks c.env (called_by (list_in c x)) q.1 i rule g)
+              | InSecond r g k ↦ stop_breaks id i (Failing s x) r.1 rule k
+            ]
       ]
 
   -- no condition of the instruction of the number fails behind this set
@@ -140,9 +140,15 @@ module _ (c : Scope) where
       × FailsFrom s i rule
   at_breaks s id i None t rule g h = cc
   at_breaks s id i (Some x) t rule g h =
-      let e = check_breaks s id i x t rule h in
-      (e.0, record { instruction = x; found =
-          subst (λ (j : InstructionId). slice_get c.func.instructions j.0 ≡ Some x) e.0 g; fails = e.1 })
+      let e = check_breaks s id i x t rule h in (
+        e.0,
+        record {
+          instruction = x;
+          found =
+              subst (λ (j : InstructionId). slice_get c.func.instructions j.0 ≡ Some x) e.0 g;
+          fails = e.1;
+        },
+      )
 
   -- each passes behind those before it
   abbrev pub AllPassFrom : Rows → List InstructionId → Type 0
@@ -169,7 +175,7 @@ module _ (c : Scope) where
   instructions_pass (id ∷ ids) s t p h =
       let a = both_done (check_at c s id (slice_get c.func.instructions id.0) t) _ p h in
       more_pass s id ids (at_passes s id (slice_get c.func.instructions id.0) t a.0 a.1)
-          (instructions_pass ids (through c s id) a.0.1 p a.2)
+      (instructions_pass ids (through c s id) a.0.1 p a.2)
 
   -- one of them fails, and those before it pass
   pub record BreaksIn (s : Rows) (ids : List InstructionId) (i : InstructionId) (rule : ℕ) : Type 0 where
@@ -184,11 +190,16 @@ module _ (c : Scope) where
   instructions_break [] s t i rule h = cc
   instructions_break (id ∷ ids) s t i rule h =
       elim (one_stops (check_at c s id (slice_get c.func.instructions id.0) t) _ (Broken i rule) h) as
-          (λ w. BreaksIn s (id ∷ ids) i rule) [
+      (λ w. BreaksIn s (id ∷ ids) i rule) [
         | InFirst e ↦
             let b = at_breaks s id i (slice_get c.func.instructions id.0) t rule refl e in
-            record { done = []; rest = ids; split = ap (λ (j : InstructionId). j ∷ ids) b.0; fails = b.1;
-                earlier = none_pass s }
+            record {
+              done = [];
+              rest = ids;
+              split = ap (λ (j : InstructionId). j ∷ ids) b.0;
+              fails = b.1;
+              earlier = none_pass s;
+            }
         | InSecond q e f ↦
             let b = instructions_break ids (through c s id) q.1 i rule f in
             record {
@@ -216,7 +227,7 @@ module _ (c : Scope) where
   block_passes b (Some y) t p h x e =
       let same : y ≡ x = cc in
       subst (λ (z : UnsureState). AllPassFrom (entered c.func.body.blocks b.1.phis z) b.1.instructions) same
-          (instructions_pass b.1.instructions (entered c.func.body.blocks b.1.phis y) t p h)
+      (instructions_pass b.1.instructions (entered c.func.body.blocks b.1.phis y) t p h)
 
   pub record BlockBreaks (b : Block) (o : Option UnsureState) (i : InstructionId) (rule : ℕ) : Type 0 where
     pub state : UnsureState
@@ -226,9 +237,12 @@ module _ (c : Scope) where
   block_breaks : (b : Block) (o : Option UnsureState) (t : TableLists) (i : InstructionId) (rule : ℕ)
       → scan_block c b.1 o t ≡ Err (Broken i rule) → BlockBreaks b o i rule
   block_breaks b None t i rule h = cc
-  block_breaks b (Some x) t i rule h = record
-      { state = x; there = refl; breaks = instructions_break b.1.instructions (entered c.func.body.blocks b.1.phis x) t
-      i rule h }
+  block_breaks b (Some x) t i rule h = record {
+    state = x;
+    there = refl;
+    breaks = instructions_break b.1.instructions (entered c.func.body.blocks b.1.phis x) t
+        i rule h;
+  }
 
   module _ (entries : List (Option UnsureState)) where
     -- the blocks, of which the first has the position, pass
@@ -259,7 +273,7 @@ module _ (c : Scope) where
     blocks_break [] n t i rule h = cc
     blocks_break (b ∷ bs) n t i rule h =
         elim (one_stops (scan_block c b.1 (slice_index_or entries n None) t) _ (Broken i rule) h) as
-            (λ w. BlocksBreak n (b ∷ bs) i rule) [
+        (λ w. BlocksBreak n (b ∷ bs) i rule) [
           | InFirst e ↦
               let here : n ≡ n + 0 = omega arith in
               record {
@@ -296,7 +310,7 @@ module _ (c : Scope) where
         let here : n ≡ n + 0 = omega arith in
         let same : x ≡ b = cc in
         subst (λ (m : ℕ). BlockPasses b (slice_index_or entries m None)) here
-            (subst (λ (y : Block). BlockPasses y (slice_index_or entries n None)) same h.0)
+        (subst (λ (y : Block). BlockPasses y (slice_index_or entries n None)) same h.0)
     pass_at (x ∷ bs) n (suc k) b h e =
         let there : (n + 1) + k ≡ n + suc k = omega arith in
         subst (λ (m : ℕ). BlockPasses b (slice_index_or entries m None)) there (pass_at bs (n + 1) k b h.1 e)

@@ -1,6 +1,6 @@
 -- When the sequence of visits isn't settled.
-use Rattle.std.specs.Prelude.{◌≡◌, ℕ, ◌+◌, Bool, true, false, if◌then◌else◌, List, [], ◌∷◌, length, Option, Some, None,
-    Result, Ok, Err, ⊤, slice_get, slice_index_or, replicate, refl}
+use Rattle.std.specs.Prelude.{◌≡◌, ℕ, ◌+◌, Bool, true, false, if◌then◌else◌, List, [], ◌∷◌, length, Option, Some, None}
+use Rattle.std.specs.Prelude.{Result, Ok, Err, ⊤, slice_get, slice_index_or, replicate, refl}
 use Rattle.std.proofs.Common.{zero, suc, ap, sym, ◌∙◌, subst}
 use Rattle.alias_base.specs.declared.ids.BlockId.{BlockId}
 use Rattle.alias_base.specs.declared.ids.IdentifierId.{IdentifierId}
@@ -18,8 +18,8 @@ use Rattle.alias_tables.specs.declared.faults.Refusal.TheVariants as refusal
 use Rattle.alias_tables.specs.Steps.{and_then}
 use Rattle.alias_tables.specs.Tables.{TableLists, intern_report}
 use Rattle.alias_calls.specs.Configs.{config_expansion}
-use Rattle.alias_flow.specs.Machine.{VisitLog, SolverState, Run, Going, Stopped, End, after, ending, up, visit,
-    visit_at, turn, round, any_dirty, rounds, start, solution, dirty}
+use Rattle.alias_flow.specs.Machine.{VisitLog, SolverState, Run, Going, Stopped, End, after, ending, up, visit}
+use Rattle.alias_flow.specs.Machine.{visit_at, turn, round, any_dirty, rounds, start, solution, dirty}
 use Rattle.alias_flow.specs.Machine as end
 use Rattle.alias_flow.specs.Solutions.{IsForward}
 use Rattle.alias_flow.proofs.DirtyFlags.{as_work_list_end, solution_work_list}
@@ -29,8 +29,9 @@ use Rattle.alias_plain.specs.unsure.Sets.{Rows}
 use Rattle.alias_plain.specs.declared.laws.stop.Stop.{Stop}
 use Rattle.alias_plain.specs.declared.laws.stop.Stop.TheVariants as stop
 use Rattle.alias_plain.specs.laws.RuleFacts.{Looks}
-use Rattle.alias_plain.specs.laws.Scans.{counted, count_reported, count_part, count_row, count_call, failing_of,
-    stops_at, check, check_at, scan_instructions, scan_block, scan_from, scan_after, scan_function}
+use Rattle.alias_plain.specs.laws.Scans.{counted, count_reported, count_part, count_row, count_call, failing_of}
+use Rattle.alias_plain.specs.laws.Scans.{stops_at, check, check_at, scan_instructions, scan_block, scan_from}
+use Rattle.alias_plain.specs.laws.Scans.{scan_after, scan_function}
 use Rattle.alias_plain.specs.laws.ScanLaws.{Scanned}
 use Rattle.alias_plain.specs.laws.Scopes.{Scope, scope_of}
 use Rattle.alias_plain.specs.laws.FunctionLaws.{NamesDiffer, flow_laws}
@@ -59,8 +60,10 @@ module _ (c : Scope) where
   after_goes : (r : Run (VisitLog UnsureState) (Unit {0}) (Unit {0}) (Unit {0}))
       (f : W → Run (VisitLog UnsureState) (Unit {0}) (Unit {0}) (Unit {0})) → Goes r → ((w : W) → Goes (f w))
       → Goes (after r f)
-  after_goes r f h g = let k = g h.0 in (k.0,
-      ap (λ (x : Run (VisitLog UnsureState) (Unit {0}) (Unit {0}) (Unit {0})). after x f) h.1 ∙ k.1)
+  after_goes r f h g = let k = g h.0 in (
+    k.0,
+    ap (λ (x : Run (VisitLog UnsureState) (Unit {0}) (Unit {0}) (Unit {0})). after x f) h.1 ∙ k.1,
+  )
 
   round_goes : (bs : List ℕ) (w : W) → Goes (round state_join state_below (unsure_flow c) w bs)
   round_goes [] w = (w, refl)
@@ -138,17 +141,17 @@ module _ (c : Scope) where
   at_settles s id None t h = cc
   at_settles s id (Some x) t h =
       one_unsettled (count_reported (instruction_report x.value x.span) t) _
-          (reported_settles (instruction_report x.value x.span) t)
+      (reported_settles (instruction_report x.value x.span) t)
       (λ q. one_unsettled (count_call c.env (called_by (list_in c x)) q.1) _
-          (call_settles c.env (called_by (list_in c x)) q.1)
-          (λ r. stop_settles id (failing_of c.env s x (list_in c x)) r.1)) h
+      (call_settles c.env (called_by (list_in c x)) q.1)
+      (λ r. stop_settles id (failing_of c.env s x (list_in c x)) r.1)) h
 
   instructions_settle : (ids : List InstructionId) (s : Rows) (t : TableLists) → scan_instructions c ids s t
       ≡ Err stop.NotSettled → ⊥
   instructions_settle [] s t h = cc
   instructions_settle (i ∷ ids) s t h =
       one_unsettled (check_at c s i (slice_get c.func.instructions i.0) t) _
-          (at_settles s i (slice_get c.func.instructions i.0) t) (λ q. instructions_settle ids (through c s i) q.1) h
+      (at_settles s i (slice_get c.func.instructions i.0) t) (λ q. instructions_settle ids (through c s i) q.1) h
 
   block_settles : (b : BasicBlock) (o : Option UnsureState) (t : TableLists) → scan_block c b o t ≡ Err stop.NotSettled
       → ⊥
@@ -160,7 +163,7 @@ module _ (c : Scope) where
   blocks_settle entries n [] t h = cc
   blocks_settle entries n (b ∷ bs) t h =
       one_unsettled (scan_block c b.1 (slice_index_or entries n None) t) _
-          (block_settles b.1 (slice_index_or entries n None) t) (λ q. blocks_settle entries (n + 1) bs q.1) h
+      (block_settles b.1 (slice_index_or entries n None) t) (λ q. blocks_settle entries (n + 1) bs q.1) h
 
 -- ---- so
 

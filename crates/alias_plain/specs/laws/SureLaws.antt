@@ -1,6 +1,6 @@
 -- What is sure on a path is what isn't in the path's set.
-use Rattle.std.specs.Prelude.{◌≡◌, ℕ, ◌<◌, ◌||◌, ◌&&◌, not, nat_eq, Bool, true, false, List, [], ◌∷◌, length, Option,
-    Some, None, slice_get, refl, if◌then◌else◌}
+use Rattle.std.specs.Prelude.{◌≡◌, ℕ, ◌<◌, ◌||◌, ◌&&◌, not, nat_eq, Bool, true, false, List, [], ◌∷◌, length, Option}
+use Rattle.std.specs.Prelude.{Some, None, slice_get, refl, if◌then◌else◌}
 use Rattle.std.specs.List.{AllByRecursion, list_all, range_with_len}
 use Rattle.std.specs.Option.{option_map_or}
 use Rattle.std.proofs.Common.{ap, sym, ◌∙◌, subst, arith}
@@ -14,15 +14,15 @@ use Rattle.alias_hir.specs.declared.hir.Instruction.{Instruction}
 use Rattle.alias_hir.specs.declared.hir.Phi.{Phi}
 use Rattle.alias_hir.specs.declared.place.Place.{Place}
 use Rattle.alias_plainness.specs.Making.{number}
-use Rattle.alias_plainness.specs.Sureness.{Sure, with_sure, sure_at_first, operand_is_sure, with_phi as sure_phi,
-    with_phis as sure_phis, adds, after_instruction, after_instructions}
+use Rattle.alias_plainness.specs.Sureness.{Sure, with_sure, sure_at_first, operand_is_sure, with_phi as sure_phi}
+use Rattle.alias_plainness.specs.Sureness.{with_phis as sure_phis, adds, after_instruction, after_instructions}
 use Rattle.alias_plainness.specs.Paths.{Path, begins, goes_on, sure_on, sure_before}
 use Rattle.alias_plain.specs.unsure.Sets.{Rows, has}
 use Rattle.alias_plain.specs.laws.Scopes.{Scope, scope_of}
-use Rattle.alias_plain.specs.laws.UnsureFlow.{with_members, sure_numbers, unsure_at_first, operand_is_unsure, with_phi,
-    with_phis, adds_in, through_at, through, through_all}
-use Rattle.alias_plain.specs.laws.MemberLaws.{Compared, Same, Differ, compared, with_phi_same, with_phi_other,
-    has-with_members, has-without_members, among_range}
+use Rattle.alias_plain.specs.laws.UnsureFlow.{with_members, sure_numbers, unsure_at_first, operand_is_unsure, with_phi}
+use Rattle.alias_plain.specs.laws.UnsureFlow.{with_phis, adds_in, through_at, through, through_all}
+use Rattle.alias_plain.specs.laws.MemberLaws.{Compared, Same, Differ, compared, with_phi_same, with_phi_other}
+use Rattle.alias_plain.specs.laws.MemberLaws.{has-with_members, has-without_members, among_range}
 use Rattle.alias_plain.specs.laws.PathLaws.{phis_at, instructions_at, rows_on}
 use Rattle.alias_plain.specs.laws.Scans.{sure_in}
 
@@ -45,9 +45,9 @@ first_agrees func env x h =
     let all = with_members (range_with_len 0 (length env.identifiers)) [] in
     let sure = is_among (sure_numbers func) x in
     not_twice sure (is_among (range_with_len 0 (length env.identifiers)) x) (has [] x)
-        (among_range 0 (length env.identifiers) x (omega arith) (omega arith))
+    (among_range 0 (length env.identifiers) x (omega arith) (omega arith))
     ∙ ap not (sym (has-without_members (sure_numbers func) all x
-        ∙ ap (λ b. b && not sure) (has-with_members (range_with_len 0 (length env.identifiers)) [] x)))
+    ∙ ap (λ b. b && not sure) (has-with_members (range_with_len 0 (length env.identifiers)) [] x)))
 
 operand_case : (n : ℕ) (b : BlockId) (phi : Phi) (s : Sure) (r : Rows) (o : Option Place) → Agrees n s r
     → ((q : Place) → o ≡ Some q → number q < n)
@@ -64,10 +64,10 @@ phi_case : (n : ℕ) (from : Option BlockId) (phi : Phi) (s : Sure) (r : Rows) (
     → Agrees n s r → OperandsWithin n phi → x < n → sure_phi from s phi x ≡ not (has (with_phi from r phi) x)
 phi_case n from phi s r x (Same e b) h w l =
     ap (λ (t : Bool). if t then operand_is_sure from phi s else s x) b ∙ operand_agrees n from phi s r h w
-        ∙ ap not (sym (with_phi_same from r phi x e))
+    ∙ ap not (sym (with_phi_same from r phi x e))
 phi_case n from phi s r x (Differ d b) h w l =
     ap (λ (t : Bool). if t then operand_is_sure from phi s else s x) b ∙ h x l
-        ∙ ap not (sym (with_phi_other from r phi x d))
+    ∙ ap not (sym (with_phi_other from r phi x d))
 
 phis_agree : (n : ℕ) (from : Option BlockId) (phis : List Phi) (s : Sure) (r : Rows) → Agrees n s r
     → AllByRecursion (OperandsWithin n) phis → Agrees n (sure_phis from phis s) (with_phis from phis r)
@@ -105,10 +105,10 @@ module _ (func : HirFunction) (env : Environment) where
       (sure_at_first func) (unsure_at_first (scope_of func env)) (first_agrees func env) (w func.body.entry)
   path_agrees (goes_on b d p e) w =
       phis_agree (length env.identifiers) (Some b) (phis_at func env d)
-          (after_instructions func env (instructions_at func env b) (sure_on func env p))
-          (through_all (scope_of func env) (instructions_at func env b) (rows_on func env p))
+      (after_instructions func env (instructions_at func env b) (sure_on func env p))
+      (through_all (scope_of func env) (instructions_at func env b) (rows_on func env p))
       (all_agree (length env.identifiers) (instructions_at func env b) (sure_on func env p) (rows_on func env p)
-          (path_agrees p w)) (w d)
+      (path_agrees p w)) (w d)
 
 -- so the same lists of identifiers of the unit are sure
 pub all_sure : (n : ℕ) (s : Sure) (r : Rows) (xs : List ℕ) → Agrees n s r → AllByRecursion (λ x. x < n) xs

@@ -1,6 +1,6 @@
 -- What is answered of a unit, and what it says by paths.
-use Rattle.std.specs.Prelude.{◌≡◌, ℕ, ◌+◌, ◌<◌, List, [], ◌∷◌, length, Option, Some, None, Result, Ok, Err, ⊤,
-    slice_get, refl}
+use Rattle.std.specs.Prelude.{◌≡◌, ℕ, ◌+◌, ◌<◌, List, [], ◌∷◌, length, Option, Some, None, Result, Ok, Err, ⊤}
+use Rattle.std.specs.Prelude.{slice_get, refl}
 use Rattle.std.specs.List.{AllByRecursion}
 use Rattle.std.proofs.Common.{zero, suc, ap, sym, ◌∙◌, subst, arith}
 use Rattle.alias_base.specs.Answer.{Gives}
@@ -19,8 +19,8 @@ use Rattle.alias_plain.specs.declared.laws.answer.Plainness.{Plainness}
 use Rattle.alias_plain.specs.declared.laws.answer.Plainness.TheVariants.{Plain, NotPlain}
 use Rattle.alias_plain.specs.declared.laws.answer.PlainFault.{PlainFault}
 use Rattle.alias_plain.specs.declared.laws.answer.PlainFault.TheVariants as fault
-use Rattle.alias_plain.specs.laws.Answers.{UnitEnd, AllPlain, StopsIn, reports_of, end_in, then_function, then_nested,
-    unit_end, answer_of, is_fault_memory}
+use Rattle.alias_plain.specs.laws.Answers.{UnitEnd, AllPlain, StopsIn, reports_of, end_in, then_function, then_nested}
+use Rattle.alias_plain.specs.laws.Answers.{unit_end, answer_of, is_fault_memory}
 use Rattle.alias_plain.specs.laws.FunctionLaws.{NamesDiffer, function_is_plain, function_breaks_first}
 use Rattle.alias_plain.specs.laws.RuleFacts.{Looks, root_looks, nested_looks}
 use Rattle.alias_plain.specs.laws.Scans.{scan_function}
@@ -109,7 +109,7 @@ module _ (env : Environment) where
   list_case k func fs e (StopsHere s is h) f =
       let here : k ≡ k + 0 = omega arith in
       SomeStops (Some (record { 0 = k })) s (ap (then_nested env (k + 1) fs) is
-          ∙ stays_stopped (k + 1) fs (Some (record { 0 = k })) s) (record {
+      ∙ stays_stopped (k + 1) fs (Some (record { 0 = k })) s) (record {
         position = 0;
         func = func;
         at = refl;
@@ -180,25 +180,28 @@ module _ (u : HirUnit) (rules : rules_hold u ≡ Ok tt) (root : NamesDiffer u.fu
       → TellsOf u (answer_of e)
   nested_tells e h (AllThrough t is all) =
       subst (λ (x : UnitEnd). TellsOf u (answer_of x)) (sym is)
-          (record { root = root_plain h; nested =
-          λ k g at. nested_plain k g at (all k g (below_length u.env.functions k g at) at) })
+      (record {
+        root = root_plain h;
+        nested =
+            λ k g at. nested_plain k g at (all k g (below_length u.env.functions k g at) at);
+      })
   nested_tells e h (SomeStops f s is a) =
       let plain : 0 + a.position ≡ a.position = omega arith in
       let number : f ≡ Some (record { 0 = a.position }) = a.number
-          ∙ ap (λ (n : ℕ). let x : FunctionId = record { 0 = n } in Some x) plain in
+      ∙ ap (λ (n : ℕ). let x : FunctionId = record { 0 = n } in Some x) plain in
       subst (λ (x : UnitEnd). TellsOf u (answer_of x)) (sym is)
       (stop_tells f a.func s (subst (λ (x : Option FunctionId). IsFirstOf u x a.func) (sym number)
-          (record { found = a.at; earlier = earlier_case a.position h a.before }))
+      (record { found = a.at; earlier = earlier_case a.position h a.before }))
       (nested a.position a.func a.at) (nested_looks u rules a.position a.func a.at) a.stopped)
 
   root_case : (e : UnitEnd) → OneEnd None u.function u.env e
       → TellsOf u (answer_of (then_nested u.env 0 u.env.functions e))
   root_case e (Through t is h) =
       subst (λ (x : UnitEnd). TellsOf u (answer_of (then_nested u.env 0 u.env.functions x))) (sym is)
-          (nested_tells (then_nested u.env 0 u.env.functions (AllPlain t)) h (list_end u.env 0 u.env.functions t))
+      (nested_tells (then_nested u.env 0 u.env.functions (AllPlain t)) h (list_end u.env 0 u.env.functions t))
   root_case e (StopsHere s is h) =
       subst (λ (x : UnitEnd). TellsOf u (answer_of x))
-          (sym (ap (then_nested u.env 0 u.env.functions) is ∙ stays_stopped u.env 0 u.env.functions None s))
+      (sym (ap (then_nested u.env 0 u.env.functions) is ∙ stays_stopped u.env 0 u.env.functions None s))
       (stop_tells None u.function s root_first root (root_looks u rules) h)
 
   -- `Plain` is answered of plain units alone, and `NotPlain` of others alone, with what comes first, and `NotSettled`

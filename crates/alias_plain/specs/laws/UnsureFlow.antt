@@ -1,8 +1,8 @@
 -- Which identifiers aren't sure, as a flow over the positions of blocks. The state of a block has a set for each block
 -- that was gone on
 -- from, known by one more than its position, and one, known by 0, for the beginning of a path.
-use Rattle.std.specs.Prelude.{ℕ, ◌+◌, ◌-◌, ◌==◌, Bool, true, List, [], ◌∷◌, ◌++◌, length, map, Option, Some, None,
-    option_map, slice_get, replicate, if◌then◌else◌}
+use Rattle.std.specs.Prelude.{ℕ, ◌+◌, ◌-◌, ◌==◌, Bool, true, List, [], ◌∷◌, ◌++◌, length, map, Option, Some, None}
+use Rattle.std.specs.Prelude.{option_map, slice_get, replicate, if◌then◌else◌}
 use Rattle.std.specs.Option.{option_map_or}
 use Rattle.std.specs.List.{fold, range_with_len}
 use Rattle.alias_base.specs.Find.{value_at}

@@ -1,6 +1,6 @@
 -- Which numbers sets have.
-use Rattle.std.specs.Prelude.{◌≡◌, ◌≢◌, ℕ, ◌*◌, ◌/◌, ◌%◌, ◌^◌, ◌<◌, ◌==◌, ◌||◌, Bool, true, false, cond, IsTrue, List,
-    [], Option, Some, None, bit_or, bit_and, refl}
+use Rattle.std.specs.Prelude.{◌≡◌, ◌≢◌, ℕ, ◌*◌, ◌/◌, ◌%◌, ◌^◌, ◌<◌, ◌==◌, ◌||◌, Bool, true, false, cond, IsTrue, List}
+use Rattle.std.specs.Prelude.{[], Option, Some, None, bit_or, bit_and, refl}
 use Rattle.std.specs.Int.Bits.{or_zero_l, or_zero_r}
 use Rattle.std.proofs.Common.{ap, sym, ◌∙◌, arith, subst, lit<}
 use Rattle.std.proofs.Math.Dec.{T}
@@ -19,10 +19,10 @@ use Rattle.alias_lattice.specs.ListMapLaws.{list_laws}
 use Rattle.alias_lattice.specs.PutLaws.{find-join, proper_put, proper_nil, proper_found}
 use Rattle.alias_lattice.specs.Reasons.{bits_below}
 use Rattle.alias_plain.specs.unsure.Words.{WordFits, has_bit, with_bit, without_bit}
-use Rattle.alias_plain.specs.unsure.WordLaws.{word_laws, has_bit-or, with_bit_same, with_bit_other, without_bit_same,
-    without_bit_other}
-use Rattle.alias_plain.specs.unsure.Sets.{Rows, word_of, word_at, has, with_member, without_member, RowsProper, union,
-    is_within}
+use Rattle.alias_plain.specs.unsure.WordLaws.{word_laws, has_bit-or, with_bit_same, with_bit_other, without_bit_same}
+use Rattle.alias_plain.specs.unsure.WordLaws.{without_bit_other}
+use Rattle.alias_plain.specs.unsure.Sets.{Rows, word_of, word_at, has, with_member, without_member, RowsProper, union}
+use Rattle.alias_plain.specs.unsure.Sets.{is_within}
 
 pub set_laws : LatticeLaws RowsProper union is_within
 set_laws = list_laws nat_cmp nat_cmp_total nat_cmp-IsAntisymmetric WordFits bit_or bits_below word_laws
@@ -82,7 +82,7 @@ word-put : (row k w : ℕ) (s : Rows) → word_at (put nat_cmp k w s) row ≡ co
 word-put row k w s =
     ap word_of (find-put nat_cmp nat_cmp_total row k w s)
     ∙ elim (eq_by_cmp nat_cmp row k) as (λ t. word_of (cond t (Some w) (find nat_cmp row s))
-        ≡ cond t w (word_of (find nat_cmp row s))) [ true ↦ refl | false ↦ refl ]
+    ≡ cond t w (word_of (find nat_cmp row s))) [ true ↦ refl | false ↦ refl ]
 
 same_row : (a b : ℕ) → a ≡ b → eq_by_cmp nat_cmp a b ≡ true
 same_row a b h = subst (λ k. eq_by_cmp nat_cmp a k ≡ true) h (ap is_eq (tied_itself nat_cmp_total a))
@@ -104,8 +104,8 @@ put_other : (x y w : ℕ) (s : Rows) → x ≢ y
 put_other x y w s d h =
     ap (λ v. has_bit v (y % 64)) (word-put (y / 64) (x / 64) w s)
     ∙ elim (eq_by_cmp nat_cmp (y / 64) (x / 64)) as
-        (λ t. eq_by_cmp nat_cmp (y / 64) (x / 64) ≡ t → has_bit (cond t w (word_at s (y / 64))) (y % 64)
-        ≡ has_bit (word_at s (y / 64)) (y % 64)) [
+    (λ t. eq_by_cmp nat_cmp (y / 64) (x / 64) ≡ t → has_bit (cond t w (word_at s (y / 64))) (y % 64)
+    ≡ has_bit (word_at s (y / 64)) (y % 64)) [
       | true ↦ λ t.
           let row : y / 64 ≡ x / 64 = row_is (y / 64) (x / 64) t in
           h (apart x y d (sym row)) ∙ ap (λ r. has_bit (word_at s r) (y % 64)) (sym row)

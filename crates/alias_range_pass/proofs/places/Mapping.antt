@@ -1,6 +1,6 @@
 -- Visits by a closure that changes each place in one way, and loops that change each item of a list.
-use Rattle.std.proofs.Common.{◌≡◌, ℕ, ◌+◌, ◌++◌, Option, Some, None, take, drop, slice_get, slice_set, get_or, length,
-    ◌<◌, suc, zero, arith, List, [], ◌∷◌, map, refl, ap, ◌∙◌}
+use Rattle.std.proofs.Common.{◌≡◌, ℕ, ◌+◌, ◌++◌, Option, Some, None, take, drop, slice_get, slice_set, get_or, length}
+use Rattle.std.proofs.Common.{◌<◌, suc, zero, arith, List, [], ◌∷◌, map, refl, ap, ◌∙◌}
 use Rattle.std.proofs.lemmas.List.Edits.{map_over_more}
 use Rattle.std.specs.Borrow.{MutBor}
 use Rattle.std.specs.Fn.{Mut}
@@ -44,7 +44,7 @@ module _ {K V : Type 0} (f : V → V) where
   value_step (x ∷ es) (suc i) =
       let e : suc (i + 1) ≡ suc i + 1 = omega arith in
       push_in (slice_get (step_there es i) i) (value_changed x) (step_there es i) i
-          ∙ ap (λ z. value_changed x ∷ z) (value_step es i) ∙ ap (step_there (x ∷ es)) e
+      ∙ ap (λ z. value_changed x ∷ z) (value_step es i) ∙ ap (step_there (x ∷ es)) e
 
 module _ {A : Type 0} where
   read_again : (ys : List A) (i : ℕ) (d : A) → i < length ys → get_or ys i d ≡ get_or ys i (get_or ys i d)

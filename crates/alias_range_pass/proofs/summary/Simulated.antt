@@ -17,5 +17,5 @@ pub simulated : (index : ℕ) (into : Place) (g : Nodes) (env : Environment)
     → env_after false (flow_start index into) g env ≡ env
 simulated index into g env =
     ap (λ z. record env { identifiers = z; errors = env.errors ++ [] })
-        (no_ranges env.identifiers (expanded g (flow_start index into)))
-        ∙ ap (λ z. record env { errors = z }) (append-nil env.errors)
+    (no_ranges env.identifiers (expanded g (flow_start index into)))
+    ∙ ap (λ z. record env { errors = z }) (append-nil env.errors)

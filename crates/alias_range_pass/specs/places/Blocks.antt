@@ -1,6 +1,6 @@
 -- Phis, terminals and blocks with the effects of their places, and a whole function.
-use Rattle.std.specs.Prelude.{ℕ, ◌+◌, Bool, cond, List, [], ◌∷◌, Option, Some, None, map, option_map, slice_get, length,
-    zero, suc}
+use Rattle.std.specs.Prelude.{ℕ, ◌+◌, Bool, cond, List, [], ◌∷◌, Option, Some, None, map, option_map, slice_get, length}
+use Rattle.std.specs.Prelude.{zero, suc}
 use Rattle.std.specs.Option.{option_map_or}
 use Rattle.alias_base.specs.declared.ids.BlockId.{BlockId}
 use Rattle.alias_base.specs.declared.ids.EvaluationOrder.{EvaluationOrder}
@@ -36,8 +36,10 @@ effect_set_at e i operands = option_map_or (λ (x : BlockId × Place). set_value
 
 -- the phi's place gets Store; its operands get Capture where that is written later than the order, else Read
 abbrev pub phi_placed : List Identifier → EvaluationOrder → Phi → Phi
-phi_placed ids t phi = record phi { place = with_effect Store phi.place;
-    operands = map (operand_with (source_effect ids t phi.place.identifier)) phi.operands }
+phi_placed ids t phi = record phi {
+  place = with_effect Store phi.place;
+  operands = map (operand_with (source_effect ids t phi.place.identifier)) phi.operands;
+}
 
 -- what is returned gets Freeze, and in function expressions Read; other places of terminals get Read
 abbrev pub terminal_effect : Bool → Terminal → Effect
@@ -95,10 +97,11 @@ block_merged f b env = with_identifiers (phis_merged (first_order f.instructions
 
 -- the phis of the block in slot k start their ranges, and then its phis and its terminal have effects
 abbrev pub ends_at_slot : Bool → ℕ → BasicBlock → HirFunction → Environment → Placed
-ends_at_slot is_function_expression k b f env =
-    (with_blocks (set_value_at f.body.blocks k
-        (ends_placed is_function_expression (block_merged f b env).identifiers (first_order f.instructions b) b)) f,
-        block_merged f b env)
+ends_at_slot is_function_expression k b f env = (
+  with_blocks (set_value_at f.body.blocks k
+      (ends_placed is_function_expression (block_merged f b env).identifiers (first_order f.instructions b) b)) f,
+  block_merged f b env,
+)
 
 abbrev pub with_instructions : List Instruction × Environment → HirFunction → Placed
 with_instructions r f = (record f { instructions = r.0 }, r.1)

@@ -1,6 +1,6 @@
 -- Each range end that is another by default has a cause.
-use Rattle.std.specs.Prelude.{◌≡◌, ℕ, ◌+◌, ◌⊎◌, ◌==◌, Bool, true, false, if◌then◌else◌, List, [], ◌∷◌, ◌++◌, Option,
-    Some, None, map, option_map, length, slice_get, refl, zero, suc}
+use Rattle.std.specs.Prelude.{◌≡◌, ℕ, ◌+◌, ◌⊎◌, ◌==◌, Bool, true, false, if◌then◌else◌, List, [], ◌∷◌, ◌++◌, Option}
+use Rattle.std.specs.Prelude.{Some, None, map, option_map, length, slice_get, refl, zero, suc}
 use Rattle.std.proofs.Common.{inl, inr, ⊎_elim, ap, sym, ◌∙◌, subst, arith}
 use Rattle.alias_base.specs.declared.ids.BlockId.{BlockId}
 use Rattle.alias_base.specs.declared.ids.EvaluationOrder.{EvaluationOrder}
@@ -24,15 +24,16 @@ use Rattle.alias_graph.proofs.Legality.{in_left, in_right}
 use Rattle.alias_graph.specs.Reach.{end_at}
 use Rattle.alias_graph.specs.Walks.{IsOneOf}
 use Rattle.alias_visit.specs.Operands.{operands_of, lvalues_of}
-use Rattle.alias_range_pass.specs.places.Blocks.{first_order, block_merged, Placed, ends_at_slot, placed_at,
-    block_placed, blocks_placed, function_placed}
+use Rattle.alias_range_pass.specs.places.Blocks.{first_order, block_merged, Placed, ends_at_slot, placed_at}
+use Rattle.alias_range_pass.specs.places.Blocks.{block_placed, blocks_placed, function_placed}
 use Rattle.alias_range_pass.specs.places.Causes.{numbers_of, stored_places, written, InstructionCause, EndsCaused}
-use Rattle.alias_range_pass.specs.places.Instructions.{value_placed, places_placed, surroundings, surrounded,
-    env_assigned, instruction_placed, placed_in, instruction_at, instructions_placed}
+use Rattle.alias_range_pass.specs.places.Instructions.{value_placed, places_placed, surroundings, surrounded}
+use Rattle.alias_range_pass.specs.places.Instructions.{env_assigned, instruction_placed, placed_in, instruction_at}
+use Rattle.alias_range_pass.specs.places.Instructions.{instructions_placed}
 use Rattle.alias_range_pass.specs.places.KeepLaws.{set_in, sets}
 use Rattle.alias_range_pass.specs.places.MappedLaws.{pattern_back}
-use Rattle.alias_range_pass.specs.places.Ranges.{begun, started, stored, merged, ranged, all_ranged, phis_merged,
-    assigned, value_stored}
+use Rattle.alias_range_pass.specs.places.Ranges.{begun, started, stored, merged, ranged, all_ranged, phis_merged}
+use Rattle.alias_range_pass.specs.places.Ranges.{assigned, value_stored}
 use Rattle.alias_range_pass.specs.places.Tables.{Table, table_of, with_table}
 
 -- ---- ranges
@@ -64,7 +65,7 @@ all_cause t f h (p ∷ ps) rs k =
     let mid : List Identifier = ranged f p.identifier rs in
     ⊎_elim
     (λ later. ⊎_elim (λ now. inl (later ∙ now)) (λ now. inr (inl now.0, later ∙ now.1))
-        (ranged_cause t f h p.identifier rs k))
+    (ranged_cause t f h p.identifier rs k))
     (λ later. inr (inr later.0, later.1))
     (all_cause t f h ps mid k)
 
@@ -124,7 +125,7 @@ written_stored table v = refl
 written_same : (table : Table) (i : Instruction) → written (places_placed table i) ≡ written i
 written_same table i =
     ap (λ z. (i.lvalue.identifier.0 ∷ z) ++ numbers_of (stored_places (value_placed table i.value)))
-        (written_lvalues table i.value)
+    (written_lvalues table i.value)
     ∙ ap (λ z. (i.lvalue.identifier.0 ∷ numbers_of (lvalues_of i.value)) ++ z) (written_stored table i.value)
 
 stored_cause : (t : EvaluationOrder) (v : InstructionValue) (rs : List Identifier) (k : ℕ)
@@ -143,7 +144,7 @@ around_cause : (table : Table) (t : EvaluationOrder) (v : InstructionValue) (env
 around_cause table t v env k =
     let mid : List Identifier = all_ranged (started t) (operands_of env v) env.identifiers in
     let e : end_at mid k ≡ end_at env.identifiers k =
-        all_same (started t) (λ r. refl) (operands_of env v) env.identifiers k in
+    all_same (started t) (λ r. refl) (operands_of env v) env.identifiers k in
     ⊎_elim (λ h. inl (h ∙ e)) (λ h. inr h) (stored_cause t v mid k)
 
 surround_cause : (b : Bool) (table : Table) (t : EvaluationOrder) (v : InstructionValue) (env : Environment) (k : ℕ)
@@ -203,7 +204,7 @@ module _ (all : List Instruction) where
       let o = all_at Original is id.0 i p e in
       let P : List ℕ → Type 0 = λ z. IsOneOf k z in
       ⊎_elim (λ h. inl h) (λ h. inr (o.0, o.1, subst P (sym o.3) h.0, h.1 ∙ ap (λ z. z.0 + 1) (sym o.2)))
-          (instruction_cause i env k)
+      (instruction_cause i env k)
 
   instructions_original : (ids : List InstructionId) (s : List Instruction × Environment) → AllOf Original s.0
       → AllOf Original (instructions_placed ids s).0
@@ -216,7 +217,7 @@ module _ (all : List Instruction) where
   instructions_cause [] s k p = inl refl
   instructions_cause (id ∷ ids) s k p =
       cause_trans s.1 (instruction_at s id).1 (instructions_placed (id ∷ ids) s).1 k
-          (in_cause s.0 s.1 id (slice_get s.0 id.0) k p refl)
+      (in_cause s.0 s.1 id (slice_get s.0 id.0) k p refl)
       (instructions_cause ids (instruction_at s id) k (in_original s.0 s.1 id (slice_get s.0 id.0) p refl))
 
   at_original : (b : Bool) (j : ℕ) (o : Option BasicBlock) (s : Placed) → AllOf Original s.0.instructions
@@ -231,7 +232,7 @@ module _ (all : List Instruction) where
   at_cause b j (Some x) s k p =
       let mid : Environment = block_merged s.0 x s.1 in
       cause_trans s.1 mid (placed_at b j (Some x) s).1 k
-          (inl (phis_same (first_order s.0.instructions x) x.phis s.1.identifiers k))
+      (inl (phis_same (first_order s.0.instructions x) x.phis s.1.identifiers k))
       (instructions_cause x.instructions (s.0.instructions, mid) k p)
 
   blocks_cause : (b : Bool) (n j : ℕ) (s : Placed) (k : ℕ) → AllOf Original s.0.instructions

@@ -23,8 +23,10 @@ abbrev pub value_placed : Table → InstructionValue → InstructionValue
 value_placed table v = map_operands (with_table table Read) (map_lvalues (with_table table ConditionallyMutate) v)
 
 abbrev pub places_placed : Table → Instruction → Instruction
-places_placed table i = record i { lvalue = with_table table ConditionallyMutate i.lvalue;
-    value = value_placed table i.value }
+places_placed table i = record i {
+  lvalue = with_table table ConditionallyMutate i.lvalue;
+  value = value_placed table i.value;
+}
 
 -- the function with the effects of its context places
 abbrev pub context_placed : Table → HirFunction → HirFunction
@@ -41,9 +43,11 @@ with_identifiers ids env = record env { identifiers = ids }
 -- operands are started, a value that is stored into a context variable lasts, and context places of a created function
 -- get effects
 abbrev pub surroundings : Table → EvaluationOrder → InstructionValue → Environment → Environment
-surroundings table t v env = record env { identifiers =
-    value_stored t v (all_ranged (started t) (operands_of env v) env.identifiers);
-    functions = created_placed table (created v) env.functions }
+surroundings table t v env = record env {
+  identifiers =
+      value_stored t v (all_ranged (started t) (operands_of env v) env.identifiers);
+  functions = created_placed table (created v) env.functions;
+}
 
 -- the same, where the instruction has effects
 abbrev pub surrounded : Option (List AliasingEffect) → Table → EvaluationOrder → InstructionValue → Environment

@@ -1,6 +1,6 @@
 -- Of the environment only ranges and the effects of context places change, and no end falls.
-use Rattle.std.specs.Prelude.{◌≡◌, ℕ, ◌≤◌, ◌==◌, Bool, true, false, if◌then◌else◌, List, [], ◌∷◌, Option, Some, None,
-    map, length, slice_get, slice_set, refl, zero, suc}
+use Rattle.std.specs.Prelude.{◌≡◌, ℕ, ◌≤◌, ◌==◌, Bool, true, false, if◌then◌else◌, List, [], ◌∷◌, Option, Some, None}
+use Rattle.std.specs.Prelude.{map, length, slice_get, slice_set, refl, zero, suc}
 use Rattle.std.proofs.Common.{ap, sym, ◌∙◌, subst, arith}
 use Rattle.std.proofs.lemmas.Bool.Decides.{nat_tests}
 use Rattle.std.specs.Option.{option_map_or}
@@ -23,26 +23,30 @@ use Rattle.alias_hir.specs.declared.value.InstructionValue.TheVariants as value
 use Rattle.alias_graph.specs.Reach.{end_at}
 use Rattle.alias_visit.specs.Operands.{operands_of, lvalues_of}
 use Rattle.alias_range_pass.specs.places.Blocks.{block_merged, first_order}
-use Rattle.alias_range_pass.specs.places.Instructions.{context_placed, created_placed, surroundings, surrounded,
-    with_identifiers, env_assigned, instruction_placed}
+use Rattle.alias_range_pass.specs.places.Instructions.{context_placed, created_placed, surroundings, surrounded}
+use Rattle.alias_range_pass.specs.places.Instructions.{with_identifiers, env_assigned, instruction_placed}
 use Rattle.alias_range_pass.specs.places.Keeping.{but_range, but_effect, but_context, but_ranges, RangesKept, EnvKept}
-use Rattle.alias_range_pass.specs.places.Ranges.{begun, started, stored, merged, with_range, ranged, all_ranged,
-    phis_merged, assigned, value_stored}
+use Rattle.alias_range_pass.specs.places.Ranges.{begun, started, stored, merged, with_range, ranged, all_ranged}
+use Rattle.alias_range_pass.specs.places.Ranges.{phis_merged, assigned, value_stored}
 use Rattle.alias_range_pass.specs.places.Tables.{Table, table_of, with_table}
 
 ranges_same : (ids : List Identifier) → RangesKept ids ids
 ranges_same ids = record { rest = refl; ends = λ i. omega arith }
 
 ranges_trans : (a b c : List Identifier) → RangesKept a b → RangesKept b c → RangesKept a c
-ranges_trans a b c g h = record { rest = h.rest ∙ g.rest;
-    ends = λ i. let p = g.ends i in let q = h.ends i in omega arith }
+ranges_trans a b c g h = record {
+  rest = h.rest ∙ g.rest;
+  ends = λ i. let p = g.ends i in let q = h.ends i in omega arith;
+}
 
 pub keeps_same : (env : Environment) → EnvKept env env
 keeps_same env = record { rest = refl; ends = λ i. omega arith }
 
 pub keeps_trans : (a b c : Environment) → EnvKept a b → EnvKept b c → EnvKept a c
-keeps_trans a b c g h = record { rest = h.rest ∙ g.rest;
-    ends = λ i. let p = g.ends i in let q = h.ends i in omega arith }
+keeps_trans a b c g h = record {
+  rest = h.rest ∙ g.rest;
+  ends = λ i. let p = g.ends i in let q = h.ends i in omega arith;
+}
 
 -- ---- ranges
 
@@ -115,8 +119,10 @@ phis_kept t (phi ∷ phis) ids = ranges_trans ids (ranged (merged t) phi.place.i
 
 identifiers_keep : (env : Environment) (ids : List Identifier) → RangesKept env.identifiers ids
     → EnvKept env (with_identifiers ids env)
-identifiers_keep env ids k = record { rest = ap (λ z. record (but_ranges env) { identifiers = z }) k.rest;
-    ends = k.ends }
+identifiers_keep env ids k = record {
+  rest = ap (λ z. record (but_ranges env) { identifiers = z }) k.rest;
+  ends = k.ends;
+}
 
 pub assigned_keeps : (i : Instruction) (env : Environment) → EnvKept env (env_assigned i env)
 assigned_keeps i env = identifiers_keep env (assigned i env.identifiers)
@@ -162,7 +168,7 @@ surroundings_keep : (table : Table) (t : EvaluationOrder) (v : InstructionValue)
 surroundings_keep table t v env =
     let started_ids : List Identifier = all_ranged (started t) (operands_of env v) env.identifiers in
     let k = ranges_trans env.identifiers started_ids (value_stored t v started_ids)
-        (all_kept (started t) (started_lasts t) (operands_of env v) env.identifiers) (stored_kept t v started_ids) in
+    (all_kept (started t) (started_lasts t) (operands_of env v) env.identifiers) (stored_kept t v started_ids) in
     record {
       rest = ap (λ z. record (but_ranges env)
           { identifiers = z; functions = map but_context (created_placed table (created v) env.functions) }) k.rest
@@ -184,4 +190,4 @@ pub instruction_keeps : (i : Instruction) (env : Environment) → EnvKept env (i
 instruction_keeps i env =
     let table : Table = table_of (assigned i env.identifiers) i in
     keeps_trans env (env_assigned i env) (surrounded i.effects table i.id i.value (env_assigned i env))
-        (assigned_keeps i env) (surrounded_keeps i.effects table i.id i.value (env_assigned i env))
+    (assigned_keeps i env) (surrounded_keeps i.effects table i.id i.value (env_assigned i env))

@@ -2,8 +2,8 @@
 use Rattle.std.specs.Prelude.{◌≡◌, List, [], ◌∷◌, ◌++◌, Option, None, Some, map, refl}
 use Rattle.std.proofs.Common.{ap, sym, ◌∙◌}
 use Rattle.std.specs.List.{flat_map}
-use Rattle.alias_hir.specs.Parts.{optional_place, arg_places, element_places, property_places, item_places,
-    target_places, pattern_places, attribute_places}
+use Rattle.alias_hir.specs.Parts.{optional_place, arg_places, element_places, property_places, item_places}
+use Rattle.alias_hir.specs.Parts.{target_places, pattern_places, attribute_places}
 use Rattle.alias_hir.specs.Terminals.{case_places}
 use Rattle.alias_hir.specs.declared.place.Place.{Place}
 use Rattle.alias_hir.specs.declared.place.PlaceOrSpread.{PlaceOrSpread}
@@ -24,8 +24,9 @@ use Rattle.alias_hir.specs.declared.value.ObjectPropertyOrSpread.{ObjectProperty
 use Rattle.alias_hir.specs.declared.value.ObjectPropertyOrSpread.TheVariants as property
 use Rattle.alias_hir.specs.declared.value.Pattern.{Pattern}
 use Rattle.alias_hir.specs.declared.value.Pattern.TheVariants as pattern
-use Rattle.alias_visit.specs.Rebuilt.{with_places, with_args, with_elements, with_key, after_key, with_properties,
-    with_attributes, after_attributes, with_items, with_targets, with_pattern, with_cases}
+use Rattle.alias_visit.specs.Rebuilt.{with_places, with_args, with_elements, with_key, after_key, with_properties}
+use Rattle.alias_visit.specs.Rebuilt.{with_attributes, after_attributes, with_items, with_targets, with_pattern}
+use Rattle.alias_visit.specs.Rebuilt.{with_cases}
 use Rattle.alias_range_pass.specs.places.Mapped.{map_operands, map_terminal}
 
 -- ---- parts with each place changed
@@ -70,15 +71,15 @@ map_attribute f (attribute.Spread p) = attribute.Spread (f p)
 
 one_property : (f : Place → Place) (c : Option Place) (q : Place) (xs : List ObjectPropertyOrSpread)
     → with_properties (property.Property (record { computed = c; place = q }) ∷ xs)
-        (map f ((optional_place c ++ q ∷ []) ++ flat_map property_places xs))
-        ≡ property.Property (record { computed = map_key f c; place = f q }) ∷ map_properties f xs
+    (map f ((optional_place c ++ q ∷ []) ++ flat_map property_places xs))
+    ≡ property.Property (record { computed = map_key f c; place = f q }) ∷ map_properties f xs
 one_property f None q xs = refl
 one_property f (Some k) q xs = refl
 
 one_case : (f : Place → Place) (o : Option Place) (c : SwitchCase) (cs : List SwitchCase)
     → (record c { test = with_key o (map f (optional_place o ++ flat_map case_places cs)) }
-        ∷ with_cases cs (after_key o (map f (optional_place o ++ flat_map case_places cs))))
-        ≡ (record c { test = map_key f o } ∷ map_cases f cs)
+    ∷ with_cases cs (after_key o (map f (optional_place o ++ flat_map case_places cs))))
+    ≡ (record c { test = map_key f o } ∷ map_cases f cs)
 one_case f None c cs = refl
 one_case f (Some p) c cs = refl
 
@@ -100,14 +101,14 @@ after_by f (attribute.Spread p ∷ xs) ys = after_by f xs ys
 
 jsx_by : (f : Place → Place) (t : JsxTag) (xs : List JsxAttribute) (cs : List Place)
     → map_operands f (value.JsxExpression t xs cs)
-        ≡ value.JsxExpression (map_tag f t) (map (map_attribute f) xs) (map_places f cs)
+    ≡ value.JsxExpression (map_tag f t) (map (map_attribute f) xs) (map_places f cs)
 jsx_by f (tag.Place p) xs cs =
     ap (λ z. value.JsxExpression (tag.Place (f p)) z
-        (with_places cs (after_attributes xs (map f (flat_map attribute_places xs ++ cs))))) (attributes_by f xs cs)
+    (with_places cs (after_attributes xs (map f (flat_map attribute_places xs ++ cs))))) (attributes_by f xs cs)
     ∙ ap (λ z. value.JsxExpression (tag.Place (f p)) (map (map_attribute f) xs) (with_places cs z)) (after_by f xs cs)
 jsx_by f tag.Builtin xs cs =
     ap (λ z. value.JsxExpression tag.Builtin z
-        (with_places cs (after_attributes xs (map f (flat_map attribute_places xs ++ cs))))) (attributes_by f xs cs)
+    (with_places cs (after_attributes xs (map f (flat_map attribute_places xs ++ cs))))) (attributes_by f xs cs)
     ∙ ap (λ z. value.JsxExpression tag.Builtin (map (map_attribute f) xs) (with_places cs z)) (after_by f xs cs)
 
 -- ---- twice
@@ -139,12 +140,12 @@ module _ (h e : Place → Place) where
   property_twice : (c : Option Place) (q : Place) (xs : List ObjectPropertyOrSpread)
       → map_properties e (map_properties h xs) ≡ map_properties both xs
       → map_properties e (map_properties h (property.Property (record { computed = c; place = q }) ∷ xs))
-          ≡ map_properties both (property.Property (record { computed = c; place = q }) ∷ xs)
+      ≡ map_properties both (property.Property (record { computed = c; place = q }) ∷ xs)
   property_twice c q xs same =
       ap (map_properties e) (one_property h c q xs)
       ∙ one_property e (map_key h c) (h q) (map_properties h xs)
       ∙ ap (λ z. property.Property (record { computed = z; place = e (h q) }) ∷ map_properties e (map_properties h xs))
-          (key_twice c)
+      (key_twice c)
       ∙ ap (λ z. property.Property (record { computed = map_key both c; place = e (h q) }) ∷ z) same
       ∙ sym (one_property both c q xs)
 
@@ -188,7 +189,7 @@ module _ (h e : Place → Place) where
       ap (map_operands e) (jsx_by h t xs cs)
       ∙ jsx_by e (map_tag h t) (map (map_attribute h) xs) (map_places h cs)
       ∙ ap (λ z. value.JsxExpression z (map (map_attribute e) (map (map_attribute h) xs))
-          (map_places e (map_places h cs))) (tag_twice t)
+      (map_places e (map_places h cs))) (tag_twice t)
       ∙ ap (λ z. value.JsxExpression (map_tag both t) z (map_places e (map_places h cs))) (attributes_twice xs)
       ∙ ap (λ z. value.JsxExpression (map_tag both t) (map (map_attribute both) xs) z) (places_twice cs)
       ∙ sym (jsx_by both t xs cs)

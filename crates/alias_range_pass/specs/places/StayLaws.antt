@@ -13,13 +13,13 @@ use Rattle.alias_hir.specs.declared.place.Effect.TheVariants.{Read, Conditionall
 use Rattle.alias_hir.specs.declared.terminal.Terminal.{Terminal}
 use Rattle.alias_hir.specs.declared.value.InstructionValue.{InstructionValue}
 use Rattle.alias_hir.specs.declared.value.InstructionValue.TheVariants as value
-use Rattle.alias_range_pass.specs.places.Blocks.{with_effect, operand_with, phi_placed, terminal_effect,
-    terminal_placed, ends_placed}
+use Rattle.alias_range_pass.specs.places.Blocks.{with_effect, operand_with, phi_placed, terminal_effect}
+use Rattle.alias_range_pass.specs.places.Blocks.{terminal_placed, ends_placed}
 use Rattle.alias_range_pass.specs.places.Instructions.{value_placed, places_placed}
-use Rattle.alias_range_pass.specs.places.Keeping.{but_effect, but_value, but_instruction, but_terminal, but_operand,
-    but_phi, but_block, but_entry, but_effects}
-use Rattle.alias_range_pass.specs.places.MappedLaws.{places_twice, args_twice, elements_twice, properties_twice,
-    pattern_twice, jsx_twice, terminal_twice}
+use Rattle.alias_range_pass.specs.places.Keeping.{but_effect, but_value, but_instruction, but_terminal, but_operand}
+use Rattle.alias_range_pass.specs.places.Keeping.{but_phi, but_block, but_entry, but_effects}
+use Rattle.alias_range_pass.specs.places.MappedLaws.{places_twice, args_twice, elements_twice, properties_twice}
+use Rattle.alias_range_pass.specs.places.MappedLaws.{pattern_twice, jsx_twice, terminal_twice}
 use Rattle.alias_range_pass.specs.places.Tables.{Table, with_table, source_effect}
 
 pub value_stays : (table : Table) (v : InstructionValue) → but_value (value_placed table v) ≡ but_value v
@@ -58,7 +58,7 @@ map_stays f h e (x ∷ xs) = ap (λ z. z ∷ map f (map h xs)) (e x) ∙ ap (λ 
 phi_stays : (ids : List Identifier) (t : EvaluationOrder) (phi : Phi) → but_phi (phi_placed ids t phi) ≡ but_phi phi
 phi_stays ids t phi =
     ap (λ z. record phi { place = but_effect phi.place; operands = z })
-        (map_stays but_operand (operand_with (source_effect ids t phi.place.identifier)) (λ e. refl) phi.operands)
+    (map_stays but_operand (operand_with (source_effect ids t phi.place.identifier)) (λ e. refl) phi.operands)
 
 terminal_stays : (b : Bool) (t : Terminal) → but_terminal (terminal_placed b t) ≡ but_terminal t
 terminal_stays b t = terminal_twice (with_effect (terminal_effect b t)) but_effect t
@@ -67,7 +67,7 @@ pub block_stays : (b : Bool) (ids : List Identifier) (t : EvaluationOrder) (x : 
     → but_block (ends_placed b ids t x) ≡ but_block x
 block_stays b ids t x =
     ap (λ z. record x { phis = z; terminal = but_terminal (terminal_placed b x.terminal) })
-        (map_stays but_phi (phi_placed ids t) (phi_stays ids t) x.phis)
+    (map_stays but_phi (phi_placed ids t) (phi_stays ids t) x.phis)
     ∙ ap (λ z. record x { phis = map but_phi x.phis; terminal = z }) (terminal_stays b x.terminal)
 
 -- one item of a list changed
@@ -88,9 +88,9 @@ pub block_effects : (f : HirFunction) (k : ℕ) (x y : BasicBlock) (is : List In
     ≡ option_map (λ (e : BlockId × BasicBlock). e.1) (slice_get f.body.blocks k) → but_block y ≡ but_block x
     → map but_instruction is ≡ map but_instruction f.instructions
     → but_effects (record f { body = record f.body { blocks = set_value_at f.body.blocks k y }; instructions = is })
-        ≡ but_effects f
+    ≡ but_effects f
 block_effects f k x y is here same instructions =
     ap (λ z. record f { body = record f.body { blocks = z }; instructions = map but_instruction is })
-        (entry_stays f.body.blocks k x y here same)
+    (entry_stays f.body.blocks k x y here same)
     ∙ ap (λ z. record f { body = record f.body { blocks = map but_entry f.body.blocks }; instructions = z })
-        instructions
+    instructions

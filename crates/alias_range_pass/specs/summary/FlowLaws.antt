@@ -1,6 +1,6 @@
 -- The listed flows are those of legal paths.
-use Rattle.std.proofs.Common.{◌≡◌, ℕ, ◌+◌, ◌==◌, ◌&&◌, inl, inr, Bool, true, false, not, if◌then◌else◌, List, [], ◌∷◌,
-    ◌++◌, Option, Some, None, option_map, refl, ap, sym, ◌∙◌, subst, arith}
+use Rattle.std.proofs.Common.{◌≡◌, ℕ, ◌+◌, ◌==◌, ◌&&◌, inl, inr, Bool, true, false, not, if◌then◌else◌, List, [], ◌∷◌}
+use Rattle.std.proofs.Common.{◌++◌, Option, Some, None, option_map, refl, ap, sym, ◌∙◌, subst, arith}
 use Rattle.std.specs.Option.{option_map_or}
 use Rattle.alias_base.specs.declared.ids.IdentifierId.{IdentifierId}
 use Rattle.alias_hir.specs.declared.effect.AliasingEffect.{AliasingEffect}
@@ -14,8 +14,8 @@ use Rattle.alias_graph.specs.Reach.{AllMutatedBefore, EndsAt, Flows}
 use Rattle.alias_graph.proofs.Covering.{eqb_is, eqb_itself}
 use Rattle.alias_graph.proofs.Flowing.{walk_flows}
 use Rattle.alias_graph.proofs.Reaching.{id_is}
-use Rattle.alias_range_pass.specs.summary.Flows.{flow_start, ends_at, is_last, flow_effect, is_flow, flows_into,
-    flows_listed}
+use Rattle.alias_range_pass.specs.summary.Flows.{flow_start, ends_at, is_last, flow_effect, is_flow, flows_into}
+use Rattle.alias_range_pass.specs.summary.Flows.{flows_listed}
 use Rattle.alias_range_pass.specs.summary.Laws.{SameLinks, IsFlow, FlowsInto, FlowsAre, EndsWithFlows}
 use Rattle.alias_range_pass.specs.summary.LegalLaws.{links_back, links_after, legal_same}
 use Rattle.alias_range_pass.specs.summary.MarkedPlaces.{marks_of_all}
@@ -68,7 +68,7 @@ module _ (g h : Nodes) (index : ℕ) (returns into : Place) (same : SameLinks g 
   yes : (from : Place) → is_flow after index returns into from ≡ true → IsFlow g index returns into from
   yes from is =
       let a = all_true (from.identifier.0 == into.identifier.0) (from.identifier.0 == returns.identifier.0)
-          (is_last after index from) is in
+      (is_last after index from) is in
       let e = walk_is.listed from.identifier (last_is index (node_at after from.identifier) a.2) in
       record {
         different = apart from.identifier.0 into.identifier.0 a.0;
@@ -80,10 +80,10 @@ module _ (g h : Nodes) (index : ℕ) (returns into : Place) (same : SameLinks g 
   must from f =
       let P : IdentifierId → Type 0 = λ z. EndsAt after index z in
       let ends : EndsAt after index from.identifier =
-          subst P (id_is f.path.0.id from.identifier f.path.1)
-          (walk_is.all f.path.0 (legal_same g h same index (start_entry (flow_start index into)) f.path.0 f.path.2)) in
+      subst P (id_is f.path.0.id from.identifier f.path.1)
+      (walk_is.all f.path.0 (legal_same g h same index (start_entry (flow_start index into)) f.path.0 f.path.2)) in
       all_set (from.identifier.0 == into.identifier.0) (from.identifier.0 == returns.identifier.0)
-          (is_last after index from)
+      (is_last after index from)
       (not_same from.identifier.0 into.identifier.0 (from.identifier.0 == into.identifier.0) refl f.different)
       (not_same from.identifier.0 returns.identifier.0 (from.identifier.0 == returns.identifier.0) refl f.not_returned)
       (is_ended index (node_at after from.identifier) ends.0 ends.1 ends.2)

@@ -1,6 +1,7 @@
 -- What walks and renders keep, one after the other.
-use Rattle.std.proofs.Common.{◌≡◌, ℕ, Bool, IsTrue, List, [], ◌∷◌, ◌++◌, Option, Some, None, option_map, map, length,
-    slice_get, slice_set, refl, ap, sym, ◌∙◌, subst, arith, zero, suc, append_assoc, append-nil}
+use Rattle.std.proofs.Common.{◌≡◌, ℕ, Bool, IsTrue, List, [], ◌∷◌, ◌++◌, Option, Some, None, option_map, map, length}
+use Rattle.std.proofs.Common.{slice_get, slice_set, refl, ap, sym, ◌∙◌, subst, arith, zero, suc, append_assoc}
+use Rattle.std.proofs.Common.{append-nil}
 use Rattle.std.specs.Option.{option_map_or}
 use Rattle.alias_base.specs.declared.ids.EvaluationOrder.{EvaluationOrder}
 use Rattle.alias_base.specs.declared.ids.IdentifierId.{IdentifierId}
@@ -73,8 +74,8 @@ pub walk_keeps : (record_errors : Bool) (index : ℕ) (origin : Origin) (end : O
     → WalksKeep env new
 walk_keeps record_errors index origin end g done env new is =
     subst (λ z. WalksKeep env z) (sym is) (ranges_keep end env done
-        (env.errors ++ recorded_after record_errors env index origin g done)
-        (recorded_after record_errors env index origin g done, refl))
+    (env.errors ++ recorded_after record_errors env index origin g done)
+    (recorded_after record_errors env index origin g done, refl))
 
 pub stopped_keeps : (record_errors : Bool) (index : ℕ) (origin : Origin) (end : Option EvaluationOrder) (g : Nodes)
     (start : Entry) (env : Environment) (steps : ℕ) (h : Nodes) (new : Environment) (counted : ℕ)
@@ -83,15 +84,15 @@ stopped_keeps record_errors index origin end g start env steps h new counted s =
     let reports = recorded_after record_errors env index origin g (step_to g index start s.popped).done in
     subst (λ z. WalksKeep env z) (sym s.identifiers)
     (ranges_keep end env (step_to g index start s.popped).done new.errors
-        (reports ++ s.reports.some, s.reports.grown ∙ append_assoc env.errors reports s.reports.some))
+    (reports ++ s.reports.some, s.reports.grown ∙ append_assoc env.errors reports s.reports.some))
 
 pub walk_within : (record_errors : Bool) (index : ℕ) (origin : Origin) (end : Option EvaluationOrder) (g : Nodes)
     (done : List Entry) (env new : Environment) (h : Nodes)
     → new ≡ walked record_errors index origin end g done env → SameIds g h → Within (length env.identifiers) g
-        → Within (length new.identifiers) h
+    → Within (length new.identifiers) h
 walk_within record_errors index origin end g done env new h is same within =
     let e : length new.identifiers ≡ length env.identifiers = ap (λ (z : Environment). length z.identifiers) is
-        ∙ ranges_length end env.identifiers done in
+    ∙ ranges_length end env.identifiers done in
     subst (λ n. Within n h) (sym e) (within_kept (length env.identifiers) g h same within)
 
 -- ---- reports alone

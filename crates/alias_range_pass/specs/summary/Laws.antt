@@ -54,7 +54,7 @@ abbrev pub FlowsInto : Nodes → ℕ → Place → Place → List Place → List
 FlowsInto g index returns into [] es = es ≡ []
 FlowsInto g index returns into (from ∷ froms) es =
     (IsFlow g index returns into from × (rest : List AliasingEffect) × (es ≡ flow_effect returns from into ∷ rest)
-        × FlowsInto g index returns into froms rest)
+    × FlowsInto g index returns into froms rest)
     ⊎ ((IsFlow g index returns into from → ⊥) × FlowsInto g index returns into froms es)
 
 -- the effects are the flows into these places from all tracked ones, in order, each walk at a position of its own
@@ -62,7 +62,7 @@ abbrev pub FlowsAre : Nodes → ℕ → Place → List Place → List Place → 
 FlowsAre g index returns places [] es = es ≡ []
 FlowsAre g index returns places (into ∷ intos) es =
     (here : List AliasingEffect) × (rest : List AliasingEffect) × (es ≡ here ++ rest)
-        × FlowsInto g index returns into places here × FlowsAre g (index + 1) returns places intos rest
+    × FlowsInto g index returns into places here × FlowsAre g (index + 1) returns places intos rest
 
 -- a summary ends with these flows
 abbrev pub EndsWithFlows : Nodes → ℕ → Place → List Place → List AliasingEffect → Type 0

@@ -1,6 +1,7 @@
 -- What a summary tells of a part of the graph is what it tells of the whole.
-use Rattle.std.proofs.Common.{◌≡◌, ◌==◌, ◌&&◌, ℕ, ◌+◌, ◌⊎◌, ⊎_elim, inl, inr, Bool, true, false, not, IsTrue,
-    if◌then◌else◌, List, [], ◌∷◌, ◌++◌, Option, Some, None, is_some, option_map, map, refl, ap, sym, ◌∙◌, subst}
+use Rattle.std.proofs.Common.{◌≡◌, ◌==◌, ◌&&◌, ℕ, ◌+◌, ◌⊎◌, ⊎_elim, inl, inr, Bool, true, false, not, IsTrue}
+use Rattle.std.proofs.Common.{if◌then◌else◌, List, [], ◌∷◌, ◌++◌, Option, Some, None, is_some, option_map, map, refl}
+use Rattle.std.proofs.Common.{ap, sym, ◌∙◌, subst}
 use Rattle.alias_base.specs.declared.ids.IdentifierId.{IdentifierId}
 use Rattle.alias_hir.specs.declared.effect.AliasingEffect.{AliasingEffect}
 use Rattle.alias_hir.specs.declared.env.Environment.{Environment}
@@ -18,10 +19,10 @@ use Rattle.alias_graph.proofs.Legality.{in_left, in_right, in_either}
 use Rattle.alias_graph.proofs.Parting.{walks_part, marked_part}
 use Rattle.alias_graph.proofs.Within.{marked_same}
 use Rattle.alias_range_pass.specs.declared.summary.start.WalkStart.{WalkStart}
-use Rattle.alias_range_pass.specs.summary.Flows.{flow_start, ends_at, is_last, is_flow, flow_effect, flow_from,
-    flows_into, flows_listed}
-use Rattle.alias_range_pass.specs.summary.MarkedPlaces.{marks_at, node_effects, mark_effects, marks_of_all,
-    is_marked_node, captured, param_captured, function_captured}
+use Rattle.alias_range_pass.specs.summary.Flows.{flow_start, ends_at, is_last, is_flow, flow_effect, flow_from}
+use Rattle.alias_range_pass.specs.summary.Flows.{flows_into, flows_listed}
+use Rattle.alias_range_pass.specs.summary.MarkedPlaces.{marks_at, node_effects, mark_effects, marks_of_all}
+use Rattle.alias_range_pass.specs.summary.MarkedPlaces.{is_marked_node, captured, param_captured, function_captured}
 use Rattle.alias_range_pass.specs.summary.Summaries.{context_and_params, returns_created, tracked, summarized}
 use Rattle.alias_range_pass.specs.summary.Sweeping.{identifier_of, summarized_ids, IsPart}
 use Rattle.alias_range_pass.specs.summary.SweepLaws.{in_map}
@@ -95,8 +96,8 @@ module _ (ids : List IdentifierId) (returns : Place) where
       (marks_same ids g h part from.identifier i)
   same_flow g h part index into from (inr same) =
       either_way (from.identifier.0 == into.identifier.0) (from.identifier.0 == returns.identifier.0)
-          (is_last h index from) (is_last g index from)
-          (ap (λ n. n == returns.identifier.0) same ∙ eqb_itself returns.identifier.0)
+      (is_last h index from) (is_last g index from)
+      (ap (λ n. n == returns.identifier.0) same ∙ eqb_itself returns.identifier.0)
 
   same_flows : (g h : Nodes) → IsPart ids g h → (index : ℕ) (into : Place) (places : List Place)
       → ((x : Place) → IsOneOf x places → IsReported x) → flows_into h index returns places into
@@ -104,9 +105,9 @@ module _ (ids : List IdentifierId) (returns : Place) where
   same_flows g h part index into [] in_summary = refl
   same_flows g h part index into (from ∷ places) in_summary =
       ap (λ b. (if b then flow_effect returns from into ∷ [] else []) ++ flows_into h index returns places into)
-          (same_flow g h part index into from (in_summary from (inl refl)))
+      (same_flow g h part index into from (in_summary from (inl refl)))
       ∙ ap (λ z. flow_from g index returns into from ++ z)
-          (same_flows g h part index into places (λ y i. in_summary y (inr i)))
+      (same_flows g h part index into places (λ y i. in_summary y (inr i)))
 
   all_flows : (places : List Place) → ((x : Place) → IsOneOf x places → IsReported x)
       → (intos : List Place) (g h : Nodes) → IsPart ids g h → (index : ℕ) → flows_listed h index returns places intos
@@ -116,9 +117,9 @@ module _ (ids : List IdentifierId) (returns : Place) where
       let s = flow_start index into in
       let next = walked_part ids g h part s in
       ap (λ z. z ++ flows_listed (nodes_after s h) (index + 1) returns places intos)
-          (same_flows (nodes_after s g) (nodes_after s h) next index into places in_summary)
+      (same_flows (nodes_after s g) (nodes_after s h) next index into places in_summary)
       ∙ ap (λ z. flows_into (nodes_after s g) index returns places into ++ z)
-          (all_flows places in_summary intos (nodes_after s g) (nodes_after s h) next (index + 1))
+      (all_flows places in_summary intos (nodes_after s g) (nodes_after s h) next (index + 1))
 
 module _ (f : HirFunction) where
   summarized_place : (x : Place) → IsOneOf x (context_and_params f) → IsOneOf x.identifier (summarized_ids f)
@@ -132,7 +133,7 @@ module _ (f : HirFunction) where
       (λ c. inl (summarized_place x (in_left f.context (map param_place f.params) x c)))
       (in_either (map param_place f.params) f.context x two))
       (λ last. ⊎_elim (λ (same : x ≡ f.returns). inr (ap (λ (z : Place). z.identifier.0) same)) (λ none. absurd none)
-          last)
+      last)
       (in_either (map param_place f.params ++ f.context) (f.returns ∷ []) x i)
 
   module _ (g h : Nodes) (part : IsPart (summarized_ids f) g h) where
@@ -140,15 +141,15 @@ module _ (f : HirFunction) where
         ≡ summarized g next f env begin
     summarized_part next env begin =
         ap (λ z. ((begin ++ z) ++ returns_created env f ∷ []) ++ flows_listed h next f.returns (tracked f) (tracked f))
-            (all_marks (summarized_ids f) g h part (context_and_params f) summarized_place)
+        (all_marks (summarized_ids f) g h part (context_and_params f) summarized_place)
         ∙ ap (λ z. ((begin ++ marks_of_all g (context_and_params f)) ++ returns_created env f ∷ []) ++ z)
-            (all_flows (summarized_ids f) f.returns (tracked f) tracked_summarized (tracked f) g h part next)
+        (all_flows (summarized_ids f) f.returns (tracked f) tracked_summarized (tracked f) g h part next)
 
     pub captured_part : function_captured h f ≡ function_captured g f
     captured_part =
         ap (λ z. record f { params = z; context = map (captured h) f.context })
-            (captures_params (summarized_ids f) g h part f.params
-            (λ x i. summarized_place x (in_right f.context (map param_place f.params) x i)))
+        (captures_params (summarized_ids f) g h part f.params
+        (λ x i. summarized_place x (in_right f.context (map param_place f.params) x i)))
         ∙ ap (λ z. record f { params = map (param_captured g) f.params; context = z })
-            (captures_all (summarized_ids f) g h part f.context
-            (λ x i. summarized_place x (in_left f.context (map param_place f.params) x i)))
+        (captures_all (summarized_ids f) g h part f.context
+        (λ x i. summarized_place x (in_left f.context (map param_place f.params) x i)))

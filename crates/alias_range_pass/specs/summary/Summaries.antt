@@ -40,4 +40,4 @@ returns_created env f = effect.Create f.returns (returned_kind env f.returns.ide
 abbrev pub summarized : Nodes → ℕ → HirFunction → Environment → List AliasingEffect → List AliasingEffect
 summarized g next f env begin =
     ((begin ++ marks_of_all g (context_and_params f)) ++ returns_created env f ∷ [])
-        ++ flows_listed g next f.returns (tracked f) (tracked f)
+    ++ flows_listed g next f.returns (tracked f) (tracked f)

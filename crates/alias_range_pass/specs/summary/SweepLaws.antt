@@ -1,7 +1,8 @@
 -- One sweep raises what the walks of all mutations raise, and in a part of the graph that is cut off they leave the
 -- same marks and reports.
-use Rattle.std.proofs.Common.{◌≡◌, ℕ, ◌+◌, ◌<◌, ⊎_elim, inl, inr, Bool, true, false, cond, IsTrue, ◌||◌, List, [], ◌∷◌,
-    ◌++◌, Option, Some, None, is_some, length, map, reverse, slice_get, refl, ap, sym, ◌∙◌, subst, arith}
+use Rattle.std.proofs.Common.{◌≡◌, ℕ, ◌+◌, ◌<◌, ⊎_elim, inl, inr, Bool, true, false, cond, IsTrue, ◌||◌, List, [], ◌∷◌}
+use Rattle.std.proofs.Common.{◌++◌, Option, Some, None, is_some, length, map, reverse, slice_get, refl, ap, sym, ◌∙◌}
+use Rattle.std.proofs.Common.{subst, arith}
 use mathlib.Core.List.{reverse-cons}
 use Rattle.alias_base.specs.declared.ids.IdentifierId.{IdentifierId}
 use Rattle.alias_hir.specs.declared.env.Environment.{Environment}
@@ -25,8 +26,8 @@ use Rattle.alias_graph.specs.Walks.{IsOneOf}
 use Rattle.alias_graph.proofs.Effects.{ranges_length, ranges_up, ranges_rest}
 use Rattle.alias_graph.proofs.Ends.{raised_once}
 use Rattle.alias_graph.proofs.Legality.{in_left, in_right, in_either}
-use Rattle.alias_graph.proofs.Parting.{keeps, walks_part, renders_part, marked_part, quiet_marked, reported_part,
-    rendered_part}
+use Rattle.alias_graph.proofs.Parting.{keeps, walks_part, renders_part, marked_part, quiet_marked, reported_part}
+use Rattle.alias_graph.proofs.Parting.{rendered_part}
 use Rattle.alias_graph.proofs.PartWalks.{kept}
 use Rattle.alias_graph.proofs.Raising.{rise_same, rise_trans}
 use Rattle.alias_graph.proofs.Within.{marked_same}
@@ -40,8 +41,9 @@ use Rattle.alias_range_pass.specs.summary.KeepingLaws.{within_kept}
 use Rattle.alias_range_pass.specs.summary.Laws.{Covers, MutationCauses}
 use Rattle.alias_range_pass.specs.summary.LegalLaws.{links_same}
 use Rattle.alias_range_pass.specs.summary.Sweeping.{range_walk, mark_start, after_mark, after_marks, IsPart}
-use Rattle.alias_range_pass.specs.summary.Walking.{start_origin, expanded, mutation_start, mutation_entry, Walked,
-    after_mutation, after_mutations, after_render, after_renders, env_reported, mutations_done, renders_done}
+use Rattle.alias_range_pass.specs.summary.Walking.{start_origin, expanded, mutation_start, mutation_entry, Walked}
+use Rattle.alias_range_pass.specs.summary.Walking.{after_mutation, after_mutations, after_render, after_renders}
+use Rattle.alias_range_pass.specs.summary.Walking.{env_reported, mutations_done, renders_done}
 use Rattle.alias_range_pass.specs.summary.WalkLaws.{walks_cover, walks_caused}
 
 -- ---- the walks of the sweep are those of the mutations
@@ -106,14 +108,20 @@ module _ (r : Bool) (l : Listing) (env : Environment) (fits : ListingFits (lengt
     covered = λ w i e p.
         let m = of_map range_walk (reverse l.mutations) w i in
         let low : m.0.order.0 < end_at last e.id.0 =
-            covers m.0 (of_reverse l.mutations m.0 m.1) e
-            (subst (λ (z : RangeWalk). Legal (graph_listed l) z.index (range_entry z) e) m.2 p) in
+        covers m.0 (of_reverse l.mutations m.0 m.1) e
+        (subst (λ (z : RangeWalk). Legal (graph_listed l) z.index (range_entry z) e) m.2 p) in
         let end : w.end.0 ≡ m.0.order.0 + 1 = ap (λ (z : RangeWalk). z.end.0) m.2 in
         omega arith;
     cause = λ k. ⊎_elim
         (λ same. inl same)
-        (λ c. inr (range_walk c.0, in_map range_walk (reverse l.mutations) c.0 (in_reverse l.mutations c.0 c.1), c.2,
-            c.3, c.4, c.5))
+        (λ c. inr (
+          range_walk c.0,
+          in_map range_walk (reverse l.mutations) c.0 (in_reverse l.mutations c.0 c.1),
+          c.2,
+          c.3,
+          c.4,
+          c.5,
+        ))
         (causes k);
   }
 
@@ -153,14 +161,14 @@ walk_alike a b f i index origin g [] = refl
 walk_alike a b f i index origin g (d ∷ done) =
     ap (λ z. z ++ reported_at a (node_at (marked index origin g done) d.id)) (walk_alike a b f i index origin g done)
     ∙ ap (λ z. reports_after b index origin g done ++ z)
-        (reported_alike a b f i (node_at (marked index origin g done) d.id))
+    (reported_alike a b f i (node_at (marked index origin g done) d.id))
 
 render_alike : (a b : Environment) → a.functions ≡ b.functions → a.interned ≡ b.interned
     → (g : Nodes) (ids : List IdentifierId) → render_reports a g ids ≡ render_reports b g ids
 render_alike a b f i g [] = refl
 render_alike a b f i g (id ∷ ids) =
     ap (λ z. z ++ reported_at a (node_at g id)) (render_alike a b f i g ids)
-        ∙ ap (λ z. render_reports b g ids ++ z) (reported_alike a b f i (node_at g id))
+    ∙ ap (λ z. render_reports b g ids ++ z) (reported_alike a b f i (node_at g id))
 
 -- ---- walks over the part
 
@@ -202,16 +210,18 @@ module _ (r : Bool) (base : Environment) (keep : IdentifierId → Bool) where
       in_summary true is =
           let q = h.quiet is in
           walk_alike w.1 base (functions_are w.1 h.part_framed) (interned_are w.1 h.part_framed) index from w.0
-              part_done
+          part_done
           ∙ reported_part keep base index from v.0 w.0 h.same q.0 q.1 whole_done part_done expands
           ∙ sym (walk_alike v.1 base (functions_are v.1 h.whole_framed) (interned_are v.1 h.whole_framed) index from v.0
-              whole_done)
+          whole_done)
 
       twins_walk : Twins (after_mutation r v m) (after_mark r w m)
       twins_walk = record {
         same = marked_part keep v.0 w.0 h.same index from whole_done part_done expands;
-        quiet = λ is. let q = h.quiet is in (quiet_marked keep base v.0 index from whole_done q.0,
-            quiet_marked keep base w.0 index from part_done q.1);
+        quiet = λ is. let q = h.quiet is in (
+          quiet_marked keep base v.0 index from whole_done q.0,
+          quiet_marked keep base w.0 index from part_done q.1,
+        );
         errors = ap (λ z. z ++ recorded_after r w.1 index from w.0 part_done) h.errors
             ∙ ap (λ z. v.1.errors ++ z) (in_summary r refl);
         whole_framed = framed base v.1 (ranges_after (mutation_start m).end v.1.identifiers whole_done)
@@ -229,7 +239,7 @@ module _ (r : Bool) (base : Environment) (keep : IdentifierId → Bool) where
           let cs = (rendered w.0 x.index x.place.identifier).done in
           render_alike w.1 base (functions_are w.1 h.part_framed) (interned_are w.1 h.part_framed) w.0 cs
           ∙ rendered_part keep base v.0 w.0 h.same q.0 q.1 ds cs
-              (renders_part keep v.0 w.0 h.same x.index x.place.identifier)
+          (renders_part keep v.0 w.0 h.same x.index x.place.identifier)
           ∙ sym (render_alike v.1 base (functions_are v.1 h.whole_framed) (interned_are v.1 h.whole_framed) v.0 ds)
 
       twins_render : Twins (v.0, after_render v.0 v.1 x) (w.0, after_render w.0 w.1 x)
@@ -276,7 +286,7 @@ whole_env : (old a b : Environment) → IsFramed old a → IsFramed old b → a.
     ≡ b.errors → a ≡ b
 whole_env old a b h k ids errors =
     h ∙ ap (λ z. let v : Environment = record old { identifiers = z; errors = a.errors } in v) ids
-        ∙ ap (λ z. let v : Environment = record old { identifiers = b.identifiers; errors = z } in v) errors ∙ sym k
+    ∙ ap (λ z. let v : Environment = record old { identifiers = b.identifiers; errors = z } in v) errors ∙ sym k
 
 module _ (r : Bool) (l : Listing) (env : Environment) (ids : List IdentifierId)
     (fits : ListingFits (length env.identifiers) l) where
@@ -302,8 +312,10 @@ module _ (r : Bool) (l : Listing) (env : Environment) (ids : List IdentifierId)
     begin : Twins r first cut.keep (graph_listed l, first) (part, with_swept swept)
     begin = record {
       same = subst (λ z. SamePart cut.keep z part) is cut.part;
-      quiet = λ t. let q = cut.quiet t in (subst (IsQuiet cut.keep first) is (quiet_alike cut.keep g q.0),
-          quiet_alike cut.keep part q.1);
+      quiet = λ t. let q = cut.quiet t in (
+        subst (IsQuiet cut.keep first) is (quiet_alike cut.keep g q.0),
+        quiet_alike cut.keep part q.1,
+      );
       errors = refl;
       whole_framed = refl;
       part_framed = refl;
@@ -329,8 +341,11 @@ module _ (r : Bool) (l : Listing) (env : Environment) (ids : List IdentifierId)
 
     -- the marks of the part are those of the whole
     pub marks_part : IsPart ids whole.0 marks.0
-    marks_part = record { keep = cut.keep; same = twins.same;
-        kept = λ id i t. cut.kept id i (subst IsTrue (has_same id) t) }
+    marks_part = record {
+      keep = cut.keep;
+      same = twins.same;
+      kept = λ id i t. cut.kept id i (subst IsTrue (has_same id) t);
+    }
 
     all_same : (b : Bool) → r ≡ b → cond b (after_renders marks.0 l.renders marks.1) marks.1
         ≡ cond b (after_renders whole.0 l.renders whole.1) whole.1
@@ -339,9 +354,9 @@ module _ (r : Bool) (l : Listing) (env : Environment) (ids : List IdentifierId)
     all_same true t =
         let h = twins_renders r first cut.keep t l.renders whole marks twins in
         whole_env first (after_renders marks.0 l.renders marks.1) (after_renders whole.0 l.renders whole.1)
-            h.part_framed h.whole_framed
+        h.part_framed h.whole_framed
         (renders_same marks.0 l.renders marks.1 ∙ marks_same r l.mutations (part, with_swept swept) ∙ swept_is
-            ∙ sym (renders_same whole.0 l.renders whole.1))
+        ∙ sym (renders_same whole.0 l.renders whole.1))
         h.errors
 
     -- and so is the environment
@@ -354,7 +369,7 @@ module _ (r : Bool) (l : Listing) (env : Environment) (ids : List IdentifierId)
     (fits : ListingFits (length env.identifiers) l)
     (g kept part : Nodes) (one two : Environment) (is : g ≡ graph_listed l) (reported : one ≡ env_reported r l env)
     (raised : Raised g (map range_walk (reverse l.mutations)) one.identifiers two.identifiers)
-        (framed_two : two ≡ record one { identifiers = two.identifiers })
+    (framed_two : two ≡ record one { identifiers = two.identifiers })
     (same : kept ≡ g) (cut : CutOff r two ids kept part) where
   whole_two : two ≡ with_swept r l env ids fits two.identifiers
   whole_two = framed_two ∙ ap (λ (z : Environment). let v : Environment = record z { identifiers = two.identifiers } in
@@ -370,7 +385,7 @@ module _ (r : Bool) (l : Listing) (env : Environment) (ids : List IdentifierId)
   pub step_part : (h : Nodes) → h ≡ (after_marks r l.mutations (part, two)).0 → IsPart ids (mutations_done r l env).0 h
   step_part h at =
       subst (IsPart ids (mutations_done r l env).0)
-          (sym (at ∙ ap (λ (z : Environment). (after_marks r l.mutations (part, z)).0) whole_two))
+      (sym (at ∙ ap (λ (z : Environment). (after_marks r l.mutations (part, z)).0) whole_two))
       (marks_part r l env ids fits g part two.identifiers is raised_two cut_two)
 
   pub step_env : (after : Environment) → after ≡ renders_done r l (after_marks r l.mutations (part, two)) → after
@@ -381,7 +396,7 @@ module _ (r : Bool) (l : Listing) (env : Environment) (ids : List IdentifierId)
   pub step_within : Within (length two.identifiers) part
   step_within =
       let all : Within (length env.identifiers) g =
-          subst (Within (length env.identifiers)) (sym is)
-          (graph_within (length env.identifiers) l.events fits.events) in
+      subst (Within (length env.identifiers)) (sym is)
+      (graph_within (length env.identifiers) l.events fits.events) in
       let size : length two.identifiers ≡ length env.identifiers = raised_two.rise.size in
       subst (λ n. Within n part) (sym size) (within_kept (length env.identifiers) g part cut_two.part.ids all)

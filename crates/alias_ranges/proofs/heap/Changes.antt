@@ -2,10 +2,10 @@
 use Rattle.std.proofs.Common.{◌≡◌, ℕ, true, ◌∷◌, inl, inr}
 use Rattle.alias_base.specs.declared.ids.IdentifierId.{IdentifierId}
 use Rattle.alias_graph.specs.Nodes.{Nodes, has_node}
-use Rattle.alias_ranges.specs.heap.Heap.{New, NewFrom, Copies, Clears, Adds, StoresInto, History, Object, new_object,
-    Holds, Stores}
-use Rattle.alias_ranges.proofs.heap.Linking.{LinkKind, CaptureLink, Joins, into_there, Chain, here, further, StoreLink,
-    IsAlias}
+use Rattle.alias_ranges.specs.heap.Heap.{New, NewFrom, Copies, Clears, Adds, StoresInto, History, Object, new_object}
+use Rattle.alias_ranges.specs.heap.Heap.{Holds, Stores}
+use Rattle.alias_ranges.proofs.heap.Linking.{LinkKind, CaptureLink, Joins, into_there, Chain, here, further, StoreLink}
+use Rattle.alias_ranges.proofs.heap.Linking.{IsAlias}
 use Rattle.alias_ranges.proofs.heap.Reaching.{Sound}
 
 -- a link that is no capture, in the lists of both ends

@@ -1,14 +1,14 @@
 -- Each event that makes a new node, or none, lets the graph grow, and a link that it adds stands in the lists of both
 -- ends.
-use Rattle.std.proofs.Common.{◌≡◌, ℕ, ◌<◌, ◌≤◌, ⊎_elim, true, false, cond, ◌&&◌, ◌||◌, List, [], ◌∷◌, ◌++◌, Option,
-    Some, None, is_some, option_map, refl, ap, sym, ◌∙◌, subst, inl, inr, ◌⊎◌, arith}
+use Rattle.std.proofs.Common.{◌≡◌, ℕ, ◌<◌, ◌≤◌, ⊎_elim, true, false, cond, ◌&&◌, ◌||◌, List, [], ◌∷◌, ◌++◌, Option}
+use Rattle.std.proofs.Common.{Some, None, is_some, option_map, refl, ap, sym, ◌∙◌, subst, inl, inr, ◌⊎◌, arith}
 use Rattle.std.proofs.lemmas.Bool.{cases_eq}
 use Rattle.alias_base.specs.declared.ids.IdentifierId.{IdentifierId}
 use Rattle.alias_graph.specs.declared.types.EdgeKind.TheVariants.{Capture, Alias, MaybeAlias}
 use Rattle.alias_graph.specs.declared.types.NodeValue.{NodeValue}
 use Rattle.alias_graph.specs.declared.types.NodeValue.TheVariants.{Object}
-use Rattle.alias_graph.specs.Graph.{created_out, joined, fresh, created, changed, with_edge, has_source, noted,
-    with_created_from, with_source, edge, source, after}
+use Rattle.alias_graph.specs.Graph.{created_out, joined, fresh, created, changed, with_edge, has_source, noted}
+use Rattle.alias_graph.specs.Graph.{with_created_from, with_source, edge, source, after}
 use Rattle.alias_graph.specs.Nodes.{Edge, Source, Node, Nodes, node_at, has_node, with_node, same_id}
 use Rattle.alias_graph.specs.Walks.{IsOneOf}
 use Rattle.alias_graph.proofs.Covering.{eqb_is, eqb_itself}
@@ -17,8 +17,9 @@ use Rattle.alias_graph.proofs.Legality.{in_left, in_right, in_either}
 use Rattle.alias_graph.proofs.Reaching.{id_is}
 use Rattle.alias_graph.proofs.RemainingNodes.{put_at}
 use Rattle.alias_graph.proofs.Within.{same_changed, created_more}
-use Rattle.alias_ranges.proofs.heap.Linking.{LinkKind, CreatedLink, CaptureLink, AliasLink, MaybeLink, edge_kind,
-    sources_of, Joins, NodeGrows, Grows, node_same, grows_same, grows_on, node_of}
+use Rattle.alias_ranges.proofs.heap.Linking.{LinkKind, CreatedLink, CaptureLink, AliasLink, MaybeLink, edge_kind}
+use Rattle.alias_ranges.proofs.heap.Linking.{sources_of, Joins, NodeGrows, Grows, node_same, grows_same, grows_on}
+use Rattle.alias_ranges.proofs.heap.Linking.{node_of}
 
 -- ---- sources before a position
 
@@ -85,11 +86,10 @@ source_there : (id : IdentifierId) (ss : List Source) → has_source id ss ≡ t
     × (l.other ≡ id)
 source_there id [] h = cc
 source_there id (s ∷ ss) h = elim (same_id id s.other) as
-    (λ b. same_id id s.other ≡ b → (b || has_source id ss) ≡ true → (l : Source) × IsOneOf l (s ∷ ss) × (l.other ≡ id))
-    [
-  | true ↦ λ is more. (s, inl refl, id_is s.other id (sym (eqb_is id.0 s.other.0 is)))
-  | false ↦ λ is more. let r = source_there id ss more in (r.0, inr r.1, r.2)
-] refl h
+    (λ b. same_id id s.other ≡ b → (b || has_source id ss) ≡ true → (l : Source) × IsOneOf l (s ∷ ss) × (l.other ≡ id)) [
+      | true ↦ λ is more. (s, inl refl, id_is s.other id (sym (eqb_is id.0 s.other.0 is)))
+      | false ↦ λ is more. let r = source_there id ss more in (r.0, inr r.1, r.2)
+    ] refl h
 
 -- the source itself, or one that was there with the same end
 noted_there : (n : ℕ) (s : Source) (ss : List Source) → s.index < n → ((l : Source) → IsOneOf l ss → l.index < n)
@@ -97,9 +97,9 @@ noted_there : (n : ℕ) (s : Source) (ss : List Source) → s.index < n → ((l 
 noted_there n s ss lt b = elim (has_source s.other ss) as
     (λ c. has_source s.other ss ≡ c → (l : Source) × IsOneOf l (cond c ss (ss ++ s ∷ [])) × (l.index < n)
     × (l.other ≡ s.other)) [
-  | true ↦ λ is. let r = source_there s.other ss is in (r.0, r.1, b r.0 r.1, r.2)
-  | false ↦ λ is. (s, in_right ss (s ∷ []) s (inl refl), lt, refl)
-] refl
+      | true ↦ λ is. let r = source_there s.other ss is in (r.0, r.1, b r.0 r.1, r.2)
+      | false ↦ λ is. (s, in_right ss (s ∷ []) s (inl refl), lt, refl)
+    ] refl
 
 edge_grown : (e : Edge) (v : Node) (k : LinkKind) (l : Source) → IsOneOf l (sources_of k v)
     → IsOneOf l (sources_of k (with_edge e v))
@@ -194,17 +194,28 @@ module _ (k : LinkKind) (g : Nodes) (p : ℕ) (a x : IdentifierId) where
       let S = source p a in
       let va = node_of g a ma in
       let there : node_at with_forward a ≡ Some (with_edge E va.0) = changed_here g a (with_edge E)
-          ∙ ap (option_map (with_edge E)) va.1 in
+      ∙ ap (option_map (with_edge E)) va.1 in
       let w = source_grows a (with_edge E va.0) there in
       let vx = node_of with_forward x (same_changed g a (with_edge E) x ∙ mx) in
       let l = source_here n k S vx.0 lt (forward_before n b x vx.0 vx.1) in
       record {
-        forward = record { node = w.0; is_node = w.1; edge = E;
-            listed = w.2.forward E (in_right va.0.forward (E ∷ []) E (inl refl)); before = lt; kind = refl;
-            other = refl };
-        back = record { node = with_source_of k S vx.0;
-            is_node = changed_here with_forward x (with_source_of k S) ∙ ap (option_map (with_source_of k S)) vx.1;
-            source = l.0; listed = l.1; before = l.2; other = l.3 };
+        forward = record {
+          node = w.0;
+          is_node = w.1;
+          edge = E;
+          listed = w.2.forward E (in_right va.0.forward (E ∷ []) E (inl refl));
+          before = lt;
+          kind = refl;
+          other = refl;
+        };
+        back = record {
+          node = with_source_of k S vx.0;
+          is_node = changed_here with_forward x (with_source_of k S) ∙ ap (option_map (with_source_of k S)) vx.1;
+          source = l.0;
+          listed = l.1;
+          before = l.2;
+          other = l.3;
+        };
       }
 
 -- ---- a node more
@@ -226,11 +237,11 @@ put_or : (g : Nodes) (i q : IdentifierId) (n : Node) → ((i ≡ q) × (node_at 
     ⊎ (node_at (with_node g i n) q ≡ node_at g q)
 put_or g i q n = elim (same_id q i) as (λ b. same_id q i ≡ b → ((i ≡ q) × (node_at (with_node g i n) q ≡ Some n))
     ⊎ (node_at (with_node g i n) q ≡ node_at g q)) [
-  | true ↦ λ is.
-      let ids : i ≡ q = id_is i q (sym (eqb_is q.0 i.0 is)) in
-      inl (ids, ap (λ z. node_at (with_node g z n) q) ids ∙ put_here g q n)
-  | false ↦ λ is. inr (put_apart g i q n is)
-] refl
+      | true ↦ λ is.
+          let ids : i ≡ q = id_is i q (sym (eqb_is q.0 i.0 is)) in
+          inl (ids, ap (λ z. node_at (with_node g z n) q) ids ∙ put_here g q n)
+      | false ↦ λ is. inr (put_apart g i q n is)
+    ] refl
 
 module _ (g : Nodes) (x : IdentifierId) (value : NodeValue) where
   pub made_grows : has_node g x ≡ false → Grows g (created g x value)
@@ -242,7 +253,7 @@ module _ (g : Nodes) (x : IdentifierId) (value : NodeValue) where
   pub made_before : (n : ℕ) → SourcesBefore n g → SourcesBefore n (created g x value)
   made_before n b q w e k l i = ⊎_elim
       (λ is. let is_fresh : fresh value ≡ w = some_is (fresh value) w (sym is.1 ∙ e) in
-          absurd (no_sources value k l (subst (λ z. IsOneOf l (sources_of k z)) (sym is_fresh) i)))
+      absurd (no_sources value k l (subst (λ z. IsOneOf l (sources_of k z)) (sym is_fresh) i)))
       (λ is. b q w (sym is ∙ e) k l i)
       (put_or g x q (fresh value))
     where
@@ -291,7 +302,7 @@ module _ (k : LinkKind) (pl : IsPlain k) (g : Nodes) (p : ℕ) (a x : Identifier
   joined_joins n lt b ma mx =
       let both : (has_node g a && has_node g x) ≡ true = ap (λ c. c && has_node g x) ma ∙ mx in
       let is : joined_graph ≡ link_in k g p a x = after_joined k pl g p a x
-          ∙ ap (λ c. cond c (link_in k g p a x) g) both in
+      ∙ ap (λ c. cond c (link_in k g p a x) g) both in
       subst (λ z. Joins z n k a x) (sym is) (link_joins k g p a x n lt b ma mx)
 
 module _ (g : Nodes) (p : ℕ) (a x : IdentifierId) where

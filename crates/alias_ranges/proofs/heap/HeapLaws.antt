@@ -45,10 +45,10 @@ module _ (f : HirFunction) (l : Listing) (identifiers : List Identifier)
   mutation_covered x transitive kind reason e leads =
       let w = recorded_mutation i order x transitive kind reason at in
       let in_next : IsOneOf w next.mutations =
-          subst (λ (z : Listing). IsOneOf w z.mutations) (mutated_is i order x transitive kind reason at next e)
-          (in_right at.mutations (w ∷ []) w (inl refl)) in
+      subst (λ (z : Listing). IsOneOf w z.mutations) (mutated_is i order x transitive kind reason at next e)
+      (in_right at.mutations (w ∷ []) w (inl refl)) in
       let in_last : IsOneOf w l.mutations = subst (λ z. IsOneOf w z) (sym more.1)
-          (in_left next.mutations more.0 w in_next) in
+      (in_left next.mutations more.0 w in_next) in
       covers w in_last (entry y leads.0 leads.1.0 leads.1.1) leads.1.2
 
   effect_covered : (act : AliasingEffect) → effect_listed i order act at ≡ Ok next → (o : Object) → Writes h act o
@@ -74,13 +74,13 @@ heap_is_covered f identifiers l e covers forward once m o writes y reaches =
     let r = moment_reached f l (recorded_is_listed f l e) forward once m in
     effect_covered f l identifiers covers (history_at m) m.instruction m.order r.at r.next
     (sound_grows (graph_listed r.at) (graph_listed l) r.at.next r.at.next (history_at m) r.grows (le_refl r.at.next)
-        r.sound) r.mutations y m.next r.is_listed o writes reaches
+    r.sound) r.mutations y m.next r.is_listed o writes reaches
 
 -- where the pass answers, and the ranges that it leaves cover what is recorded
 pub answer_covers_heap : (is_function_expression : Bool) (f : HirFunction) (env : Environment) (r : Ranged)
     (identifiers : List Identifier) → range_pass is_function_expression f env ≡ Ok r
     → ((l : Listing) → recorded f ≡ Ok l → Covers (graph_listed l) l.mutations identifiers)
-        → HeapIsCovered f identifiers
+    → HeapIsCovered f identifiers
 answer_covers_heap is_function_expression f env r identifiers e covers =
     let p = pass_is is_function_expression f env r e in
     heap_is_covered f identifiers p.0 p.1 (covers p.0 p.1)

@@ -1,6 +1,6 @@
 -- The items of a block are listed one after the other, and each keeps what is known of the heap.
-use Rattle.std.proofs.Common.{◌≡◌, ℕ, true, ◌&&◌, List, [], ◌∷◌, ◌++◌, Option, Some, None, map, slice_get, refl, ap,
-    ◌∙◌, subst}
+use Rattle.std.proofs.Common.{◌≡◌, ℕ, true, ◌&&◌, List, [], ◌∷◌, ◌++◌, Option, Some, None, map, slice_get, refl, ap}
+use Rattle.std.proofs.Common.{◌∙◌, subst}
 use Rattle.std.specs.Prelude.{Result, Ok, Err}
 use Rattle.std.specs.List.{flat_map}
 use Rattle.alias_base.specs.Answer.{◌>>=◌}
@@ -21,18 +21,19 @@ use Rattle.alias_hir.specs.declared.terminal.Terminal.TheVariants as terminal
 use Rattle.alias_hir.specs.Terminals.{terminal_effects}
 use Rattle.alias_graph.specs.declared.types.EdgeKind.TheVariants.{Alias}
 use Rattle.alias_graph.specs.declared.types.NodeValue.TheVariants.{Object}
-use Rattle.alias_graph.specs.recorded.BlockListings.{phi_listed, returns_listed, alias_listed, aliases_in, with_pending,
-    end_listed, block_listed}
+use Rattle.alias_graph.specs.recorded.BlockListings.{phi_listed, returns_listed, alias_listed, aliases_in, with_pending}
+use Rattle.alias_graph.specs.recorded.BlockListings.{end_listed, block_listed}
 use Rattle.alias_graph.specs.declared.recorded.listing.Listing.{Listing}
 use Rattle.alias_graph.specs.recorded.Each.{each}
 use Rattle.alias_graph.proofs.FitLaws.{went_on}
-use Rattle.alias_graph.specs.recorded.Listings.{made, linked, effect_listed, effects_in, recorded_in,
-    instruction_listed}
+use Rattle.alias_graph.specs.recorded.Listings.{made, linked, effect_listed, effects_in, recorded_in}
+use Rattle.alias_graph.specs.recorded.Listings.{instruction_listed}
 use Rattle.alias_ranges.specs.heap.Heap.{History}
-use Rattle.alias_ranges.specs.heap.Items.{Item, Starts, Enters, Does, Ends, effect_items, recorded_items,
-    instruction_items, body_items, returned, alias_items, recorded_aliases, end_items}
-use Rattle.alias_ranges.specs.heap.Making.{item_makes, item_widens, is_among, with_made, may_make, may_widen,
-    makes_in_order}
+use Rattle.alias_ranges.specs.heap.Items.{Item, Starts, Enters, Does, Ends, effect_items, recorded_items}
+use Rattle.alias_ranges.specs.heap.Items.{instruction_items, body_items, returned, alias_items, recorded_aliases}
+use Rattle.alias_ranges.specs.heap.Items.{end_items}
+use Rattle.alias_ranges.specs.heap.Making.{item_makes, item_widens, is_among, with_made, may_make, may_widen}
+use Rattle.alias_ranges.specs.heap.Making.{makes_in_order}
 use Rattle.alias_ranges.specs.heap.Histories.{after_item, after_items}
 use Rattle.alias_ranges.proofs.heap.Linking.{AliasLink}
 use Rattle.alias_ranges.proofs.heap.Steps.{Keeping, step_none, step_on, okay_is}
@@ -60,7 +61,7 @@ module _ {A S E : Type 0} (f : A → S → Result S E) where
   each_flat g h same (x ∷ xs) s =
       each_append (g x) (flat_map g xs) s ∙ ap (λ r. r >>= (λ t. each f (flat_map g xs) t)) (same x s)
       ∙ elim (h x s) as (λ r. (r >>= (λ t. each f (flat_map g xs) t)) ≡ (r >>= (λ t. each h xs t)))
-          [ Ok t ↦ each_flat g h same xs t | Err e ↦ refl ]
+      [ Ok t ↦ each_flat g h same xs t | Err e ↦ refl ]
 
 -- ---- items as they are listed
 
@@ -90,10 +91,10 @@ module _ (blocks : List (BlockId × BasicBlock)) (k : ℕ) where
   body_are f b l =
       each_append (item_listed blocks k) (map Enters b.phis) (instruction_items f.instructions b.instructions) l
       ∙ ap (λ r. r >>= (λ p. items_listed blocks k (instruction_items f.instructions b.instructions) p))
-          (each_map (item_listed blocks k) Enters b.phis l)
+      (each_map (item_listed blocks k) Enters b.phis l)
       ∙ elim (each (phi_listed blocks k) b.phis l) as
-          (λ r. (r >>= (λ p. items_listed blocks k (instruction_items f.instructions b.instructions) p))
-          ≡ (r >>= (λ p. each (instruction_listed f.instructions) b.instructions p))) [
+      (λ r. (r >>= (λ p. items_listed blocks k (instruction_items f.instructions b.instructions) p))
+      ≡ (r >>= (λ p. each (instruction_listed f.instructions) b.instructions p))) [
         | Ok p ↦ each_flat (item_listed blocks k)
             (λ (i : InstructionId). recorded_items i (slice_get f.instructions i.0)) (instruction_listed f.instructions)
             (λ i s. recorded_are i (slice_get f.instructions i.0) s) b.instructions p
@@ -122,12 +123,12 @@ module _ (blocks : List (BlockId × BasicBlock)) (k : ℕ) where
       ≡ end_listed f.returns k b.terminal l
   ends_are f b l =
       each_append (item_listed blocks k) (returned f.returns b.terminal)
-          (recorded_aliases (terminal_effects b.terminal)) (with_pending k l)
+      (recorded_aliases (terminal_effects b.terminal)) (with_pending k l)
       ∙ ap (λ r. r >>= (λ t. items_listed blocks k (recorded_aliases (terminal_effects b.terminal)) t))
-          (returned_are f.returns b.terminal (with_pending k l))
+      (returned_are f.returns b.terminal (with_pending k l))
       ∙ elim (returns_listed f.returns b.terminal (with_pending k l)) as
-          (λ r. (r >>= (λ t. items_listed blocks k (recorded_aliases (terminal_effects b.terminal)) t))
-          ≡ (r >>= (λ t. aliases_in (terminal_effects b.terminal) t))) [
+      (λ r. (r >>= (λ t. items_listed blocks k (recorded_aliases (terminal_effects b.terminal)) t))
+      ≡ (r >>= (λ t. aliases_in (terminal_effects b.terminal) t))) [
         | Ok t ↦ aliases_are (terminal_effects b.terminal) t
         | Err e ↦ refl
       ]
@@ -135,16 +136,18 @@ module _ (blocks : List (BlockId × BasicBlock)) (k : ℕ) where
 -- a block that is listed: its body, then what waited for its end, then its end
 pub block_parts : (f : HirFunction) (k : ℕ) (b : BasicBlock) (l m : Listing) → block_listed f k b l ≡ Ok m
     → (n : Listing) × (items_listed f.body.blocks k (body_items f b) l ≡ Ok n)
-        × (items_listed f.body.blocks k (end_items f b) (with_pending k n) ≡ Ok m)
+    × (items_listed f.body.blocks k (end_items f b) (with_pending k n) ≡ Ok m)
 block_parts f k b l m h =
     let v = went_on (each (phi_listed f.body.blocks k) b.phis l)
-        (λ p. each (instruction_listed f.instructions) b.instructions p >>= (λ q. end_listed f.returns k b.terminal q))
-        m h in
+    (λ p. each (instruction_listed f.instructions) b.instructions p >>= (λ q. end_listed f.returns k b.terminal q))
+    m h in
     let w = went_on (each (instruction_listed f.instructions) b.instructions v.0)
-        (λ q. end_listed f.returns k b.terminal q) m v.2 in
-    (w.0, body_are f.body.blocks k f b l ∙ (ap
-        (λ r. r >>= (λ p. each (instruction_listed f.instructions) b.instructions p)) v.1 ∙ w.1),
-        ends_are f.body.blocks k f b w.0 ∙ w.2)
+    (λ q. end_listed f.returns k b.terminal q) m v.2 in (
+      w.0,
+      body_are f.body.blocks k f b l ∙ (ap
+          (λ r. r >>= (λ p. each (instruction_listed f.instructions) b.instructions p)) v.1 ∙ w.1),
+      ends_are f.body.blocks k f b w.0 ∙ w.2,
+    )
 
 -- ---- items on the heap
 
@@ -158,7 +161,7 @@ pub in_order_parts : (all done : List IdentifierId) (xs ys : List Item) → make
 in_order_parts all done [] ys h = (refl, h)
 in_order_parts all done (x ∷ xs) ys h =
     let p = both_true (may_make done (item_makes x) && may_widen all done (item_widens x))
-        (makes_in_order all (with_made (item_makes x) done) (xs ++ ys)) h in
+    (makes_in_order all (with_made (item_makes x) done) (xs ++ ys)) h in
     let r = in_order_parts all (with_made (item_makes x) done) xs ys p.1 in
     (ap (λ b. b && makes_in_order all (with_made (item_makes x) done) xs) p.0 ∙ r.0, r.1)
 
@@ -185,7 +188,7 @@ module _ (all : List IdentifierId) (blocks : List (BlockId × BasicBlock)) (k : 
       → Moves (with_made (item_makes it) done) l m h (after_item all from it h)
   item_moves done (Starts p) l m h kp new settled e =
       subst (λ z. Moves (p.identifier ∷ done) l z h (after_item all from (Starts p) h)) (okay_is (made Object p l) m e)
-          (make_moves done l h kp p Object (not_true (is_among done p.identifier) new))
+      (make_moves done l h kp p Object (not_true (is_among done p.identifier) new))
   item_moves done (Enters phi) l m h kp new settled e =
       phi_moves blocks k phi done l m h kp (not_true (is_among done phi.place.identifier) new) e from over
   item_moves done (Does i order act) l m h kp new settled e = effect_moves all done i order l m h kp act new settled e
@@ -198,10 +201,10 @@ module _ (all : List IdentifierId) (blocks : List (BlockId × BasicBlock)) (k : 
       (stays done l l h (step_none done l kp))
   items_moves done (it ∷ its) l m h kp fit e =
       let p = both_true (may_make done (item_makes it) && may_widen all done (item_widens it))
-          (makes_in_order all (with_made (item_makes it) done) its) fit in
+      (makes_in_order all (with_made (item_makes it) done) its) fit in
       let q = both_true (may_make done (item_makes it)) (may_widen all done (item_widens it)) p.0 in
       let w = went_on (item_listed blocks k it l) (λ t. items_listed blocks k its t) m e in
       let first = item_moves done it l w.0 h kp q.0 q.1 w.1 in
       moves_on (with_made (item_makes it) done) (all_made (it ∷ its) done) l w.0 m h (after_item all from it h)
-          (after_items all from (it ∷ its) h) first
+      (after_items all from (it ∷ its) h) first
       (items_moves (with_made (item_makes it) done) its w.0 m (after_item all from it h) first.step.keeping p.1 w.2)

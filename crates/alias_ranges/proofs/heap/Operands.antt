@@ -1,6 +1,6 @@
 -- A phi that is listed and done on the heap alike keeps what is known of the heap.
-use Rattle.std.proofs.Common.{◌≡◌, ℕ, ◌+◌, true, false, cond, List, [], ◌∷◌, Option, Some, None, if◌then◌else◌, nat_lt,
-    refl, ap, sym, ◌∙◌, subst, arith}
+use Rattle.std.proofs.Common.{◌≡◌, ℕ, ◌+◌, true, false, cond, List, [], ◌∷◌, Option, Some, None, if◌then◌else◌, nat_lt}
+use Rattle.std.proofs.Common.{refl, ap, sym, ◌∙◌, subst, arith}
 use Rattle.std.specs.Prelude.{Ok}
 use Rattle.alias_base.specs.declared.ids.BlockId.{BlockId}
 use Rattle.alias_base.specs.declared.ids.IdentifierId.{IdentifierId}
@@ -11,8 +11,8 @@ use Rattle.alias_hir.specs.declared.place.Place.{Place}
 use Rattle.alias_graph.specs.declared.types.NodeValue.TheVariants.{Phi as PhiNode}
 use Rattle.alias_graph.specs.Nodes.{has_node}
 use Rattle.alias_graph.proofs.Covering.{eqb_is}
-use Rattle.alias_graph.specs.recorded.BlockListings.{slot_of_block, pending_more, link_of, added_or_pending,
-    operand_listed, phi_listed}
+use Rattle.alias_graph.specs.recorded.BlockListings.{slot_of_block, pending_more, link_of, added_or_pending}
+use Rattle.alias_graph.specs.recorded.BlockListings.{operand_listed, phi_listed}
 use Rattle.alias_graph.specs.declared.recorded.listing.Listing.{Listing}
 use Rattle.alias_graph.specs.recorded.Each.{each}
 use Rattle.alias_graph.proofs.FitLaws.{went_on}
@@ -24,8 +24,8 @@ use Rattle.alias_ranges.specs.heap.Histories.{operand_by, after_phi}
 use Rattle.alias_ranges.proofs.heap.Linking.{AliasLink, grows_has, joins_grow}
 use Rattle.alias_ranges.proofs.heap.Reaching.{Sound}
 use Rattle.alias_ranges.proofs.heap.Changes.{Aliases, sound_copies, sound_clears}
-use Rattle.alias_ranges.proofs.heap.Steps.{Keeping, Step, step_none, step_on, step_make, step_quiet, step_wait,
-    more_same, next_listing, okay_is}
+use Rattle.alias_ranges.proofs.heap.Steps.{Keeping, Step, step_none, step_on, step_make, step_quiet, step_wait}
+use Rattle.alias_ranges.proofs.heap.Steps.{more_same, next_listing, okay_is}
 use Rattle.alias_ranges.proofs.heap.Effects.{Moves, known, here_now, link_more, link_step, link_now}
 
 pub block_is : (a b : BlockId) → same_block a b ≡ true → a ≡ b
@@ -48,8 +48,8 @@ module _ (blocks : List (BlockId × BasicBlock)) (k : ℕ) (x : Place) where
   step_added done l kp e (Some p) =
       let at : Listing = record l { next = l.next + 1 } in
       elim (nat_lt p k) as (λ b. Step done l
-          (if b then with_event (link_of l.next e.1 x) at
-          else record at { pending = pending_more l.pending p (link_of l.next e.1 x) })) [
+      (if b then with_event (link_of l.next e.1 x) at
+      else record at { pending = pending_more l.pending p (link_of l.next e.1 x) })) [
         | true ↦ link_step done l [] kp AliasLink tt e.1.identifier x.identifier
         | false ↦ step_wait done l kp p e.1.identifier x.identifier
       ]
@@ -77,35 +77,41 @@ module _ (blocks : List (BlockId × BasicBlock)) (k : ℕ) (x : Place) where
       let n = link_more l AliasLink e.1.identifier x.identifier in
       let s = link_step done l [] kp AliasLink tt e.1.identifier x.identifier in
       let there = λ (q : IdentifierId) (has : has_node (graph_listed l) q ≡ true).
-          grows_has (graph_listed l) (graph_listed n) s.grows q has in
+      grows_has (graph_listed l) (graph_listed n) s.grows q has in
       let is : n ≡ m =
       ap (λ b. if b then with_event (link_of l.next e.1 x) at
-          else record at { pending = pending_more l.pending j (link_of l.next e.1 x) }) (sym lt)
+      else record at { pending = pending_more l.pending j (link_of l.next e.1 x) }) (sym lt)
       ∙ ap (λ o. added_or_pending k o (link_of l.next e.1 x) at) (sym slot) ∙ operand_is e l m h in
-      subst (λ (z : Listing). Aliases (graph_listed z) z.next e.1.identifier x.identifier) is
-      (AliasLink, tt, link_now done l [] kp AliasLink tt e.1.identifier x.identifier (there e.1.identifier ma)
-          (there x.identifier mx))
+      subst (λ (z : Listing). Aliases (graph_listed z) z.next e.1.identifier x.identifier) is (
+        AliasLink,
+        tt,
+        link_now done l [] kp AliasLink tt e.1.identifier x.identifier (there e.1.identifier ma)
+            (there x.identifier mx),
+      )
 
   operands_joined : (done : List IdentifierId) (os : List (BlockId × Place)) (l m : Listing) → Keeping done l
       → has_node (graph_listed l) x.identifier ≡ true → (q : BlockId) (j : ℕ) → slot_of_block blocks q ≡ Some j
       → nat_lt j k ≡ true
       → (a : Place) → has_node (graph_listed l) a.identifier ≡ true → value_at os q ≡ Some a
-          → each (operand_listed blocks k x) os l ≡ Ok m → Aliases (graph_listed m) m.next a.identifier x.identifier
+      → each (operand_listed blocks k x) os l ≡ Ok m → Aliases (graph_listed m) m.next a.identifier x.identifier
   operands_joined done [] l m kp mx q j slot lt a ma found h = absurd (cc)
   operands_joined done (e ∷ os) l m kp mx q j slot lt a ma found h =
       let w = went_on (operand_listed blocks k x e l) (λ t. each (operand_listed blocks k x) os t) m h in
       let s = step_operand done e l w.0 kp w.1 in
       let rest = step_operands done os w.0 m s.keeping w.2 in
       elim (same_block q e.0) as (λ b. same_block q e.0 ≡ b → cond b (Some e.1) (value_at os q) ≡ Some a
-          → Aliases (graph_listed m) m.next a.identifier x.identifier) [
+      → Aliases (graph_listed m) m.next a.identifier x.identifier) [
         | true ↦ λ is eq.
             let a_is : e.1 ≡ a = some_place e.1 a eq in
             let ids = ap (λ (z : Place). z.identifier) a_is in
             let now = operand_now done e l w.0 kp mx (ap (has_node (graph_listed l)) ids ∙ ma) j
-                (ap (slot_of_block blocks) (sym (block_is q e.0 is)) ∙ slot) lt w.1 in
-            subst (λ z. Aliases (graph_listed m) m.next z x.identifier) ids
-            (now.0, now.1, joins_grow (graph_listed w.0) (graph_listed m) w.0.next m.next now.0 e.1.identifier
-                x.identifier rest.grows rest.later now.2)
+            (ap (slot_of_block blocks) (sym (block_is q e.0 is)) ∙ slot) lt w.1 in
+            subst (λ z. Aliases (graph_listed m) m.next z x.identifier) ids (
+              now.0,
+              now.1,
+              joins_grow (graph_listed w.0) (graph_listed m) w.0.next m.next now.0 e.1.identifier
+                  x.identifier rest.grows rest.later now.2,
+            )
         | false ↦ λ is eq. operands_joined done os w.0 m s.keeping
             (grows_has (graph_listed l) (graph_listed w.0) s.grows x.identifier mx) q j slot lt a
             (grows_has (graph_listed l) (graph_listed w.0) s.grows a.identifier ma) eq w.2
@@ -142,10 +148,12 @@ module _ (blocks : List (BlockId × BasicBlock)) (k : ℕ) (phi : Phi) (done : L
   found_sound s (Some q) over (Some a) is =
       sound_copies (graph_listed m) m.next h s a.identifier x
       (λ ma. operands_joined blocks k phi.place (x ∷ done) phi.operands with_phi m make_phi.keeping
-          (here_now done with_phi x make_phi.keeping) q over.0 over.1 over.2 a
+      (here_now done with_phi x make_phi.keeping) q over.0 over.1 over.2 a
       (make_phi.keeping.agree a.identifier ∙ (sym (phi_step.keeping.agree a.identifier) ∙ ma)) is e)
 
   pub phi_moves : (from : Option BlockId) → IsDone blocks k from
       → Moves (x ∷ done) l m h (after_phi phi.place (operand_by from phi.operands) h)
-  phi_moves from over = record { step = phi_step;
-      sound = λ w. found_sound (known (x ∷ done) l m h phi_step w) from over (operand_by from phi.operands) refl }
+  phi_moves from over = record {
+    step = phi_step;
+    sound = λ w. found_sound (known (x ∷ done) l m h phi_step w) from over (operand_by from phi.operands) refl;
+  }

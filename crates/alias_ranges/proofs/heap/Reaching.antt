@@ -8,8 +8,8 @@ use Rattle.alias_graph.specs.Legal.{Legal, begin}
 use Rattle.alias_graph.specs.Links.{entry}
 use Rattle.alias_graph.specs.Nodes.{Nodes, has_node}
 use Rattle.alias_ranges.specs.heap.Heap.{History, Object, Holds, Stores, IsWithin, itself, stored, Reaches}
-use Rattle.alias_ranges.proofs.heap.Linking.{Grows, Chain, StoreLink, grows_has, chain_grows, store_grows, BackAt, At,
-    into_holder, into_stored, back_along, along}
+use Rattle.alias_ranges.proofs.heap.Linking.{Grows, Chain, StoreLink, grows_has, chain_grows, store_grows, BackAt, At}
+use Rattle.alias_ranges.proofs.heap.Linking.{into_holder, into_stored, back_along, along}
 
 -- each place that holds an object has a chain from the place that the object was made for, and each stored object has a
 -- capture
@@ -78,6 +78,6 @@ module _ (g : Nodes) (m : ℕ) (h : History) (s : Sound g m h) (v : IdentifierId
   transitive_leads w writes y r =
       let start = entry v true Backwards d in
       let b = back_along g m start writes.0.origin v (s.chains v writes.0 writes.1) true d
-          (begin (s.known v writes.0 writes.1)) in
+      (begin (s.known v writes.0 writes.1)) in
       let i = into g m h s start writes.0 w writes.2 (set_at g m h s start writes.0.origin b) in
       from_written g m h s start w true i.0 i.1 y r

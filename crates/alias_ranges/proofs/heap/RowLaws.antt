@@ -41,8 +41,11 @@ pub branching_writes : Writes (history_at by_first_branch) by_first_branch.next 
 branching_writes = holds_3
 
 pub branching_reaches : Reaches (history_at by_first_branch) (id 1) (object_of 3)
-branching_reaches = (object_of 1, inr (apart 1 4 (λ e. omega arith), holds_1),
-    stored (object_of 1) (object_of 3) itself (inr (inl (refl, holds_1), holds_3)))
+branching_reaches = (
+  object_of 1,
+  inr (apart 1 4 (λ e. omega arith), holds_1),
+  stored (object_of 1) (object_of 3) itself (inr (inl (refl, holds_1), holds_3)),
+)
 
 -- ---- and what doesn't
 

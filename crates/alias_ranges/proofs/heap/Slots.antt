@@ -1,6 +1,6 @@
 -- Blocks by their slots in stored order, and that a path of a forward function goes through rising slots.
-use Rattle.std.proofs.Common.{◌≡◌, ℕ, suc, ◌+◌, ◌<◌, ◌≤◌, Bool, true, false, cond, List, [], ◌∷◌, ◌++◌, Option, Some,
-    nat_lt, slice_get, refl, ap, sym, ◌∙◌, subst, inl, inr, arith}
+use Rattle.std.proofs.Common.{◌≡◌, ℕ, suc, ◌+◌, ◌<◌, ◌≤◌, Bool, true, false, cond, List, [], ◌∷◌, ◌++◌, Option, Some}
+use Rattle.std.proofs.Common.{nat_lt, slice_get, refl, ap, sym, ◌∙◌, subst, inl, inr, arith}
 use Rattle.std.specs.List.{list_all, position_from}
 use Rattle.std.specs.Map.{keys_of}
 use Rattle.std.proofs.lemmas.Bool.Decides.{nat_tests}
@@ -35,7 +35,7 @@ found_from : (blocks : Blocks) (p : BlockId) (b : BasicBlock) (i : ℕ) → valu
 found_from [] p b i h = cc
 found_from (e ∷ blocks) p b i h =
     elim (same_block p e.0) as (λ c. same_block p e.0 ≡ c → cond c (Some e.1) (value_at blocks p) ≡ Some b
-        → FoundFrom (e ∷ blocks) p b i) [
+    → FoundFrom (e ∷ blocks) p b i) [
       | true ↦ λ is at. record {
         n = 0;
         slot = ap (λ c. cond c (Some i) (position_from (same_block p) (i + 1) (keys_of blocks))) is
@@ -67,9 +67,14 @@ pub stands_at : (blocks : Blocks) (p : BlockId) (b : BasicBlock) → value_at bl
     × StandsAt blocks p b j
 stands_at blocks p b h =
     let r = found_from blocks p b 0 h in
-    let none : 0 + r.n ≡ r.n = omega arith in
-    (r.n, record { found = h; slot = position_from-zero (same_block p) (keys_of blocks) ∙ (r.slot ∙ ap Some none);
-        entry = r.entry })
+    let none : 0 + r.n ≡ r.n = omega arith in (
+      r.n,
+      record {
+        found = h;
+        slot = position_from-zero (same_block p) (keys_of blocks) ∙ (r.slot ∙ ap Some none);
+        entry = r.entry;
+      },
+    )
 
 -- ---- forward functions
 
@@ -85,7 +90,7 @@ all_found test [] p b h at = cc
 all_found test (e ∷ blocks) p b h at =
     let t = both_true (test e) (list_all test blocks) h in
     elim (same_block p e.0) as (λ c. same_block p e.0 ≡ c → cond c (Some e.1) (value_at blocks p) ≡ Some b → test (p, b)
-        ≡ true) [
+    ≡ true) [
       | true ↦ λ is found. ap test (pair_is e p b (sym (block_is p e.0 is)) found) ∙ t.0
       | false ↦ λ is found. all_found test blocks p b t.1 found
     ] refl at
@@ -107,10 +112,10 @@ edge_rises f forward p q b c i j at_p at_q edge =
     let blocks = f.body.blocks in
     let from = all_found (goes_forward blocks) blocks p b forward at_p.found in
     let to : is_before (slot_of_block blocks p) (slot_of_block blocks q) ≡ true =
-        all_one (λ s. is_before (slot_of_block blocks p) (slot_of_block blocks s)) (successors b.terminal) q from
-        edge in
+    all_one (λ s. is_before (slot_of_block blocks p) (slot_of_block blocks s)) (successors b.terminal) q from
+    edge in
     lower i j (ap (λ o. is_before o (Some j)) (sym at_p.slot)
-        ∙ (ap (λ o. is_before (slot_of_block blocks p) o) (sym at_q.slot) ∙ to))
+    ∙ (ap (λ o. is_before (slot_of_block blocks p) o) (sym at_q.slot) ∙ to))
 
 -- ---- paths
 
@@ -137,7 +142,7 @@ module _ (f : HirFunction) (forward : is_forward f ≡ true) where
       → IsOneOf q (successors b2.terminal) → StandsAt blocks q c j → i + 1 ≤ j
   next_rises p q b b2 c i j at_p is edge at_q =
       let lt : i < j = edge_rises f forward p q b c i j at_p at_q
-          (subst (λ (z : BasicBlock). IsOneOf q (successors z.terminal)) (one_block (sym is ∙ at_p.found)) edge) in
+      (subst (λ (z : BasicBlock). IsOneOf q (successors z.terminal)) (one_block (sym is ∙ at_p.found)) edge) in
       omega arith
 
   path_rises : (p : BlockId) (ps : List BlockId) (t : BlockId) (b c : BasicBlock) (i : ℕ) → StandsAt blocks p b i

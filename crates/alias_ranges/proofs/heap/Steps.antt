@@ -1,6 +1,7 @@
 -- Each step of a listing lets the graph grow, and takes positions that are new.
-use Rattle.std.proofs.Common.{◌≡◌, ℕ, ◌+◌, ◌<◌, ◌≤◌, true, false, ◌||◌, List, [], ◌∷◌, ◌++◌, Option, Some, None,
-    slice_get, slice_set, refl, ap, sym, ◌∙◌, subst, arith, le_refl, le_trans, append_assoc, append-nil}
+use Rattle.std.proofs.Common.{◌≡◌, ℕ, ◌+◌, ◌<◌, ◌≤◌, true, false, ◌||◌, List, [], ◌∷◌, ◌++◌, Option, Some, None}
+use Rattle.std.proofs.Common.{slice_get, slice_set, refl, ap, sym, ◌∙◌, subst, arith, le_refl, le_trans, append_assoc}
+use Rattle.std.proofs.Common.{append-nil}
 use Rattle.std.specs.Prelude.{Result, Ok}
 use Rattle.std.specs.Option.{option_map_or}
 use Rattle.std.proofs.lemmas.List.Sums.{fold_push}
@@ -22,10 +23,11 @@ use Rattle.alias_graph.proofs.FitLaws.{all_at, all_set, all_push, next_is, went_
 use Rattle.alias_graph.specs.recorded.Listings.{position_after}
 use Rattle.alias_graph.specs.recorded.Recording.{graph_listed}
 use Rattle.alias_ranges.specs.heap.Making.{is_among}
-use Rattle.alias_ranges.proofs.heap.Linking.{LinkKind, AliasLink, CreatedLink, edge_kind, Grows, grows_same, grows_on,
-    Joins}
-use Rattle.alias_ranges.proofs.heap.Growing.{SourcesBefore, before_later, IsPlain, made_grows, made_before,
-    joined_grows, joined_before, joined_same, joined_joins, out_grows, out_before, out_more, out_joins}
+use Rattle.alias_ranges.proofs.heap.Linking.{LinkKind, AliasLink, CreatedLink, edge_kind, Grows, grows_same, grows_on}
+use Rattle.alias_ranges.proofs.heap.Linking.{Joins}
+use Rattle.alias_ranges.proofs.heap.Growing.{SourcesBefore, before_later, IsPlain, made_grows, made_before}
+use Rattle.alias_ranges.proofs.heap.Growing.{joined_grows, joined_before, joined_same, joined_joins, out_grows}
+use Rattle.alias_ranges.proofs.heap.Growing.{out_before, out_more, out_joins}
 
 -- ---- the graph of one event more
 
@@ -73,8 +75,12 @@ pub record Step (done : List IdentifierId) (l m : Listing) : Type 0 where
   pub keeping : Keeping done m
 
 pub step_none : (done : List IdentifierId) (l : Listing) → Keeping done l → Step done l l
-step_none done l k = record { grows = grows_same (graph_listed l); later = le_refl l.next;
-    mutations = more_same l.mutations; keeping = k }
+step_none done l k = record {
+  grows = grows_same (graph_listed l);
+  later = le_refl l.next;
+  mutations = more_same l.mutations;
+  keeping = k;
+}
 
 pub step_on : (done more : List IdentifierId) (l m n : Listing) → Step done l m → Step more m n → Step more l n
 step_on done more l m n s t = record {
@@ -168,19 +174,19 @@ module _ (done : List IdentifierId) (l : Listing) (k : Keeping done l) where
       let is = sym (graph_push l.events (event.CreateFrom l.next a x)) in
       subst (λ z. Joins z (l.next + 1) CreatedLink a x) is
       (out_joins (graph_listed l) l.next a x (l.next + 1) (omega arith)
-          (before_later l.next (l.next + 1) (graph_listed l) (omega arith) k.sources) (ap (λ z. has_node z a) is ∙ ma))
+      (before_later l.next (l.next + 1) (graph_listed l) (omega arith) k.sources) (ap (λ z. has_node z a) is ∙ ma))
 
   -- the link that was just added stands in both lists, where both ends have nodes
   pub join_now : (kind : LinkKind) → IsPlain kind → (p next : ℕ) (a x : IdentifierId) → p < next → l.next ≤ next
       → has_node (graph_listed (with_more next (event.Link (edge_kind kind) p a x) l)) a ≡ true →
       has_node (graph_listed (with_more next (event.Link (edge_kind kind) p a x) l)) x ≡ true
-          → Joins (graph_listed (with_more next (event.Link (edge_kind kind) p a x) l)) next kind a x
+      → Joins (graph_listed (with_more next (event.Link (edge_kind kind) p a x) l)) next kind a x
   join_now kind plain p next a x lt le ma mx =
       let is = sym (graph_push l.events (event.Link (edge_kind kind) p a x)) in
       let there = λ (q : IdentifierId). sym (joined_same kind plain (graph_listed l) p a x q)
-          ∙ ap (λ z. has_node z q) is in
+      ∙ ap (λ z. has_node z q) is in
       subst (λ z. Joins z next kind a x) is (joined_joins kind plain (graph_listed l) p a x next lt
-          (before_later l.next next (graph_listed l) le k.sources) (there a ∙ ma) (there x ∙ mx))
+      (before_later l.next next (graph_listed l) le k.sources) (there a ∙ ma) (there x ∙ mx))
 
   -- a step that leaves events and what waits
   pub step_quiet : (m : Listing) → m.events ≡ l.events → m.pending ≡ l.pending → l.next ≤ m.next
@@ -240,7 +246,7 @@ step_all done [] l k w = let P : List GraphEvent → Type 0 = λ z. Step done l 
 step_all done (e ∷ es) l k w =
     let s = step_waited done e l k w.0 in
     let t = step_on done done l (with_more l.next e l) (with_all es (with_more l.next e l)) s
-        (step_all done es (with_more l.next e l) s.keeping w.1) in
+    (step_all done es (with_more l.next e l) s.keeping w.1) in
     let P : List GraphEvent → Type 0 = λ z. Step done l (record l { events = z }) in
     subst P (append_assoc l.events (e ∷ []) es) t
 

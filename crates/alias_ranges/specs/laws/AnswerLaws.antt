@@ -21,7 +21,7 @@ listing_is (Err e) l h = cc
 pub recorded_is_listed : (f : HirFunction) (l : Listing) → recorded f ≡ Ok l → listed f ≡ Ok l
 recorded_is_listed f l h =
     let rest : Listing → Result Listing InferError = λ m. positions_left m.next (length (tracked f))
-        >>= (λ left. Ok m) in
+    >>= (λ left. Ok m) in
     let u = went_on (none_unreplaced (unreplaced f)) (λ replaced. listing_or (listed f) >>= rest) l h in
     let v = went_on (listing_or (listed f)) rest l u.2 in
     let w = went_on (positions_left v.0.next (length (tracked f))) (λ left. Ok v.0) l v.2 in

@@ -1,6 +1,7 @@
 -- The reports that the range pass records: none where errors are not recorded, and else interned ones.
-use Rattle.std.proofs.Common.{◌≡◌, ℕ, Bool, true, false, cond, not, ◌||◌, List, [], ◌∷◌, ◌++◌, Option, Some, None, map,
-    is_some, option_map, option_to_list, slice_get, refl, ap, sym, ◌∙◌, subst, append-nil, zero, suc}
+use Rattle.std.proofs.Common.{◌≡◌, ℕ, Bool, true, false, cond, not, ◌||◌, List, [], ◌∷◌, ◌++◌, Option, Some, None, map}
+use Rattle.std.proofs.Common.{is_some, option_map, option_to_list, slice_get, refl, ap, sym, ◌∙◌, subst, append-nil}
+use Rattle.std.proofs.Common.{zero, suc}
 use Rattle.std.specs.Prelude.{Ok}
 use Rattle.alias_base.specs.AnswerLaws.{both_true}
 use Rattle.alias_base.specs.declared.ids.IdentifierId.{IdentifierId}
@@ -29,8 +30,9 @@ use Rattle.alias_graph.specs.recorded.Recording.{graph_listed}
 use Rattle.alias_range_pass.specs.places.Blocks.{Placed}
 use Rattle.alias_range_pass.specs.places.Keeping.{EnvKept}
 use Rattle.alias_range_pass.specs.summary.MarkedPlaces.{function_captured}
-use Rattle.alias_range_pass.specs.summary.Walking.{start_origin, expanded, mutation_start, Walked, after_mutation,
-    after_mutations, after_render, after_renders, env_reported, mutations_done, renders_done}
+use Rattle.alias_range_pass.specs.summary.Walking.{start_origin, expanded, mutation_start, Walked, after_mutation}
+use Rattle.alias_range_pass.specs.summary.Walking.{after_mutations, after_render, after_renders, env_reported}
+use Rattle.alias_range_pass.specs.summary.Walking.{mutations_done, renders_done}
 use Rattle.alias_range_pass.specs.Passes.{records, Ranged, ranged, range_pass}
 use Rattle.alias_ranges.specs.laws.AnswerLaws.{pass_is}
 use Rattle.alias_ranges.specs.laws.PlacedLaws.{function_keeps}
@@ -139,7 +141,7 @@ module _ (env : Environment) (interned : AreSound (reports_of env.interned)) whe
   sound_walk index origin g (e ∷ es) =
       let o : Option Node = node_at (marked index origin g es) e.id in
       sound_append (reports_after env index origin g es) (reported_at env o) (sound_walk index origin g es)
-          (sound_node o)
+      (sound_node o)
 
   sound_render : (g : Nodes) (ids : List IdentifierId) → AreSound (render_reports env g ids)
   sound_render g [] = refl
@@ -161,9 +163,12 @@ sound_mutation c m w p =
     let s = mutation_start m in
     let done : List Entry = expanded w.0 s in
     let rs : List Report = recorded_after c w.1 s.index (start_origin s) w.0 done in
-    record { errors = sound_append w.1.errors rs p.errors
-        (sound_when c (reports_after w.1 s.index (start_origin s) w.0 done)
-        (sound_walk w.1 p.interned s.index (start_origin s) w.0 done)); interned = p.interned }
+    record {
+      errors = sound_append w.1.errors rs p.errors
+          (sound_when c (reports_after w.1 s.index (start_origin s) w.0 done)
+          (sound_walk w.1 p.interned s.index (start_origin s) w.0 done));
+      interned = p.interned;
+    }
 
 sound_mutations : (c : Bool) (ms : List RecordedMutation) (w : Walked) → IsSound w.1
     → IsSound (after_mutations c ms w).1
@@ -176,7 +181,7 @@ sound_renders g [] env p = p
 sound_renders g (r ∷ rs) env p =
     let ids = (rendered g r.index r.place.identifier).done in
     sound_renders g rs (after_render g env r)
-        (sound_with (render_reports env g ids) env (sound_render env p.interned g ids) p)
+    (sound_with (render_reports env g ids) env (sound_render env p.interned g ids) p)
 
 sound_if : (c : Bool) (a b : Environment) → IsSound a → IsSound b → IsSound (cond c a b)
 sound_if true a b p q = p
@@ -185,8 +190,8 @@ sound_if false a b p q = q
 sound_done : (c : Bool) (l : Listing) (env : Environment) → IsSound env → IsSound (walks_done c l env)
 sound_done c l env p =
     let first : IsSound (env_reported c l env) =
-        sound_with (cond c (effect_reports env.interned l.summary) []) env
-        (sound_when c (effect_reports env.interned l.summary) (sound_effects env.interned l.summary p.interned)) p in
+    sound_with (cond c (effect_reports env.interned l.summary) []) env
+    (sound_when c (effect_reports env.interned l.summary) (sound_effects env.interned l.summary p.interned)) p in
     let w : Walked = mutations_done c l env in
     let second : IsSound w.1 = sound_mutations c l.mutations (graph_listed l, env_reported c l env) first in
     sound_if c (after_renders w.0 l.renders w.1) w.1 (sound_renders w.0 l.renders w.1 second) second
@@ -200,12 +205,16 @@ is_false false h = refl
 sound_of : (env : Environment) → reports_no_invariant env ≡ true → IsSound env
 sound_of env h =
     let b = both_true (not (reports_invariant env.errors)) (not (reports_invariant (reports_of env.interned))) h in
-    record { errors = is_false (reports_invariant env.errors) b.0;
-        interned = is_false (reports_invariant (reports_of env.interned)) b.1 }
+    record {
+      errors = is_false (reports_invariant env.errors) b.0;
+      interned = is_false (reports_invariant (reports_of env.interned)) b.1;
+    }
 
 sound_placed : (old new : Environment) → EnvKept old new → IsSound old → IsSound new
-sound_placed old new k p = record { errors = ap reports_invariant (ap errors_of k.rest) ∙ p.errors;
-    interned = ap (λ es. reports_invariant (reports_of es)) (ap interned_of k.rest) ∙ p.interned }
+sound_placed old new k p = record {
+  errors = ap reports_invariant (ap errors_of k.rest) ∙ p.errors;
+  interned = ap (λ es. reports_invariant (reports_of es)) (ap interned_of k.rest) ∙ p.interned;
+}
 
 sound_gives : (env : Environment) → IsSound env → reports_no_invariant env ≡ true
 sound_gives env p = rw (p.errors, p.interned) refl
@@ -221,7 +230,7 @@ reports_stay_sound b f env r h sound =
     let s : Placed = (function_captured (mutations_done c p.0 env).0 f, walked) in
     let k = function_keeps b s in
     let after : IsSound (ranged b f env p.0).after.1 =
-        sound_placed walked (ranged b f env p.0).after.1 k (sound_done c p.0 env (sound_of env sound)) in
+    sound_placed walked (ranged b f env p.0).after.1 k (sound_done c p.0 env (sound_of env sound)) in
     sound_gives r.after.1 (subst (λ (z : Ranged). IsSound z.after.1) p.2 after)
 
 -- the same of a function that fits

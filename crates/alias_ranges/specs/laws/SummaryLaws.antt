@@ -1,6 +1,6 @@
 -- The summary that the range pass answers names entries of the tables, and holds no call.
-use Rattle.std.proofs.Common.{◌≡◌, ℕ, ◌+◌, Bool, true, false, not, ◌==◌, if◌then◌else◌, nat_lt, List, [], ◌∷◌, ◌++◌,
-    Option, Some, None, map, length, slice_get, refl, ap, subst}
+use Rattle.std.proofs.Common.{◌≡◌, ℕ, ◌+◌, Bool, true, false, not, ◌==◌, if◌then◌else◌, nat_lt, List, [], ◌∷◌, ◌++◌}
+use Rattle.std.proofs.Common.{Option, Some, None, map, length, slice_get, refl, ap, subst}
 use Rattle.std.specs.Prelude.{Result, Ok, Err, ⊤, is_ok}
 use Rattle.std.specs.List.{list_all, list_any}
 use Rattle.alias_base.specs.Answer.{◌>>=◌, all_pass}
@@ -29,9 +29,9 @@ use Rattle.alias_rules.specs.declared.function_rules.fault.UnitFault.TheVariants
 use Rattle.alias_rules.specs.function_rules.Rules.{place_fits, numbers_fit, tables_fit}
 use Rattle.alias_rules.specs.declared.rules.Rule.TheVariants.{Numbers}
 use Rattle.alias_rules.specs.Functions.{each_function}
-use Rattle.alias_rules.specs.Fitting.{place_within_tables, effect_within_tables, recorded_within_tables,
-    effects_within_tables, is_apply, holds_no_call, effects_fit, effects_fit_at, reports_no_invariant, function_rules,
-    function_fits}
+use Rattle.alias_rules.specs.Fitting.{place_within_tables, effect_within_tables, recorded_within_tables}
+use Rattle.alias_rules.specs.Fitting.{effects_within_tables, is_apply, holds_no_call, effects_fit, effects_fit_at}
+use Rattle.alias_rules.specs.Fitting.{reports_no_invariant, function_rules, function_fits}
 use Rattle.alias_rules.specs.RuleLaws.{fitting_tree, fitting_rules}
 use Rattle.alias_graph.specs.declared.events.GraphEvent.{GraphEvent}
 use Rattle.alias_graph.specs.declared.events.GraphEvent.TheVariants as event
@@ -47,14 +47,17 @@ use Rattle.alias_graph.specs.recorded.Each.{each}
 use Rattle.alias_graph.specs.recorded.Fitting.{AllOf}
 use Rattle.alias_graph.proofs.FitLaws.{all_append, all_push, all_at, went_on}
 use Rattle.alias_graph.specs.recorded.IdSets.{has_made}
-use Rattle.alias_graph.specs.recorded.Listings.{position_after, with_event, made, made_once, positioned, linked,
-    mutated, summarized as summarized_more, rendered, effect_listed, effects_in, recorded_in, instruction_listed}
-use Rattle.alias_graph.specs.recorded.BlockListings.{pending_more, added_or_pending, link_of, slot_of_block,
-    operand_listed, phi_listed, returns_listed, alias_listed, aliases_in, with_pending, end_listed, block_listed,
-    blocks_listed, first_listing, listed}
+use Rattle.alias_graph.specs.recorded.Listings.{position_after, with_event, made, made_once, positioned, linked}
+use Rattle.alias_graph.specs.recorded.Listings.{mutated, summarized as summarized_more, rendered, effect_listed}
+use Rattle.alias_graph.specs.recorded.Listings.{effects_in, recorded_in, instruction_listed}
+use Rattle.alias_graph.specs.recorded.BlockListings.{pending_more, added_or_pending, link_of, slot_of_block}
+use Rattle.alias_graph.specs.recorded.BlockListings.{operand_listed, phi_listed, returns_listed, alias_listed}
+use Rattle.alias_graph.specs.recorded.BlockListings.{aliases_in, with_pending, end_listed, block_listed, blocks_listed}
+use Rattle.alias_graph.specs.recorded.BlockListings.{first_listing, listed}
 use Rattle.alias_range_pass.specs.summary.Flows.{flow_start, flow_effect, is_flow, flow_from, flows_into, flows_listed}
-use Rattle.alias_range_pass.specs.summary.MarkedPlaces.{marks_at, at_mark, local_effect, local_effects,
-    transitive_effect, transitive_effects, node_effects, mark_effects, marks_of_all}
+use Rattle.alias_range_pass.specs.summary.MarkedPlaces.{marks_at, at_mark, local_effect, local_effects}
+use Rattle.alias_range_pass.specs.summary.MarkedPlaces.{transitive_effect, transitive_effects, node_effects}
+use Rattle.alias_range_pass.specs.summary.MarkedPlaces.{mark_effects, marks_of_all}
 use Rattle.alias_range_pass.specs.summary.Summaries.{context_and_params, tracked, returns_created, summarized}
 use Rattle.alias_range_pass.specs.summary.Walking.{nodes_after, mutations_done, renders_done}
 use Rattle.alias_range_pass.specs.Refusals.{recorded}
@@ -116,9 +119,12 @@ module _ (env : Environment) where
       (r : Option MutationReason) (l m : Listing) → Fits l → mutated i o x t k r l ≡ Ok m → Fits m
   fits_mutated i o x t k r l m p h =
       after_position (position_after l.next)
-          (λ n. record l { next = n; mutations = l.mutations
-          ++ record { index = l.next; instruction = i; order = o; place = x; transitive = t; kind = k; reason = r }
-          ∷ [] }) m (λ n. p) h
+      (λ n. record l {
+        next = n;
+        mutations = l.mutations
+            ++ record { index = l.next; instruction = i; order = o; place = x; transitive = t; kind = k; reason = r }
+            ∷ [];
+      }) m (λ n. p) h
 
   fits_more : (e : AliasingEffect) (l : Listing) → MayBeSummarized e → Fits l
       → AllOf MayBeSummarized (l.summary ++ e ∷ [])
@@ -128,8 +134,11 @@ module _ (env : Environment) where
       → rendered i x l ≡ Ok m → Fits m
   fits_rendered i x l m q p h =
       after_position (position_after l.next)
-          (λ n. record l { next = n; renders = l.renders ++ record { index = l.next; instruction = i; place = x } ∷ [];
-          summary = l.summary ++ effect.Render x ∷ [] }) m (λ n. fits_more (effect.Render x) l q p) h
+      (λ n. record l {
+        next = n;
+        renders = l.renders ++ record { index = l.next; instruction = i; place = x } ∷ [];
+        summary = l.summary ++ effect.Render x ∷ [];
+      }) m (λ n. fits_more (effect.Render x) l q p) h
 
   fits_once : (b : Bool) (x : Place) (l : Listing) → Fits l → Fits (if b then l else made Object x l)
   fits_once true x l p = p
@@ -198,7 +207,7 @@ module _ (env : Environment) where
       → Unit {0} → Fits l → operand_listed blocks k x e l ≡ Ok m → Fits m
   fits_operand blocks k x e l m u p h =
       after_position (position_after l.next)
-          (λ n. added_or_pending k (slot_of_block blocks e.0) (link_of l.next e.1 x) (record l { next = n })) m
+      (λ n. added_or_pending k (slot_of_block blocks e.0) (link_of l.next e.1 x) (record l { next = n })) m
       (λ n. fits_added_or_pending k (slot_of_block blocks e.0) (link_of l.next e.1 x) (record l { next = n }) p) h
 
   fits_phi : (blocks : List (BlockId × BasicBlock)) (k : ℕ) (phi : Phi) (l m : Listing) → Unit {0} → Fits l
@@ -228,14 +237,14 @@ module _ (env : Environment) where
       → block_listed f k b l ≡ Ok m → Fits m
   fits_block f q k b l m p h =
       let v = went_on (each (phi_listed f.body.blocks k) b.phis l)
-          (λ z. each (instruction_listed f.instructions) b.instructions z
-          >>= (λ y. end_listed f.returns k b.terminal y)) m h in
+      (λ z. each (instruction_listed f.instructions) b.instructions z
+      >>= (λ y. end_listed f.returns k b.terminal y)) m h in
       let w = went_on (each (instruction_listed f.instructions) b.instructions v.0)
-          (λ y. end_listed f.returns k b.terminal y) m v.2 in
+      (λ y. end_listed f.returns k b.terminal y) m v.2 in
       let first : Fits v.0 = steps_keep Fits (λ _. Unit {0}) (phi_listed f.body.blocks k) (fits_phi f.body.blocks k)
-          b.phis l v.0 (all_units b.phis) p v.1 in
+      b.phis l v.0 (all_units b.phis) p v.1 in
       let second : Fits w.0 = steps_keep Fits (λ _. Unit {0}) (instruction_listed f.instructions)
-          (fits_instruction f.instructions q) b.instructions v.0 w.0 (all_units b.instructions) first w.1 in
+      (fits_instruction f.instructions q) b.instructions v.0 w.0 (all_units b.instructions) first w.1 in
       fits_end f.returns k b.terminal w.0 m second w.2
 
   fits_blocks : (f : HirFunction) → AllOf HasWithin f.instructions
@@ -301,8 +310,8 @@ module _ (env : Environment) where
   fits_into g index returns into [] q p = tt
   fits_into g index returns into (from ∷ froms) q p =
       all_append MayBeSummarized (flow_from g index returns into from) (flows_into g index returns froms into)
-          (fits_flow_if (is_flow g index returns into from) returns from into p.0 q)
-          (fits_into g index returns into froms q p.1)
+      (fits_flow_if (is_flow g index returns into from) returns from into p.0 q)
+      (fits_into g index returns into froms q p.1)
 
   fits_flows : (g : Nodes) (index : ℕ) (returns : Place) (places intos : List Place) → AllOf IsThere places
       → AllOf IsThere intos → AllOf MayBeSummarized (flows_listed g index returns places intos)
@@ -310,8 +319,8 @@ module _ (env : Environment) where
   fits_flows g index returns places (into ∷ intos) p q =
       let after : Nodes = nodes_after (flow_start index into) g in
       all_append MayBeSummarized (flows_into after index returns places into)
-          (flows_listed after (index + 1) returns places intos) (fits_into after index returns into places q.0 p)
-          (fits_flows after (index + 1) returns places intos p q.1)
+      (flows_listed after (index + 1) returns places intos) (fits_into after index returns into places q.0 p)
+      (fits_flows after (index + 1) returns places intos p q.1)
 
   -- ---- the whole summary
 
@@ -323,14 +332,14 @@ module _ (env : Environment) where
       let marks = marks_of_all g (context_and_params f) in
       let created = returns_created e f ∷ [] in
       let places : AllOf IsThere (tracked f) =
-          all_push IsThere (map param_place f.params ++ f.context) f.returns
-          (all_append IsThere (map param_place f.params) f.context params context) returns in
+      all_push IsThere (map param_place f.params ++ f.context) f.returns
+      (all_append IsThere (map param_place f.params) f.context params context) returns in
       let marked : AllOf MayBeSummarized marks =
-          fits_marks g (context_and_params f) (all_append IsThere f.context (map param_place f.params) context
-          params) in
+      fits_marks g (context_and_params f) (all_append IsThere f.context (map param_place f.params) context
+      params) in
       all_append MayBeSummarized ((begin ++ marks) ++ created) (flows_listed g next f.returns (tracked f) (tracked f))
       (all_append MayBeSummarized (begin ++ marks) created (all_append MayBeSummarized begin marks first marked)
-          (fits_returned e f returns, tt))
+      (fits_returned e f returns, tt))
       (fits_flows g next f.returns (tracked f) (tracked f) places places)
 
   -- ---- what a function that fits has
@@ -361,13 +370,13 @@ module _ (env : Environment) where
       let within = (both_true (effects_within_tables env f) (holds_no_call f.aliasing_effects) effects).0 in
       let blocks = (both_true _ (recorded_within_tables env f.aliasing_effects) within).0 in
       let instructions = (both_true (list_all (λ (i : Instruction). recorded_within_tables env i.effects)
-          f.instructions) _ blocks).0 in
+      f.instructions) _ blocks).0 in
       let first : Fits l = fits_listed f l (each_holds (λ (i : Instruction). recorded_within_tables env i.effects)
-          f.instructions instructions) (recorded_is_listed f l is) in
+      f.instructions instructions) (recorded_is_listed f l is) in
       let r : Bool = records b env in
       let w = mutations_done r l env in
       fits_summarized w.0 l.next f (renders_done r l w) l.summary first (params_there f.params params.0)
-          (all_there f.context context.0) (there f.returns returns.0)
+      (all_there f.context context.0) (there f.returns returns.0)
 
   all_within : (es : List AliasingEffect) → AllOf MayBeSummarized es → list_all (effect_within_tables env) es ≡ true
   all_within [] h = refl
@@ -389,6 +398,6 @@ summary_fits b f env r h fits =
     let inner = (both_true _ (list_all (effects_fit_at env) t.0) (both_true _ (reports_no_invariant env) t.2).0).0 in
     let effects = (both_true (is_ok (function_rules env f t.0)) (effects_fit env f) inner).1 in
     let all : AllOf (MayBeSummarized env) r.summary =
-        subst (λ (z : Ranged). AllOf (MayBeSummarized env) z.summary) p.2
-        (fits_ranged env b f p.0 p.1 (both_pass (numbers_fit env f) _ numbers.0).0 effects) in
+    subst (λ (z : Ranged). AllOf (MayBeSummarized env) z.summary) p.2
+    (fits_ranged env b f p.0 p.1 (both_pass (numbers_fit env f) _ numbers.0).0 effects) in
     (all_within env r.summary all, ap not (none_calls env r.summary all))

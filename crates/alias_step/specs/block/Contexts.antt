@@ -20,5 +20,9 @@ context_of env func is_function_expression =
 
 -- what a context that holds references speaks of
 abbrev pub held : HeldContext → BlockContext
-held c = record { env = c.env.now; func = c.func.now; facts = c.facts.now;
-    is_function_expression = c.is_function_expression }
+held c = record {
+  env = c.env.now;
+  func = c.func.now;
+  facts = c.facts.now;
+  is_function_expression = c.is_function_expression;
+}

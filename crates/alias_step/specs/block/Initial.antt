@@ -1,6 +1,6 @@
 -- The state that a function's entry begins with: its context places and its parameters have values, and nothing else.
-use Rattle.std.specs.Prelude.{ℕ, ◌+◌, Bool, true, false, List, [], ◌∷◌, Option, Some, None, bit_or, slice_get,
-    if◌then◌else◌}
+use Rattle.std.specs.Prelude.{ℕ, ◌+◌, Bool, true, false, List, [], ◌∷◌, Option, Some, None, bit_or, slice_get}
+use Rattle.std.specs.Prelude.{if◌then◌else◌}
 use Rattle.std.specs.List.{fold}
 use Rattle.alias_hir.specs.declared.effect.ValueKind.TheVariants as kind
 use Rattle.alias_hir.specs.declared.effect.ValueReason.{ValueReason}

@@ -22,8 +22,9 @@ use Rattle.alias_tables.specs.Tables.{TableLists}
 use Rattle.alias_step.specs.declared.block.recorded.BlockEffects.{BlockEffects}
 use Rattle.alias_step.specs.block.Contexts.{BlockContext}
 use Rattle.alias_step.specs.block.Faults.{BlockStep}
-use Rattle.alias_step.specs.block.Initial.{with_reason, context_value, with_context_place, with_context_from,
-    with_context, param_value, with_param, with_param_at, with_params, initial_state}
+use Rattle.alias_step.specs.block.Initial.{with_reason, context_value, with_context_place, with_context_from}
+use Rattle.alias_step.specs.block.Initial.{with_context, param_value, with_param, with_param_at, with_params}
+use Rattle.alias_step.specs.block.Initial.{initial_state}
 
 proper_reasons : (rs : List ValueReason) (n : ℕ) → ReasonBits n → ReasonBits (fold with_reason n rs)
 proper_reasons [] n h = h
@@ -72,7 +73,7 @@ proper_params t v ps s p h = proper_all_params v p ps s h
 pub proper_initial_state : (c : BlockContext) → StateProper (initial_state c)
 proper_initial_state c =
     proper_params c.func.fn_type (param_value c.is_function_expression) c.func.params
-        (with_context c.func.context_values c.func.context empty_state) (proper_param_value c.is_function_expression)
+    (with_context c.func.context_values c.func.context empty_state) (proper_param_value c.is_function_expression)
     (proper_context c.func.context_values 0 c.func.context empty_state proper-empty_state)
 
 -- what a part of a block's step gives is P

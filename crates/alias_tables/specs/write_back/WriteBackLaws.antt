@@ -1,6 +1,6 @@
 -- Identifiers that were added stand behind those that were there.
-use Rattle.std.specs.Prelude.{◌≡◌, ℕ, zero, suc, ◌+◌, ◌<◌, List, [], ◌∷◌, ◌++◌, map, take, drop, length, Option, refl,
-    slice_set}
+use Rattle.std.specs.Prelude.{◌≡◌, ℕ, zero, suc, ◌+◌, ◌<◌, List, [], ◌∷◌, ◌++◌, map, take, drop, length, Option, refl}
+use Rattle.std.specs.Prelude.{slice_set}
 use Rattle.std.proofs.Common.{sym, ◌∙◌, ap, append_assoc, append-nil, arith, get_or}
 use Rattle.std.proofs.lemmas.List.Edits.{map_over_more}
 use Rattle.std.proofs.lemmas.List.{take-append-le, take_all}
@@ -34,11 +34,14 @@ has_one_and_more span env more h = record {
   types = Var ∷ h.types;
   is =
       ap (λ xs. record env { identifiers = xs; types = env.types ++ Var ∷ h.types })
-          (sym (append_assoc env.identifiers (fresh_identifier span (length env.identifiers) (length env.types) ∷ [])
-          h.identifiers))
-      ∙ ap (λ ts. record env { identifiers =
-          (env.identifiers ++ fresh_identifier span (length env.identifiers) (length env.types) ∷ []) ++ h.identifiers;
-          types = ts }) (sym (append_assoc env.types (Var ∷ []) h.types))
+      (sym (append_assoc env.identifiers (fresh_identifier span (length env.identifiers) (length env.types) ∷ [])
+      h.identifiers))
+      ∙ ap (λ ts. record env {
+        identifiers =
+            (env.identifiers ++ fresh_identifier span (length env.identifiers) (length env.types) ∷ [])
+            ++ h.identifiers;
+        types = ts;
+      }) (sym (append_assoc env.types (Var ∷ []) h.types))
       ∙ h.is;
 }
 
@@ -58,7 +61,7 @@ cut_of_more : (env more : Environment) → HasMore env more → cut (length env.
 cut_of_more env more h =
     ap (cut (length env.identifiers) (length env.types)) (sym h.is)
     ∙ ap (λ xs. record env { identifiers = xs; types = take (length env.types) (env.types ++ h.types) })
-        (take_front env.identifiers h.identifiers)
+    (take_front env.identifiers h.identifiers)
     ∙ ap (λ ts. record env { types = ts }) (take_front env.types h.types)
 
 -- without them the environment is as it was
@@ -86,4 +89,4 @@ one_more [] i env t h is = absurd (omega arith)
 one_more (x ∷ ts) zero env t h is = ap (λ (z : Temporary). with_identifier z.place.span env) is
 one_more (x ∷ ts) (suc i) env t h is =
     one_more ts i (with_identifier x.place.span env) t (omega arith) is
-        ∙ ap (λ n. with_identifiers (take n (x ∷ ts)) env) (let e : suc (i + 1) ≡ suc i + 1 = omega arith in e)
+    ∙ ap (λ n. with_identifiers (take n (x ∷ ts)) env) (let e : suc (i + 1) ≡ suc i + 1 = omega arith in e)

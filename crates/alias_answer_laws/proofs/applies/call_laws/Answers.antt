@@ -1,5 +1,5 @@
-use Rattle.alias_answer_laws.proofs.applies.Calling.{never_left, never_refused, stays_without, certified_without,
-    into_without}
+use Rattle.alias_answer_laws.proofs.applies.Calling.{never_left, never_refused, stays_without, certified_without}
+use Rattle.alias_answer_laws.proofs.applies.Calling.{into_without}
 use Rattle.alias_answer_laws.proofs.applies.call_laws.Goals as goal
 
 pub returns : goal.returns

@@ -11,4 +11,4 @@ pub returns : goal.returns
 returns c =
     let a = c.apply_mutation in
     subst (λ (f : Step StepProgress). Follows (f c.args.tables.now) a.result a.new.step a.new.tables)
-        (mutate_by_kind (held c.args.context.now) c.args.effect c.args.place c.args.step.now) a.ensures
+    (mutate_by_kind (held c.args.context.now) c.args.effect c.args.place c.args.step.now) a.ensures

@@ -14,10 +14,10 @@ returns-clause-answer c =
     let names = c.as_slice-names.ensures in
     let pushed = c.in_ok-push_temporaries.ensures.answer in
     let there : each (with_temporary c.site_of-site.result) c.args.config.now.temporaries nothing_named
-        (kept c.args.env.now c.args.temporaries.now)
+    (kept c.args.env.now c.args.temporaries.now)
     ≡ Ok (c.push_temporaries.new.named, kept c.push_temporaries.new.env c.push_temporaries.new.temporaries) = cc in
     rw (sym c.site_of-site.ensures) (config_answers c.args.config.now c.site_of-site.result c.args.args.now
-        c.args.context.now has _ _ _ c.list_called.result c.list_called.new.env there c.list_called.ensures.answer)
+    c.args.context.now has _ _ _ c.list_called.result c.list_called.new.env there c.list_called.ensures.answer)
 
 pub returns-clause-grown : goal.returns-clause-grown
 returns-clause-grown c = grown_through _ _ _ c.push_temporaries.ensures.grown

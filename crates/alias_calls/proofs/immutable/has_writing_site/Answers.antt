@@ -20,7 +20,7 @@ sites-preserved c =
     let next : next_site c.sites.after t ≡ Some k = sym c.next_site.ensures ∙ c.in-Some.is in
     let others = has_writing_site c.args.env.now (in_order (above (Some k) t)) in
     sym (ap (has_writing_site c.args.env.now) (left_more c.sites.after t k next c.recall_proper.ensures.0)
-        ∙ ap (λ b. b || others) (sym c.is_writing_site.ensures ∙ c.if-is_writing_site.false))
+    ∙ ap (λ b. b || others) (sym c.is_writing_site.ensures ∙ c.if-is_writing_site.false))
     ∙ c.sites.invariant
 
 pub returns-then-is_writing_site : goal.returns-then-is_writing_site

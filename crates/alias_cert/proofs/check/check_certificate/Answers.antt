@@ -19,7 +19,7 @@ returns-in_err-check_root c =
     let l = c.in_ok-check_created.ensures.run [] none in
     accepts_fault c.args.certificate.now.functions c.args.unit c.from_residual-in_err-check_root.result e same
     (λ free. refused_root c.as_slice-functions.result.now c.args.certificate.now.functions c.as_slice-functions.ensures
-        c.into_unit-function.result c.args.unit c.into_unit-function.ensures.unit
+    c.into_unit-function.result c.args.unit c.into_unit-function.ensures.unit
     c.check_created.new.env l.0 l.1 e (c.in_err-check_root.ensures l.0 l.2 free))
 
 pub returns-then-len-functions : goal.returns-then-len-functions
@@ -30,7 +30,7 @@ returns-then-len-functions c =
     let more : length c.check_root.new.solved < length c.as_slice-functions.result.now = omega arith in
     λ _.
     refused_more c.as_slice-functions.result.now c.args.certificate.now.functions c.as_slice-functions.ensures
-        c.into_unit-function.result c.args.unit c.into_unit-function.ensures.unit
+    c.into_unit-function.result c.args.unit c.into_unit-function.ensures.unit
     c.check_created.new.env l.0 l.1 c.check_root.new.func c.check_root.new.env r.0 c.check_root.new.solved r.1 r.2 more
     ∙ ap (λ n. Err (fault.Functions n)) (sym c.len-position.ensures)
 
@@ -41,8 +41,12 @@ returns c =
     let r = c.in_ok-check_root.ensures l.0 l.2 in
     let all : length c.as_slice-functions.result.now ≤ length c.check_root.new.solved = omega arith in
     let whole = accepted c.as_slice-functions.result.now c.args.certificate.now.functions c.as_slice-functions.ensures
-        c.into_unit-function.result c.args.unit c.into_unit-function.ensures.unit
+    c.into_unit-function.result c.args.unit c.into_unit-function.ensures.unit
     c.check_created.new.env l.0 l.1 c.check_root.new.func c.check_root.new.env r.0 c.check_root.new.solved r.1 r.2
-        all in
-    (r.0, whole, r.2, unit_as_said c.args.certificate.now.functions c.args.unit c.check_root.new.func
-        c.check_root.new.env r.0 whole)
+    all in (
+      r.0,
+      whole,
+      r.2,
+      unit_as_said c.args.certificate.now.functions c.args.unit c.check_root.new.func
+          c.check_root.new.env r.0 whole,
+    )

@@ -12,4 +12,4 @@ both_pushed old mid new a b (Err e) h k = tt
 pub returns : goal.returns
 returns c =
     both_pushed c.args.out.now c.push_str.new.self c.push_number.new.self (codes "refused Rejected ")
-        (decimal c.args.fault) c.push_number.result c.in_ok-push_str.ensures c.push_number.ensures
+    (decimal c.args.fault) c.push_number.result c.in_ok-push_str.ensures c.push_number.ensures

@@ -7,4 +7,4 @@ pub returns : goal.returns
 returns c =
     λ tables entries recorded s.
     accepted_as_said c.args.env.now c.args.func.now c.args.is_function_expression
-        (fitting_entry c.args.func.now c.args.env.now c.requires) tables entries recorded s
+    (fitting_entry c.args.func.now c.args.env.now c.requires) tables entries recorded s

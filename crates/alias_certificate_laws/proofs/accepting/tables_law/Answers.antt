@@ -7,4 +7,4 @@ pub returns : goal.returns
 returns c =
     λ tables entries s away begun likes differs claimed.
     accepts_anyway c.args.env.now c.args.func.now c.args.is_function_expression
-        (fitting_entry c.args.func.now c.args.env.now c.requires) tables entries s away differs claimed begun likes
+    (fitting_entry c.args.func.now c.args.env.now c.requires) tables entries s away differs claimed begun likes

@@ -8,6 +8,6 @@ abbrev pub invariant-loop-index : goal.invariant-loop-index
 invariant-loop-index l =
     (length l.recorded ≡ length l.initial.recorded)
     × (l.instructions.items ++ flat_map instructions_recorded (drop l.index l.recorded)
-        ≡ flat_map instructions_recorded l.initial.recorded)
+    ≡ flat_map instructions_recorded l.initial.recorded)
     × (l.terminal.items ++ flat_map terminal_recorded (drop l.index l.recorded)
-        ≡ flat_map terminal_recorded l.initial.recorded)
+    ≡ flat_map terminal_recorded l.initial.recorded)

@@ -14,5 +14,5 @@ pub returns : goal.returns
 returns g c =
     c.in_ok-mutate.ensures.steps
     ∙ ap (λ z. c.args.steps.now + (walk z 4 (entry (record { 0 = 3 }) false Backwards Definite)).popped)
-        c.in_ok-graph.ensures.graph
+    c.in_ok-graph.ensures.graph
     ∙ ap (λ n. c.args.steps.now + n) two_phis_pops

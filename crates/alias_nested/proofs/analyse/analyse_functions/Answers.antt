@@ -14,8 +14,8 @@ returns-in_err-analyse_functions_certified-clause-answer g c =
     let e : InferError = c.in_err-analyse_functions_certified.field-0.0 in
     let same : c.from_residual.result ≡ Err e = search rules in
     into_error (AnalysedWith g.P.InnerPasses.keeps_all 63 c.args.func.now (analysis c.args.env.now []))
-        c.from_residual.result e c.analyse_functions_certified.new.env same
-        c.in_err-analyse_functions_certified.ensures.answer
+    c.from_residual.result e c.analyse_functions_certified.new.env same
+    c.in_err-analyse_functions_certified.ensures.answer
 
 pub returns-in_err-analyse_functions_certified-clause-exact :
     goal.returns-in_err-analyse_functions_certified-clause-exact
@@ -23,15 +23,15 @@ returns-in_err-analyse_functions_certified-clause-exact g c =
     let e : InferError = c.in_err-analyse_functions_certified.field-0.0 in
     let same : c.from_residual.result ≡ Err e = search rules in
     λ keeps_all. exactly_error (analysed 63 c.args.func.now (analysis c.args.env.now [])) c.from_residual.result e
-        c.analyse_functions_certified.new.env same (c.in_err-analyse_functions_certified.ensures.exact keeps_all)
+    c.analyse_functions_certified.new.env same (c.in_err-analyse_functions_certified.ensures.exact keeps_all)
 
 pub returns-in_err-analyse_functions_certified-clause-left : goal.returns-in_err-analyse_functions_certified-clause-left
 returns-in_err-analyse_functions_certified-clause-left g c =
     let e : InferError = c.in_err-analyse_functions_certified.field-0.0 in
     let same : c.from_residual.result ≡ Err e = search rules in
     leaves_error (AnalysisRefused g.P.InnerPasses.keeps_all 63 c.args.func.now (analysis c.args.env.now []))
-        c.from_residual.result e c.analyse_functions_certified.new.env same
-        c.in_err-analyse_functions_certified.ensures.left
+    c.from_residual.result e c.analyse_functions_certified.new.env same
+    c.in_err-analyse_functions_certified.ensures.left
 
 pub returns-clause-answer : goal.returns-clause-answer
 returns-clause-answer g c = let l = c.in_ok-analyse_functions_certified.ensures.answer in (l.0, l.1)
@@ -46,7 +46,7 @@ returns-in_err-analyse_functions_certified-clause-order g c =
     let e : InferError = c.in_err-analyse_functions_certified.field-0.0 in
     let same : c.from_residual.result ≡ Err e = search rules in
     handed_on (below_innermost_first 63 c.args.func.now c.args.env.now) c.from_residual.result e c.args.env.now
-        c.analyse_functions_certified.new.env same c.in_err-analyse_functions_certified.ensures.order
+    c.analyse_functions_certified.new.env same c.in_err-analyse_functions_certified.ensures.order
 
 pub returns-clause-order : goal.returns-clause-order
 returns-clause-order g c = handed_out (below_innermost_first 63 c.args.func.now c.args.env.now) _ tt c.args.env.now

@@ -16,23 +16,23 @@ returns-in_err-analyse_created-clause-answer g c =
     let e : InferError = c.in_err-analyse_created.field-0.0 in
     let same : c.from_residual.result ≡ Err e = search rules in
     analyses_error (AnalysedWith g.P.InnerPasses.keeps_all 63 c.args.func.now (analysis c.args.env.now []))
-        c.from_residual.result e c.analyse_created.new.env same
+    c.from_residual.result e c.analyse_created.new.env same
     (λ free. refusal_answers g.P.InnerPasses.keeps_all 63 c.args.func.now (analysis c.args.env.now []) e
-        c.analyse_created.new.env (c.in_err-analyse_created.ensures.run []
-        (record { same = sym c.new-solved.ensures; solve = tt }) free))
+    c.analyse_created.new.env (c.in_err-analyse_created.ensures.run []
+    (record { same = sym c.new-solved.ensures; solve = tt }) free))
 
 pub returns-in_err-analyse_created-clause-left : goal.returns-in_err-analyse_created-clause-left
 returns-in_err-analyse_created-clause-left g c =
     let e : InferError = c.in_err-analyse_created.field-0.0 in
     let same : c.from_residual.result ≡ Err e = search rules in
     leaves_error (AnalysisRefused g.P.InnerPasses.keeps_all 63 c.args.func.now (analysis c.args.env.now []))
-        c.from_residual.result e c.analyse_created.new.env same
-        (λ free. c.in_err-analyse_created.ensures.run [] (record { same = sym c.new-solved.ensures; solve = tt }) free)
+    c.from_residual.result e c.analyse_created.new.env same
+    (λ free. c.in_err-analyse_created.ensures.run [] (record { same = sym c.new-solved.ensures; solve = tt }) free)
 
 pub returns-in_err-analyse_created-clause-exact : goal.returns-in_err-analyse_created-clause-exact
 returns-in_err-analyse_created-clause-exact g c =
     λ keeps_all. analyses_exactly g.P.InnerPasses.keeps_all keeps_all 63 c.args.func.now (analysis c.args.env.now [])
-        c.from_residual.result c.analyse_created.new.env (returns-in_err-analyse_created-clause-answer g c)
+    c.from_residual.result c.analyse_created.new.env (returns-in_err-analyse_created-clause-answer g c)
 
 pub returns-in_err-analyse_created-clause-fits : goal.returns-in_err-analyse_created-clause-fits
 returns-in_err-analyse_created-clause-fits g c =
@@ -51,7 +51,7 @@ returns-clause-answer g c = c.in_ok-analyse_created.ensures.run []
 pub returns-clause-exact : goal.returns-clause-exact
 returns-clause-exact g c =
     λ keeps_all. analyses_exactly g.P.InnerPasses.keeps_all keeps_all 63 c.args.func.now (analysis c.args.env.now [])
-        (Ok c.analyse_created.new.solved) c.analyse_created.new.env (returns-clause-answer g c)
+    (Ok c.analyse_created.new.solved) c.analyse_created.new.env (returns-clause-answer g c)
 
 pub returns-clause-fits : goal.returns-clause-fits
 returns-clause-fits g c = pruned_fits c.args.env.now c.analyse_created.new.env c.analyse_created.ensures.kept
@@ -68,7 +68,7 @@ returns-in_err-analyse_created-clause-order g c =
     let e : InferError = c.in_err-analyse_created.field-0.0 in
     let same : c.from_residual.result ≡ Err e = search rules in
     handed_on (below_innermost_first 63 c.args.func.now c.args.env.now) c.from_residual.result e c.args.env.now
-        c.analyse_created.new.env same c.in_err-analyse_created.ensures.order
+    c.analyse_created.new.env same c.in_err-analyse_created.ensures.order
 
 pub returns-in_err-analyse_created-clause-once : goal.returns-in_err-analyse_created-clause-once
 returns-in_err-analyse_created-clause-once g c = λ k. once_below c.args.func.now c.args.env.now c.requires.fits 63 k

@@ -18,7 +18,7 @@ returns-clause-answer g c =
       unit_as c.args.unit l.0 c.infer_all.new.func c.infer_all.new.env c.in_ok-summary.summary c.infer_all.new.solved
           c.take_reports-reports.new.env c.take_reports-reports.result
           (unit_leads c.into_unit-function.result c.args.unit _ c.into_unit-function.ensures.unit l.1) l.2.same
-              c.take_reports-reports.ensures.taken c.take_reports-reports.ensures.reports,
+          c.take_reports-reports.ensures.taken c.take_reports-reports.ensures.reports,
       l.2.solve,
     )
 
@@ -28,12 +28,12 @@ returns-clause-cover g c =
     let l = c.in_ok-summary.ensures.run [] none in
     unit_covered c.args.unit l.0 _
     (unit_as c.args.unit l.0 c.infer_all.new.func c.infer_all.new.env c.in_ok-summary.summary c.infer_all.new.solved
-        c.take_reports-reports.new.env c.take_reports-reports.result
+    c.take_reports-reports.new.env c.take_reports-reports.result
     (unit_leads c.into_unit-function.result c.args.unit _ c.into_unit-function.ensures.unit l.1) l.2.same
-        c.take_reports-reports.ensures.taken c.take_reports-reports.ensures.reports)
+    c.take_reports-reports.ensures.taken c.take_reports-reports.ensures.reports)
     _ c.infer_all.new.func c.infer_all.new.env l.1
-        (ap (λ (e : Environment). e.identifiers) c.take_reports-reports.ensures.taken)
-        (c.in_ok-summary.ensures.ranged [] none)
+    (ap (λ (e : Environment). e.identifiers) c.take_reports-reports.ensures.taken)
+    (c.in_ok-summary.ensures.ranged [] none)
 
 pub returns-clause-heap : goal.returns-clause-heap
 returns-clause-heap g c =
@@ -41,12 +41,12 @@ returns-clause-heap g c =
     let l = c.in_ok-summary.ensures.run [] none in
     unit_covers_heap c.args.unit l.0 _
     (unit_as c.args.unit l.0 c.infer_all.new.func c.infer_all.new.env c.in_ok-summary.summary c.infer_all.new.solved
-        c.take_reports-reports.new.env c.take_reports-reports.result
+    c.take_reports-reports.new.env c.take_reports-reports.result
     (unit_leads c.into_unit-function.result c.args.unit _ c.into_unit-function.ensures.unit l.1) l.2.same
-        c.take_reports-reports.ensures.taken c.take_reports-reports.ensures.reports)
+    c.take_reports-reports.ensures.taken c.take_reports-reports.ensures.reports)
     _ c.infer_all.new.func c.infer_all.new.env l.1
-        (ap (λ (e : Environment). e.identifiers) c.take_reports-reports.ensures.taken)
-        (c.in_ok-summary.ensures.ranged [] none)
+    (ap (λ (e : Environment). e.identifiers) c.take_reports-reports.ensures.taken)
+    (c.in_ok-summary.ensures.ranged [] none)
 
 pub returns-clause-cause : goal.returns-clause-cause
 returns-clause-cause g c =
@@ -54,12 +54,12 @@ returns-clause-cause g c =
     let l = c.in_ok-summary.ensures.run [] none in
     unit_caused c.args.unit l.0 _
     (unit_as c.args.unit l.0 c.infer_all.new.func c.infer_all.new.env c.in_ok-summary.summary c.infer_all.new.solved
-        c.take_reports-reports.new.env c.take_reports-reports.result
+    c.take_reports-reports.new.env c.take_reports-reports.result
     (unit_leads c.into_unit-function.result c.args.unit _ c.into_unit-function.ensures.unit l.1) l.2.same
-        c.take_reports-reports.ensures.taken c.take_reports-reports.ensures.reports)
+    c.take_reports-reports.ensures.taken c.take_reports-reports.ensures.reports)
     _ c.infer_all.new.func c.infer_all.new.env l.1
-        (ap (λ (e : Environment). e.identifiers) c.take_reports-reports.ensures.taken)
-        (c.in_ok-summary.ensures.ranged [] none)
+    (ap (λ (e : Environment). e.identifiers) c.take_reports-reports.ensures.taken)
+    (c.in_ok-summary.ensures.ranged [] none)
 
 pub returns-clause-flows : goal.returns-clause-flows
 returns-clause-flows g c =
@@ -67,9 +67,9 @@ returns-clause-flows g c =
     let l = c.in_ok-summary.ensures.run [] none in
     unit_flows c.args.unit l.0 _
     (unit_as c.args.unit l.0 c.infer_all.new.func c.infer_all.new.env c.in_ok-summary.summary c.infer_all.new.solved
-        c.take_reports-reports.new.env c.take_reports-reports.result
+    c.take_reports-reports.new.env c.take_reports-reports.result
     (unit_leads c.into_unit-function.result c.args.unit _ c.into_unit-function.ensures.unit l.1) l.2.same
-        c.take_reports-reports.ensures.taken c.take_reports-reports.ensures.reports)
+    c.take_reports-reports.ensures.taken c.take_reports-reports.ensures.reports)
     _ c.infer_all.new.func c.infer_all.new.env l.1
-        (ap (λ (e : Environment). e.identifiers) c.take_reports-reports.ensures.taken)
-        (c.in_ok-summary.ensures.ranged [] none)
+    (ap (λ (e : Environment). e.identifiers) c.take_reports-reports.ensures.taken)
+    (c.in_ok-summary.ensures.ranged [] none)

@@ -15,4 +15,4 @@ pub returns-clause-tells : goal.returns-clause-tells
 returns-clause-tells c =
     subst (λ (u : HirUnit). TellsOf u c.decided.result) c.into_unit-unit.ensures.unit
     (given_tells c.into_unit-unit.result c.decided.result c.into_unit-unit.ensures.checked c.names_differ.ensures
-        (subst (AllByRecursion NamesDiffer) c.as_slice.ensures c.all_names_differ.ensures) c.decided.ensures)
+    (subst (AllByRecursion NamesDiffer) c.as_slice.ensures c.all_names_differ.ensures) c.decided.ensures)

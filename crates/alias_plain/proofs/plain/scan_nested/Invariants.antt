@@ -6,4 +6,4 @@ use Rattle.alias_plain.proofs.plain.scan_nested.Given as goal
 abbrev pub invariant-loop-func : goal.invariant-loop-func
 invariant-loop-func l =
     (l.number ≡ l.func-index) × (then_nested l.env l.number (drop l.func-index l.env.functions) (AllPlain l.tables)
-        ≡ then_nested l.env 0 l.env.functions (AllPlain l.initial.tables))
+    ≡ then_nested l.env 0 l.env.functions (AllPlain l.initial.tables))

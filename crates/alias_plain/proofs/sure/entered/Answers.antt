@@ -27,9 +27,9 @@ ways-preserved c =
     ∙ ap (λ (s : Option BlockId). with_phis s phis c.in_ok-set.set) c.source_of.ensures
     ∙ ap (with_phis (source_of blocks e.0) phis) c.in_ok-set.ensures in
     ap (λ (s : Rows). entered_from blocks phis (Some s) rest)
-        (c.in_ok-taken_in.ensures ∙ ap (joined union c.ways.so_far) phied)
+    (c.in_ok-taken_in.ensures ∙ ap (joined union c.ways.so_far) phied)
     ∙ sym (ap (entered_from blocks phis c.ways.so_far)
-        (left-some nat_cmp nat_cmp_total c.ways.after t e c.in-Some.ensures c.recall_proper.ensures.0))
+    (left-some nat_cmp nat_cmp_total c.ways.after t e c.in-Some.ensures c.recall_proper.ensures.0))
     ∙ c.ways.invariant
 
 pub returns-in-Some-so_far : goal.returns-in-Some-so_far
@@ -38,7 +38,7 @@ returns-in-Some-so_far c =
     let phis = c.args.phis.now in
     ap rows_or_none (sym c.in-Some-so_far.is
     ∙ ap (entered_from blocks phis c.ways.so_far)
-        (sym (left-end nat_cmp c.ways.after c.args.state.now c.in_default.ensures))
+    (sym (left-end nat_cmp c.ways.after c.args.state.now c.in_default.ensures))
     ∙ c.ways.invariant)
 
 pub returns-in-None : goal.returns-in-None
@@ -48,5 +48,5 @@ returns-in-None c =
     c.empty.ensures
     ∙ ap rows_or_none (sym c.in-None.is
     ∙ ap (entered_from blocks phis c.ways.so_far)
-        (sym (left-end nat_cmp c.ways.after c.args.state.now c.in_default.ensures))
+    (sym (left-end nat_cmp c.ways.after c.args.state.now c.in_default.ensures))
     ∙ c.ways.invariant)

@@ -6,7 +6,7 @@ pub returns-in-Ok-clause-fits : goal.returns-in-Ok-clause-fits
 returns-in-Ok-clause-fits c =
     let p = c.run_range_pass in
     answered_fits c.args.is_function_expression c.args.func.now p.new.func c.args.env.now p.new.env c.in-Ok.summary
-        c.in-Ok.ensures.pass c.requires p.ensures.still p.ensures.kept
+    c.in-Ok.ensures.pass c.requires p.ensures.still p.ensures.kept
 
 pub returns-in-Ok-clause-cause : goal.returns-in-Ok-clause-cause
 returns-in-Ok-clause-cause c = answered_causes c.args.is_function_expression c.args.func.now c.args.env.now _

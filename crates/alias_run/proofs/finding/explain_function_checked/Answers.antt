@@ -14,7 +14,7 @@ returns-in-Ok c =
     let is = c.in-Ok.ensures.0 in
     let o = c.explain_function_inferred.result in
     of_inferred (IsFunctionExplainedOf c.args.function) (memory_function c.args.function) c.args.unit c.in-Ok.inferred
-        o.status o.answer (is.0, is.1) c.explain_function_inferred.ensures
+    o.status o.answer (is.0, is.1) c.explain_function_inferred.ensures
 
 pub returns-in-Err : goal.returns-in-Err
 returns-in-Err c = of_ended (IsFunctionExplainedOf c.args.function) c.args.unit c.in-Err.status c.ended.result

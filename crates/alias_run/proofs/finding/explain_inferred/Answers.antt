@@ -8,4 +8,4 @@ returns-in-Ok c = explanation_done c.args.function c.args.identifier c.args.infe
 pub returns-in-Err : goal.returns-in-Err
 returns-in-Err c =
     explanation_fault c.args.function c.args.identifier c.args.inferred.now c.in-Err.fault _ c.ended.result
-        c.ended.ensures c.from.ensures c.requires.numbered c.in-Err.ensures.explained
+    c.ended.ensures c.from.ensures c.requires.numbered c.in-Err.ensures.explained

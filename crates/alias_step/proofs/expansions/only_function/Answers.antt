@@ -32,10 +32,10 @@ returns-in-None c = sym (none c.args.sites.now (sym c.next_site.ensures ∙ c.in
 pub returns-in-Some-next_site : goal.returns-in-Some-next_site
 returns-in-Some-next_site c =
     sym (several c.args.sites.now c.in-Some.first c.in-Some-next_site.field-0 c.recall_proper.ensures.0
-        (sym c.next_site.ensures ∙ c.in-Some.is) (sym c.next_site-in-Some.ensures ∙ c.in-Some-next_site.is))
+    (sym c.next_site.ensures ∙ c.in-Some.is) (sym c.next_site-in-Some.ensures ∙ c.in-Some-next_site.is))
 
 pub returns-in-None-next_site : goal.returns-in-None-next_site
 returns-in-None-next_site c =
     c.function_of_site.ensures
     ∙ sym (one c.args.sites.now c.in-Some.first c.recall_proper.ensures.0 (sym c.next_site.ensures ∙ c.in-Some.is)
-        (sym c.next_site-in-Some.ensures ∙ c.in-None-next_site.is))
+    (sym c.next_site-in-Some.ensures ∙ c.in-None-next_site.is))

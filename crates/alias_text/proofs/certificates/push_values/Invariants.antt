@@ -10,9 +10,9 @@ use Rattle.alias_text.proofs.certificates.push_values.Given as goal
 abbrev pub invariant-values : goal.invariant-values
 invariant-values l =
     (l.out ++ flat_map value_line (left_after site_cmp l.after l.state.values) ≡ l.initial.out
-        ++ flat_map value_line l.state.values)
+    ++ flat_map value_line l.state.values)
     × (AllByRecursion FittingValue (left_after site_cmp l.after l.state.values)
-        → AllByRecursion FittingValue l.state.values)
+    → AllByRecursion FittingValue l.state.values)
 
 abbrev pub decreases-values : goal.decreases-values
 decreases-values l = length (left_after site_cmp l.after l.state.values)

@@ -32,7 +32,7 @@ pub returns-clause-text : goal.returns-clause-text
 returns-clause-text c =
     let all = c.args.out.now ++ flat_map variable_line c.args.state.now.variables in
     now_complete id_cmp variable_line all c.variables.out c.variables.after c.args.state.now.variables
-        c.in_default.ensures c.variables.invariant.0
+    c.in_default.ensures c.variables.invariant.0
 
 pub returns-clause-fits : goal.returns-clause-fits
 returns-clause-fits c = now_all id_cmp SmallVariable c.variables.after c.args.state.now.variables c.in_default.ensures

@@ -19,4 +19,4 @@ loop-entry-preserved c =
 pub returns-clause-fits : goal.returns-clause-fits
 returns-clause-fits c =
     if_one (all_taken (FittingEntry c.args.func.now) c.args.entries.now c.loop-entry.entry-index
-        (omega (arith, c.loop-entry-test.false))) c.args.detail c.loop-entry.invariant.1
+    (omega (arith, c.loop-entry-test.false))) c.args.detail c.loop-entry.invariant.1

@@ -20,4 +20,4 @@ loop-of_function-preserved c =
 pub returns-clause-fits : goal.returns-clause-fits
 returns-clause-fits c =
     if_one (all_taken (FittingSolved c.args.unit.now) c.args.solved.now c.loop-of_function.of_function-index
-        (omega (arith, c.loop-of_function-test.false))) c.args.detail c.loop-of_function.invariant.1
+    (omega (arith, c.loop-of_function-test.false))) c.args.detail c.loop-of_function.invariant.1

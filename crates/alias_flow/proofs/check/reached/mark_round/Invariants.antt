@@ -9,5 +9,5 @@ invariant-loop-block g l =
     (l.count ≡ rules.blocks)
     × (length l.marks ≡ rules.blocks)
     × (marked_round rules.flow.edges l.marks (up l.block (l.count - l.block))
-        ≡ marked_round rules.flow.edges l.initial.marks (up 0 l.count))
+    ≡ marked_round rules.flow.edges l.initial.marks (up 0 l.count))
     × (l.grew ≡ false → l.marks ≡ l.initial.marks)

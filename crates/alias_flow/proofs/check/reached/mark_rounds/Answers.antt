@@ -8,7 +8,7 @@ returns-then-not-branch g c =
     let edges = (g.F.Flow.rules c.args.flow.now).flow.edges in
     let same = c.in_ok-mark_round.ensures.same c.if-not-branch.true in
     same ∙ sym (rounds_stay edges c.args.count (c.args.count - c.rounds.counter) c.rounds.marks
-        (sym c.in_ok-mark_round.ensures.marks ∙ same)) ∙ c.rounds.invariant.2
+    (sym c.in_ok-mark_round.ensures.marks ∙ same)) ∙ c.rounds.invariant.2
 
 pub rounds-preserved : goal.rounds-preserved
 rounds-preserved g c =

@@ -8,4 +8,4 @@ invariant-rounds g l =
     (l.count ≡ rules.blocks)
     × (length l.marks ≡ rules.blocks)
     × (marked_rounds rules.flow.edges l.count (l.count - l.counter) l.marks
-        ≡ marked_rounds rules.flow.edges l.count l.count l.initial.marks)
+    ≡ marked_rounds rules.flow.edges l.count l.count l.initial.marks)

@@ -15,7 +15,7 @@ pub returns-clause-nodes : goal.returns-clause-nodes
 returns-clause-nodes c = λ id.
     ap (λ z. has_node z id) (
     ap (nodes_of c.self.inside.links) (c.in_ok-insert.ensures.entries
-        ∙ ap (with_node c.self.inside.nodes c.args.id) c.fresh-node.ensures)
+    ∙ ap (with_node c.self.inside.nodes c.args.id) c.fresh-node.ensures)
     ∙ with_node_of c.self.inside.links c.self.inside.nodes c.args.id (stored_fresh c.args.value)
     ∙ ap (λ z. created z c.args.id c.args.value) c.self.view_is
     )

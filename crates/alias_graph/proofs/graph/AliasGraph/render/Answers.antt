@@ -13,7 +13,7 @@ returns-clause-env c =
     subst (λ (e : Environment). OnOk c.render_walk.result (c.render_walk.new.env ≡ e))
     (
     ap (λ l. with_reports (render_reports env (nodes_of l c.self.inside.nodes)
-        (rendered (nodes_of l c.self.inside.nodes) c.args.index c.args.start).done) env) c.as_slice.ensures
+    (rendered (nodes_of l c.self.inside.nodes) c.args.index c.args.start).done) env) c.as_slice.ensures
     ∙ ap (λ z. with_reports (render_reports env z (rendered z c.args.index c.args.start).done) env) c.self.view_is
     )
     c.render_walk.ensures.env

@@ -19,12 +19,12 @@ first_block f k b l all here is = sym is ∙ ap (λ bs. blocks_listed f k bs l) 
 pub loop-slot-preserved : goal.loop-slot-preserved
 loop-slot-preserved c =
     let e = first_block c.args.func.now c.loop-slot.slot _ c.loop-slot.listing _ (sym c.in-Some.ensures)
-        c.loop-slot.invariant in
+    c.loop-slot.invariant in
     sym (e ∙ ap (λ r. r >>= (λ z. blocks_listed c.args.func.now (c.loop-slot.slot + 1)
-        (drop (c.loop-slot.slot + 1) c.args.func.now.body.blocks) z)) c.in_ok-list_block.ensures)
+    (drop (c.loop-slot.slot + 1) c.args.func.now.body.blocks) z)) c.in_ok-list_block.ensures)
 
 pub returns-in_err-list_block : goal.returns-in_err-list_block
 returns-in_err-list_block c =
     let e = first_block c.args.func.now c.loop-slot.slot _ c.loop-slot.listing _ (sym c.in-Some.ensures)
-        c.loop-slot.invariant in
+    c.loop-slot.invariant in
     rw e (search rules)

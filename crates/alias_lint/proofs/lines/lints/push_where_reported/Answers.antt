@@ -8,4 +8,4 @@ pub returns-then-not-branch-clause-lints : goal.returns-then-not-branch-clause-l
 returns-then-not-branch-clause-lints c =
     let off : any_report c.args.env.now ≡ false = sym c.in_ok-any_report.ensures ∙ c.if-not-branch.true in
     sym (append-nil c.args.lints.now) ∙ ap (λ z. c.args.lints.now ++ z)
-        (sym (found_none c.args.env.now c.args.func.now (graph_listed c.args.listing.now) c.args.listing.now off))
+    (sym (found_none c.args.env.now c.args.func.now (graph_listed c.args.listing.now) c.args.listing.now off))

@@ -7,4 +7,4 @@ pub loop-phi-preserved : goal.loop-phi-preserved
 loop-phi-preserved c =
     ap (λ z. slice_set c.loop-phi.phis c.loop-phi.phi-index z) (c.place_phi.ensures)
     ∙ item_step (phi_placed c.args.identifiers.now c.args.first) c.args.phis.now c.loop-phi.phis c.loop-phi.phi-index _
-        (omega arith) (omega arith) c.loop-phi.invariant
+    (omega arith) (omega arith) c.loop-phi.invariant

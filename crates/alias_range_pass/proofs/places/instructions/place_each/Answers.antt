@@ -8,4 +8,4 @@ pub loop-place-preserved : goal.loop-place-preserved
 loop-place-preserved c =
     ap (λ z. slice_set c.loop-place.places c.loop-place.place-index z) (c.set_place.ensures)
     ∙ item_step (with_table c.args.table.now Read) c.args.places.now c.loop-place.places c.loop-place.place-index _
-        (omega arith) (omega arith) c.loop-place.invariant
+    (omega arith) (omega arith) c.loop-place.invariant

@@ -11,4 +11,4 @@ returns c =
     let v = c.for_each_instruction_value_lvalue_mut.ensures.calls in
     c.for_each_instruction_value_lvalue_mut.ensures.rebuilt
     ∙ ap (with_lvalues c.args.value.now) (visits_map _ (with_table table ConditionallyMutate) (λ f. f.0.now ≡ table)
-        (λ f p f' q is k. search rules) _ _ _ _ refl v)
+    (λ f p f' q is k. search rules) _ _ _ _ refl v)
