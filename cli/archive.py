@@ -11,7 +11,7 @@ import sys
 
 from cli import inference
 from cli.building import alone, called, has_kit, made, proved
-from cli.inference import SERVER, is_served
+from cli.inference import ADDON, has_library
 from cli.saying import FIRST_BUILD, say
 from cli.sources import CRATES, HERE, crates_in_order, digest
 
@@ -105,30 +105,26 @@ def merged(kit):
     return done.returncode == 0
 
 
-def serving():
-    """Makes the server of the library that stands, by which the command answers for many files in one process, where
-    there is a compiler of C."""
-    if is_served():
+def addon():
+    """Makes the addon for Node of the library that stands, by which the command asks it, where what it wants is
+    there."""
+    if has_library():
         return
-    compiler = shutil.which('gcc') or shutil.which('cc') or shutil.which('clang')
-    if compiler is None:
-        say('hosts/lib/serve is not made, and `lint` of source starts a process for each function: no compiler of C '
-            'is there')
-        return
-    for path in (SERVER, inference.STAMP):
+    for path in (ADDON, inference.STAMP):
         if os.path.exists(path):
             os.remove(path)
-    header = os.path.join(HERE, 'hosts', 'c')
-    words = [compiler, '-std=c11', '-O2', '-I', header, os.path.join(header, 'serve.c'), ARCHIVE]
-    words += ['-pthread', '-o', SERVER]
-    if subprocess.run(words, check=False).returncode == 0:
-        write(inference.STAMP, inference.server_digest())
+    missing = [tool for tool in ('node', 'gcc') if shutil.which(tool) is None]
+    if not missing and subprocess.run([os.path.join(HERE, 'hosts', 'node', 'build')], check=False).returncode == 0:
+        write(inference.STAMP, inference.addon_digest())
+        return
+    say('the addon for Node is not made%s: commands on source start a process for each function' %
+        (', %s is not there' % ' '.join(missing) if missing else ''))
 
 
 def main():
     status = archive()
     if status == 0:
-        serving()
+        addon()
     return status
 
 

@@ -10,11 +10,12 @@ import json
 import os
 
 from cli import front
+from cli.inference import host_files
 from cli.sources import HERE, digest_of
 from cli.stamps import digest_now
 
 PLACE = '.jirrambeo-cache'
-PARTS = ('findings.py', 'front.py', 'lints.py')  # of cli/: what tells and keeps
+PARTS = ('findings.py', 'front.py', 'inference.py', 'lints.py')  # of cli/: what tells and keeps
 
 
 def stat_of(path):
@@ -35,7 +36,7 @@ def key_of(options):
         stat_of(os.path.join(parser, 'package.json')),
         stat_of(os.path.join(parser, 'lib', 'index.js')),
         digest_now(),
-        digest_of([*front_files(), *(os.path.join(HERE, 'cli', name) for name in PARTS)]),
+        digest_of([*front_files(), *host_files(), *(os.path.join(HERE, 'cli', name) for name in PARTS)]),
         list(options)
     ]
     return hashlib.sha256(json.dumps(parts).encode()).hexdigest()

@@ -63,6 +63,7 @@ ON_SOURCE = (
             part('linting', 'lint')),
     Command('view', 'FILE > page.html', 'a page: the source, its instructions, ranges, and why they end',
             part('viewing', 'view')),
+    Command('playground', '', 'a page to type into, on this machine alone', part('playground', 'playground')),
     Command('units', 'FILE..', 'the unit of each function, or why it has none, as JSON', part('sourcing', 'units')))
 ON_UNITS = (
     Command('infer', '< UNIT', 'effects, mutable ranges, summaries and reports', program, ''),
@@ -76,7 +77,7 @@ ON_UNITS = (
     Command('made', 'SEED SIZE', 'how much is inferred of a made unit', program, r'%s ([1-9]\d{0,2}|1000)' % NUMBER))
 BESIDES = (
     Command('build', '', 'proves and builds the program', build, ''),
-    Command('--help', '', 'this; lint, view, units and check have a --help of theirs', help_of_all, ''),
+    Command('--help', '', 'this; lint, view, playground, units and check have a --help of theirs', help_of_all, ''),
     Command('--version', '', 'name and version', version, ''))
 PARTS = (('On source (JavaScript, TypeScript, Flow annotations, JSX):', ON_SOURCE),
          ('On a unit (JSON: docs/FORMAT.md):', ON_UNITS), ('Besides:', BESIDES))

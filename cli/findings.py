@@ -1,5 +1,4 @@
 """What is found in files of source: reports, functions that aren't analysed, and files that can't be."""
-import json
 from functools import cached_property
 
 from cli.lints import Label, Lint, lints_from
@@ -111,22 +110,8 @@ def found_of(file, data, told):
     return found.order()
 
 
-def units_of(front, file, data):
-    """What the front end says of a file; the units as bytes."""
-    told = front.functions(file, data)
-    for function in told.get('functions', ()):
-        if 'unit' in function:
-            function['unit'] = json.dumps(function['unit'], ensure_ascii=False,
-                                          separators=(',', ':')).encode(errors='replace')
-    return told
-
-
-def told_of(front, inference, file, data):
+def told_of(program, file, data):
     """What is told of a file with these bytes: each function with the status and the text of `lint`, in place of its
     unit."""
-    told = units_of(front, file, data)
-    for function in told.get('functions', ()):
-        if 'unit' in function:
-            status, text = inference.ask(['lint'], function.pop('unit'))
-            function.update(status=status, text=text.decode(errors='replace'))
+    told = program.told(['lint'], file, data)
     return {key: value for key, value in told.items() if key in ('functions', 'error')}

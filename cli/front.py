@@ -1,11 +1,11 @@
 """The front end, which makes units of source: a process of Node that is asked over a pipe, file by file."""
 import functools
-import json
 import os
 import re
 import shutil
 import subprocess
 
+from cli.pipes import Answering
 from cli.saying import say
 from cli.sources import HERE
 
@@ -75,27 +75,12 @@ def failed(kind, message):
 
 
 class FrontEnd:
-    """A process that answers questions about files. It is started where it is asked first, and again where it ended."""
+    """The front end, which is asked about files."""
 
-    def __init__(self, options=()):
-        self.options, self.process = list(options), None
+    def __init__(self, program=(PROGRAM, '--stdio')):
+        self.process = Answering(lambda: [node(), *program])
 
-    def start(self):
-        self.process = subprocess.Popen([node(), PROGRAM, *self.options, '--stdio'], stdin=subprocess.PIPE,
-                                        stdout=subprocess.PIPE, stderr=subprocess.DEVNULL)
-
-    def asked(self, request):
-        """The line that answers a request, or nothing where the process ended before."""
-        if self.process is None:
-            self.start()
-        try:
-            self.process.stdin.write(json.dumps(request).encode() + b'\n')
-            self.process.stdin.flush()
-            return self.process.stdout.readline()
-        except OSError:
-            return b''
-
-    def functions(self, file, data):
+    def functions(self, file, data, **asked):
         """What is said of a file with these bytes: an object with `functions`, or with `error`."""
         try:
             text = data.decode()
@@ -103,16 +88,8 @@ class FrontEnd:
             return failed('nottext', 'the file is no text in UTF-8')
         if '\0' in text:
             return failed('nottext', 'the file has a NUL, as no text has')
-        line = self.asked({'id': 0, 'file': os.fsencode(file).decode(errors='replace'), 'text': text})
-        if not line.endswith(b'\n'):
-            self.close()
-            return failed('internal', 'the front end ended while it read this file')
-        return json.loads(line)
+        told = self.process.asked({'id': 0, 'file': os.fsencode(file).decode(errors='replace'), 'text': text, **asked})
+        return failed('internal', 'the front end ended while it read this file') if told is None else told
 
     def close(self):
-        if self.process is not None:
-            self.process.kill()
-            self.process.wait()
-            self.process.stdin.close()
-            self.process.stdout.close()
-            self.process = None
+        self.process.close()

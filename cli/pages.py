@@ -7,6 +7,8 @@ from cli.lints import report_from
 
 PAGE = os.path.join(os.path.dirname(os.path.abspath(__file__)), 'page')
 SCRIPTS = ('base.js', 'function.js', 'graph.js', 'panel.js', 'source.js', 'start.js')
+VIEW = (*SCRIPTS, 'view.js')
+PLAYGROUND = (*SCRIPTS, 'editor.js', 'answers.js', 'play.js')
 NAME = re.compile(r'[\w$]+', re.UNICODE)
 LISTS = ('elements', 'properties', 'args', 'props', 'children', 'deps', 'subexprs', 'array', 'object'
          )  # keys of lists; `object` of a pattern alone
@@ -101,7 +103,7 @@ def block_of(block):
 def function_data(name, func, certified, source):
     found = certified.data()
     return {
-        'name': name, 'type': func.get('fn_type'),
+        'name': name, 'type': func.get('fn_type'), 'lines': lines_of(source, func.get('span')),
         'params': [number_of(param_of(param)) for param in func.get('params', [])],
         'context': [number_of(place) for place in func.get('context', [])],
         'returns': number_of(func['returns']), 'entry': func['entry'],
@@ -126,12 +128,16 @@ def identifiers_of(function):
 
 
 def label_of(label, source):
-    """A label, with the line, the column and the text of its span where it is one of the source."""
+    """A label, with the place and the text of its span where it is one of the source, and `at`: the line and, in
+    units of UTF-16, the column and the length of what it marks there."""
     place = source.span(label.start, label.end) if source else None
     told = {}
     if place:
-        at, text = (place[0][0] + 1, place[0][1] + 1), text_at(source, (label.start, label.end))
-        told = {'place': '%d:%d' % at, 'source': text}
+        (line, column), (end_line, end_column) = place
+        first, text = source.lines[line], text_at(source, (label.start, label.end))
+        marked = first[column:end_column] if line == end_line else first[column:]
+        told = {'place': '%d:%d' % (line + 1, column + 1), 'source': text,
+                'at': [line, utf16(first[:column]), utf16(marked)]}
     return {'start': label.start, 'end': label.end, 'text': label.text, **told}
 
 
@@ -152,10 +158,9 @@ def names_of(unit):
 
 
 def extent_of(functions):
-    """The first and the last line that an instruction comes from, or None."""
-    lines = [
-        at for function in functions for instruction in function['instructions'] for at in instruction['lines'] or ()
-    ]
+    """The first and the last line that functions and their instructions come from, or None."""
+    parts = [*functions, *(instruction for function in functions for instruction in function['instructions'])]
+    lines = [at for part in parts for at in part['lines'] or ()]
     return [min(lines), max(lines)] if lines else None
 
 
@@ -221,7 +226,7 @@ def page_data(title, units, shown, source=None, notes=()):
     }
 
 
-def page(data):
+def page(data, scripts=VIEW):
     """The page: its parts in one file. No `<` of the data is written as such, so that nothing in it ends its script
     or begins a remark."""
     def part(name):
@@ -230,8 +235,8 @@ def page(data):
 
     text = json.dumps(data, ensure_ascii=False).replace('<', '\\u003c')
     made = part('view.html')
-    for mark, content in (('/*STYLE*/', part('view.css')), ('/*SCRIPT*/', ''.join(map(part,
-                                                                                      SCRIPTS))), ('/*DATA*/', text)):
+    script = ''.join(map(part, scripts))
+    for mark, content in (('/*STYLE*/', part('view.css')), ('/*SCRIPT*/', script), ('/*DATA*/', text)):
         before, _, after = made.partition(mark)
         made = before + content + after
     return made

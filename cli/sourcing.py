@@ -8,7 +8,8 @@ import time
 from cli import front
 from cli.cache import PLACE, Cache
 from cli.files import Missing, files_of
-from cli.findings import found_of, told_of, units_of
+from cli.findings import found_of, told_of
+from cli.inference import units_of
 from cli.program import is_proved
 from cli.saying import say
 from cli.source_formats import FORMATS, Totals
@@ -112,7 +113,7 @@ def stamp(file):
 
 def watch(given, proved):
     """Prints what is found, and again what is found in files that changed. Ends where it is interrupted."""
-    worker, seen = Worker(told_of, (), proved), {}
+    worker, seen = Worker(told_of, proved), {}
     try:
         while True:
             try:
@@ -159,8 +160,8 @@ def unit_lines(told, file):
         yield line[:-1] + b', "unit": ' + function['unit'] + b'}' if 'unit' in function else line
 
 
-def units_told(front_end, _, file, data):
-    return units_of(front_end, file, data)
+def units_told(program, file, data):
+    return units_of(program.front, file, data)
 
 
 def units(words):

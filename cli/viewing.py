@@ -14,10 +14,9 @@ import sys
 
 from cli import front
 from cli.explaining import explanations
-from cli.findings import called, found_of, units_of
+from cli.findings import called, found_of
 from cli.frames import frame
-from cli.front import FrontEnd
-from cli.inference import inference
+from cli.inference import inference, units_of
 from cli.pages import page, page_data, unit_data
 from cli.program import is_proved
 from cli.results import Certified
@@ -48,7 +47,7 @@ def read(path):
         return file.read()
 
 
-def shown_unit(program, proved, unit_text, source, name=None):
+def shown_unit(program, unit_text, source, name=None):
     """A unit's JSON with what the page shows of it, or the status and the text of its refusal."""
     status, text = program.ask(['certify'], unit_text)
     if status != 0:
@@ -56,7 +55,7 @@ def shown_unit(program, proved, unit_text, source, name=None):
     unit, certified = json.loads(unit_text), Certified(text.decode())
 
     def explains(functions):
-        return explanations(functions, certified.ranges, proved, unit_text) if proved else {}
+        return explanations(functions, certified.ranges, program, unit_text) if program.is_proved else {}
 
     return (unit, unit_data(unit, certified, source, explains, name)), 0, ''
 
@@ -65,7 +64,7 @@ def view_unit(given, proved):
     """Prints the page of a unit."""
     source = Source(given.name or given.source, read(given.source), given.offsets) if given.source else None
     program = inference(proved)
-    shown, status, why = shown_unit(program, proved, read(given.file), source)
+    shown, status, why = shown_unit(program, read(given.file), source)
     program.close()
     if shown is None:
         say('%s: no page is made: %s' % (given.file, why))
@@ -85,36 +84,42 @@ def first_shown(units):
     return min(kinds)[2]
 
 
-def shown_units(functions, proved, source):
+def shown_units(functions, program, source):
     """The units of a file's functions with what the page shows of them, and notes on those that have none."""
-    units, notes, program = [], [], inference(proved)
-    for function in functions:
+    units, notes = [], []
+    for number, function in enumerate(functions):
         name = called(function['kind'], function['name'])
         if 'refused' in function:
             notes.append('line %d: %s is not analysed: %s' %
                          (function['refused']['line'], name, function['refused']['message']))
             continue
-        shown, _, why = shown_unit(program, proved, function['unit'], source, function['name'] or '(no name)')
+        shown, _, why = shown_unit(program, function['unit'], source, function['name'] or '(no name)')
         if shown is None:
             notes.append('line %d: %s is not analysed: %s' % (function['at']['line'], name, why))
         else:
+            shown[1]['number'] = number
             units.append(shown)
-    program.close()
     return units, notes
 
 
 def view_source(given, proved):
     """Prints the page of a file of source."""
-    data, front_end = read(given.file), FrontEnd()
-    told = units_of(front_end, given.file, data)
-    front_end.close()
+    data, program = read(given.file), inference(proved)
+    try:
+        return view_told(given, proved, program, data, units_of(program.front, given.file, data))
+    finally:
+        program.close()
+
+
+def view_told(given, proved, program, data, told):
+    """The same, of what the front end told of the file."""
     if 'error' in told:
         for lint in found_of(given.file, data, told).failed:
             print('\n'.join(frame(lint, Source(given.file, data), False)), file=sys.stderr)
         return 2
     source = Source(given.file, data)
     functions = [function for function in told['functions'] if given.only in (None, function['name'])]
-    units, notes = shown_units(functions, proved, source)
+    units, notes = shown_units(functions, program, source)
     if not units:
         say('%s: no page is made: %s' % (given.file, '; '.join(notes) or 'it has no such function'))
         return 2

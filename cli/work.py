@@ -1,26 +1,24 @@
 """Files of source through the front end and the program: on all processors, with a bar at a terminal."""
 import multiprocessing
-import os
 import signal
 import sys
 import time
 from multiprocessing.util import Finalize
 
-from cli.front import FrontEnd, failed
-from cli.inference import inference
+from cli.front import failed
+from cli.inference import PROCESSORS, inference
 
 FEW = 4  # files for which no further processes are started
 BAR = 30
 PATIENCE = 0.5  # seconds until the bar is shown
-PROCESSORS = len(os.sched_getaffinity(0))
 
 
 class Worker:
     """What a process works with: a front end and the program. A job makes the answer of a file with its bytes, by
     both."""
 
-    def __init__(self, job, options, is_proved):
-        self.job, self.front, self.program = job, FrontEnd(options), inference(is_proved)
+    def __init__(self, job, is_proved):
+        self.job, self.program = job, inference(is_proved)
 
     def answer(self, file):
         """The file, its bytes, and what is told of it; no bytes where it can't be read."""
@@ -29,21 +27,20 @@ class Worker:
                 data = opened.read()
         except OSError as error:
             return file, None, failed('unreadable', error.strerror)
-        return file, data, self.job(self.front, self.program, file, data)
+        return file, data, self.job(self.program, file, data)
 
     def close(self):
-        self.front.close()
         self.program.close()
 
 
 worker = None  # of this process, where it is one of a pool
 
 
-def begin(job, options, is_proved):
+def begin(job, is_proved):
     global worker
     signal.signal(signal.SIGINT, signal.SIG_IGN)  # the process that started this one ends it
     signal.signal(signal.SIGTERM, signal.SIG_DFL)
-    worker = Worker(job, options, is_proved)
+    worker = Worker(job, is_proved)
     Finalize(worker, worker.close, exitpriority=1)  # when the process ends, which is no time for `atexit`
 
 
@@ -73,18 +70,18 @@ class Bar:
             self.stream.flush()
 
 
-def answers(files, job, options=(), is_proved=True):
+def answers(files, job, is_proved=True):
     """Of each file, in their order: its path, its bytes, and what is told of it. Whether the program is proved says
     nothing to a job that doesn't ask it."""
     if len(files) <= FEW or PROCESSORS == 1 or not is_proved:  # runs of the sources lock each other out
-        alone = Worker(job, options, is_proved)
+        alone = Worker(job, is_proved)
         try:
             yield from map(alone.answer, files)
         finally:
             alone.close()
         return
     count = min(PROCESSORS, len(files))
-    pool = multiprocessing.get_context('fork').Pool(count, begin, (job, options, is_proved))
+    pool = multiprocessing.get_context('fork').Pool(count, begin, (job, is_proved))
     try:
         yield from pool.imap(answered, files, max(1, min(8, len(files) // (8 * count))))
         pool.close()

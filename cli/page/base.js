@@ -1,6 +1,6 @@
 'use strict';
-// The page of a unit: its data is in the element `data`, made by cli/viewing.py.
-const DATA = JSON.parse(document.getElementById('data').textContent);
+// The page of units: its data is in the element `data`, made by cli/pages.py; that of the playground comes anew with each answer.
+let DATA = JSON.parse(document.getElementById('data').textContent);
 const LINKS = { Assign: 'Alias', Alias: 'Alias', CreateFrom: 'Alias', Capture: 'Capture', MaybeAlias: 'MaybeAlias' };
 const WAY = 9; // the width of a way of control
 const MOST_WAYS = 12; // ways side by side; more share their room
@@ -8,7 +8,7 @@ const LANE = 18; // the width of a lane, and of its bar with the space beside it
 const SVG = 'http://www.w3.org/2000/svg';
 const ERRORS = ['MutateFrozen', 'MutateGlobal', 'Impure'];
 const state = { names: true, short: false, chosen: null };
-let unit = DATA.units[0]; // the one that is shown
+let unit = null; // the one that is shown
 let views = []; // of its functions
 
 function make(tag, attributes = {}, ...children) {

@@ -66,7 +66,7 @@ class FunctionView {
     facts.append(' · returns ', idSpan(this, data.returns));
     this.unshown = make('span', {});
     facts.append(this.unshown);
-    const lines = data.instructions.flatMap((one) => one.lines || []);
+    const lines = [data, ...data.instructions].flatMap((one) => one.lines || []);
     const place = lines.length ? make('span', { class: 'dim' }, ` line ${Math.min(...lines) + 1}`) : '';
     return make('div', {}, make('h2', {}, titleOf(data.name), place), facts);
   }

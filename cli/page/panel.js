@@ -69,7 +69,7 @@ const holds = (one, line) => one.lines && one.lines[0] <= line && line <= one.li
 
 function step(by) {
   const view = state.chosen?.view || views[0];
-  const ids = view.identifiers();
+  const ids = view ? view.identifiers() : [];
   if (!ids.length) return;
   const at = ids.indexOf(state.chosen?.id);
   const id = ids[(at + by + ids.length) % ids.length];

@@ -19,6 +19,7 @@ WANTED = {'root': {1: {'cause': 'defined', 'instruction': 2, 'path': []}},
 
 class Program:
     """A stand-in for the program, which notes what it is asked. `is_whole` says whether it takes a function alone."""
+    AT_ONCE = 2
 
     def __init__(self, is_whole):
         self.is_whole, self.asked, self.lock = is_whole, [], threading.Lock()
@@ -39,8 +40,7 @@ class Program:
 
 class Explanations(unittest.TestCase):
     def told_by(self, program):
-        with mock.patch.object(explaining, 'inference', return_value=program):
-            return explaining.explanations(FUNCTIONS, RANGES, True, b'{}')
+        return explaining.explanations(FUNCTIONS, RANGES, program, b'{}')
 
     def test_one_call_for_a_function(self):
         program = Program(True)
@@ -53,10 +53,10 @@ class Explanations(unittest.TestCase):
         self.assertEqual(sorted(program.asked), sorted([['explain', 'root'], *(['explain', *pair] for pair in TOLD)]))
 
     def test_answers_stand_in_the_order_of_their_questions(self):
-        program = mock.Mock(ask=lambda words, data: (0, words[0].encode()))
-        with mock.patch.object(explaining, 'inference', return_value=program):
+        for at_once in (1, 4):
+            program = mock.Mock(ask=lambda words, data: (0, words[0].encode()), AT_ONCE=at_once)
             for count in (0, 1, 3, 4, 5, 30):
-                told = explaining.answers_of([[str(number)] for number in range(count)], True, b'')
+                told = explaining.answers_of([[str(number)] for number in range(count)], program, b'')
                 self.assertEqual(told, [(0, str(number).encode()) for number in range(count)])
 
 

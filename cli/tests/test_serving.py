@@ -1,103 +1,109 @@
-"""The server of the library, hosts/c/serve.c, over a stand-in for the library; and what the command does where it
-ends early."""
+"""The process of the front end and the library, hosts/node/serve.js, over a stand-in for the addon; and what the
+command does where it ends early, or where the addon is of other sources."""
 import os
 import random
 import shutil
-import struct
-import subprocess
 import tempfile
 import unittest
 from unittest import mock
 
-from cli import inference
+from cli import front, inference
 from cli.tests.installed import ROOT
 
-COMPILER = shutil.which('gcc') or shutil.which('cc')
-# The text is the line, a newline and the input; the status is the length of the line. The line "end" ends the
-# process, and "long" has a text of 3 MB.
+# The text is the words and the input; the status is the length of the words. The words "end" end the process, and
+# "long" has a text of 3 MB.
 STAND_IN = r'''
-#include <stdint.h>
-#include <stdlib.h>
-#include <string.h>
-uint8_t jirrambeo_run(const uint8_t *line, size_t line_length, const uint8_t *input, size_t input_length,
-                      uint8_t *room, size_t room_size, size_t *text_length) {
-    if (line_length == 3 && memcmp(line, "end", 3) == 0) exit(3);
-    if (line_length == 6) {
-        *text_length = 0;
-        return 10;
-    }
-    size_t extra = line_length == 4 ? 3000000 : 0;
-    *text_length = line_length + 1 + input_length + extra;
-    if (*text_length > room_size) return line_length;
-    memcpy(room, line, line_length);
-    room[line_length] = '\n';
-    memcpy(room + line_length + 1, input, input_length);
-    memset(room + line_length + 1 + input_length, 'x', extra);
-    return line_length;
-}
+'use strict';
+exports.run = (words, input) => {
+  if (words === 'end') process.exit(3);
+  const given = Buffer.isBuffer(input) ? input.toString('hex') : JSON.stringify(input.root.fn_type);
+  return {status: words.length, text: `${words}\n${given}${words === 'long' ? 'x'.repeat(3000000) : ''}`};
+};
 '''
 
 
-@unittest.skipUnless(COMPILER, 'no compiler of C is there')
+def has_front_end():
+    try:
+        return bool(front.node())
+    except front.NoFrontEnd:
+        return False
+
+
+@unittest.skipUnless(has_front_end(), 'Node or the parser is not there')
 class Serving(unittest.TestCase):
     @classmethod
     def setUpClass(cls):
         cls.room = tempfile.TemporaryDirectory()
-        source, cls.server = os.path.join(cls.room.name, 'stand_in.c'), os.path.join(cls.room.name, 'serve')
-        with open(source, 'w', encoding='ascii') as file:
+        host = os.path.join(cls.room.name, 'hosts', 'node')
+        os.makedirs(host)
+        os.symlink(os.path.join(ROOT, 'frontend'), os.path.join(cls.room.name, 'frontend'))
+        cls.server = shutil.copy(os.path.join(ROOT, 'hosts', 'node', 'serve.js'), host)
+        with open(os.path.join(host, 'index.js'), 'w', encoding='ascii') as file:
             file.write(STAND_IN)
-        header = os.path.join(ROOT, 'hosts', 'c')
-        subprocess.run([
-            COMPILER, '-std=c11', '-Wall', '-Wextra', '-Werror', '-I', header,
-            os.path.join(header, 'serve.c'), source, '-pthread', '-o', cls.server
-        ],
-                       check=True)
 
     @classmethod
     def tearDownClass(cls):
         cls.room.cleanup()
 
-    def test_answers_one_after_the_other(self):
-        served, drawn = inference.Served(), random.Random(1)
+    def library(self):
         with mock.patch.object(inference, 'SERVER', self.server):
-            for _ in range(300):
-                line = 'x' * drawn.choice([0, 1, 2, 5, 9])
-                data = drawn.randbytes(drawn.choice([0, 1, 7, 8, 4096, 70000]))
-                self.assertEqual(served.ask([line], data), (len(line), line.encode() + b'\n' + data))
-            status, text = served.ask(['long'], b'abc')
-            self.assertEqual((status, len(text), text[:8]), (4, 3000008, b'long\nabc'))
-            self.assertEqual(served.ask(['memory'], b'abc'), (10, b''))
-            self.assertEqual(served.ask(['explain', '1', '2'], b'{}'), (11, b'explain 1 2\n{}'))
-        process = served.process
-        served.close()
-        self.assertIsNotNone(process.returncode)
+            made = inference.Library()
+        self.addCleanup(made.close)
+        return made
+
+    def test_answers_one_after_the_other(self):
+        library, drawn = self.library(), random.Random(1)
+        for _ in range(300):
+            line = 'x' * drawn.choice([0, 1, 2, 5, 9])
+            data = drawn.randbytes(drawn.choice([0, 1, 7, 8, 4096, 70000]))
+            self.assertEqual(library.ask([line], data), (len(line), ('%s\n%s' % (line, data.hex())).encode()))
+        status, text = library.ask(['long'], b'abc')
+        self.assertEqual((status, len(text), text[:11]), (4, 3000011, b'long\n616263'))
+        self.assertEqual(library.ask(['explain', '1', '2'], b'{}'), (11, b'explain 1 2\n7b7d'))
+
+    def test_each_unit_of_a_file_is_answered(self):
+        told = self.library().told(['lint'], 'a.jsx', 'function C(é) { return <b/>; }\nfunction* g() {}\n'.encode())
+        component, generator = told['functions']
+        self.assertEqual((component['name'], component['status'], component['text']), ('C', 4, 'lint\n"Component"'))
+        self.assertNotIn('unit', component)
+        self.assertEqual((generator['name'], 'status' in generator, 'refused' in generator), ('g', False, True))
+        told = self.library().told(['lint'], 'a.jsx', b'function (')
+        self.assertEqual((told['error']['kind'], told['error']['line']), ('syntax', 1))
+
+    def test_it_is_the_front_end_too(self):
+        told = inference.units_of(self.library().front, 'a.jsx', b'function C() { return <b/>; }')
+        self.assertEqual([function['unit'][:1] for function in told['functions']], [b'{'])
 
     def test_a_process_that_ends_is_started_again(self):
-        served = inference.Served()
-        with mock.patch.object(inference, 'SERVER', self.server):
-            self.assertEqual(served.ask(['end'], b''), (inference.ENDED, b''))
-            self.assertEqual(served.ask(['a'], b'b'), (1, b'a\nb'))
-        served.close()
+        library = self.library()
+        self.assertEqual(library.ask(['end'], b''), (inference.ENDED, b''))
+        self.assertEqual(library.ask(['a'], b'b'), (1, b'a\n62'))
+        process = library.front.process.process
+        library.close()
+        self.assertIsNotNone(process.returncode)
 
-    def test_the_end_of_the_input(self):
-        def status(data):
-            return subprocess.run([self.server], input=data, stdout=subprocess.DEVNULL, check=False).returncode
+    def test_a_process_that_is_stopped_is_started_again(self):
+        library = self.library()
+        self.assertEqual(library.ask(['a'], b'b'), (1, b'a\n62'))
+        library.stop()
+        library.front.process.process.wait()
+        self.assertEqual(library.ask(['a'], b'b'), (inference.ENDED, b''))
+        self.assertEqual(library.ask(['a'], b'b'), (1, b'a\n62'))
 
-        whole = struct.pack('<2I', 1, 2) + b'abc'
-        self.assertEqual([status(b''), status(whole), status(whole + whole)], [0, 0, 0])
-        for length in range(1, len(whole)):
-            self.assertEqual(status(whole + whole[:length]), 1)
-
-    def test_no_server_is_taken_that_is_of_other_sources(self):
-        with mock.patch.object(inference, 'SERVER', self.server), mock.patch.object(inference, 'STAMP',
-                                                                                    self.server + '_built_from'):
-            self.assertFalse(inference.is_served())
+    def test_no_addon_is_taken_that_is_of_other_sources(self):
+        addon = os.path.join(self.room.name, 'jirrambeo.node')
+        with mock.patch.object(inference, 'ADDON', addon), mock.patch.object(inference, 'STAMP', addon + '_built_from'):
+            self.assertFalse(inference.has_library())
             with open(inference.STAMP, 'w', encoding='ascii') as file:
-                file.write(inference.server_digest())
-            self.assertTrue(inference.is_served())
+                file.write(inference.addon_digest())
+            self.assertFalse(inference.has_library())
+            with open(addon, 'wb'):
+                pass
+            self.assertTrue(inference.has_library())
             with mock.patch.object(inference, 'digest_now', return_value='other'):
-                self.assertFalse(inference.is_served())
-        self.assertIsInstance(inference.inference(False), inference.Started)
+                self.assertFalse(inference.has_library())
+            self.assertIsInstance(inference.inference(False), inference.Started)
+            self.assertIsInstance(inference.inference(True), inference.Library)
 
 
 if __name__ == '__main__':

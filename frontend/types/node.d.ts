@@ -10,6 +10,7 @@ declare module 'node:fs';
 declare module 'node:module';
 declare module 'node:os';
 declare module 'node:path';
+declare module 'node:readline';
 declare module 'node:test';
 declare module 'node:worker_threads';
 declare const process: any;
