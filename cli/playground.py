@@ -8,6 +8,7 @@ import hashlib
 import json
 import os
 import subprocess
+import sys
 import threading
 import time
 import webbrowser
@@ -32,6 +33,20 @@ MOST = 1 << 16  # bytes of a text
 MOST_CERTIFICATE = 1 << 20  # bytes of one that is shown
 TIME = 20  # seconds for an answer
 TOO_LONG = 'The text is too long: it has %s bytes, and %s are the most that is looked at here.'
+TOO_SLOW = 'There is no answer after %d seconds.'
+
+
+class Late(threading.Timer):
+    """Ends what takes too long."""
+
+    def __init__(self, stop):
+        super().__init__(TIME, self.over)
+        self.stop, self.is_over = stop, False
+        self.start()
+
+    def over(self):
+        self.is_over = True
+        self.stop()
 
 
 class Playground:
@@ -90,12 +105,12 @@ class Playground:
         if not isinstance(text, str) or not isinstance(number, int) or path not in ('/told', '/certificate'):
             return None
         with self.lock:
-            late = threading.Timer(TIME, self.program.stop)
-            late.start()
+            late = Late(self.program.stop)
             try:
-                return self.told(text) if path == '/told' else self.certificate(text, number)
+                told = self.told(text) if path == '/told' else self.certificate(text, number)
             finally:
                 late.cancel()
+        return {'sentence': TOO_SLOW % TIME} if late.is_over else told
 
     def close(self):
         self.program.close()
@@ -171,15 +186,23 @@ class Handler(BaseHTTPRequestHandler):
         pass
 
 
+class Server(ThreadingHTTPServer):
+    daemon_threads = True
+
+    def handle_error(self, *given):
+        """A page that is closed waits for no answer."""
+        if not isinstance(sys.exc_info()[1], OSError):
+            super().handle_error(*given)
+
+
 def server(port, proved):
     """The server, on this port, or on any where none is named and the usual one is taken."""
     try:
-        made = ThreadingHTTPServer((ADDRESS, PORT if port is None else port), Handler)
+        made = Server((ADDRESS, PORT if port is None else port), Handler)
     except OSError:
         if port is not None:
             raise
-        made = ThreadingHTTPServer((ADDRESS, 0), Handler)
-    made.daemon_threads = True
+        made = Server((ADDRESS, 0), Handler)
     made.page = page({'title': 'playground', 'first': read(FIRST), 'examples': examples(), 'most': MOST}, PLAYGROUND)
     made.policy, made.playground = policy(made.page), Playground(proved)
     return made
@@ -208,6 +231,8 @@ def playground(words):
         return 2
     address = 'http://%s:%d/' % (ADDRESS, made.server_port)
     print('%s shows what is typed; Ctrl-C ends it' % address, flush=True)
+    if proved:  # the first answer starts what answers
+        threading.Thread(target=made.playground.answer, args=('/told', {'text': ''}), daemon=True).start()
     if given.open:
         webbrowser.open(address)
     try:

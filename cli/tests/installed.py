@@ -16,13 +16,13 @@ class Installed:
     def __init__(self, script=None):
         self.room = tempfile.TemporaryDirectory()
         self.top = os.path.realpath(self.room.name)
-        for name in ('jirrambeo', 'cli', 'frontend'):
+        for name in ('jirrambeo', 'cli', 'frontend', 'examples'):
             path = os.path.join(ROOT, name)
             if name == 'cli':
                 shutil.copytree(path,
                                 os.path.join(self.top, name),
                                 ignore=shutil.ignore_patterns('__pycache__', 'tests'))
-            elif name == 'frontend':
+            elif name in ('frontend', 'examples'):
                 os.symlink(path, os.path.join(self.top, name))
             else:
                 shutil.copy(path, self.top)

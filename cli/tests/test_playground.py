@@ -2,6 +2,10 @@
 import http.client
 import json
 import os
+import re
+import socket
+import subprocess
+import sys
 import threading
 import unittest
 from unittest import mock
@@ -10,6 +14,7 @@ from cli import front, playground
 from cli.inference import Started
 from cli.sources import BUILT
 from cli.tests.browser import BROWSER, CONTROL, SHIFT, Browser
+from cli.tests.installed import Installed
 
 PROGRAM = os.environ.get('JIRRAMBEO', BUILT).split(' ')
 PROPS = 'function C(props) {\n  props.n = 1;\n  return <b>{props.n}</b>;\n}\n'
@@ -23,15 +28,17 @@ class Said:
     is_proved, AT_ONCE = True, 1
 
     def __init__(self):
-        self.front, self.asked = mock.Mock(), []
+        self.front, self.asked, self.stopped = mock.Mock(), [], threading.Event()
         self.front.functions.side_effect = self.functions
 
     def functions(self, file, data):
         self.asked.append(data.decode())
+        if data == b'long':
+            self.stopped.wait()
         return {'functions': []}
 
     def stop(self):
-        pass
+        self.stopped.set()
 
     def close(self):
         pass
@@ -129,6 +136,13 @@ class Serving(unittest.TestCase):
         self.assertEqual((status, 'too long' in json.loads(text)['sentence']), (413, True))
         self.assertEqual(self.told({'text': ' ' * playground.MOST})[0], 200)
 
+    def test_what_takes_too_long_is_ended(self):
+        with mock.patch.object(playground, 'TIME', 0.05):
+            told = json.loads(self.told({'text': 'long'})[1])
+        self.assertEqual(told, {'sentence': 'There is no answer after 0 seconds.'})
+        self.assertTrue(self.said.stopped.is_set())
+        self.assertIn('units', json.loads(self.told({'text': 'x'})[1]))
+
     def test_what_is_no_question(self):
         for question in (1, [], {}, {'text': 1}, {'text': 'x', 'unit': 'y'}):
             self.assertEqual(self.told(question)[0], 400, question)
@@ -136,6 +150,32 @@ class Serving(unittest.TestCase):
             self.assertEqual(self.running.ask('POST', '/told', body)[0], 400)
         self.assertEqual(self.running.ask('POST', '/other', b'{"text": ""}')[0], 400)
         self.assertEqual(json.loads(self.told({'text': ''})[1]), {'units': [], 'shown': 0, 'uses': {}, 'notes': []})
+
+
+@unittest.skipUnless(parsed(), 'source can\'t be read here')
+class Called(unittest.TestCase):
+    def test_the_command_serves_until_it_is_ended(self):
+        with Installed('#!/bin/sh\nexit 3\n') as installed:
+            words = [sys.executable, os.path.join(installed.top, 'jirrambeo'), 'playground', '--port', '0']
+            process = subprocess.Popen(words, stdout=subprocess.PIPE, text=True)
+            address = process.stdout.readline().split()[0]
+            port = int(re.fullmatch(r'http://127\.0\.0\.1:(\d+)/', address)[1])
+            connection = http.client.HTTPConnection('127.0.0.1', port, timeout=60)
+            connection.request('GET', '/')
+            page = connection.getresponse().read().decode()
+            connection.close()
+            process.terminate()
+            status = process.wait(60)
+            process.stdout.close()
+        self.assertEqual(status, 0)
+        self.assertIn('a prop is set', page)  # of the examples
+        self.assertIn('export function Cart', page)
+
+    def test_a_port_that_is_taken(self):
+        with Installed('#!/bin/sh\nexit 3\n') as installed, socket.create_server(('127.0.0.1', 0)) as taken:
+            status, _, said = installed.run('playground', '--port', str(taken.getsockname()[1]))
+        self.assertEqual(status, 2)
+        self.assertIn('can\'t be had', said)
 
 
 @unittest.skipUnless(BROWSER, 'no chromium is installed (apt-get install chromium)')

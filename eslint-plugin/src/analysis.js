@@ -52,6 +52,7 @@ function refusalOf(text, made, positions) {
 function foundIn(made, {status, text}, positions) {
   if (status !== 0) return [refusalOf(text, made, positions)];
   const lines = text.split('\n').filter(line => line.startsWith('lint '));
+  if (lines.length === 0) return [];
   return reports(lines, made.unit, positions).map(report => ({category: report.category, message: messageOf(report), loc: locOf(report.range)}));
 }
 

@@ -10,6 +10,5 @@ const isPacked = fs.existsSync(path.join(VENDOR, 'frontend'));
 const FRONTEND = isPacked ? path.join(VENDOR, 'frontend') : path.join(TOP, 'frontend/src');
 const HOST = isPacked ? path.join(VENDOR, 'node') : path.join(TOP, 'hosts/node');
 const ADDON = isPacked ? path.join(VENDOR, 'node/jirrambeo.node') : path.join(TOP, 'hosts/lib/jirrambeo.node');
-const SERVER = isPacked ? path.join(VENDOR, 'serve') : path.join(TOP, 'hosts/lib/serve');
 
-module.exports = {FRONTEND, HOST, ADDON, SERVER};
+module.exports = {FRONTEND, HOST, ADDON};

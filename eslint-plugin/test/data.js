@@ -6,7 +6,7 @@ const {Module} = require('node:module');
 
 process.env.NODE_PATH = [process.env.NODE_PATH, '/usr/share/nodejs'].filter(Boolean).join(':'); // where Debian's modules look
 /** @type {any} */ (Module)._initPaths();
-const {ADDON, SERVER} = require('../src/parts.js');
+const {ADDON} = require('../src/parts.js');
 
 /** A module that may not be there. @returns {any} */
 function given(name) {
@@ -19,7 +19,7 @@ function given(name) {
 }
 
 const eslint = given('eslint');
-const isThere = fs.existsSync(ADDON) || fs.existsSync(SERVER);
+const isThere = fs.existsSync(ADDON);
 /** What `node --test` says of a test that wants ESLint and the inference. */
 const skip = !eslint ? 'eslint is not there' : !isThere ? 'the inference is not built: hosts/node/build' : false;
 const plugin = /** @type {any} */ (require('../src/index.js'));

@@ -2,12 +2,9 @@
 /** The plugin around the rules: one analysis a file, configurations, comments, parsers, refusals, what isn't there. */
 const test = require('node:test');
 const assert = require('node:assert');
-const fs = require('node:fs');
 const {eslint, skip, plugin, PARSER_OPTIONS, linterOf, messages, given: parser} = require('./data.js');
 const {analysis} = skip ? {analysis: null} : require('../src/analysis.js');
 const {lint} = require('../src/inference.js');
-const {ADDON, SERVER} = require('../src/parts.js');
-const {unitsOf} = require('../../frontend/src/index.js');
 
 const PROPS = 'function C(props) {\n  props.n = 1;\n  return <b>{props.n}</b>;\n}\n';
 
@@ -119,18 +116,6 @@ test('@typescript-eslint/parser', {skip: skip || (parser('@typescript-eslint/par
   assert.deepStrictEqual(found.map(m => [m.ruleId, m.line]), [['jirrambeo/immutability', 2]]);
 });
 
-test('the server says what the addon says', {skip: skip || (fs.existsSync(ADDON) && fs.existsSync(SERVER) ? false : 'one of the two is not built')}, () => {
-  const units = unitsOf(`${PROPS} function useX(o) { o.n = 1; return useState(o); } const f = () => 1;`).map(made => made.unit);
-  const said = lint(units, {addon: ADDON, server: '/nowhere'});
-  assert.deepStrictEqual(said.map(({status, text}) => [status, text.split('\n').length - 1]), [[0, 2], [0, 2], [0, 1]]);
-  assert.deepStrictEqual(lint(units, {addon: '/nowhere', server: SERVER}), said);
-  assert.deepStrictEqual(lint([], {addon: '/nowhere', server: SERVER}), []);
-});
-
 test('without the inference a sentence says what to do', () => {
-  assert.throws(() => lint([{}], {addon: '/nowhere', server: '/nowhere'}), /the inference isn't there\. `hosts\/build` and then `hosts\/node\/build` make it/);
-});
-
-test('a server that ends early is told', () => {
-  assert.throws(() => lint([{}], {addon: '/nowhere', server: '/bin/true'}), /\/bin\/true failed: /);
+  assert.throws(() => lint([{}], '/nowhere'), /the inference isn't there\. `hosts\/build` makes it/);
 });

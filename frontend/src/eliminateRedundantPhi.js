@@ -51,7 +51,7 @@ function redundant(blocks) {
       });
     }
   }
-  return now;
+  return {now, isAny: versions.size > 0};
 }
 
 /**
@@ -60,8 +60,9 @@ function redundant(blocks) {
  */
 function eliminateRedundantPhi(fn, unknown) {
   const blocks = allBlocks(fn);
-  const now = redundant(blocks);
-  const renamed = place => ({...place, ident: now(place.ident)});
+  const {now, isAny} = redundant(blocks);
+  if (!isAny && unknown.size === 0) return;
+  const renamed = ({ident, start, end}) => ({ident: now(ident), start, end});
   const read = place => {
     const known = renamed(place);
     if (unknown.has(known.ident)) throw new Refused('a use before the declaration', place, known.ident.name);

@@ -19,21 +19,38 @@ const RENAMED = {
 const placeOf = node => (typeof node.start === 'number' ? {start: node.start, end: node.end}
   : {start: node.range[0], end: node.range[1]});
 
-/** A copy of the node with all nodes below it turned. @param {*} node */
+/** The node with all nodes below it turned: itself where none of them changes. @param {*} node */
 function copied(node) {
+  /** @type {Array<*>} keys, each with its value behind it */
+  const changed = [];
+  for (const key in node) {
+    const value = node[key];
+    if (value === null || typeof value !== 'object' || LEFT_OUT.has(key)) continue;
+    const now = Array.isArray(value) ? allTurned(value) : turned(value);
+    if (now !== value) changed.push(key, now);
+  }
+  if (changed.length === 0 && typeof node.start === 'number' && !RENAMED[node.type]) return node;
   /** @type {Node} */
   const out = {type: RENAMED[node.type] || node.type, ...placeOf(node)};
-  for (const key of Object.keys(node)) {
-    if (LEFT_OUT.has(key)) continue;
-    const value = node[key];
-    if (value === null || typeof value !== 'object') out[key] = value;
-    else out[key] = Array.isArray(value) ? value.filter(x => !isDirective(x)).map(turned) : turned(value);
-  }
+  for (const key in node) if (!LEFT_OUT.has(key) && typeof node[key] !== 'function') out[key] = node[key];
+  for (let i = 0; i < changed.length; i += 2) out[changed[i]] = changed[i + 1];
   return out;
 }
 
+/** The list with all nodes in it turned, and without directives: itself where nothing changes. @param {Array<*>} list */
+function allTurned(list) {
+  /** @type {?Array<*>} */
+  let out = null;
+  list.forEach((item, i) => {
+    const now = isDirective(item) ? null : turned(item);
+    if (!out && (now !== item || isDirective(item))) out = list.slice(0, i);
+    if (out && !isDirective(item)) out.push(now);
+  });
+  return out || list;
+}
+
 /** As "use strict": Babel keeps them apart. @param {*} x */
-const isDirective = x => isNode(x) && x.type === 'ExpressionStatement' && typeof x.directive === 'string';
+const isDirective = x => x !== null && x.type === 'ExpressionStatement' && typeof x.directive === 'string';
 
 function turned(value) {
   if (!isNode(value)) return value;
@@ -60,7 +77,8 @@ function method(node, type) {
 
 function property(node) {
   if (node.method || node.kind === 'get' || node.kind === 'set') return method(node, 'ObjectMethod');
-  return {...copied(node), type: 'ObjectProperty'};
+  return {type: 'ObjectProperty', ...placeOf(node), key: turned(node.key), value: turned(node.value), computed: node.computed,
+    shorthand: node.shorthand};
 }
 
 /** Within an optional chain Babel has nodes of their own. */
@@ -103,13 +121,9 @@ const TURNS = {
   /** espree's texts of a template begin and end with what is around them. */
   TemplateLiteral(node) {
     const out = copied(node);
-    if (placeOf(node.quasis[0]).start === out.start) {
-      for (const q of out.quasis) {
-        q.start += 1;
-        q.end -= q.tail ? 1 : 2;
-      }
-    }
-    return out;
+    if (placeOf(node.quasis[0]).start !== out.start) return out;
+    const quasis = node.quasis.map(q => ({...copied(q), start: placeOf(q).start + 1, end: placeOf(q).end - (q.tail ? 1 : 2)}));
+    return {...out, quasis};
   },
   JSXText: node => ({type: 'JSXText', ...placeOf(node), value: node.value}),
   /** In Babel's tree an export of all under a name is one of a specifier. */

@@ -128,6 +128,7 @@ function joined(entry, blocks) {
  * @param {Map<number, Block>} all
  */
 function mergeConsecutiveBlocks(entry, all) {
+  if (all.size === 1 && successors(all.get(entry).terminal).length === 0) return all;
   const blocks = pruneMaybeThrows(entry, reversePostorderBlocks(entry, all));
   markPredecessors(blocks);
   const kept = joined(entry, blocks);

@@ -41,7 +41,7 @@ function sourceMap(unit, positions) {
  */
 function reports(lines, unit, positions) {
   const ranges = new Ranges(positions);
-  const map = sourceMap(unit, positions);
+  const functions = [...unit.functions, unit.root];
   const seen = new Set();
   const out = [];
   for (const line of lines) {
@@ -55,7 +55,7 @@ function reports(lines, unit, positions) {
     }
     const number = fn === 'root' ? unit.functions.length : Number(fn);
     const range = labels.length > 0 ? labels[0].range
-      : at === 'end' ? map.functions[number].range : map.functions[number].instructions[Number(at)].range;
+      : ranges.of(at === 'end' ? functions[number].span : functions[number].instructions[Number(at)].span);
     const key = JSON.stringify([category, text(tokens[0]), text(tokens[1]), labels]);
     if (seen.has(key)) continue;
     seen.add(key);

@@ -27,12 +27,12 @@ const isTypeOnly = node => (/^(TS|Declare|Interface|Opaque)/.test(node.type) || 
 /** The nodes directly below, in order of their fields. @param {Node} node @returns {Array<Node>} */
 function children(node) {
   const out = [];
-  for (const key of Object.keys(node)) {
-    if (SKIPPED.has(key)) continue;
+  for (const key in node) {
     const value = node[key];
+    if (value === null || typeof value !== 'object' || SKIPPED.has(key)) continue;
     if (Array.isArray(value)) {
       for (const item of value) if (isNode(item)) out.push(item);
-    } else if (isNode(value)) out.push(value);
+    } else if (typeof value.type === 'string') out.push(value);
   }
   return out;
 }

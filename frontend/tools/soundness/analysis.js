@@ -7,7 +7,7 @@ const {parse} = require('../../src/parse.js');
 const {functionsOf, Refused} = require('../../src/index.js');
 const {compile} = require('../../src/compile.js');
 const {Emitter, CONFIG} = require('../../src/unit.js');
-const {READS, successors} = require('../../src/HIR.js');
+const {FIELDS, successors} = require('../../src/HIR.js');
 const {run} = require('../program.js');
 
 class Numbered extends Emitter {
@@ -33,7 +33,7 @@ function placesOf(x, how) {
 
 /** Identifiers that a value reads; of functions their context places. */
 function readsOf(value) {
-  const places = Object.entries(READS[value.kind]).flatMap(([field, how]) => placesOf(value[field], how));
+  const places = FIELDS[value.kind].flatMap(({field, how}) => placesOf(value[field], how));
   if (value.kind === 'Destructure') places.push(...(value.lvalue.pattern.object || []).flatMap(p => (p.computed ? [p.computed] : [])));
   if (value.kind === 'StoreContext') places.push(value.lvalue.place);
   if (value.fn) places.push(...value.fn.context);
