@@ -30,6 +30,7 @@ FILE = 'playground.jsx'
 FIRST = os.path.join(HERE, 'examples', 'cart.jsx')  # what the page begins with
 EXAMPLES = os.path.join(front.FOLDER, 'tools', 'examples.js')
 MOST = 1 << 16  # bytes of a text
+MOST_DRAINED = 1 << 26  # bytes that are read of a question that is too long
 MOST_CERTIFICATE = 1 << 20  # bytes of one that is shown
 TIME = 20  # seconds for an answer
 TOO_LONG = 'The text is too long: it has %s bytes, and %s are the most that is looked at here.'
@@ -37,16 +38,17 @@ TOO_SLOW = 'There is no answer after %d seconds.'
 
 
 class Late(threading.Timer):
-    """Ends what takes too long."""
+    """Ends what takes too long. Of sources that are run unproved each run does."""
 
-    def __init__(self, stop):
+    def __init__(self, program):
         super().__init__(TIME, self.over)
-        self.stop, self.is_over = stop, False
-        self.start()
+        self.program, self.is_over = program, False
+        if program.is_proved:
+            self.start()
 
     def over(self):
         self.is_over = True
-        self.stop()
+        self.program.stop()
 
 
 class Playground:
@@ -105,7 +107,7 @@ class Playground:
         if not isinstance(text, str) or not isinstance(number, int) or path not in ('/told', '/certificate'):
             return None
         with self.lock:
-            late = Late(self.program.stop)
+            late = Late(self.program)
             try:
                 told = self.told(text) if path == '/told' else self.certificate(text, number)
             finally:
@@ -161,6 +163,7 @@ class Handler(BaseHTTPRequestHandler):
         if not self.is_own() or self.headers.get_content_type() != 'application/json':
             return self.tell(403, 'text/plain', 'This server answers its own page alone.\n', {'Connection': 'close'})
         if not length.isdecimal() or int(length) > 8 * MOST:
+            self.drain(int(length) if length.isdecimal() else 0)
             sentence = TOO_LONG % (length or 'many', format(MOST, ','))
             return self.tell(413, 'application/json', json.dumps({'sentence': sentence}), {'Connection': 'close'})
         try:
@@ -170,6 +173,12 @@ class Handler(BaseHTTPRequestHandler):
         if told is None:
             return self.tell(400, 'application/json', '{"sentence": "This is no question."}')
         return self.tell(200, 'application/json', json.dumps(told))
+
+    def drain(self, length):
+        """Reads what is sent and keeps nothing: who still sends wouldn't see the answer."""
+        left = min(length, MOST_DRAINED)
+        while left > 0 and self.rfile.read(min(left, MOST)):
+            left -= MOST
 
     def tell(self, status, kind, text, more=()):
         data = text.encode(errors='replace')

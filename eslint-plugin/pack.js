@@ -24,7 +24,7 @@ function clear() {
 
 function copy() {
   const missing = Object.values(FROM).find(from => !fs.existsSync(path.join(TOP, from)));
-  if (missing) throw new Error(`${missing} isn't there: hosts/build and then hosts/node/build make it`);
+  if (missing) throw new Error(`${missing} isn't there: hosts/build makes it`);
   fs.copyFileSync(path.join(TOP, 'LICENSE'), LICENSE);
   for (const [to, from] of Object.entries(FROM)) fs.cpSync(path.join(TOP, from), path.join(VENDOR, to), {recursive: true});
 }

@@ -13,6 +13,8 @@ let tab = 'instructions';
 DATA = EMPTY;
 const editor = new Editor((text) => take(text));
 const asker = new Asker('/told', (told, { text }, time) => answer(told, text, time));
+const SLOW = 300; // milliseconds after which it is said that an answer is awaited
+let waiting = 0;
 
 function say(text) {
   sentence.textContent = text;
@@ -23,7 +25,11 @@ function say(text) {
 function take(text) {
   const { length } = new TextEncoder().encode(text);
   if (length > PLAY.most) say(`The text is too long: it has ${length.toLocaleString('en')} bytes, and ${PLAY.most.toLocaleString('en')} are the most that is looked at here.`);
-  else asker.ask({ text });
+  else {
+    clearTimeout(waiting);
+    waiting = setTimeout(() => { took.textContent = '..'; }, SLOW);
+    asker.ask({ text });
+  }
   keep(text);
 }
 
@@ -36,6 +42,7 @@ function keep(text) {
 // Shows what was told of a text, where that is still the one.
 function answer(told, text, time) {
   if (text !== editor.value) return;
+  clearTimeout(waiting);
   say(told.sentence || '');
   if (told.sentence) return;
   const line = editor.caretLine();

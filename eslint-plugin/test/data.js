@@ -21,7 +21,7 @@ function given(name) {
 const eslint = given('eslint');
 const isThere = fs.existsSync(ADDON);
 /** What `node --test` says of a test that wants ESLint and the inference. */
-const skip = !eslint ? 'eslint is not there' : !isThere ? 'the inference is not built: hosts/node/build' : false;
+const skip = !eslint ? 'eslint is not there' : !isThere ? 'the inference is not built: hosts/build' : false;
 const plugin = /** @type {any} */ (require('../src/index.js'));
 
 const PARSER_OPTIONS = {ecmaVersion: 2020, sourceType: 'module', ecmaFeatures: {jsx: true}};

@@ -2,6 +2,8 @@
 /** ESLint 8 and 9, by a stand-in for what they hand to a rule: the same is reported as by the ESLint that is there. */
 const test = require('node:test');
 const assert = require('node:assert');
+const fs = require('node:fs');
+const path = require('node:path');
 const {skip, plugin, PARSER_OPTIONS, messages, given} = require('./data.js');
 const {verify} = require('./standin.js');
 const {WRONG, RIGHT} = require('../../frontend/test/data/react.js');
@@ -35,7 +37,22 @@ for (const release of /** @type {Array<8 | 9>} */ ([8, 9])) {
   });
 }
 
-test('a flat configuration as README has it', {skip: why}, () => {
+/** The configuration that a README shows. @param {string} file */
+function shown(file) {
+  const text = fs.readFileSync(path.join(__dirname, file), 'utf8');
+  const [, code] = /```js\n([^`]*module\.exports[^`]*)```/.exec(text) || [];
+  const made = {exports: null};
+  new Function('module', 'require', code)(made, name => (name === 'eslint-plugin-jirrambeo' ? plugin : null));
+  return made.exports;
+}
+
+test('the flat configurations that are shown to users', {skip: why}, () => {
+  for (const file of ['../README.md', '../../README.md']) {
+    assert.deepStrictEqual(verify(PROPS, shown(file), {filename: 'a.jsx'}).map(one => one.ruleId), ['jirrambeo/immutability'], file);
+  }
+});
+
+test('flat configurations', {skip: why}, () => {
   assert.deepStrictEqual(verify(PROPS, [JSX, recommended]).map(one => one.ruleId), ['jirrambeo/immutability']);
   assert.deepStrictEqual(verify(PROPS, [JSX, recommended, {rules: {'jirrambeo/immutability': 'off'}}]), []);
   const unsupported = {rules: {'jirrambeo/report-unsupported': 'warn'}};

@@ -34,6 +34,7 @@ function copied(node) {
   const out = {type: RENAMED[node.type] || node.type, ...placeOf(node)};
   for (const key in node) if (!LEFT_OUT.has(key) && typeof node[key] !== 'function') out[key] = node[key];
   for (let i = 0; i < changed.length; i += 2) out[changed[i]] = changed[i + 1];
+  if (Array.isArray(node.body) && node.body.some(isDirective)) out.directives = node.body.filter(isDirective).map(directive);
   return out;
 }
 
@@ -48,6 +49,9 @@ function allTurned(list) {
   });
   return out || list;
 }
+
+/** @param {*} node a statement */
+const directive = node => ({type: 'Directive', ...placeOf(node), value: {type: 'DirectiveLiteral', ...placeOf(node), value: node.directive}});
 
 /** As "use strict": Babel keeps them apart. @param {*} x */
 const isDirective = x => x !== null && x.type === 'ExpressionStatement' && typeof x.directive === 'string';

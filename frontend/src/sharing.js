@@ -47,6 +47,22 @@ function inRound(binding, body) {
   return {isCaptured, isWritten};
 }
 
+/** @param {import('./syntax.js').Node} body a program's or a block's */
+const usesStrict = body => (body.directives || []).some(d => d.value.value === 'use strict');
+
+/** Whether code is strict, as far as it says so: by a directive, as a part of a class, or as that of a module. @param {import('./scope.js').Names} names @param {Func} func */
+function isStrict(names, func) {
+  for (let f = /** @type {?Func} */ (func); f; f = f.parent) {
+    const holder = names.parentOf.get(f.node);
+    if (usesStrict(f.node.body) || (holder && /^Class/.test(holder.type))) return true;
+  }
+  const {program} = names;
+  return usesStrict(program) || program.body.some(s => /^(Import|Export)/.test(s.type));
+}
+
+/** Whether `arguments` has its items for itself, where in old code they are the parameters. @param {import('./scope.js').Names} names @param {Func} func */
+const hasOwnArguments = (names, func) => func.node.params.some(p => p.type !== 'Identifier') || isStrict(names, func);
+
 /** A function without parameters of its own that does no more than its body, where it is called. @param {Func} func */
 function isPlain(func) {
   const {node} = func;
@@ -73,4 +89,4 @@ function markInlined(names, isMemo) {
   }
 }
 
-module.exports = {home, isShared, isLikeLet, inRound, markInlined};
+module.exports = {home, isShared, isLikeLet, inRound, hasOwnArguments, markInlined};

@@ -94,6 +94,15 @@ test('what is not lowered is refused, with its place', () => {
   }
 });
 
+test('a parameter may be written beside `arguments` where these have their items for themselves', () => {
+  const body = '{ a = a || {}; return [a, arguments.length]; }';
+  assert.strictEqual(refusedFor(`function f(a) ${body}`), '`arguments`');
+  assert.strictEqual(refusedFor(`const f = (() => function (a) ${body})();`), '`arguments`');
+  for (const source of [`"use strict"; function f(a) ${body}`, `export function f(a) ${body}`, `import x from "x"; function f(a) ${body}`,
+    `function f(a, b = 1) ${body}`, `function f(a, {b}) ${body}`, `class C { m(a) ${body} }`, 'function f(a) { "use strict"; a = 1; return arguments; }',
+    `function g() { "use strict"; return function (a) ${body}; }`]) assert.strictEqual(refusedFor(source), null, source);
+});
+
 test('a class in a function may read what is around it, and not write it', () => {
   const of = body => refusedFor(`function f(o) { let x; class A { m() { ${body} } } return A; }`);
   for (const body of ['x = 1;', 'o.p = 1;', 'o.p.q++;', 'delete o.p;', '[x] = [1];', '({a: o.b = 2, ...x} = {});', 'for (x of [1]) ;', '(() => { x ??= 1; })();']) {

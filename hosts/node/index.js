@@ -14,7 +14,7 @@ function loaded() {
       if (error.code !== 'MODULE_NOT_FOUND') throw error;
     }
   }
-  throw new Error('the addon isn\'t built: hosts/build and then hosts/node/build make it');
+  throw new Error('the addon isn\'t built: hosts/build makes it');
 }
 
 const addon = loaded();

@@ -9,7 +9,7 @@
  */
 const {Builder: HIRBuilder} = require('./builder.js');
 const {mergeConsecutiveBlocks} = require('../mergeConsecutiveBlocks.js');
-const {isLikeLet} = require('../sharing.js');
+const {isLikeLet, hasOwnArguments} = require('../sharing.js');
 const {Refused} = require('../refused.js');
 const hoisting = require('./hoisting.js');
 const assignments = require('./assignments.js');
@@ -90,16 +90,17 @@ function storeParameterProperty(b, param) {
 
 /**
  * A function that uses `arguments` gets them as a rest, of which its parameters are the first. (The React
- * Compiler refuses it.) A write of a parameter may be one of `arguments`, too, so it is refused.
+ * Compiler refuses it.) In old code a write of a parameter may be one of `arguments`, too, so it is refused there.
  * @param {Builder} b
  */
 function throughArguments(b) {
   const {node, args} = b.func;
+  const {names} = b.shared;
   const all = b.place(b.local(args.refs[0].node), args.node);
   const later = node.params.map((param, i) => () => {
     if (param.type === 'RestElement') throw new Refused('`arguments`', args.refs[0].node, 'and a rest');
-    const written = b.shared.names.declared.get(node).find(x => x.kind === 'param' && x.refs.some(r => r.write && !r.init));
-    if (written) throw new Refused('`arguments`', args.refs[0].node, `and a parameter that is written, ${written.name}`);
+    const written = names.declared.get(node).find(x => x.kind === 'param' && x.refs.some(r => r.write && !r.init));
+    if (written && !hasOwnArguments(names, b.func)) throw new Refused('`arguments`', args.refs[0].node, `and a parameter that is written, ${written.name}`);
     const value = b.emit({kind: 'PropertyLoad', object: all, name: String(i)}, param);
     assignments.lowerAssignment(b, param, 'Let', value, false, param);
   });

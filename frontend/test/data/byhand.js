@@ -58,6 +58,8 @@ module.exports.BY_HAND = {
   'this of an arrow': 'function f() { const o = {n: 2, m(l) { return l.map(x => x * this.n); }}; return o.m([1, 2]); }',
   'a constructor': 'function f() { function P(x) { this.x = x; } P.prototype.get = function () { return this.x; }; return [new P(3).get(), new P(4) instanceof P]; }',
   'arguments': 'function f(a, b) { const g = function (x) { return [x, arguments.length, arguments[1], ...arguments]; }; return [arguments.length, g(1, 2, 3), g()]; }',
+  'arguments beside written parameters, in strict code': 'function f(a, b) { "use strict"; a = {n: 2}; b = arguments[1]; arguments[0] = 5; const g = (c = 1) => { a.n++; return c; }; return [a, b, arguments[0], arguments.length, g()]; }',
+  'arguments beside written parameters, one with a default': 'function f(a, b = 3) { a = [a]; arguments[1] = 7; return [a, b, arguments[0], arguments[1], arguments.length]; }',
   'arguments of an arrow': 'function f(a, b) { return (() => [arguments[0], arguments.length])(); }',
   'arguments handed on': 'function f(a, b) { const sum = (...l) => l.length; const g = function ({k = 1} = {}) { return [k, sum.apply(null, arguments)]; }; return [g({k: 2}, 3), g()]; }',
   'a class': 'function f(a) { class P { k = 1; constructor(x) { this.x = x; } get2() { return [this.x, this.k, a]; } static make(x) { return new P(x); } } return [new P(1).get2(), P.make(2).x]; }',

@@ -8,7 +8,7 @@ const path = require('node:path');
 const TOP = path.join(__dirname, '../../..');
 const isBuilt = fs.existsSync(path.join(TOP, 'hosts/lib/jirrambeo.node'));
 /** What `node --test` says of a test that wants the addon. */
-const skip = isBuilt ? false : 'the addon is not built: hosts/node/build';
+const skip = isBuilt ? false : 'the addon is not built: hosts/build';
 /** @type {typeof import('../index')} */
 const jirrambeo = isBuilt ? require('../index.js') : /** @type {any} */ (null);
 
