@@ -77,7 +77,7 @@ reason f g alike all l old new lists causes id end same unset h =
     never_none f id all l old new lists causes unset
     (ap (cause_of f id) (sym same) ∙ sym (alike_cause f g alike id end) ∙ h)
 
-bare_alike : (f g : HirFunction) → AreAlike f g → bare g ≡ bare f
+pub bare_alike : (f g : HirFunction) → AreAlike f g → bare g ≡ bare f
 bare_alike f g alike = bare_of_places (without_summary g) (without_summary f) alike
 
 -- ---- an explanation

@@ -66,7 +66,7 @@ module _ (u : Environment) (g : HirFunction) (uninferred : function_is_uninferre
   effects_kept = effects_keep f env b p.end p.fits p.ended
 
   -- what stands in the function of the unit, or is new
-  abbrev Named : ℕ → Type 0
+  abbrev pub Named : ℕ → Type 0
   Named n = (is_among (identifiers_in u g) n ≡ true) ⊎ (length env.identifiers ≤ n)
 
   pub bare_same : bare f ≡ bare g
@@ -74,7 +74,7 @@ module _ (u : Environment) (g : HirFunction) (uninferred : function_is_uninferre
 
   -- what holds of what stands in the function of the unit holds of the places of a function that is the same but for
   -- what is inferred
-  own_places : (P : ℕ → Type 0) (h : HirFunction) → ((x : ℕ) → is_among (identifiers_in u g) x ≡ true → P x) → bare h
+  pub own_places : (P : ℕ → Type 0) (h : HirFunction) → ((x : ℕ) → is_among (identifiers_in u g) x ≡ true → P x) → bare h
       ≡ bare g → AllOwned P (places_in env h)
   own_places P h there e =
       let unit : AllOwned P (places_in u g) = by_numbers P (places_in u g) (all_there P (identifiers_in u g) there) in
@@ -97,7 +97,7 @@ module _ (u : Environment) (g : HirFunction) (uninferred : function_is_uninferre
   begun_effects : EffectsOwned Named begun
   begun_effects = recorded_all Named env p.end.solved f solved_names carried
 
-  begun_bare : bare begun ≡ bare g
+  pub begun_bare : bare begun ≡ bare g
   begun_bare = effects_kept.still ∙ bare_same
 
   begun_makes : FunctionMakes Named begun

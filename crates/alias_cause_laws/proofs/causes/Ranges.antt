@@ -173,14 +173,14 @@ module _ (u : HirUnit) (a : UnitAnalysis) (rules : rules_hold u ≡ Ok tt) (is :
         (λ t. past_ends x.env.identifiers n t.0)
         own
 
-    own_free : (n : ℕ) → IsOwn n → is_among (context_at u.env number) n ≡ false
+    pub own_free : (n : ℕ) → IsOwn n → is_among (context_at u.env number) n ≡ false
     own_free n own =
         ⊎_elim (λ s. s.1)
         (λ t. absent (is_among (context_at u.env number) n)
         (λ c. let below = context_below number n c in let g = grown in let past = t.0 in absurd (omega arith)))
         own
 
-    not_behind : (n : ℕ) → IsOwn n → (id : FunctionId) → IsOneOf id r.behind → is_among (identifiers_at u.env id.0) n
+    pub not_behind : (n : ℕ) → IsOwn n → (id : FunctionId) → IsOneOf id r.behind → is_among (identifiers_at u.env id.0) n
         ≡ true → ⊥
     not_behind n own id i other =
         let also : id.0 < length u.env.functions =
@@ -191,14 +191,14 @@ module _ (u : HirUnit) (a : UnitAnalysis) (rules : rules_hold u ≡ Ok tt) (is :
         (λ t. let below = at_below id.0 n other in let g = grown in let past = t.0 in absurd (omega arith))
         own
 
-    own_below : (n : ℕ) → IsOwn n → n < length r.left
+    pub own_below : (n : ℕ) → IsOwn n → n < length r.left
     own_below n own =
         let same = link_after u.env parts.environment r.id x r.left r.link in
         let more = passed_length x.env r.link.ran.end in
         let g = grown in
         ⊎_elim (λ s. let below = at_below number n s.0 in omega arith) (λ t. let below = t.1 in omega arith) own
 
-    not_root : (n : ℕ) → IsOwn n → ((is_among (identifiers_in u.env u.function) n ≡ true)
+    pub not_root : (n : ℕ) → IsOwn n → ((is_among (identifiers_in u.env u.function) n ≡ true)
         ⊎ (length nested.env.identifiers ≤ n)) → ⊥
     not_root n own named =
         ⊎_elim

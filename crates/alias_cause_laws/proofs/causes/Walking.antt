@@ -82,7 +82,7 @@ Chained u old (id ∷ ids) [] new = ⊥
 Chained u old (id ∷ ids) (x ∷ xs) new = (x.env.identifiers ≡ old) × (mid : List Identifier) × Link u id x mid
     × Chained u mid ids xs new
 
-chained_then : (u : Environment) (old mid new : List Identifier) (ids js : List FunctionId) (xs ys : List Analysed)
+pub chained_then : (u : Environment) (old mid new : List Identifier) (ids js : List FunctionId) (xs ys : List Analysed)
     → Chained u old ids xs mid → Chained u mid js ys new → Chained u old (ids ++ js) (xs ++ ys) new
 chained_then u old mid new [] js [] ys c d = subst (λ z. Chained u z js ys new) (sym c) d
 chained_then u old mid new [] js (x ∷ xs) ys c d = absurd c

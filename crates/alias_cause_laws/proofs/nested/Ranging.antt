@@ -49,7 +49,7 @@ use Rattle.alias_cause_laws.proofs.causes.Ranges.{order, parts, root, root_ran, 
 use Rattle.alias_cause_laws.proofs.causes.Ranges.{own_unset, own_stays}
 use Rattle.alias_cause_laws.proofs.causes.Recorded.{either_true}
 use Rattle.alias_cause_laws.proofs.causes.Walking.{Stored, stored_still}
-use Rattle.alias_cause_laws.proofs.nested.Leaving.{of_recorded}
+use Rattle.alias_cause_laws.proofs.nested.Leaving.{of_recorded, marked_definite}
 use Rattle.alias_cause_laws.proofs.nested.Mixing.{mixed, mixed_apart, mixed_there}
 use Rattle.alias_cause_laws.specs.nested.Nested.{IsNoContext, CoversOwn, CausesOwn, CoversOwnHeap, NestedRanged}
 use Rattle.alias_cause_laws.specs.nested.Nested.{NestedAreRanged}
@@ -206,6 +206,7 @@ module _ (u : HirUnit) (a : UnitAnalysis) (rules : rules_hold u ≡ Ok tt) (is :
         (record {
           cover = of_recorded first left.listing (λ l. CoversOwn first (graph_listed l) l.mutations env.identifiers)
               left.recorded covers;
+          definite = marked_definite true first env left.listing left.recorded;
           heap = covers_heap;
           cause = of_recorded first left.listing (λ l. CausesOwn first (graph_listed l) l.mutations env) left.recorded
               causes;

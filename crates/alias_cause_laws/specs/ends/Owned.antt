@@ -132,7 +132,7 @@ module _ (P : ℕ → Type 0) where
   pattern_owned (pattern.Array p) h = h
   pattern_owned (pattern.Object p) h = targets_owned p.properties h
 
-  lvalues_owned : (v : InstructionValue) → AllOwned (places_of v) → AllOwned (lvalues_of v)
+  pub lvalues_owned : (v : InstructionValue) → AllOwned (places_of v) → AllOwned (lvalues_of v)
   lvalues_owned (value.DeclareLocal lvalue) h = h
   lvalues_owned (value.Destructure lvalue x) h =
       pattern_owned lvalue.pattern (parts_of Owned (places_in_pattern lvalue.pattern) (x ∷ []) h).0

@@ -15,7 +15,7 @@ use Rattle.alias_hir.specs.declared.hir.HirFunction.{HirFunction}
 use Rattle.alias_nested.specs.Analysis.{Analysed}
 use Rattle.alias_nested.specs.Roots.{with_effects}
 use Rattle.alias_nested.specs.Units.{UnitAnalysis}
-use Rattle.alias_ranges.specs.Ranges.{ListsFlows}
+use Rattle.alias_ranges.specs.Ranges.{MarksAreDefinite, ListsFlows}
 use Rattle.alias_range_pass.specs.Refusals.{recorded}
 use Rattle.alias_range_pass.specs.places.Causes.{InstructionCause}
 use Rattle.alias_range_pass.specs.summary.Laws.{MutationCause}
@@ -56,10 +56,10 @@ CausesOwn f g ms env =
     ⊎ InstructionCause f.instructions id.0 (end_at env.identifiers id.0))
 
 -- What holds of a nested function, as its range pass begins, in the unit that is handed out: of range ends but for
--- context places, and of the summary
--- of the function in its slot, which ends with the flows.
+-- context places, of the marks of its walks, and of the summary of the function in its slot, which ends with the flows.
 pub record NestedRanged (f : HirFunction) (env : Environment) (slot : Option HirFunction) : Type 0 where
   pub cover : IsOkAnd (recorded f) (λ l. CoversOwn f (graph_listed l) l.mutations env.identifiers)
+  pub definite : MarksAreDefinite true f env
   pub heap : CoversOwnHeap f env.identifiers
   pub cause : IsOkAnd (recorded f) (λ l. CausesOwn f (graph_listed l) l.mutations env)
   pub flows : IsSomeAnd slot (λ g. IsSomeAnd g.aliasing_effects (ListsFlows f))
