@@ -3,14 +3,14 @@ needs.
 
 Where `rt ci` has passed in this folder, by `./check`, the proved libraries below the crate stand in crates/*/out, and
 the crate is proved and compiled over them, in a minute; else the gate proves a copy of them first, as `./jirrambeo
-build` does, and what is proved once is kept. Either way nothing is compiled that isn't proved."""
+build` does. Either way nothing is compiled that isn't proved."""
 import os
 import shutil
 import subprocess
 import sys
 
 from cli import inference
-from cli.building import alone, called, has_kit, made, proved
+from cli.building import alone, called, has_kit, made, note_built, proved
 from cli.inference import ADDON, has_library
 from cli.saying import FIRST_BUILD, say
 from cli.sources import CRATES, HERE, crates_in_order, digest
@@ -43,9 +43,18 @@ def kit_folder():
     return os.path.dirname(told.strip().split('\n')[-1])
 
 
-def note_passed():
-    """Notes that rt ci passed over the sources that are there, with what it proved in crates/*/out."""
-    write(PASSED, digest(crates_in_order(LIBRARY)))
+def standing():
+    """The digests of the sources that are there, of the library and of the program."""
+    return digest(crates_in_order(LIBRARY)), digest(crates_in_order())
+
+
+def note_passed(over):
+    """Notes that rt ci passed over the sources of these digests, if they are there still: it leaves what it proved in
+    crates/*/out, and the program where a build puts it."""
+    if standing() == over:
+        library, program = over
+        write(PASSED, library)
+        note_built(program)
 
 
 def library_of(name, top=HERE):

@@ -1,10 +1,10 @@
 """Proves and builds the program, or the library for hosts, by the kit's gate (`rt ci`) over a copy of the crates that
 it stands on.
 
-The gate proves crates side by side, the longest chain first, each over the statements alone of those below it, and
-keeps what it passed on this machine. So a build takes over what `./check` proved, and `./check` what a build did. The
-copy has no crates of tests and no edits, stands outside the repository, and goes when the build ends; of a build that
-is interrupted the crates that were proved stay kept, and the next one goes on from there."""
+The gate proves crates side by side, the longest chain first, each over the statements alone of those below it. The
+copy has no crates of tests and no edits, stands outside the repository, and goes when the build ends. Where `./check`
+has passed, the program that its gate built stands where a build puts it, and is taken as it is. Newer kits keep what a
+gate passed on this machine besides, so that a build that is interrupted goes on where it was."""
 import contextlib
 import fcntl
 import os
@@ -143,9 +143,14 @@ def build(names, wanted):
     if digest(names) != wanted:
         say('the sources changed while they were built: call again')
         return False
+    note_built(wanted)
+    return True
+
+
+def note_built(wanted):
+    """Notes that the program stands, built from the sources of the digest."""
     with open(STAMP, 'w', encoding='ascii') as stamp:
         stamp.write(wanted)
-    return True
 
 
 @contextlib.contextmanager
@@ -180,7 +185,7 @@ def interrupted(number, frame):
     raise KeyboardInterrupt
 
 
-def called(call, told='interrupted; what was proved is kept, and the next call goes on'):
+def called(call, told='interrupted'):
     """What a call answers; 130 where a signal ends it first, and then the gate that goes on has been ended too."""
     for number in (signal.SIGTERM, signal.SIGHUP):
         signal.signal(number, interrupted)

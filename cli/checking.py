@@ -2,7 +2,8 @@
 
 The certificate is what `certify` writes of the unit, or what anybody says in its place. The program has one input,
 the unit in one line and the certificate behind it; this makes it of two files. Without files the program reads that
-input from standard input. The exit status is the program's, and 2 where a file can't be read."""
+input from standard input. The exit status is the program's, and 2 where a file can't be read, or where both are to come
+from standard input."""
 import argparse
 import sys
 
@@ -14,8 +15,8 @@ def options(words):
     parser = argparse.ArgumentParser(prog='jirrambeo check',
                                      description=__doc__,
                                      formatter_class=argparse.RawDescriptionHelpFormatter)
-    parser.add_argument('unit', metavar='UNIT.json')
-    parser.add_argument('certificate', metavar='CERTIFICATE', help='a file, or - for standard input')
+    parser.add_argument('unit', metavar='UNIT.json', help='a file, or - for standard input')
+    parser.add_argument('certificate', metavar='CERTIFICATE', help='a file, or - for standard input, but not for both')
     return parser.parse_args(words)
 
 
@@ -37,6 +38,9 @@ def check(words):
     if not words:
         return run(['check'])
     given = options(words)
+    if given.unit == given.certificate == '-':
+        say("the unit and the certificate can't both be read from standard input")
+        return 2
     try:
         data = joined(read(given.unit), read(given.certificate))
     except OSError as error:

@@ -82,6 +82,17 @@ class Files(unittest.TestCase):
         self.assertEqual(found, (2, b'', None))
         self.assertIn('none: No such file or directory', told.getvalue())
 
+    def test_a_unit_from_standard_input(self):
+        _, _, asked = Output(0, b'').of(['-', self.CERTIFICATE], b'{}')
+        self.assertEqual(asked, (['check'], checking.joined(b'{}', read(self.CERTIFICATE))))
+
+    def test_standard_input_is_read_once(self):
+        told = io.StringIO()
+        with contextlib.redirect_stderr(told):
+            found = Output(0, b'').of(['-', '-'], b'{}')
+        self.assertEqual(found, (2, b'', None))
+        self.assertIn("can't both be read from standard input", told.getvalue())
+
     def test_one_file_is_no_call(self):
         with contextlib.redirect_stderr(io.StringIO()), self.assertRaises(SystemExit) as left:
             checking.check([self.UNIT])

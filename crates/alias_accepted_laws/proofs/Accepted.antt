@@ -23,4 +23,5 @@ nearby : RangePassIsNearlyAlike
 nearby env o f g b r carries answers = ranges_nearby env o f b r g carries answers
 
 pub certificates_are_accepted : CertificatesAreAccepted
-certificates_are_accepted = certificates_accepted said (passes_followed there spans_not_read) reads_are_set (ranges_followed nearby reads_no_span)
+certificates_are_accepted = certificates_accepted said (passes_followed there spans_not_read) reads_are_set
+    (ranges_followed nearby reads_no_span)

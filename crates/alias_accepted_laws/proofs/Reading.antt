@@ -1,5 +1,7 @@
--- What an effects pass notes of context places is of functions that an instruction creates that carries an effect afterwards.
-use Rattle.std.specs.Prelude.{◌≡◌, ℕ, Bool, true, List, [], ◌∷◌, length, replicate, Option, Some, None, Ok, slice_get, slice_index_or, is_some, refl}
+-- What an effects pass notes of context places is of functions that an instruction creates that carries an effect
+-- afterwards.
+use Rattle.std.specs.Prelude.{◌≡◌, ℕ, Bool, true, List, [], ◌∷◌, length, replicate, Option, Some, None, Ok, slice_get}
+use Rattle.std.specs.Prelude.{slice_index_or, is_some, refl}
 use Rattle.std.proofs.Common.{zero, suc, inl, inr, ap, sym, ◌∙◌, subst}
 use Rattle.std.specs.List.{flat_map, AllByRecursion}
 use Rattle.alias_base.specs.declared.ids.BlockId.{BlockId}
@@ -51,60 +53,96 @@ module _ (env : Environment) (func : HirFunction) (b : Bool) where
   abbrev F : FunctionId → Type 0
   F f = CreatedThere env func b f
 
-  module _ (slot : ℕ) (block : BlockId × BasicBlock) (reached : IsReached (numbered (context_of env func b)).flow slot) (there : slice_get func.body.blocks slot ≡ Some block) where
-    has_created : (id : InstructionId) (i : Instruction) → IsOneOf id block.1.instructions → slice_get func.instructions id.0 ≡ Some i → (o : Option FunctionId) → created i.value ≡ o → CreatesHas F o
+  module _ (slot : ℕ) (block : BlockId × BasicBlock) (reached : IsReached (numbered (context_of env func b)).flow slot)
+      (there : slice_get func.body.blocks slot ≡ Some block) where
+    has_created : (id : InstructionId) (i : Instruction) → IsOneOf id block.1.instructions
+        → slice_get func.instructions id.0 ≡ Some i → (o : Option FunctionId) → created i.value ≡ o → CreatesHas F o
     has_created id i listed at None e = tt
-    has_created id i listed at (Some f) e = record { slot = slot; reached = reached; block = block; block_there = there; id = id; listed = listed; instruction = i; there = at; creates = e }
+    has_created id i listed at (Some f) e =
+        record {
+          slot = slot;
+          reached = reached;
+          block = block;
+          block_there = there;
+          id = id;
+          listed = listed;
+          instruction = i;
+          there = at;
+          creates = e;
+        }
 
-    created_at : (id : InstructionId) → IsOneOf id block.1.instructions → (o : Option Instruction) → slice_get func.instructions id.0 ≡ o → CreatesAt F o
+    created_at : (id : InstructionId) → IsOneOf id block.1.instructions → (o : Option Instruction)
+        → slice_get func.instructions id.0 ≡ o → CreatesAt F o
     created_at id listed None at = tt
     created_at id listed (Some i) at = has_created id i listed at (created i.value) refl
 
-    all_created : (ids : List InstructionId) → ((id : InstructionId) → IsOneOf id ids → IsOneOf id block.1.instructions) → AllByRecursion (λ (i : InstructionId). CreatesAt F (slice_get func.instructions i.0)) ids
+    all_created : (ids : List InstructionId) → ((id : InstructionId) → IsOneOf id ids → IsOneOf id block.1.instructions)
+        → AllByRecursion (λ (i : InstructionId). CreatesAt F (slice_get func.instructions i.0)) ids
     all_created [] within = tt
-    all_created (id ∷ ids) within = (created_at id (within id (inl refl)) (slice_get func.instructions id.0) refl, all_created ids (λ j i. within j (inr i)))
+    all_created (id ∷ ids) within = (
+      created_at id (within id (inl refl)) (slice_get func.instructions id.0) refl,
+      all_created ids (λ j i. within j (inr i)),
+    )
 
-  pub reached_create : (slot : ℕ) (block : BlockId × BasicBlock) → IsReached (numbered (context_of env func b)).flow slot → slice_get func.body.blocks slot ≡ Some block → CreateIn F func block
+  pub reached_create : (slot : ℕ) (block : BlockId × BasicBlock)
+      → IsReached (numbered (context_of env func b)).flow slot → slice_get func.body.blocks slot ≡ Some block
+      → CreateIn F func block
   reached_create slot block reached there = all_created slot block reached there block.1.instructions (λ id i. i)
 
-  module _ (entries : List (Option State)) (tables : TableLists) (recorded : List (Option BlockEffects)) (reached_has : (n : ℕ) → IsReached (numbered (context_of env func b)).flow n → (s : State) × (entry_at entries n ≡ Some s))
-      (keeps : RecordsSteps (numbered (context_of env func b)).flow tables (entry_at entries) recorded) (others : KeepsOthers (entry_at entries) (replicate (length func.body.blocks) None) recorded) where
-    step_is : (n : ℕ) (block : BlockId × BasicBlock) (s y : State) (k : BlockEffects) → slice_get func.body.blocks n ≡ Some block → (numbered (context_of env func b)).flow.step tables n s ≡ Stepped y tables k
+  module _ (entries : List (Option State)) (tables : TableLists) (recorded : List (Option BlockEffects))
+      (reached_has : (n : ℕ) → IsReached (numbered (context_of env func b)).flow n → (s : State)
+      × (entry_at entries n ≡ Some s))
+      (keeps : RecordsSteps (numbered (context_of env func b)).flow tables (entry_at entries) recorded)
+      (others : KeepsOthers (entry_at entries) (replicate (length func.body.blocks) None) recorded) where
+    step_is : (n : ℕ) (block : BlockId × BasicBlock) (s y : State) (k : BlockEffects) → slice_get func.body.blocks n
+        ≡ Some block → (numbered (context_of env func b)).flow.step tables n s ≡ Stepped y tables k
         → infer_block (context_of env func b) block.0 block.1 s tables ≡ Ok ((y, k), tables)
-    step_is n block s y k there step = outcome_is (infer_block (context_of env func b) block.0 block.1 s tables) y tables k (sym (ap (λ z. step_at (context_of env func b) z tables s) there) ∙ step)
+    step_is n block s y k there step = outcome_is (infer_block (context_of env func b) block.0 block.1 s tables) y
+        tables k (sym (ap (λ z. step_at (context_of env func b) z tables s) there) ∙ step)
 
-    filled_at : (n : ℕ) (o : Option (BlockId × BasicBlock)) (s y : State) (k : BlockEffects) → slice_get func.body.blocks n ≡ o → (numbered (context_of env func b)).flow.step tables n s ≡ Stepped y tables k → AllFilled k.instructions
+    filled_at : (n : ℕ) (o : Option (BlockId × BasicBlock)) (s y : State) (k : BlockEffects)
+        → slice_get func.body.blocks n ≡ o → (numbered (context_of env func b)).flow.step tables n s
+        ≡ Stepped y tables k → AllFilled k.instructions
     filled_at n None s y k there step =
-        let here : Stepped s tables (record { instructions = []; terminal = [] }) ≡ Stepped y tables k = sym (ap (λ z. step_at (context_of env func b) z tables s) there) ∙ step in
+        let here : Stepped s tables (record { instructions = []; terminal = [] }) ≡ Stepped y tables k =
+        sym (ap (λ z. step_at (context_of env func b) z tables s) there) ∙ step in
         let nothing : record { instructions = []; terminal = [] } ≡ k = cc in
         subst (λ (z : BlockEffects). AllFilled z.instructions) nothing tt
-    filled_at n (Some block) s y k there step = block_filled (context_of env func b) block.0 block.1 s tables tables (y, k) (step_is n block s y k there step)
+    filled_at n (Some block) s y k there step =
+        block_filled (context_of env func b) block.0 block.1 s tables tables (y, k) (step_is n block s y k there step)
 
     none_there : (n m : ℕ) → slice_index_or (replicate {A = Option BlockEffects} m None) n None ≡ None
     none_there n zero = refl
     none_there zero (suc m) = refl
     none_there (suc n) (suc m) = none_there n m
 
-    filled_by : (n : ℕ) (o : Option State) (k : BlockEffects) → entry_at entries n ≡ o → slice_index_or recorded n None ≡ Some k → AllFilled k.instructions
-    filled_by n None k is e = let no : None ≡ Some k = sym (others n is ∙ none_there n (length func.body.blocks)) ∙ e in cc
+    filled_by : (n : ℕ) (o : Option State) (k : BlockEffects) → entry_at entries n ≡ o → slice_index_or recorded n None
+        ≡ Some k → AllFilled k.instructions
+    filled_by n None k is e = let no : None ≡ Some k = sym (others n is ∙ none_there n (length func.body.blocks)) ∙ e in
+        cc
     filled_by n (Some s) k is e =
         let r = keeps n s is in
         let same : Some r.1 ≡ Some k = sym r.3 ∙ e in
         let one : r.1 ≡ k = cc in
-        subst (λ (z : BlockEffects). AllFilled z.instructions) one (filled_at n (slice_get func.body.blocks n) s r.0 r.1 refl r.2)
+        subst (λ (z : BlockEffects). AllFilled z.instructions) one
+        (filled_at n (slice_get func.body.blocks n) s r.0 r.1 refl r.2)
 
     all_are_filled : AllFilled (flat_map instructions_recorded recorded)
     all_are_filled = recorded_filled recorded (λ n k e. filled_by n (entry_at entries n) k refl e)
 
     -- a function that is created there has its context places set
-    pub created_set : (w : SolverState (VisitLog State) TableLists BlockEffects) → w.recorded ≡ recorded → (f : FunctionId) → CreatedThere env func b f → SetsContext (with_effects_of (solved_of func w) func) f.0
+    pub created_set : (w : SolverState (VisitLog State) TableLists BlockEffects) → w.recorded ≡ recorded
+        → (f : FunctionId) → CreatedThere env func b f → SetsContext (with_effects_of (solved_of func w) func) f.0
     created_set w same f c =
         let x = reached_has c.slot c.reached in
         let r = keeps c.slot x.0 x.1 in
         let entry : HasEntry r.1.instructions c.id
-        = block_enters (context_of env func b) c.id c.instruction f c.there c.creates c.block.0 c.block.1 x.0 c.listed tables tables (r.0, r.1) (step_is c.slot c.block x.0 r.0 r.1 c.block_there r.2) in
-        sets_context func (solved_of func w) (subst (λ rs. AllFilled (flat_map instructions_recorded rs)) (sym same) all_are_filled) f.0 c.slot c.block c.block_there c.id c.listed c.instruction c.there c.creates
-        (subst (λ rs. HasEntry (flat_map instructions_recorded rs) c.id) (sym same) (recorded_enters recorded c.slot r.1 c.id r.3 entry))
+        = block_enters (context_of env func b) c.id c.instruction f c.there c.creates c.block.0 c.block.1 x.0 c.listed
+        tables tables (r.0, r.1) (step_is c.slot c.block x.0 r.0 r.1 c.block_there r.2) in
+        sets_context func (solved_of func w) (subst (λ rs. AllFilled (flat_map instructions_recorded rs)) (sym same)
+        all_are_filled) f.0 c.slot c.block c.block_there c.id c.listed c.instruction c.there c.creates
+        (subst (λ rs. HasEntry (flat_map instructions_recorded rs) c.id) (sym same)
+        (recorded_enters recorded c.slot r.1 c.id r.3 entry))
 
 -- ---- an effects pass
 
@@ -112,7 +150,8 @@ some_state : (o : Option State) → is_some o ≡ true → (s : State) × (o ≡
 some_state None h = cc
 some_state (Some s) h = (s, refl)
 
-module _ (env : Environment) (func : HirFunction) (b : Bool) (w : SolverState (VisitLog State) TableLists BlockEffects) (fits : function_fits func env ≡ true) (ends : visits_end (context_of env func b) ≡ Solved w) where
+module _ (env : Environment) (func : HirFunction) (b : Bool) (w : SolverState (VisitLog State) TableLists BlockEffects)
+    (fits : function_fits func env ≡ true) (ends : visits_end (context_of env func b) ≡ Solved w) where
   solved : IsSolved env func b w
   solved = is_solved env func b (fitting_entry func env fits) w ends
 
@@ -124,7 +163,9 @@ module _ (env : Environment) (func : HirFunction) (b : Bool) (w : SolverState (V
 
   read_set : (f : FunctionId) → Own f → SetsContext (with_effects_of (solved_of func w) func) f.0
   read_set f h =
-      created_set env func b w.progress.joined_input w.tables w.recorded (λ n r. some_state (entry_at w.progress.joined_input n) (solved.solves.reached n r)) solved.records solved.others w refl f h.0
+      created_set env func b w.progress.joined_input w.tables w.recorded
+      (λ n r. some_state (entry_at w.progress.joined_input n) (solved.solves.reached n r)) solved.records
+      solved.others w refl f h.0
 
   pub all_set : (rs : List ContextRead) → ReadsHave Own rs → ReadsAreSetIn (with_effects_of (solved_of func w) func) rs
   all_set [] h = tt

@@ -13,10 +13,12 @@ use Rattle.alias_cert.specs.Units.{unit_checked}
 use Rattle.alias_certificate_laws.specs.text.Certifying.{certificate_of}
 
 pub data IsAcceptedOrFull (r : Result (HirFunction × Checking) CheckFault) : Type 0 where
-  accepted : (f : HirFunction) (env : Environment) (fs : List CheckedFunction) → r ≡ Ok (f, checking env fs) → IsAcceptedOrFull r
+  accepted : (f : HirFunction) (env : Environment) (fs : List CheckedFunction) → r ≡ Ok (f, checking env fs)
+      → IsAcceptedOrFull r
   full : r ≡ Err (fault.TooMany Diagnostics) → IsAcceptedOrFull r
 
--- What `certify` prints of a unit reads back as this certificate (`reads_back` of alias_certificate_laws/text). So it is accepted for that unit, or the check comes to the last number of a report.
+-- What `certify` prints of a unit reads back as this certificate (`reads_back` of alias_certificate_laws/text). So it
+-- is accepted for that unit, or the check comes to the last number of a report.
 abbrev pub CertificatesAreAccepted : Type 0
 CertificatesAreAccepted =
     (u : HirUnit) (a : UnitAnalysis) → rules_hold u ≡ Ok tt → unit_analysed u ≡ Ok a

@@ -35,14 +35,16 @@ use Rattle.alias_range_alike_laws.specs.Spans.{Respanned}
 abbrev pub but_seen : Environment → Environment
 but_seen env = record env { identifiers = []; functions = []; interned = [] }
 
--- The other environment is the same, but for spans of identifiers, functions that are seen alike (of the same parameters, context places with their effects, and result, with
+-- The other environment is the same, but for spans of identifiers, functions that are seen alike (of the same
+-- parameters, context places with their effects, and result, with
 -- summaries that are alike), and interned reports.
 pub record SeenAlike (env other : Environment) : Type 0 where
   pub identifiers : Paired Respanned env.identifiers other.identifiers
   pub functions : Paired AlikeFunction env.functions other.functions
   pub rest : but_seen other ≡ but_seen env
 
--- The same while a function is between its two passes, which carries these effects: effects of context places may differ, but only of functions that an instruction creates that carries
+-- The same while a function is between its two passes, which carries these effects: effects of context places may
+-- differ, but only of functions that an instruction creates that carries
 -- an effect. The range pass sets these anew.
 pub record SeenNearly (f : HirFunction) (env other : Environment) : Type 0 where
   pub identifiers : Paired Respanned env.identifiers other.identifiers
@@ -61,7 +63,8 @@ pub data OrFull {A : Type 0} (P : A → Type 0) (r : Result A CheckFault) : Type
 abbrev pub ReadsAreSetIn : HirFunction → List ContextRead → Type 0
 ReadsAreSetIn f reads = AllByRecursion (λ (r : ContextRead). SetsContext f r.function.0) reads
 
--- what the pass of a function ended with, and what the check of it did: temporaries of the same keys and identifiers, effects that are alike, and reads of functions that are set anew
+-- what the pass of a function ended with, and what the check of it did: temporaries of the same keys and identifiers,
+-- effects that are alike, and reads of functions that are set anew
 pub record EndsAlike (func : HirFunction) (e o : PassEnd) : Type 0 where
   pub temporaries : AlikeTemporaries e.solved.temporaries o.solved.temporaries
   pub carries : CarriesAlike (with_effects_of e.solved func) (with_effects_of o.solved func)
@@ -70,13 +73,18 @@ pub record EndsAlike (func : HirFunction) (e o : PassEnd) : Type 0 where
 -- the check of a function follows its effects pass
 abbrev pub PassesAreFollowed : Type 0
 PassesAreFollowed =
-    (env other : Environment) (func : HirFunction) (b : Bool) (w : SolverState (VisitLog State) TableLists BlockEffects) → function_fits func env ≡ true → visits_end (context_of env func b) ≡ Solved w → SeenAlike env other
-    → (id : Option FunctionId) (summary : List (List ℕ)) → OrFull (EndsAlike func (end_of func w)) (function_solved (said_function id func w.progress.joined_input w.recorded w.tables.temporaries summary) other func b)
+    (env other : Environment) (func : HirFunction) (b : Bool) (w : SolverState (VisitLog State) TableLists BlockEffects)
+    → function_fits func env ≡ true → visits_end (context_of env func b) ≡ Solved w → SeenAlike env other
+    → (id : Option FunctionId) (summary : List (List ℕ))
+    → OrFull (EndsAlike func (end_of func w))
+    (function_solved (said_function id func w.progress.joined_input w.recorded w.tables.temporaries summary) other
+    func b)
 
 -- what an effects pass notes of context places is set anew
 abbrev pub ReadsAreSet : Type 0
 ReadsAreSet =
-    (env : Environment) (func : HirFunction) (b : Bool) (w : SolverState (VisitLog State) TableLists BlockEffects) → function_fits func env ≡ true → visits_end (context_of env func b) ≡ Solved w
+    (env : Environment) (func : HirFunction) (b : Bool) (w : SolverState (VisitLog State) TableLists BlockEffects)
+    → function_fits func env ≡ true → visits_end (context_of env func b) ≡ Solved w
     → ReadsAreSetIn (with_effects_of (end_of func w).solved func) (end_of func w).reads
 
 -- what the range pass gives in the check
@@ -90,11 +98,13 @@ pub record RangeFollowed (other : Environment) (g : HirFunction) (b : Bool) (r :
 -- the range pass of the check follows that of the inference; of a nested function the environments are seen alike again
 abbrev pub RangesAreFollowed : Type 0
 RangesAreFollowed =
-    (env other : Environment) (f g : HirFunction) (b : Bool) (r : Ranged) → SeenNearly f env other → CarriesAlike f g → range_pass b f env ≡ Ok r → RangeFollowed other g b r
+    (env other : Environment) (f g : HirFunction) (b : Bool) (r : Ranged) → SeenNearly f env other → CarriesAlike f g
+    → range_pass b f env ≡ Ok r → RangeFollowed other g b r
 
 -- ---- the walk over the functions of a unit
 
--- After the functions that were analysed so far, as many were checked, and the environments are seen alike. In the slots of others stand the same functions.
+-- After the functions that were analysed so far, as many were checked, and the environments are seen alike. In the
+-- slots of others stand the same functions.
 pub record Follows (a : Analysis) (c : Checking) : Type 0 where
   pub alike : SeenAlike a.env c.env
   pub count : length c.functions ≡ length a.functions

@@ -14,4 +14,6 @@ with_ids env ids = record env { identifiers = ids }
 
 -- the visits of a function end the same
 abbrev pub SpansAreNotRead : Type 0
-SpansAreNotRead = (env : Environment) (ids : List Identifier) (func : HirFunction) (b : Bool) → Paired Respanned env.identifiers ids → visits_end (context_of (with_ids env ids) func b) ≡ visits_end (context_of env func b)
+SpansAreNotRead = (env : Environment) (ids : List Identifier) (func : HirFunction) (b : Bool)
+    → Paired Respanned env.identifiers ids → visits_end (context_of (with_ids env ids) func b)
+    ≡ visits_end (context_of env func b)

@@ -45,10 +45,12 @@ is_capture u = false
 
 -- the function takes the place in, and its value is only read
 abbrev pub is_read_capture : State → Place → Bool
-is_read_capture u p = is_capture p.effect && is_some (sites_of u p.identifier) && is_read_only (lookup u p.identifier).kind
+is_read_capture u p = is_capture p.effect && is_some (sites_of u p.identifier)
+    && is_read_only (lookup u p.identifier).kind
 
 abbrev pub note_read_capture : FunctionId → Place → StepProgress → Step StepProgress
-note_read_capture f p s = if is_read_capture s.state p then noted (record { function = f; place = p.identifier }) s else gives s
+note_read_capture f p s = if is_read_capture s.state p then noted (record { function = f; place = p.identifier }) s
+    else gives s
 
 module _ (c : StepContext) where
   -- the effects that create no function and are no calls
@@ -61,8 +63,10 @@ module _ (c : StepContext) where
   apply_simple (effect.Freeze v r) s = gives (apply_freeze c v r s)
   apply_simple (effect.Mutate v r) s = apply_mutate c (effect.Mutate v r) v s
   apply_simple (effect.MutateTransitive v) s = apply_mutate c (effect.MutateTransitive v) v s
-  apply_simple (effect.MutateConditionally v) s = gives (apply_mutate_conditionally c (effect.MutateConditionally v) v s)
-  apply_simple (effect.MutateTransitiveConditionally v) s = gives (apply_mutate_conditionally c (effect.MutateTransitiveConditionally v) v s)
+  apply_simple (effect.MutateConditionally v) s =
+      gives (apply_mutate_conditionally c (effect.MutateConditionally v) v s)
+  apply_simple (effect.MutateTransitiveConditionally v) s =
+      gives (apply_mutate_conditionally c (effect.MutateTransitiveConditionally v) v s)
   apply_simple e s = apply_aliasing e s
 
   abbrev pub intern_and_apply_simple : AliasingEffect → StepProgress → Step StepProgress
@@ -73,7 +77,8 @@ module _ (c : StepContext) where
   -- a function is mutable where it takes in what may be written, its summary has an error, or it takes in a ref
   abbrev pub is_mutable_function : FunctionId → List Place → State → Bool
   is_mutable_function f captures u =
-      list_any (is_mutable_capture u) captures || has_error (summary_of c.env f) || list_any (λ (p : Place). is_ref_at c.env p.identifier) (context_of c.env f)
+      list_any (is_mutable_capture u) captures || has_error (summary_of c.env f)
+      || list_any (λ (p : Place). is_ref_at c.env p.identifier) (context_of c.env f)
 
   -- each of the places is captured
   abbrev pub capture_each : Place → List Place → StepProgress → Step StepProgress
@@ -83,7 +88,8 @@ module _ (c : StepContext) where
   apply_create_function x f captures s = do
     u ← made x.identifier s
     v ← each (note_read_capture f) (context_of c.env f) (record_of (effect.CreateFunction x f captures) u)
-    capture_each x captures (with_state (given x.identifier (Function f) (function_value (is_mutable_function f captures v.state)) v.state) v)
+    capture_each x captures (with_state (given x.identifier (Function f)
+        (function_value (is_mutable_function f captures v.state)) v.state) v)
 
   -- all effects but calls, which are stepped elsewhere
   abbrev pub apply_plain : AliasingEffect → StepProgress → Step StepProgress

@@ -23,7 +23,8 @@ abbrev pub access_to : Accesses → Option DeclarationId → Option (Option Plac
 access_to h None = None
 access_to h (Some d) = access_at h d
 
--- the first access to the identifier's declaration, if that is hoisted. A temporary, which the tables don't have, has no declaration
+-- the first access to the identifier's declaration, if that is hoisted. A temporary, which the tables don't have, has
+-- no declaration
 abbrev pub hoisted_access : StepContext → IdentifierId → Option (Option Place)
 hoisted_access c id = access_to c.hoisted (declaration_of c.env id)
 

@@ -1,5 +1,7 @@
--- The steps of the effects that lead to no other, and of those that lead to these alone. An effect is raised by interning it, and
--- then it is stepped. Steps lead to others in layers, so that none leads back to itself: leaves, aliasing, simple and plain ones.
+-- The steps of the effects that lead to no other, and of those that lead to these alone. An effect is raised by
+-- interning it, and
+-- then it is stepped. Steps lead to others in layers, so that none leads back to itself: leaves, aliasing, simple and
+-- plain ones.
 use Rattle.std.specs.Prelude.{if◌then◌else◌}
 use Rattle.alias_hir.specs.declared.effect.AliasingEffect.{AliasingEffect}
 use Rattle.alias_hir.specs.declared.effect.AliasingEffect.TheVariants as effect

@@ -3,7 +3,8 @@ use Rattle.std.specs.Prelude.{Bool, ◌||◌, Option, None, Some, if◌then◌el
 use Rattle.alias_hir.specs.declared.effect.AliasingEffect.{AliasingEffect}
 use Rattle.alias_hir.specs.declared.effect.AliasingEffect.TheVariants as effect
 use Rattle.alias_hir.specs.declared.effect.ValueKind.{ValueKind}
-use Rattle.alias_hir.specs.declared.effect.ValueKind.TheVariants.{Primitive, Global, Frozen, Mutable, Context, MaybeFrozen}
+use Rattle.alias_hir.specs.declared.effect.ValueKind.TheVariants.{Primitive, Global, Frozen, Mutable, Context}
+use Rattle.alias_hir.specs.declared.effect.ValueKind.TheVariants.{MaybeFrozen}
 use Rattle.alias_hir.specs.declared.effect.ValueReason.{ValueReason}
 use Rattle.alias_hir.specs.declared.env.Config.{Config}
 use Rattle.alias_hir.specs.declared.place.Place.{Place}
@@ -50,7 +51,8 @@ module _ (c : StepContext) where
 
   -- a write of a value that may be frozen: of a variable that is hoisted, it comes before the declaration
   abbrev pub report_hoisted_write : Option (Option Place) → AbstractValue → Place → StepProgress → Step StepProgress
-  report_hoisted_write (Some access) there v s = intern_and_apply_mutate_frozen (hoisting_report c.env v.identifier v.span access) v s
+  report_hoisted_write (Some access) there v s =
+      intern_and_apply_mutate_frozen (hoisting_report c.env v.identifier v.span access) v s
   report_hoisted_write None there v s = report_write there v s
 
   -- what a definite write does, by the kind of what it writes
@@ -79,7 +81,8 @@ module _ (c : StepContext) where
   record_result result.Mutate e v s = gives (record_of e s)
   record_result result.None e v s = gives s
   record_result result.MutateRef e v s = gives s
-  record_result result.MutateFrozen e v s = report_hoisted_write (hoisted_access c v.identifier) (lookup s.state v.identifier) v s
+  record_result result.MutateFrozen e v s =
+      report_hoisted_write (hoisted_access c v.identifier) (lookup s.state v.identifier) v s
   record_result result.MutateGlobal e v s = report_write (lookup s.state v.identifier) v s
 
   abbrev pub apply_mutation : MutateVariant → AliasingEffect → Place → StepProgress → Step StepProgress
@@ -91,5 +94,6 @@ module _ (c : StepContext) where
   abbrev pub apply_freeze : Place → ValueReason → StepProgress → StepProgress
   apply_freeze v r s =
       let u = record_of (effect.Freeze v r) (with_state (frozen v.identifier r s.state) s) in
-      if does_freeze s.state v.identifier then (if freezes_on c.env.config then with_state (place_frozen_transitively r (context_of c.env) v.identifier u.state) u else u)
+      if does_freeze s.state v.identifier then (if freezes_on c.env.config
+      then with_state (place_frozen_transitively r (context_of c.env) v.identifier u.state) u else u)
       else with_state (frozen v.identifier r s.state) s

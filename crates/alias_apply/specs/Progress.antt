@@ -53,7 +53,8 @@ abbrev pub made : IdentifierId → StepProgress → Step StepProgress
 made x s = if is_made x s.made then refuses (Reinitialized x) else gives (record s { made = s.made ++ x ∷ [] })
 
 -- After Ok the progress and the tables are those that are stated, and so is a refusal. Memory may fail at any time.
-abbrev pub Follows : Result (StepProgress × TableLists) Refusal → Result ⊤ EffectFault → StepProgress → TableLists → Type 0
+abbrev pub Follows : Result (StepProgress × TableLists) Refusal → Result ⊤ EffectFault → StepProgress → TableLists
+    → Type 0
 Follows stated (Ok u) s t = stated ≡ Ok (s, t)
 Follows stated (Err (Refused c)) s t = stated ≡ Err c
 Follows stated (Err (Memory e)) s t = ⊤

@@ -42,20 +42,33 @@ labels_at (Some s) text = label s text ∷ []
 -- why the value isn't to be written: by the first of these reasons that it has
 abbrev pub late_write_reason : ℕ → List ℕ
 late_write_reason reasons =
-    if has_reason reasons reason.State then codes "Modifying a value returned from 'useState()', which should not be modified directly. Use the setter function to update instead"
-    else (if has_reason reasons reason.ReducerState then codes "Modifying a value returned from 'useReducer()', which should not be modified directly. Use the dispatch function to update instead"
-    else (if has_reason reasons reason.Effect then codes "Modifying a value used previously in an effect function or as an effect dependency is not allowed. Consider moving the modification before calling useEffect()"
-    else (if has_reason reasons reason.HookCaptured then codes "Modifying a value previously passed as an argument to a hook is not allowed. Consider moving the modification before calling the hook"
+    if has_reason reasons reason.State then codes
+    "Modifying a value returned from 'useState()', which should not be modified directly. Use the setter function to update instead"
+    else (if has_reason reasons reason.ReducerState
+    then codes
+    "Modifying a value returned from 'useReducer()', which should not be modified directly. Use the dispatch function to update instead"
+    else (if has_reason reasons reason.Effect
+    then codes
+    "Modifying a value used previously in an effect function or as an effect dependency is not allowed. Consider moving the modification before calling useEffect()"
+    else (if has_reason reasons reason.HookCaptured
+    then codes
+    "Modifying a value previously passed as an argument to a hook is not allowed. Consider moving the modification before calling the hook"
     else (if has_reason reasons reason.HookReturn then codes "Modifying a value returned from a hook is not allowed. Consider moving the modification into the hook where the value is constructed"
     else codes "This modifies a variable that React considers immutable"))))
 
 abbrev pub write_reason : ℕ → List ℕ
 write_reason reasons =
-    if has_reason reasons reason.Global then codes "Modifying a variable defined outside a component or hook is not allowed. Consider using an effect"
-    else (if has_reason reasons reason.JsxCaptured then codes "Modifying a value used previously in JSX is not allowed. Consider moving the modification before the JSX"
-    else (if has_reason reasons reason.Context then codes "Modifying a value returned from 'useContext()' is not allowed."
-    else (if has_reason reasons reason.KnownReturnSignature then codes "Modifying a value returned from a function whose return value should not be mutated"
-    else (if has_reason reasons reason.ReactiveFunctionArgument then codes "Modifying component props or hook arguments is not allowed. Consider using a local variable instead"
+    if has_reason reasons reason.Global then codes
+    "Modifying a variable defined outside a component or hook is not allowed. Consider using an effect"
+    else (if has_reason reasons reason.JsxCaptured
+    then codes
+    "Modifying a value used previously in JSX is not allowed. Consider moving the modification before the JSX"
+    else (if has_reason reasons reason.Context
+    then codes "Modifying a value returned from 'useContext()' is not allowed."
+    else (if has_reason reasons reason.KnownReturnSignature
+    then codes "Modifying a value returned from a function whose return value should not be mutated"
+    else (if has_reason reasons reason.ReactiveFunctionArgument
+    then codes "Modifying component props or hook arguments is not allowed. Consider using a local variable instead"
     else late_write_reason reasons))))
 
 -- what is reported of a write of a value that isn't to be written
@@ -79,14 +92,17 @@ access_span (Some p) = p.span
 
 abbrev pub hoisting_labels : Environment → IdentifierId → Option Span → Option Place → List Label
 hoisting_labels env id span access =
-    access_labels (access_span access) span (named env id (codes "variable") ++ codes " accessed before it is declared") ++ labels_at span (Some (named env id (codes "variable") ++ codes " is declared here"))
+    access_labels (access_span access) span (named env id (codes "variable") ++ codes " accessed before it is declared")
+    ++ labels_at span (Some (named env id (codes "variable") ++ codes " is declared here"))
 
 -- what is reported of a write of a variable that is read before it is declared
 abbrev pub hoisting_report : Environment → IdentifierId → Option Span → Option Place → Report
 hoisting_report env id span access = record {
   category = Immutability;
   message = codes "Cannot access variable before it is declared";
-  help = Some (named env id (codes "This variable") ++ codes " is accessed before it is declared, which prevents the earlier access from updating when this value changes over time");
+  help = Some (named env id (codes "This variable")
+      ++ codes
+      " is accessed before it is declared, which prevents the earlier access from updating when this value changes over time");
   labels = hoisting_labels env id span access;
 }
 
@@ -101,7 +117,9 @@ abbrev pub impure_report : Option (List ℕ) → Option Span → Report
 impure_report name span = record {
   category = Purity;
   message = codes "Cannot call impure function during render";
-  help = Some (impure_name name ++ codes "Calling an impure function can produce unstable results that update unpredictably when the component happens to re-render. (https://react.dev/reference/rules/components-and-hooks-must-be-pure#components-and-hooks-must-be-idempotent)");
+  help = Some
+      (impure_name name ++ codes
+      "Calling an impure function can produce unstable results that update unpredictably when the component happens to re-render. (https://react.dev/reference/rules/components-and-hooks-must-be-pure#components-and-hooks-must-be-idempotent)");
   labels = labels_at span (Some (codes "Cannot call impure function"));
 }
 
@@ -114,10 +132,17 @@ abbrev pub incompatible_report : Option Span → List ℕ → Report
 incompatible_report span text = record {
   category = IncompatibleLibrary;
   message = codes "Use of incompatible library";
-  help = Some (codes "This API returns functions which cannot be memoized without leading to stale UI. To prevent this, by default React Compiler will skip memoizing this component/hook. However, you may see issues if values from this API are passed to other components/hooks that are memoized");
+  help = Some
+      (codes
+      "This API returns functions which cannot be memoized without leading to stale UI. To prevent this, by default React Compiler will skip memoizing this component/hook. However, you may see issues if values from this API are passed to other components/hooks that are memoized");
   labels = labels_at span (Some text);
 }
 
 -- what is reported of a spread argument that would be frozen
 abbrev pub spread_report : Option Span → Report
-spread_report span = record { category = Todo; message = codes "Support spread syntax for hook arguments"; help = None; labels = labels_at span None }
+spread_report span = record {
+  category = Todo;
+  message = codes "Support spread syntax for hook arguments";
+  help = None;
+  labels = labels_at span None;
+}

@@ -3,7 +3,8 @@ use Rattle.std.specs.Prelude.{if◌then◌else◌}
 use Rattle.alias_hir.specs.declared.effect.AliasingEffect.{AliasingEffect}
 use Rattle.alias_hir.specs.declared.effect.AliasingEffect.TheVariants as effect
 use Rattle.alias_hir.specs.declared.effect.ValueKind.{ValueKind}
-use Rattle.alias_hir.specs.declared.effect.ValueKind.TheVariants.{Primitive, Global, Frozen, Mutable, Context, MaybeFrozen}
+use Rattle.alias_hir.specs.declared.effect.ValueKind.TheVariants.{Primitive, Global, Frozen, Mutable, Context}
+use Rattle.alias_hir.specs.declared.effect.ValueKind.TheVariants.{MaybeFrozen}
 use Rattle.alias_hir.specs.declared.effect.ValueReason.{ValueReason}
 use Rattle.alias_hir.specs.declared.place.Place.{Place}
 use Rattle.alias_lattice.specs.declared.site.Site.TheVariants.{Created, CreatedFrom, AssignFrozen, AssignCopy}
@@ -24,13 +25,15 @@ use Rattle.alias_apply.specs.Progress.{record_of, with_state, looked_up_at, look
 abbrev pub apply_create : Place → ValueKind → ValueReason → StepProgress → Step StepProgress
 apply_create x k r s = do
   u ← made x.identifier s
-  gives (record_of (effect.Create x k r) (with_state (given x.identifier (Created x.identifier k r) (value_with k r) u.state) u))
+  gives (record_of (effect.Create x k r) (with_state
+      (given x.identifier (Created x.identifier k r) (value_with k r) u.state) u))
 
 -- what is recorded of a target that is made from a part, by the source's kind
 abbrev pub record_create_from : ValueKind → ValueReason → Place → Place → StepProgress → Step StepProgress
 record_create_from Primitive r a x s = gives (record_of (effect.Create x Primitive r) s)
 record_create_from Global r a x s = gives (record_of (effect.Create x Global r) s)
-record_create_from Frozen r a x s = intern_and_apply_leaf (effect.ImmutableCapture a x) (record_of (effect.Create x Frozen r) s)
+record_create_from Frozen r a x s = intern_and_apply_leaf (effect.ImmutableCapture a x)
+    (record_of (effect.Create x Frozen r) s)
 record_create_from Mutable r a x s = gives (record_of (effect.CreateFrom a x) s)
 record_create_from Context r a x s = gives (record_of (effect.CreateFrom a x) s)
 record_create_from MaybeFrozen r a x s = gives (record_of (effect.CreateFrom a x) s)
@@ -40,7 +43,8 @@ abbrev pub apply_create_from : Place → Place → StepProgress → Step StepPro
 apply_create_from a x s = do
   u ← made x.identifier s
   let v = lookup u.state a.identifier
-  record_create_from v.kind (primary_reason v.reason) a x (with_state (given x.identifier (CreatedFrom a.identifier x.identifier) v u.state) (looked_up_at a u))
+  record_create_from v.kind (primary_reason v.reason) a x
+      (with_state (given x.identifier (CreatedFrom a.identifier x.identifier) v u.state) (looked_up_at a u))
 
 -- a target that is the same value, by the source's kind
 abbrev pub assign_value : AbstractValue → Place → Place → StepProgress → Step StepProgress
@@ -48,7 +52,8 @@ assign_value v a x s =
     if is_frozen v.kind then (do
       u ← intern_and_apply_leaf (effect.ImmutableCapture a x) s
       gives (with_state (given x.identifier (AssignFrozen a.identifier x.identifier) v u.state) u))
-    else (if is_constant v.kind then gives (with_state (given x.identifier (AssignCopy a.identifier x.identifier) v s.state) s)
+    else (if is_constant v.kind then gives
+    (with_state (given x.identifier (AssignCopy a.identifier x.identifier) v s.state) s)
     else gives (record_of (effect.Assign a x) (with_state (assigned x.identifier a.identifier s.state) s)))
 
 abbrev pub apply_assign : Place → Place → StepProgress → Step StepProgress

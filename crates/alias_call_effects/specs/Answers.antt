@@ -39,12 +39,14 @@ abbrev pub number_error : HirError → SignatureError
 number_error (hir.TooMany which) = TooMany which
 number_error (hir.Memory e) = Memory e
 
--- After Ok the answer is the one stated, and so is what the call leaves. An error is the one stated. Memory may fail at any time.
+-- After Ok the answer is the one stated, and so is what the call leaves. An error is the one stated. Memory may fail at
+-- any time.
 abbrev pub Answers : {A T : Type 0} → Result (A × T) SignatureError → Result A SignatureError → T → Type 0
 Answers stated (Ok x) t = stated ≡ Ok (x, t)
 Answers stated (Err e) t = is_memory e ≡ false → stated ≡ Err e
 
--- After Ok what grows is the one stated, and so is what the call leaves. An error is the one stated. Memory may fail at any time.
+-- After Ok what grows is the one stated, and so is what the call leaves. An error is the one stated. Memory may fail at
+-- any time.
 abbrev pub Extended : {A T : Type 0} → Result (A × T) SignatureError → Result ⊤ SignatureError → A → T → Type 0
 Extended stated (Ok u) x t = stated ≡ Ok (x, t)
 Extended stated (Err e) x t = is_memory e ≡ false → stated ≡ Err e
@@ -59,13 +61,15 @@ given_alone (Ok p) = Ok p.0
 given_alone (Err c) = Err (signature_error c)
 
 -- what a step over the reports of an environment gives, and the environment with those that it leaves
-abbrev pub with_reports : {A : Type 0} → Environment → Result (A × TableLists) Refusal → Result (A × Environment) SignatureError
+abbrev pub with_reports : {A : Type 0} → Environment → Result (A × TableLists) Refusal
+    → Result (A × Environment) SignatureError
 with_reports env (Ok p) = Ok (p.0, record env { interned = p.1.reports })
 with_reports env (Err c) = Err (signature_error c)
 
 -- there are numbers for the report: those of reports that are kept, or new ones
 abbrev pub has_numbers : IdentifierId → Report → List Interned → Bool
-has_numbers id r es = nat_lt (number_of (same_identity id r) es) 4294967295 && nat_lt (number_of (same_instance id r) es) 4294967295
+has_numbers id r es = nat_lt (number_of (same_identity id r) es) 4294967295
+    && nat_lt (number_of (same_instance id r) es) 4294967295
 
 -- where a call stands
 abbrev pub site_of : Place → Place → Option Span → CallSite

@@ -29,20 +29,25 @@ with_temporary site name ns = do
 abbrev pub effects_called : ConfigCall → Environment → Result (Collected × Environment) SignatureError
 effects_called c env = with_reports env (with_config_effects env c c.config.effects [] (tables_with env.interned))
 
-abbrev pub beside : {A : Type 0} → List Temporary → Result (A × Environment) SignatureError → Result (A × Kept) SignatureError
+abbrev pub beside : {A : Type 0} → List Temporary → Result (A × Environment) SignatureError
+    → Result (A × Kept) SignatureError
 beside ts (Ok p) = Ok (p.0, kept p.1 ts)
 beside ts (Err e) = Err e
 
 -- the list that the part gives once its temporaries are there, where context places stand behind these
-abbrev pub list_called : AliasingSignatureConfig → CallSite → List PlaceOrSpreadOrHole → List Place → NamedPlaces → HostStep Collected
-list_called config site args context ns k = beside k.temporaries (effects_called (part_call config site args (both_named ns (contexts_named k.env context))) k.env)
+abbrev pub list_called : AliasingSignatureConfig → CallSite → List PlaceOrSpreadOrHole → List Place → NamedPlaces
+    → HostStep Collected
+list_called config site args context ns k =
+    beside k.temporaries (effects_called (part_call config site args (both_named ns (contexts_named k.env context)))
+    k.env)
 
 -- an argument needs a rest, and there is none
 abbrev pub lacks_rest : AliasingSignatureConfig → List PlaceOrSpreadOrHole → Bool
 lacks_rest config args = has_further config.params args 0 && not (is_some config.rest)
 
 -- the list that the aliasing part gives, if it gives one
-abbrev pub config_called : AliasingSignatureConfig → CallSite → List PlaceOrSpreadOrHole → List Place → HostStep Collected
+abbrev pub config_called : AliasingSignatureConfig → CallSite → List PlaceOrSpreadOrHole → List Place
+    → HostStep Collected
 config_called config site args context =
     if lacks_rest config args then gives None
     else (do

@@ -13,10 +13,12 @@ grown_through k l m a b = record {
   types = grows_through k.env.types l.env.types m.env.types a.types b.types;
   reports = grows_through k.env.interned l.env.interned m.env.interned a.reports b.reports;
   temporaries = grows_through k.temporaries l.temporaries m.temporaries a.temporaries b.temporaries;
-  others = ap (λ (e : Environment). record e { identifiers = m.env.identifiers; types = m.env.types; interned = m.env.interned }) a.others ∙ b.others;
+  others = ap (λ (e : Environment). record e
+      { identifiers = m.env.identifiers; types = m.env.types; interned = m.env.interned }) a.others ∙ b.others;
 }
 
-pub grown_by_reports : (env : Environment) (reports : List Interned) (ts : List Temporary) → Grows env.interned reports → HasGrown (kept env ts) (kept (record env { interned = reports }) ts)
+pub grown_by_reports : (env : Environment) (reports : List Interned) (ts : List Temporary) → Grows env.interned reports
+    → HasGrown (kept env ts) (kept (record env { interned = reports }) ts)
 grown_by_reports env reports ts g = record {
   identifiers = grows_self env.identifiers;
   types = grows_self env.types;

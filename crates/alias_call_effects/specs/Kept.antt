@@ -27,7 +27,8 @@ abbrev pub HostStep : Type 0 → Type 0
 HostStep A = Kept → Result (A × Kept) SignatureError
 
 -- a new identifier of the environment, with this span
-abbrev pub numbered : Option Span → Result IdentifierId HirError → Environment → Result (IdentifierId × Environment) SignatureError
+abbrev pub numbered : Option Span → Result IdentifierId HirError → Environment
+    → Result (IdentifierId × Environment) SignatureError
 numbered span (Ok x) env = Ok (x, with_identifier span env)
 numbered span (Err e) env = Err (number_error e)
 
@@ -35,7 +36,8 @@ numbered span (Err e) env = Err (number_error e)
 abbrev pub place_of : IdentifierId → Option Span → Place
 place_of x span = record { identifier = x; effect = Unknown; reactive = false; span = span }
 
-abbrev pub new_temporary : Result (IdentifierId × Environment) SignatureError → TempKey → Option Span → List Temporary → Result (Place × Kept) SignatureError
+abbrev pub new_temporary : Result (IdentifierId × Environment) SignatureError → TempKey → Option Span → List Temporary
+    → Result (Place × Kept) SignatureError
 new_temporary (Ok p) key span ts = Ok (place_of p.0 span, kept p.1 (ts ++ temporary_of key (place_of p.0 span) ∷ []))
 new_temporary (Err e) key span ts = Err e
 

@@ -11,7 +11,8 @@ use Rattle.alias_call_effects.specs.declared.error.SignatureError.{SignatureErro
 use Rattle.alias_call_effects.specs.Answers.{given_alone, tables_with, with_reports}
 
 -- the list and the first missing lookup, and the environment with the report of an impure call
-abbrev pub legacy_called : FunctionSignature → CallSite → List PlaceOrSpreadOrHole → State → Environment → Result (Legacy × Environment) SignatureError
+abbrev pub legacy_called : FunctionSignature → CallSite → List PlaceOrSpreadOrHole → State → Environment
+    → Result (Legacy × Environment) SignatureError
 legacy_called s site args u env = with_reports env (legacy_expansion env s site args u (tables_with env.interned))
 
 -- the call of an impure function is reported
@@ -19,5 +20,6 @@ abbrev pub is_reported : Environment → FunctionSignature → Bool
 is_reported env s = s.impure && env.config.validate_no_impure_functions_in_render
 
 -- the list as it is where no report is interned
-abbrev pub list_without_reports : Environment → FunctionSignature → CallSite → List PlaceOrSpreadOrHole → State → Result Legacy SignatureError
+abbrev pub list_without_reports : Environment → FunctionSignature → CallSite → List PlaceOrSpreadOrHole → State
+    → Result Legacy SignatureError
 list_without_reports env s site args u = given_alone (legacy_expansion env s site args u (tables_with []))

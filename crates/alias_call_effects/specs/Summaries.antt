@@ -19,7 +19,8 @@ use Rattle.alias_call_effects.specs.Answers.{tables_with, given_alone}
 use Rattle.alias_call_effects.specs.Kept.{HostStep, temporary_at}
 
 -- a function with a summary
-pub record HasSummary (env : Environment) (f : FunctionId) (function : HirFunction) (effects : List AliasingEffect) : Type 0 where
+pub record HasSummary (env : Environment) (f : FunctionId) (function : HirFunction) (effects : List AliasingEffect) :
+    Type 0 where
   pub there : slice_get env.functions f.0 ≡ Some function
   pub summary : function.aliasing_effects ≡ Some effects
 
@@ -31,7 +32,8 @@ rest_or_temporary None f span = do
   gives p.identifier
 
 abbrev pub signature_with : HirFunction → List AliasingEffect → Option IdentifierId → AliasingSignature
-signature_with function effects rest = record { params = plain_params function.params; rest = rest; returns = function.returns.identifier; effects = effects }
+signature_with function effects rest = record
+    { params = plain_params function.params; rest = rest; returns = function.returns.identifier; effects = effects }
 
 -- the names of the function's summary, and its effects
 abbrev pub signature_of : FunctionId → HirFunction → List AliasingEffect → HostStep AliasingSignature
@@ -43,5 +45,7 @@ abbrev pub names_of : AliasingSignature → SummaryNames
 names_of s = record { params = s.params; rest = s.rest; returns = s.returns }
 
 -- the list that the signature gives, if it gives one
-abbrev pub signature_expansion : AliasingSignature → Place → List PlaceOrSpreadOrHole → List Place → Environment → Result Collected SignatureError
-signature_expansion s into args context env = given_alone (names_expansion env (summary_call (names_of s) into args context) s.effects (tables_with []))
+abbrev pub signature_expansion : AliasingSignature → Place → List PlaceOrSpreadOrHole → List Place → Environment
+    → Result Collected SignatureError
+signature_expansion s into args context env =
+    given_alone (names_expansion env (summary_call (names_of s) into args context) s.effects (tables_with []))

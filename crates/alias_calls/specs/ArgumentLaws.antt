@@ -8,6 +8,9 @@ use Rattle.alias_hir.specs.declared.place.PlaceOrSpreadOrHole.{PlaceOrSpreadOrHo
 use Rattle.alias_calls.specs.Arguments.{is_bad_spread, first_bad}
 
 -- one place more isn't spread so
-pub first_bad_more : (env : Environment) (args : List PlaceOrSpreadOrHole) (places : List Place) (i : ℕ) (d : Place) → i < length places → is_bad_spread env args (get_or places i d).identifier ≡ false → first_bad env args (drop (i + 1) places) ≡ first_bad env args (drop i places)
+pub first_bad_more : (env : Environment) (args : List PlaceOrSpreadOrHole) (places : List Place) (i : ℕ) (d : Place) → i
+    < length places → is_bad_spread env args (get_or places i d).identifier ≡ false
+    → first_bad env args (drop (i + 1) places) ≡ first_bad env args (drop i places)
 first_bad_more env args places i d h e =
-    sym (at_drop_more (first_bad env args) places i d h ∙ ap (λ b. if b then Some (get_or places i d) else first_bad env args (drop (i + 1) places)) e)
+    sym (at_drop_more (first_bad env args) places i d h
+    ∙ ap (λ b. if b then Some (get_or places i d) else first_bad env args (drop (i + 1) places)) e)

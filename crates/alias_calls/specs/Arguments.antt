@@ -1,5 +1,6 @@
 -- What the names of a signature stand for in a call.
-use Rattle.std.specs.Prelude.{ℕ, ◌+◌, slice_get, Bool, true, false, ◌&&◌, ◌==◌, not, List, [], ◌∷◌, ◌++◌, Option, Some, None, if◌then◌else◌}
+use Rattle.std.specs.Prelude.{ℕ, ◌+◌, slice_get, Bool, true, false, ◌&&◌, ◌==◌, not, List, [], ◌∷◌, ◌++◌, Option, Some}
+use Rattle.std.specs.Prelude.{None, if◌then◌else◌}
 use Rattle.std.specs.List.{list_any}
 use Rattle.alias_base.specs.declared.ids.IdentifierId.{IdentifierId}
 use Rattle.alias_hir.specs.declared.place.Place.{Place}
@@ -31,7 +32,8 @@ module _ {K : Type 0} (same : K → K → Bool) where
   -- what the name stands for after all arguments, of which the first is number i
   abbrev pub substituted_arguments : K → List K → Option K → List PlaceOrSpreadOrHole → ℕ → List Place → List Place
   substituted_arguments k params rest [] i so_far = so_far
-  substituted_arguments k params rest (a ∷ others) i so_far = substituted_arguments k params rest others (i + 1) (with_argument k (slice_get params i) rest a so_far)
+  substituted_arguments k params rest (a ∷ others) i so_far =
+      substituted_arguments k params rest others (i + 1) (with_argument k (slice_get params i) rest a so_far)
 
 -- the argument needs a rest: it is spread, or there is no parameter for it
 abbrev pub is_further : {K : Type 0} → Option K → PlaceOrSpreadOrHole → Bool
@@ -43,7 +45,8 @@ is_further (Some x) (arg.Place p) = false
 -- some argument needs a rest, where the first is number i
 abbrev pub has_further : {K : Type 0} → List K → List PlaceOrSpreadOrHole → ℕ → Bool
 has_further params [] i = false
-has_further params (a ∷ others) i = if is_further (slice_get params i) a then true else has_further params others (i + 1)
+has_further params (a ∷ others) i = if is_further (slice_get params i) a then true
+    else has_further params others (i + 1)
 
 -- a spread of the identifier that isn't an array, a set or a map
 abbrev pub is_bad_spread_of : Environment → IdentifierId → PlaceOrSpreadOrHole → Bool

@@ -17,7 +17,12 @@ pub record ConfigCall : Type 0 where
 
 -- what a call that holds references speaks of: its names are listed as temporaries of the part
 abbrev pub held_config : HeldConfigCall → ConfigCall
-held_config c = record { config = record c.config.now { temporaries = c.names.now }; site = c.site; args = c.args.now; temporaries = c.places.now }
+held_config c = record {
+  config = record c.config.now { temporaries = c.names.now };
+  site = c.site;
+  args = c.args.now;
+  temporaries = c.places.now;
+}
 
 -- a call by the summary of a function, and the context places of the function
 pub record SummaryCall : Type 0 where

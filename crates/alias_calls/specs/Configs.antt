@@ -1,5 +1,6 @@
 -- The effects of a call by the aliasing part of its signature.
-use Rattle.std.specs.Prelude.{ℕ, ◌+◌, Bool, cond, ◌&&◌, not, List, [], ◌∷◌, ◌++◌, Option, Some, None, slice_get, if◌then◌else◌}
+use Rattle.std.specs.Prelude.{ℕ, ◌+◌, Bool, cond, ◌&&◌, not, List, [], ◌∷◌, ◌++◌, Option, Some, None, slice_get}
+use Rattle.std.specs.Prelude.{if◌then◌else◌}
 use Rattle.std.specs.Option.{is_some}
 use Rattle.alias_hir.specs.ReportNumbers.{same_text}
 use Rattle.alias_hir.specs.declared.effect.AliasingEffect.{AliasingEffect}
@@ -64,8 +65,10 @@ inner_arguments c [] = []
 inner_arguments c (a ∷ others) = inner_argument c a ++ inner_arguments c others
 
 -- a call, where receiver, function and target have places
-abbrev pub with_apply : ConfigCall → Option Place → Option Place → Option Place → Bool → List ApplyArgConfig → List AliasingEffect → Step Collected
-with_apply c (Some r) (Some f) (Some i) mutates inner out = gives (Some (out ++ effect.Apply r f mutates (inner_arguments c inner) i None c.site.span ∷ []))
+abbrev pub with_apply : ConfigCall → Option Place → Option Place → Option Place → Bool → List ApplyArgConfig
+    → List AliasingEffect → Step Collected
+with_apply c (Some r) (Some f) (Some i) mutates inner out =
+    gives (Some (out ++ effect.Apply r f mutates (inner_arguments c inner) i None c.site.span ∷ []))
 with_apply c (Some r) (Some f) None mutates inner out = gives None
 with_apply c (Some r) None i mutates inner out = gives None
 with_apply c None f i mutates inner out = gives None
@@ -87,17 +90,23 @@ with_impures ps out = do
 abbrev pub with_config_effect : Environment → ConfigCall → AliasingEffectConfig → List AliasingEffect → Step Collected
 with_config_effect env c (config.Freeze v r) out = with_freezes env c.args r (substituted c v) out
 with_config_effect env c (config.Create x k r) out = with_each (at.Create k r) (substituted c x) out
-with_config_effect env c (config.CreateFrom a x) out = with_pairs pair.CreateFrom (substituted c a) (substituted c x) out
+with_config_effect env c (config.CreateFrom a x) out =
+    with_pairs pair.CreateFrom (substituted c a) (substituted c x) out
 with_config_effect env c (config.Assign a x) out = with_pairs pair.Assign (substituted c a) (substituted c x) out
 with_config_effect env c (config.Alias a x) out = with_pairs pair.Alias (substituted c a) (substituted c x) out
 with_config_effect env c (config.Capture a x) out = with_pairs pair.Capture (substituted c a) (substituted c x) out
-with_config_effect env c (config.ImmutableCapture a x) out = with_pairs pair.ImmutableCapture (substituted c a) (substituted c x) out
+with_config_effect env c (config.ImmutableCapture a x) out =
+    with_pairs pair.ImmutableCapture (substituted c a) (substituted c x) out
 with_config_effect env c (config.Impure p) out = with_impures (substituted c p) out
 with_config_effect env c (config.Mutate v) out = with_each (at.Mutate None) (substituted c v) out
-with_config_effect env c (config.MutateTransitiveConditionally v) out = with_each at.MutateTransitiveConditionally (substituted c v) out
-with_config_effect env c (config.Apply r f mutates inner x) out = with_apply c (first_of (substituted c r)) (first_of (substituted c f)) (first_of (substituted c x)) mutates inner out
+with_config_effect env c (config.MutateTransitiveConditionally v) out =
+    with_each at.MutateTransitiveConditionally (substituted c v) out
+with_config_effect env c (config.Apply r f mutates inner x) out =
+    with_apply c (first_of (substituted c r)) (first_of (substituted c f)) (first_of (substituted c x)) mutates inner
+    out
 
-abbrev pub with_config_effects : Environment → ConfigCall → List AliasingEffectConfig → List AliasingEffect → Step Collected
+abbrev pub with_config_effects : Environment → ConfigCall → List AliasingEffectConfig → List AliasingEffect
+    → Step Collected
 with_config_effects env c = collect (with_config_effect env c)
 
 -- ---- the list
@@ -109,10 +118,13 @@ with_temporary env site name places = do
   gives (places ++ p ∷ [])
 
 abbrev pub config_call : AliasingSignatureConfig → CallSite → List PlaceOrSpreadOrHole → List Place → ConfigCall
-config_call config site args temporaries = record { config = config; site = site; args = args; temporaries = temporaries }
+config_call config site args temporaries =
+    record { config = config; site = site; args = args; temporaries = temporaries }
 
--- the list that the aliasing part gives, if it gives one. An argument that needs a rest gives none where there is no rest
-abbrev pub config_expansion : Environment → AliasingSignatureConfig → CallSite → List PlaceOrSpreadOrHole → Step Collected
+-- the list that the aliasing part gives, if it gives one. An argument that needs a rest gives none where there is no
+-- rest
+abbrev pub config_expansion : Environment → AliasingSignatureConfig → CallSite → List PlaceOrSpreadOrHole
+    → Step Collected
 config_expansion env config site args =
     if has_further config.params args 0 && not (is_some config.rest) then gives None
     else (do

@@ -63,19 +63,23 @@ with_freezes_unless (Some p) r ps out = refuses (SpreadArgument p.span (spread_r
 with_freezes_unless None r ps out = with_each (at.Freeze r) ps out
 
 -- a freeze of a spread argument that isn't an array, a set or a map is refused
-abbrev pub with_freezes : Environment → List PlaceOrSpreadOrHole → ValueReason → List Place → List AliasingEffect → Step Collected
+abbrev pub with_freezes : Environment → List PlaceOrSpreadOrHole → ValueReason → List Place → List AliasingEffect
+    → Step Collected
 with_freezes env args r ps out = with_freezes_unless (first_bad env args ps) r ps out
 
--- After Ok it says whether the list goes on, and the effects so far and the tables are the step's. A refusal is the step's.
+-- After Ok it says whether the list goes on, and the effects so far and the tables are the step's. A refusal is the
+-- step's.
 -- Memory may fail at any time.
-abbrev pub Collects : Result (Collected × TableLists) Refusal → Result Bool EffectFault → List AliasingEffect → TableLists → Type 0
+abbrev pub Collects : Result (Collected × TableLists) Refusal → Result Bool EffectFault → List AliasingEffect
+    → TableLists → Type 0
 Collects step (Ok true) out t = step ≡ Ok (Some out, t)
 Collects step (Ok false) out t = step ≡ Ok (None, t)
 Collects step (Err (Refused c)) out t = step ≡ Err c
 Collects step (Err (Memory e)) out t = ⊤
 
 -- After Ok the list and the tables are the step's. A refusal is the step's. Memory may fail at any time.
-abbrev pub Extended : {A : Type 0} → Result (List A × TableLists) Refusal → Result ⊤ EffectFault → List A → TableLists → Type 0
+abbrev pub Extended : {A : Type 0} → Result (List A × TableLists) Refusal → Result ⊤ EffectFault → List A → TableLists
+    → Type 0
 Extended step (Ok u) out t = step ≡ Ok (out, t)
 Extended step (Err (Refused c)) out t = step ≡ Err c
 Extended step (Err (Memory e)) out t = ⊤

@@ -1,5 +1,6 @@
 -- Whether the arguments of a call are immutable.
-use Rattle.std.specs.Prelude.{◌+◌, Bool, true, false, ◌&&◌, ◌||◌, not, nat_lt, List, [], ◌∷◌, Option, Some, None, option_and_then, slice_get, if◌then◌else◌}
+use Rattle.std.specs.Prelude.{◌+◌, Bool, true, false, ◌&&◌, ◌||◌, not, nat_lt, List, [], ◌∷◌, Option, Some, None}
+use Rattle.std.specs.Prelude.{option_and_then, slice_get, if◌then◌else◌}
 use Rattle.std.specs.List.{list_any}
 use Rattle.std.specs.Option.{option_map_or}
 use Rattle.alias_base.specs.declared.ids.IdentifierId.{IdentifierId}
@@ -76,10 +77,12 @@ checked holds missing = record { holds = holds; missing = missing }
 abbrev pub answered_by : Bool → Option Bool
 answered_by b = if b then None else Some false
 
--- its kind is Primitive or Frozen, and none of its sites is a function that writes a parameter, or else the answer is no
+-- its kind is Primitive or Frozen, and none of its sites is a function that writes a parameter, or else the answer is
+-- no
 abbrev pub verdict_of_place : Environment → State → Place → Option MissingLookup → Verdict
 verdict_of_place env s p m =
-    verdict (answered_by (is_still (lookup s p.identifier).kind && not (has_writing_site env (sites_at s p.identifier)))) (first_missing m (missing_lookup s p.identifier None))
+    verdict (answered_by (is_still (lookup s p.identifier).kind
+    && not (has_writing_site env (sites_at s p.identifier)))) (first_missing m (missing_lookup s p.identifier None))
 
 -- a function with a signature answers at once
 abbrev pub verdict_by : Option FunctionSignature → Environment → State → Place → Option MissingLookup → Verdict
@@ -102,4 +105,5 @@ unless_answered None m others = others
 -- the arguments are immutable, and the first missing lookup on the way
 abbrev pub immutables : Environment → State → List PlaceOrSpreadOrHole → Option MissingLookup → Checked
 immutables env s [] m = checked true m
-immutables env s (a ∷ others) m = let v = verdict_of env s a m in unless_answered v.answer v.missing (immutables env s others v.missing)
+immutables env s (a ∷ others) m = let v = verdict_of env s a m in
+    unless_answered v.answer v.missing (immutables env s others v.missing)

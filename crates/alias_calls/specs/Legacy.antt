@@ -85,7 +85,8 @@ module _ (env : Environment) (s : FunctionSignature) (site : CallSite) (args : L
   -- receiver and arguments, in order
   abbrev pub visited : List AliasingEffect → Visits
   visited out =
-      visit_arguments env s site.into (return_reason s) 0 args (visit env site.into (return_reason s) site.receiver s.callee_effect (visits_of (with_receiver s site out)))
+      visit_arguments env s site.into (return_reason s) 0 args
+      (visit env site.into (return_reason s) site.receiver s.callee_effect (visits_of (with_receiver s site out)))
 
   abbrev pub legacy_after : Checked → List AliasingEffect → Step Legacy
   legacy_after c out =

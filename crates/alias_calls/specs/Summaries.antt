@@ -1,5 +1,6 @@
 -- The effects of a call by the summary of a function.
-use Rattle.std.specs.Prelude.{Bool, true, false, ◌&&◌, ◌||◌, not, nat_lt, List, [], ◌∷◌, length, Option, Some, None, if◌then◌else◌}
+use Rattle.std.specs.Prelude.{Bool, true, false, ◌&&◌, ◌||◌, not, nat_lt, List, [], ◌∷◌, length, Option, Some, None}
+use Rattle.std.specs.Prelude.{if◌then◌else◌}
 use Rattle.std.specs.List.{list_any}
 use Rattle.std.specs.Option.{is_some}
 use Rattle.alias_base.specs.declared.ids.FunctionId.{FunctionId}
@@ -51,7 +52,11 @@ rest_or_temporary None env f function = do
   gives p.identifier
 
 abbrev pub names_with : HirFunction → IdentifierId → SummaryNames
-names_with function rest = record { params = plain_params function.params; rest = Some rest; returns = function.returns.identifier }
+names_with function rest = record {
+  params = plain_params function.params;
+  rest = Some rest;
+  returns = function.returns.identifier;
+}
 
 -- the names of the function's summary
 abbrev pub summary_names : Environment → FunctionId → HirFunction → Step SummaryNames
@@ -71,7 +76,8 @@ returned names into q = if same_id names.returns q then into ∷ [] else []
 
 -- what an identifier of the summary stands for
 abbrev pub substituted_for : SummaryCall → IdentifierId → List Place
-substituted_for c q = substituted_context q c.context (substituted_arguments same_id q c.names.params c.names.rest c.args 0 (returned c.names c.into q))
+substituted_for c q = substituted_context q c.context
+    (substituted_arguments same_id q c.names.params c.names.rest c.args 0 (returned c.names c.into q))
 
 -- ---- effects
 
@@ -121,7 +127,8 @@ is_spread arg.Hole = false
 abbrev pub needs_rest : List IdentifierId → List PlaceOrSpreadOrHole → Bool
 needs_rest params args = nat_lt (length params) (length args) || list_any is_spread args
 
--- the list that the names give for these effects, if they give one: not where there are fewer arguments than parameters, nor where they need a rest and there is none
+-- the list that the names give for these effects, if they give one: not where there are fewer arguments than
+-- parameters, nor where they need a rest and there is none
 abbrev pub names_expansion : Environment → SummaryCall → List AliasingEffect → Step Collected
 names_expansion env c effects =
     if nat_lt (length c.args) (length c.names.params) then gives None
@@ -132,7 +139,8 @@ abbrev pub summary_call : SummaryNames → Place → List PlaceOrSpreadOrHole �
 summary_call names into args context = record { names = names; into = into; args = args; context = context }
 
 -- the list that the summary of a function gives, if it gives one. The names are made first
-abbrev pub summary_expansion : Environment → FunctionId → HirFunction → List AliasingEffect → Place → List PlaceOrSpreadOrHole → Step Collected
+abbrev pub summary_expansion : Environment → FunctionId → HirFunction → List AliasingEffect → Place
+    → List PlaceOrSpreadOrHole → Step Collected
 summary_expansion env f function effects into args = do
   names ← summary_names env f function
   names_expansion env (summary_call names into args function.context) effects

@@ -1,5 +1,6 @@
 -- What the places of a call are used for.
-use Rattle.std.specs.Prelude.{ℕ, ◌+◌, Bool, true, false, List, [], ◌∷◌, ◌++◌, Option, Some, None, slice_get, if◌then◌else◌}
+use Rattle.std.specs.Prelude.{ℕ, ◌+◌, Bool, true, false, List, [], ◌∷◌, ◌++◌, Option, Some, None, slice_get}
+use Rattle.std.specs.Prelude.{if◌then◌else◌}
 use Rattle.alias_hir.specs.declared.effect.AliasingEffect.{AliasingEffect}
 use Rattle.alias_hir.specs.declared.effect.AliasingEffect.TheVariants as effect
 use Rattle.alias_hir.specs.declared.effect.ValueReason.{ValueReason}
@@ -21,8 +22,10 @@ iterated env p = if is_builtin_collection_at env p.identifier then [] else effec
 abbrev pub visit : Environment → Place → ValueReason → Place → Effect → Visits → Visits
 visit env into r p use_of.Store v = record v { out = v.out ++ effect.Mutate p None ∷ []; stored = v.stored ++ p ∷ [] }
 visit env into r p use_of.Capture v = record v { captured = v.captured ++ p ∷ [] }
-visit env into r p use_of.ConditionallyMutate v = record v { out = v.out ++ effect.MutateTransitiveConditionally p ∷ [] }
-visit env into r p use_of.ConditionallyMutateIterator v = record v { out = v.out ++ iterated env p ++ effect.Capture p into ∷ [] }
+visit env into r p use_of.ConditionallyMutate v =
+    record v { out = v.out ++ effect.MutateTransitiveConditionally p ∷ [] }
+visit env into r p use_of.ConditionallyMutateIterator v =
+    record v { out = v.out ++ iterated env p ++ effect.Capture p into ∷ [] }
 visit env into r p use_of.Freeze v = record v { out = v.out ++ effect.Freeze p r ∷ [] }
 visit env into r p use_of.Mutate v = record v { out = v.out ++ effect.MutateTransitive p ∷ [] }
 visit env into r p use_of.Read v = record v { out = v.out ++ effect.ImmutableCapture p into ∷ [] }
@@ -73,12 +76,17 @@ abbrev pub with_refused : Bool → Place → Visits → Visits
 with_refused b p v = record v { refused = refused_first v.refused b p }
 
 -- argument i of a call
-abbrev pub visit_argument : Environment → FunctionSignature → Place → ValueReason → ℕ → PlaceOrSpreadOrHole → Visits → Visits
-visit_argument env s into r i (arg.Place p) v = visit env into r p (or_effect (slice_get s.positional_params i) (rest_use s)) v
-visit_argument env s into r i (arg.Spread x) v = visit env into r x.place (spread_effect (rest_use s)) (with_refused (is_refused (rest_use s)) x.place v)
+abbrev pub visit_argument : Environment → FunctionSignature → Place → ValueReason → ℕ → PlaceOrSpreadOrHole → Visits
+    → Visits
+visit_argument env s into r i (arg.Place p) v =
+    visit env into r p (or_effect (slice_get s.positional_params i) (rest_use s)) v
+visit_argument env s into r i (arg.Spread x) v =
+    visit env into r x.place (spread_effect (rest_use s)) (with_refused (is_refused (rest_use s)) x.place v)
 visit_argument env s into r i arg.Hole v = v
 
 -- the arguments of a call, of which the first is number i
-abbrev pub visit_arguments : Environment → FunctionSignature → Place → ValueReason → ℕ → List PlaceOrSpreadOrHole → Visits → Visits
+abbrev pub visit_arguments : Environment → FunctionSignature → Place → ValueReason → ℕ → List PlaceOrSpreadOrHole
+    → Visits → Visits
 visit_arguments env s into r i [] v = v
-visit_arguments env s into r i (a ∷ others) v = visit_arguments env s into r (i + 1) others (visit_argument env s into r i a v)
+visit_arguments env s into r i (a ∷ others) v =
+    visit_arguments env s into r (i + 1) others (visit_argument env s into r i a v)

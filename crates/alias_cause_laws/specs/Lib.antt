@@ -1,3 +1,4 @@
 pub mod ends
 pub mod causes
 pub mod nested
+pub mod handed

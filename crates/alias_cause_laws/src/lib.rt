@@ -3,4 +3,5 @@
 
 pub mod causes;
 pub mod ends;
+pub mod handed;
 pub mod nested;

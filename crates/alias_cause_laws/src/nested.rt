@@ -13,9 +13,10 @@ use alias_hir::env::{Environment, Unit};
 use alias_hir::hir::HirFunction;
 
 /// What the range pass leaves of a function that the inference takes, by its equation: ranges end past the recorded mutations that legal paths
-/// join to their identifiers, and cover the heap; each end is that of before or has a cause; and the summary ends with the flows. Does nothing.
+/// join to their identifiers, and cover the heap; what such a path leads to with Definite is marked as Definite; each end is that of before or has a
+/// cause; and the summary ends with the flows. Does nothing.
 pub fn range_pass_laws(env: &Environment, func: &HirFunction)
-    ensures { (b : Bool) (r : Ranged) → function_fits func.now env.now ≡ true → range_pass b func.now env.now ≡ Ok r → LeavesRanges func.now env.now r }
+    ensures { (b : Bool) (r : Ranged) → function_fits func.now env.now ≡ true → range_pass b func.now env.now ≡ Ok r → LeavesRanges b func.now env.now r }
 {
     // A law does nothing with what it is given: its clause is what it is for.
     let _env = env;
@@ -24,7 +25,8 @@ pub fn range_pass_laws(env: &Environment, func: &HirFunction)
 
 /// Of each nested function of what is inferred of a unit that is well formed, in the unit that is handed out: but for its context places, whose
 /// ranges are those of the functions around it, ranges end past the recorded mutations that legal paths join to their identifiers, and cover the
-/// heap, and each end is unset or has a cause; and the summary ends with the function's flows. Does nothing.
+/// heap, and each end is unset or has a cause; what such a path leads to with Definite is marked as Definite; and the summary ends with the
+/// function's flows. Does nothing.
 pub fn nested_range_laws(unit: &Unit)
     ensures { (a : UnitAnalysis) → rules_hold unit.now ≡ Ok tt → unit_analysed unit.now ≡ Ok a → NestedAreRanged a }
 {

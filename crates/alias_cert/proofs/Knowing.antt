@@ -1,5 +1,6 @@
 -- Entry states that are handed out are proper, one after the other.
-use Rattle.std.proofs.Common.{◌≡◌, ℕ, zero, suc, ◌<◌, ◌≤◌, ◌+◌, ⊎_elim, arith, List, [], ◌∷◌, Some, length, get_or, subst, sym, ap, ◌∙◌}
+use Rattle.std.proofs.Common.{◌≡◌, ℕ, zero, suc, ◌<◌, ◌≤◌, ◌+◌, ⊎_elim, arith, List, [], ◌∷◌, Some, length, get_or}
+use Rattle.std.proofs.Common.{subst, sym, ap, ◌∙◌}
 use Rattle.std.specs.Prelude.{slice_get}
 use Rattle.alias_rules.specs.RuleLaws.{lt_or_le}
 use Rattle.alias_lattice.specs.ProperStates.{StateProper}
@@ -15,7 +16,8 @@ at_index [] k x h e = absurd (omega arith)
 at_index (y ∷ ys) zero x h e = ap Some (sym e)
 at_index (y ∷ ys) (suc k) x h e = at_index ys k x (omega arith) e
 
-pub known_longer : (es : List BlockEntry) (k : ℕ) (x : BlockEntry) → k < length es → x ≡ get_or es k x → StateProper x.state → KnownBefore es k → KnownBefore es (k + 1)
+pub known_longer : (es : List BlockEntry) (k : ℕ) (x : BlockEntry) → k < length es → x ≡ get_or es k x
+    → StateProper x.state → KnownBefore es k → KnownBefore es (k + 1)
 known_longer es k x within is p before i h e there =
     ⊎_elim
     (λ less. before i less e there)
@@ -28,7 +30,8 @@ known_longer es k x within is p before i h e there =
 
 -- all of them
 pub known_all : (es : List BlockEntry) (k : ℕ) → length es ≤ k → KnownBefore es k → AreKnown es
-known_all es k past before i e there = ⊎_elim (λ less. before i less e there) (λ (beyond : k ≤ i). absurd (none_past es i e (omega arith) there)) (lt_or_le i k)
+known_all es k past before i e there = ⊎_elim (λ less. before i less e there)
+    (λ (beyond : k ≤ i). absurd (none_past es i e (omega arith) there)) (lt_or_le i k)
   where
     none_past : (xs : List BlockEntry) (n : ℕ) (x : BlockEntry) → length xs ≤ n → slice_get xs n ≡ Some x → ⊥
     none_past [] n x h g = cc

@@ -17,21 +17,26 @@ use Rattle.alias_cert.specs.Units.{below_checked, none_left, unit_checked, Accep
 use Rattle.alias_cert.proofs.Coming.{as_many}
 
 -- a call that found a fault
-pub accepts_fault : (functions : List CertFunction) (u : HirUnit) (r : Result Accepted CheckFault) (e : CheckFault) → r ≡ Err e → (is_memory e ≡ false → unit_checked functions u ≡ Err e) → Accepts functions u r
+pub accepts_fault : (functions : List CertFunction) (u : HirUnit) (r : Result Accepted CheckFault) (e : CheckFault) → r
+    ≡ Err e → (is_memory e ≡ false → unit_checked functions u ≡ Err e) → Accepts functions u r
 accepts_fault functions u r e is h = subst (Accepts functions u) (sym is) h
 
 module _ (functions also : List CertFunction) (listed : functions ≡ also) (u v : HirUnit) (same : u ≡ v) where
   of_unit : (r : Result (HirFunction × Checking) CheckFault) → unit_checked functions u ≡ r → unit_checked also v ≡ r
   of_unit r h = subst (λ z. unit_checked also z ≡ r) same (subst (λ cs. unit_checked cs u ≡ r) listed h)
 
-  module _ (env : Environment) (fs : List CheckedFunction) (below : below_checked functions 63 u.function (checking u.env []) ≡ Ok (checking env fs)) where
+  module _ (env : Environment) (fs : List CheckedFunction)
+      (below : below_checked functions 63 u.function (checking u.env []) ≡ Ok (checking env fs)) where
     so_far : unit_checked functions u ≡ (root_checked functions u.function (checking env fs) >>= none_left functions)
     so_far = ap (λ r. r >>= root_checked functions u.function >>= none_left functions) below
 
-    pub refused_root : (e : CheckFault) → root_checked functions u.function (checking env fs) ≡ Err e → unit_checked also v ≡ Err e
+    pub refused_root : (e : CheckFault) → root_checked functions u.function (checking env fs) ≡ Err e
+        → unit_checked also v ≡ Err e
     refused_root e h = of_unit (Err e) (so_far ∙ ap (λ r. r >>= none_left functions) h)
 
-    module _ (f : HirFunction) (last : Environment) (gs : List CheckedFunction) (solved : List Solved) (root : root_checked functions u.function (checking env fs) ≡ Ok (f, checking last gs)) (a : Accounts gs solved) where
+    module _ (f : HirFunction) (last : Environment) (gs : List CheckedFunction) (solved : List Solved)
+        (root : root_checked functions u.function (checking env fs) ≡ Ok (f, checking last gs))
+        (a : Accounts gs solved) where
       abbrev left_if : Bool → Result (HirFunction × Checking) CheckFault
       left_if b = if b then Err (fault.Functions (length gs)) else Ok (f, checking last gs)
 
@@ -41,8 +46,12 @@ module _ (functions also : List CertFunction) (listed : functions ≡ also) (u v
       pub refused_more : length solved < length functions → unit_checked also v ≡ Err (fault.Functions (length solved))
       refused_more lt =
           of_unit (Err (fault.Functions (length solved)))
-          (whole ∙ ap left_if (lt-ltb (length gs) (length functions) (subst (λ n. n < length functions) (sym (as_many gs solved a)) lt)) ∙ ap (λ n. Err (fault.Functions n)) (as_many gs solved a))
+          (whole ∙ ap left_if (lt-ltb (length gs) (length functions)
+          (subst (λ n. n < length functions) (sym (as_many gs solved a)) lt))
+          ∙ ap (λ n. Err (fault.Functions n)) (as_many gs solved a))
 
       pub accepted : length functions ≤ length solved → unit_checked also v ≡ Ok (f, checking last gs)
       accepted le =
-          of_unit (Ok (f, checking last gs)) (whole ∙ ap left_if (le-ltb (length gs) (length functions) (subst (λ n. length functions ≤ n) (sym (as_many gs solved a)) le)))
+          of_unit (Ok (f, checking last gs)) (whole
+          ∙ ap left_if (le-ltb (length gs) (length functions)
+          (subst (λ n. length functions ≤ n) (sym (as_many gs solved a)) le)))

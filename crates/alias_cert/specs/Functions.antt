@@ -1,5 +1,6 @@
 -- What a certificate says of the functions of a unit, checked one function after the other.
-use Rattle.std.specs.Prelude.{◌≡◌, ℕ, Bool, true, false, ◌==◌, if◌then◌else◌, List, [], ◌∷◌, ◌++◌, length, map, Option, Some, None, Result, Ok, Err, ⊤, slice_get}
+use Rattle.std.specs.Prelude.{◌≡◌, ℕ, Bool, true, false, ◌==◌, if◌then◌else◌, List, [], ◌∷◌, ◌++◌, length, map, Option}
+use Rattle.std.specs.Prelude.{Some, None, Result, Ok, Err, ⊤, slice_get}
 use Rattle.std.specs.List.{AllByRecursion}
 use Rattle.alias_base.specs.Answer.{◌>>=◌}
 use Rattle.alias_base.specs.declared.ids.FunctionId.{FunctionId}
@@ -62,7 +63,8 @@ said functions n id = said_as n id (slice_get functions n)
 -- ---- effects
 
 -- a function of which this is handed out, as the check of it began
-abbrev pub checked_function : Option FunctionId → Bool → HirFunction → Environment → CertFunction → PassEnd → CheckedFunction
+abbrev pub checked_function : Option FunctionId → Bool → HirFunction → Environment → CertFunction → PassEnd
+    → CheckedFunction
 checked_function id is_function_expression f env c e = record {
   env = env;
   func = f;
@@ -73,10 +75,15 @@ checked_function id is_function_expression f env c e = record {
 }
 
 -- the function carries its effects, and the environment takes over what the steps added
-abbrev pub effects_checked : Option FunctionId → Bool → HirFunction → Checking → CertFunction → Result (HirFunction × Checking) CheckFault
+abbrev pub effects_checked : Option FunctionId → Bool → HirFunction → Checking → CertFunction
+    → Result (HirFunction × Checking) CheckFault
 effects_checked id is_function_expression f a c = do
   e ← function_solved c a.env f is_function_expression
-  Ok (with_effects_of e.solved f, checking (env_after a.env e) (a.functions ++ checked_function id is_function_expression f a.env c e ∷ []))
+  Ok (
+    with_effects_of e.solved f,
+    checking (env_after a.env e)
+        (a.functions ++ checked_function id is_function_expression f a.env c e ∷ []),
+  )
 
 -- ---- summaries
 
@@ -104,22 +111,26 @@ stored_summary f = summary_or f.aliasing_effects
 -- ---- whole functions
 
 -- the summary is checked, and what is left is handed on
-abbrev pub summed : CertFunction → List AliasingEffect → HirFunction → Checking → Result (HirFunction × Checking) CheckFault
+abbrev pub summed : CertFunction → List AliasingEffect → HirFunction → Checking
+    → Result (HirFunction × Checking) CheckFault
 summed c summary f a = do
   u ← summary_checked c summary
   Ok (f, a)
 
 -- a nested function that carries its effects is finished as the inference finishes it, with the summary that is claimed
-abbrev pub nested_finished : CertFunction → FunctionId → HirFunction × Checking → Result (HirFunction × Checking) CheckFault
+abbrev pub nested_finished : CertFunction → FunctionId → HirFunction × Checking
+    → Result (HirFunction × Checking) CheckFault
 nested_finished c id s = do
   r ← ranging (Some id) (finished s.0 s.1.env)
   summed c (stored_summary r.0) r.0 (checking r.1 s.1.functions)
 
-abbrev pub nested_as_said : FunctionId → HirFunction → Checking → CertFunction → Result (HirFunction × Checking) CheckFault
+abbrev pub nested_as_said : FunctionId → HirFunction → Checking → CertFunction
+    → Result (HirFunction × Checking) CheckFault
 nested_as_said id f a c = effects_checked (Some id) true f a c >>= nested_finished c id
 
 -- a nested function, once those below it are checked
-abbrev pub nested_checked : List CertFunction → FunctionId → HirFunction → Checking → Result (HirFunction × Checking) CheckFault
+abbrev pub nested_checked : List CertFunction → FunctionId → HirFunction → Checking
+    → Result (HirFunction × Checking) CheckFault
 nested_checked functions id f a = said functions (length a.functions) (Some id) >>= nested_as_said id f a
 
 -- the root that carries its effects: the range pass gives its summary, which is the one that is claimed
@@ -143,7 +154,8 @@ EntersAsSaid x =
     (states : List (Option State)) × (entries_checked x.said x.env x.func x.is_function_expression ≡ Ok states)
     × (x.solved.entries ≡ entries_of x.func.body.blocks states)
 
--- the functions that were checked are those of the certificate, one after the other, and each enters its blocks as it says
+-- the functions that were checked are those of the certificate, one after the other, and each enters its blocks as it
+-- says
 pub record AreAsSaid (functions : List CertFunction) (fs : List CheckedFunction) : Type 0 where
   pub same : map (λ (x : CheckedFunction). x.said) fs ≡ functions
   pub enter : AllByRecursion EntersAsSaid fs
@@ -157,12 +169,15 @@ pub record Accounts (fs : List CheckedFunction) (solved : List Solved) : Type 0 
   pub same : map (λ (x : CheckedFunction). x.solved) fs ≡ solved
   pub solve : AllByRecursion SolvesItsFlow fs
 
--- a call comes to what is stated, or finds the fault that is stated. Out of memory is free: it can come in the place of any answer
+-- a call comes to what is stated, or finds the fault that is stated. Out of memory is free: it can come in the place of
+-- any answer
 abbrev pub Comes : Result Checking CheckFault → Result ⊤ CheckFault → Environment → List Solved → Type 0
 Comes stated (Ok u) env solved = (fs : List CheckedFunction) × (stated ≡ Ok (checking env fs)) × Accounts fs solved
 Comes stated (Err e) env solved = is_memory e ≡ false → stated ≡ Err e
 
 -- the same of a call that has a function out of its slot
-abbrev pub ComesWith : Result (HirFunction × Checking) CheckFault → Result ⊤ CheckFault → HirFunction → Environment → List Solved → Type 0
-ComesWith stated (Ok u) func env solved = (fs : List CheckedFunction) × (stated ≡ Ok (func, checking env fs)) × Accounts fs solved
+abbrev pub ComesWith : Result (HirFunction × Checking) CheckFault → Result ⊤ CheckFault → HirFunction → Environment
+    → List Solved → Type 0
+ComesWith stated (Ok u) func env solved = (fs : List CheckedFunction) × (stated ≡ Ok (func, checking env fs))
+    × Accounts fs solved
 ComesWith stated (Err e) func env solved = is_memory e ≡ false → stated ≡ Err e

@@ -1,5 +1,7 @@
--- What the terminal of a block carries: what was recorded of the block at its position, where no entry of another block is of that position.
-use Rattle.std.specs.Prelude.{◌≡◌, ℕ, Bool, true, false, ◌==◌, is_none, if◌then◌else◌, List, [], ◌∷◌, ◌++◌, map, Option, Some, None, slice_index_or, refl}
+-- What the terminal of a block carries: what was recorded of the block at its position, where no entry of another block
+-- is of that position.
+use Rattle.std.specs.Prelude.{◌≡◌, ℕ, Bool, true, false, ◌==◌, is_none, if◌then◌else◌, List, [], ◌∷◌, ◌++◌, map, Option}
+use Rattle.std.specs.Prelude.{Some, None, slice_index_or, refl}
 use Rattle.std.specs.List.{flat_map, AllByRecursion}
 use Rattle.std.specs.Option.{option_map_or}
 use Rattle.std.proofs.Common.{zero, suc, ap, sym, ◌∙◌, ◌⊎◌, inl, inr, append-nil, arith, eq-eqb}
@@ -24,7 +26,8 @@ unlike : (m n : ℕ) (t : Bool) → (m == n) ≡ t → (m ≡ n → ⊥) → (m 
 unlike m n true h f = absurd (f (eqb-true m n h))
 unlike m n false h f = h
 
-kept_instructions : (t : Bool) (es : List AliasingEffect) (b : BasicBlock) → (if t then block_with b es else b).instructions ≡ b.instructions
+kept_instructions : (t : Bool) (es : List AliasingEffect) (b : BasicBlock)
+    → (if t then block_with b es else b).instructions ≡ b.instructions
 kept_instructions true es b = refl
 kept_instructions false es b = refl
 
@@ -38,19 +41,29 @@ module _ (bs : Blocks) (n : ℕ) where
   NoneOf es = AllByRecursion (λ (e : TerminalEffects). is_of bs n e ≡ false) es
 
   -- the entries of a block at another position aren't
-  pub none_of_other : (m : ℕ) (k : BlockId) (es : List AliasingEffect) → position_in bs k ≡ Some m → (m ≡ n → ⊥) → NoneOf (terminal_recorded_as k es)
+  pub none_of_other : (m : ℕ) (k : BlockId) (es : List AliasingEffect) → position_in bs k ≡ Some m → (m ≡ n → ⊥)
+      → NoneOf (terminal_recorded_as k es)
   none_of_other m k [] at f = tt
-  none_of_other m k (e ∷ es) at f = (ap (λ (o : Option ℕ). option_map_or (λ i. i == n) o false) at ∙ unlike m n (m == n) refl f, tt)
+  none_of_other m k (e ∷ es) at f = (
+    ap (λ (o : Option ℕ). option_map_or (λ i. i == n) o false) at
+        ∙ unlike m n (m == n) refl f,
+    tt,
+  )
 
-  ends_append : (es fs : List TerminalEffects) (b : BasicBlock) → ends_for bs n (es ++ fs) b ≡ ends_for bs n es (ends_for bs n fs b)
+  ends_append : (es fs : List TerminalEffects) (b : BasicBlock) → ends_for bs n (es ++ fs) b
+      ≡ ends_for bs n es (ends_for bs n fs b)
   ends_append [] fs b = refl
-  ends_append (e ∷ es) fs b = ap (λ (z : BasicBlock). if is_of bs n e then block_with z e.effects else z) (ends_append es fs b)
+  ends_append (e ∷ es) fs b = ap (λ (z : BasicBlock). if is_of bs n e then block_with z e.effects else z)
+      (ends_append es fs b)
 
   ends_none : (es : List TerminalEffects) (b : BasicBlock) → NoneOf es → ends_for bs n es b ≡ b
   ends_none [] b h = refl
-  ends_none (e ∷ es) b h = ap (λ (t : Bool). if t then block_with (ends_for bs n es b) e.effects else ends_for bs n es b) h.0 ∙ ends_none es b h.1
+  ends_none (e ∷ es) b h = ap (λ (t : Bool). if t then block_with (ends_for bs n es b) e.effects
+      else ends_for bs n es b) h.0 ∙ ends_none es b h.1
 
-  all_none : (rs : List (Option BlockEffects)) (b : BasicBlock) → ((m : ℕ) → NoneOf (terminal_recorded (slice_index_or rs m None))) → ends_for bs n (flat_map terminal_recorded rs) b ≡ b
+  all_none : (rs : List (Option BlockEffects)) (b : BasicBlock)
+      → ((m : ℕ) → NoneOf (terminal_recorded (slice_index_or rs m None)))
+      → ends_for bs n (flat_map terminal_recorded rs) b ≡ b
   all_none [] b h = refl
   all_none (r ∷ rs) b h =
       ends_append (terminal_recorded r) (flat_map terminal_recorded rs) b
@@ -58,7 +71,8 @@ module _ (bs : Blocks) (n : ℕ) where
       ∙ ends_none (terminal_recorded r) b (h zero)
 
   -- of what all blocks record, what one block does
-  pub ends_at : (rs : List (Option BlockEffects)) (i : ℕ) (b : BasicBlock) → ((m : ℕ) → (m ≡ i → ⊥) → NoneOf (terminal_recorded (slice_index_or rs m None)))
+  pub ends_at : (rs : List (Option BlockEffects)) (i : ℕ) (b : BasicBlock)
+      → ((m : ℕ) → (m ≡ i → ⊥) → NoneOf (terminal_recorded (slice_index_or rs m None)))
       → ends_for bs n (flat_map terminal_recorded rs) b ≡ ends_for bs n (terminal_recorded (slice_index_or rs i None)) b
   ends_at [] i b h = refl
   ends_at (r ∷ rs) zero b h =
@@ -70,28 +84,36 @@ module _ (bs : Blocks) (n : ℕ) where
       ∙ ends_at rs i b (λ m f. h (suc m) (λ e. f (omega arith)))
 
   -- the instructions of a block stay
-  pub ends_instructions : (es : List TerminalEffects) (b : BasicBlock) → (ends_for bs n es b).instructions ≡ b.instructions
+  pub ends_instructions : (es : List TerminalEffects) (b : BasicBlock) → (ends_for bs n es b).instructions
+      ≡ b.instructions
   ends_instructions [] b = refl
-  ends_instructions (e ∷ es) b = kept_instructions (is_of bs n e) e.effects (ends_for bs n es b) ∙ ends_instructions es b
+  ends_instructions (e ∷ es) b = kept_instructions (is_of bs n e) e.effects (ends_for bs n es b)
+      ∙ ends_instructions es b
 
   module _ (k : BlockId) (b : BasicBlock) (at : position_in bs k ≡ Some n) where
-    own_carried : (e : AliasingEffect) (es : List AliasingEffect) → ends_for bs n (terminal_recorded_as k (e ∷ es)) b ≡ block_with b (e ∷ es)
+    own_carried : (e : AliasingEffect) (es : List AliasingEffect) → ends_for bs n (terminal_recorded_as k (e ∷ es)) b
+        ≡ block_with b (e ∷ es)
     own_carried e es =
         ap (λ (o : Option ℕ). if option_map_or (λ i. i == n) o false then block_with b (e ∷ es) else b) at
         ∙ ap (λ (t : Bool). if t then block_with b (e ∷ es) else b) (eq-eqb n n refl)
 
-    own_ends : (es : List AliasingEffect) → is_none (terminal_effects b.terminal) ≡ true → (es ≡ []) ⊎ CanCarry b.terminal
-        → map effect_text (recorded (terminal_effects (ends_for bs n (terminal_recorded_as k es) b).terminal)) ≡ flat_map said_ends (terminal_recorded_as k es)
-    own_ends [] u c = ap (λ (es : List AliasingEffect). map effect_text es) (none_recorded (terminal_effects b.terminal) u)
+    own_ends : (es : List AliasingEffect) → is_none (terminal_effects b.terminal) ≡ true → (es ≡ [])
+        ⊎ CanCarry b.terminal
+        → map effect_text (recorded (terminal_effects (ends_for bs n (terminal_recorded_as k es) b).terminal))
+        ≡ flat_map said_ends (terminal_recorded_as k es)
+    own_ends [] u c = ap (λ (es : List AliasingEffect). map effect_text es)
+        (none_recorded (terminal_effects b.terminal) u)
     own_ends (e ∷ es) u c =
         ap (λ (z : BasicBlock). map effect_text (recorded (terminal_effects z.terminal))) (own_carried e es)
         ∙ ap (λ (o : Option (List AliasingEffect)). map effect_text (recorded o)) (can_carry b.terminal e es c (e ∷ es))
         ∙ sym (append-nil (map effect_text (e ∷ es)))
 
     -- the lines of the terminal are those that are said of what its block recorded
-    pub terminal_lines : (rs : List TerminalEffects) → is_none (terminal_effects b.terminal) ≡ true → EndOf k b.terminal rs
+    pub terminal_lines : (rs : List TerminalEffects) → is_none (terminal_effects b.terminal) ≡ true
+        → EndOf k b.terminal rs
         → map effect_text (recorded (terminal_effects (ends_for bs n rs b).terminal)) ≡ flat_map said_ends rs
     terminal_lines rs u h =
-        ap (λ (es : List TerminalEffects). map effect_text (recorded (terminal_effects (ends_for bs n es b).terminal))) h.is
+        ap (λ (es : List TerminalEffects). map effect_text (recorded (terminal_effects (ends_for bs n es b).terminal)))
+        h.is
         ∙ own_ends h.effects u h.carried
         ∙ ap (flat_map said_ends) (sym h.is)

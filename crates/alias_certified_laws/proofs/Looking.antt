@@ -1,5 +1,7 @@
--- Where each instruction is listed once, what is recorded of all blocks has of each instruction what its own block recorded of it.
-use Rattle.std.specs.Prelude.{◌≡◌, ℕ, Bool, true, false, ◌==◌, ◌||◌, nat_eq, if◌then◌else◌, List, [], ◌∷◌, ◌++◌, map, Option, Some, None, slice_get, refl}
+-- Where each instruction is listed once, what is recorded of all blocks has of each instruction what its own block
+-- recorded of it.
+use Rattle.std.specs.Prelude.{◌≡◌, ℕ, Bool, true, false, ◌==◌, ◌||◌, nat_eq, if◌then◌else◌, List, [], ◌∷◌, ◌++◌, map}
+use Rattle.std.specs.Prelude.{Option, Some, None, slice_get, refl}
 use Rattle.std.specs.List.{AllByRecursion, flat_map}
 use Rattle.std.proofs.Common.{subst, ap, ◌∙◌, append_assoc, arith, eq-eqb}
 use Rattle.std.proofs.lemmas.Bool.{eqb-true}
@@ -20,11 +22,13 @@ use Rattle.alias_certified_laws.proofs.Carrying.{effects_for}
 
 -- ---- lists
 
-all_of_parts : {X : Type 0} (Q : X → Type 0) (xs ys : List X) → AllByRecursion Q (xs ++ ys) → AllByRecursion Q xs × AllByRecursion Q ys
+all_of_parts : {X : Type 0} (Q : X → Type 0) (xs ys : List X) → AllByRecursion Q (xs ++ ys) → AllByRecursion Q xs
+    × AllByRecursion Q ys
 all_of_parts Q [] ys h = (tt, h)
 all_of_parts Q (x ∷ xs) ys h = let b = all_of_parts Q xs ys h.1 in ((h.0, b.0), b.1)
 
-all_of_both : {X : Type 0} (Q : X → Type 0) (xs ys : List X) → AllByRecursion Q xs → AllByRecursion Q ys → AllByRecursion Q (xs ++ ys)
+all_of_both : {X : Type 0} (Q : X → Type 0) (xs ys : List X) → AllByRecursion Q xs → AllByRecursion Q ys
+    → AllByRecursion Q (xs ++ ys)
 all_of_both Q [] ys h g = g
 all_of_both Q (x ∷ xs) ys h g = (h.0, all_of_both Q xs ys h.1 g)
 
@@ -50,11 +54,14 @@ taken true x o h = cc
 taken false x o h = (refl, h)
 
 -- the first isn't among those before, and the others come once behind it
-once_step : (seen xs : List ℕ) (x : ℕ) → first_again seen (x ∷ xs) ≡ None → (is_among seen x ≡ false) × (first_again (x ∷ seen) xs ≡ None)
+once_step : (seen xs : List ℕ) (x : ℕ) → first_again seen (x ∷ xs) ≡ None → (is_among seen x ≡ false)
+    × (first_again (x ∷ seen) xs ≡ None)
 once_step seen xs x h = taken (is_among seen x) x (first_again (x ∷ seen) xs) h
 
-other_by : (seen : List ℕ) (i y : ℕ) (b : Bool) → (y == i) ≡ b → is_among seen i ≡ true → is_among seen y ≡ false → (y == i) ≡ false
-other_by seen i y true is a n = let same : y ≡ i = eqb-true y i is in let no : is_among seen i ≡ false = subst (λ k. is_among seen k ≡ false) same n in cc
+other_by : (seen : List ℕ) (i y : ℕ) (b : Bool) → (y == i) ≡ b → is_among seen i ≡ true → is_among seen y ≡ false
+    → (y == i) ≡ false
+other_by seen i y true is a n = let same : y ≡ i = eqb-true y i is in let no : is_among seen i ≡ false =
+    subst (λ k. is_among seen k ≡ false) same n in cc
 other_by seen i y false is a n = is
 
 -- what was before isn't among those that come once
@@ -78,11 +85,13 @@ seen_after seen (i ∷ is) = seen_after (i.0 ∷ seen) is
 abbrev numbers : List InstructionId → List ℕ
 numbers is = map (λ (i : InstructionId). i.0) is
 
-once_after : (seen : List ℕ) (is : List InstructionId) (later : List ℕ) → first_again seen (numbers is ++ later) ≡ None → first_again (seen_after seen is) later ≡ None
+once_after : (seen : List ℕ) (is : List InstructionId) (later : List ℕ) → first_again seen (numbers is ++ later) ≡ None
+    → first_again (seen_after seen is) later ≡ None
 once_after seen [] later h = h
 once_after seen (i ∷ is) later h = once_after (i.0 ∷ seen) is later (once_step seen (numbers is ++ later) i.0 h).1
 
-still_seen : (seen : List ℕ) (is : List InstructionId) (j : ℕ) → is_among (seen_after seen is) j ≡ false → (is_among seen j ≡ false) × AllByRecursion (λ (i : InstructionId). (i.0 == j) ≡ false) is
+still_seen : (seen : List ℕ) (is : List InstructionId) (j : ℕ) → is_among (seen_after seen is) j ≡ false
+    → (is_among seen j ≡ false) × AllByRecursion (λ (i : InstructionId). (i.0 == j) ≡ false) is
 still_seen seen [] j h = (h, tt)
 still_seen seen (i ∷ is) j h =
     let r = still_seen (i.0 ∷ seen) is j h in
@@ -104,7 +113,8 @@ nothing_for i [] h = refl
 nothing_for i (e ∷ es) h = ap (λ b. if b then e.effects else effects_for i es) h.0 ∙ nothing_for i es h.1
 
 module _ (xs : List Instruction) where
-  aligned_not_in : (i : ℕ) {is : List InstructionId} {es : List InstructionEffects} → Aligned xs is es → AllByRecursion (λ (k : InstructionId). (k.0 == i) ≡ false) is → NotIn i es
+  aligned_not_in : (i : ℕ) {is : List InstructionId} {es : List InstructionEffects} → Aligned xs is es
+      → AllByRecursion (λ (k : InstructionId). (k.0 == i) ≡ false) is → NotIn i es
   aligned_not_in i none h = tt
   aligned_not_in i (skip k a) h = aligned_not_in i a h.1
   aligned_not_in i (take k x es at a) h = (h.0, aligned_not_in i a h.1)
@@ -112,12 +122,15 @@ module _ (xs : List Instruction) where
   -- each of the numbers has in the whole what the entries have
   pub data Lookups (whole : List InstructionEffects) : List InstructionId → List InstructionEffects → Type 0 where
     no_more : Lookups whole [] []
-    nothing : (i : InstructionId) {is : List InstructionId} {es : List InstructionEffects} → effects_for i.0 whole ≡ [] → Lookups whole is es → Lookups whole (i ∷ is) es
-    something : (i : InstructionId) (x : Instruction) (es : List AliasingEffect) {is : List InstructionId} {rest : List InstructionEffects} → slice_get xs i.0 ≡ Some x
+    nothing : (i : InstructionId) {is : List InstructionId} {es : List InstructionEffects} → effects_for i.0 whole ≡ []
+        → Lookups whole is es → Lookups whole (i ∷ is) es
+    something : (i : InstructionId) (x : Instruction) (es : List AliasingEffect) {is : List InstructionId}
+        {rest : List InstructionEffects} → slice_get xs i.0 ≡ Some x
         → effects_for i.0 whole ≡ es → Lookups whole is rest
         → Lookups whole (i ∷ is) (record { instruction = i; effects = es } ∷ rest)
 
-  all_others : (is : List InstructionId) (i : ℕ) → AllByRecursion (IsOther i) (numbers is) → AllByRecursion (λ (k : InstructionId). (k.0 == i) ≡ false) is
+  all_others : (is : List InstructionId) (i : ℕ) → AllByRecursion (IsOther i) (numbers is)
+      → AllByRecursion (λ (k : InstructionId). (k.0 == i) ≡ false) is
   all_others [] i h = tt
   all_others (k ∷ is) i h = (h.0, all_others is i h.1)
 
@@ -131,32 +144,39 @@ module _ (xs : List Instruction) where
   before_more : (pre : List InstructionEffects) (seen : List ℕ) (i : ℕ) → Before pre seen → Before pre (i ∷ seen)
   before_more pre seen i f j h = f j (both_false (nat_eq j i) (is_among seen j) h).1
 
-  before_one : (pre : List InstructionEffects) (seen : List ℕ) (i : InstructionId) (es : List AliasingEffect) → Before pre seen
+  before_one : (pre : List InstructionEffects) (seen : List ℕ) (i : InstructionId) (es : List AliasingEffect)
+      → Before pre seen
       → Before (pre ++ record { instruction = i; effects = es } ∷ []) (i.0 ∷ seen)
   before_one pre seen i es f j h =
       let b = both_false (nat_eq j i.0) (is_among seen j) h in
       let e : InstructionEffects = record { instruction = i; effects = es } in
-      all_of_both (λ (z : InstructionEffects). (z.instruction.0 == j) ≡ false) pre (e ∷ []) (f j b.1) (turned j i.0 b.0, tt)
+      all_of_both (λ (z : InstructionEffects). (z.instruction.0 == j) ≡ false) pre (e ∷ []) (f j b.1)
+      (turned j i.0 b.0, tt)
 
   one_same : (i : ℕ) (es rest : List AliasingEffect) → (if i == i then es else rest) ≡ es
   one_same i es rest = ap (λ b. if b then es else rest) (eq-eqb i i refl)
 
-  segment : (pre post : List InstructionEffects) (seen later : List ℕ) (is : List InstructionId) (here : List InstructionEffects) → Aligned xs is here
+  segment : (pre post : List InstructionEffects) (seen later : List ℕ) (is : List InstructionId)
+      (here : List InstructionEffects) → Aligned xs is here
       → first_again seen (numbers is ++ later) ≡ None → Before pre seen → Behind post later
       → Lookups (pre ++ (here ++ post)) is here
   segment pre post seen later [] [] none once f g = no_more
   segment pre post seen later [] (e ∷ rest) a once f g = elim a [ ]
   segment pre post seen later (i ∷ is) here (skip k a) once f g =
       let p = once_step seen (numbers is ++ later) i.0 once in
-      let others = all_of_parts (IsOther i.0) (numbers is) later (apart (i.0 ∷ seen) (numbers is ++ later) i.0 p.1 (itself seen i.0)) in
-      let rest = all_of_both (λ (z : InstructionEffects). (z.instruction.0 == i.0) ≡ false) here post (aligned_not_in i.0 a (all_others is i.0 others.0)) (g i.0 others.1) in
+      let others = all_of_parts (IsOther i.0) (numbers is) later
+      (apart (i.0 ∷ seen) (numbers is ++ later) i.0 p.1 (itself seen i.0)) in
+      let rest = all_of_both (λ (z : InstructionEffects). (z.instruction.0 == i.0) ≡ false) here post
+      (aligned_not_in i.0 a (all_others is i.0 others.0)) (g i.0 others.1) in
       nothing i (past i.0 pre (here ++ post) (f i.0 p.0) ∙ nothing_for i.0 (here ++ post) rest)
       (segment pre post (i.0 ∷ seen) later is here a p.1 (before_more pre seen i.0 f) g)
   segment pre post seen later (i ∷ is) (e ∷ rest) (take k x es at a) once f g =
       let p = once_step seen (numbers is ++ later) i.0 once in
       let entry : InstructionEffects = record { instruction = i; effects = es } in
-      something i x es at (past i.0 pre (entry ∷ (rest ++ post)) (f i.0 p.0) ∙ one_same i.0 es (effects_for i.0 (rest ++ post)))
-      (subst (λ l. Lookups l is rest) (append_assoc pre (entry ∷ []) (rest ++ post)) (segment (pre ++ entry ∷ []) post (i.0 ∷ seen) later is rest a p.1 (before_one pre seen i es f) g))
+      something i x es at (past i.0 pre (entry ∷ (rest ++ post)) (f i.0 p.0)
+      ∙ one_same i.0 es (effects_for i.0 (rest ++ post)))
+      (subst (λ l. Lookups l is rest) (append_assoc pre (entry ∷ []) (rest ++ post))
+      (segment (pre ++ entry ∷ []) post (i.0 ∷ seen) later is rest a p.1 (before_one pre seen i es f) g))
 
   -- ---- blocks
 
@@ -166,25 +186,30 @@ module _ (xs : List Instruction) where
   abbrev listed : Blocks → List ℕ
   listed bs = flat_map (λ (e : BlockId × BasicBlock). map (λ (i : InstructionId). i.0) e.1.instructions) bs
 
-  behind_all : (bs : Blocks) (rs : List (Option BlockEffects)) → Paired BlockAligned bs rs → Behind (flat_map instructions_recorded rs) (listed bs)
+  behind_all : (bs : Blocks) (rs : List (Option BlockEffects)) → Paired BlockAligned bs rs
+      → Behind (flat_map instructions_recorded rs) (listed bs)
   behind_all [] [] no_pair i h = tt
   behind_all [] (r ∷ rs) p i h = elim p [ ]
   behind_all (b ∷ bs) [] p i h = elim p [ ]
   behind_all (b ∷ bs) (r ∷ rs) (more a p) i h =
       let parts = all_of_parts (IsOther i) (numbers b.1.instructions) (listed bs) h in
-      all_of_both (λ (z : InstructionEffects). (z.instruction.0 == i) ≡ false) (instructions_recorded r) (flat_map instructions_recorded rs)
+      all_of_both (λ (z : InstructionEffects). (z.instruction.0 == i) ≡ false) (instructions_recorded r)
+      (flat_map instructions_recorded rs)
       (aligned_not_in i a (all_others b.1.instructions i parts.0)) (behind_all bs rs p i parts.1)
 
-  before_block : (pre : List InstructionEffects) (seen : List ℕ) (is : List InstructionId) (here : List InstructionEffects) → Aligned xs is here → Before pre seen
+  before_block : (pre : List InstructionEffects) (seen : List ℕ) (is : List InstructionId)
+      (here : List InstructionEffects) → Aligned xs is here → Before pre seen
       → Before (pre ++ here) (seen_after seen is)
   before_block pre seen is here a f j h =
       let b = still_seen seen is j h in
-      all_of_both (λ (z : InstructionEffects). (z.instruction.0 == j) ≡ false) pre here (f j b.0) (aligned_not_in j a b.1)
+      all_of_both (λ (z : InstructionEffects). (z.instruction.0 == j) ≡ false) pre here (f j b.0)
+      (aligned_not_in j a b.1)
 
   abbrev pub BlockLookups : List InstructionEffects → BlockId × BasicBlock → Option BlockEffects → Type 0
   BlockLookups whole b r = Lookups whole b.1.instructions (instructions_recorded r)
 
-  each_lookups : (bs : Blocks) (rs : List (Option BlockEffects)) (pre : List InstructionEffects) (seen : List ℕ) → Paired BlockAligned bs rs → first_again seen (listed bs) ≡ None → Before pre seen
+  each_lookups : (bs : Blocks) (rs : List (Option BlockEffects)) (pre : List InstructionEffects) (seen : List ℕ)
+      → Paired BlockAligned bs rs → first_again seen (listed bs) ≡ None → Before pre seen
       → Paired (BlockLookups (pre ++ flat_map instructions_recorded rs)) bs rs
   each_lookups [] [] pre seen no_pair once f = no_pair
   each_lookups [] (r ∷ rs) pre seen p once f = elim p [ ]
@@ -194,8 +219,10 @@ module _ (xs : List Instruction) where
       let post = flat_map instructions_recorded rs in
       more (segment pre post seen (listed bs) b.1.instructions here a once f (behind_all bs rs p))
       (subst (λ l. Paired (BlockLookups l) bs rs) (append_assoc pre here post)
-      (each_lookups bs rs (pre ++ here) (seen_after seen b.1.instructions) p (once_after seen b.1.instructions (listed bs) once) (before_block pre seen b.1.instructions here a f)))
+      (each_lookups bs rs (pre ++ here) (seen_after seen b.1.instructions) p
+      (once_after seen b.1.instructions (listed bs) once) (before_block pre seen b.1.instructions here a f)))
 
   -- all blocks of a function that lists each instruction once
-  pub all_lookup : (bs : Blocks) (rs : List (Option BlockEffects)) → Paired BlockAligned bs rs → first_again [] (listed bs) ≡ None → Paired (BlockLookups (flat_map instructions_recorded rs)) bs rs
+  pub all_lookup : (bs : Blocks) (rs : List (Option BlockEffects)) → Paired BlockAligned bs rs
+      → first_again [] (listed bs) ≡ None → Paired (BlockLookups (flat_map instructions_recorded rs)) bs rs
   all_lookup bs rs p once = each_lookups bs rs [] [] p once (λ i h. tt)

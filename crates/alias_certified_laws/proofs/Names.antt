@@ -1,7 +1,8 @@
 -- The entry states of a pass name what is there, and its temporaries are counted on.
 use Rattle.std.specs.Prelude.{slice_get}
 use Rattle.std.specs.List.{AllByRecursion, list_all, flat_map}
-use Rattle.std.proofs.Common.{◌≡◌, ℕ, ◌+◌, ◌<◌, Bool, true, false, ◌||◌, ◌==◌, List, [], ◌∷◌, ◌++◌, length, Option, Some, None, refl, subst, eq-eqb}
+use Rattle.std.proofs.Common.{◌≡◌, ℕ, ◌+◌, ◌<◌, Bool, true, false, ◌||◌, ◌==◌, List, [], ◌∷◌, ◌++◌, length, Option}
+use Rattle.std.proofs.Common.{Some, None, refl, subst, eq-eqb}
 use Rattle.std.proofs.lemmas.Bool.{lt-ltb}
 use Rattle.alias_base.specs.declared.ids.BlockId.{BlockId}
 use Rattle.alias_base.specs.declared.ids.FunctionId.{FunctionId}
@@ -31,7 +32,8 @@ use Rattle.alias_nested.specs.Created.{one_of, created_by, created_by_all, creat
 use Rattle.alias_nesting_laws.specs.FittingLaws.{together}
 use Rattle.alias_certificate.specs.states.States.{is_created, is_site_there}
 use Rattle.alias_cert.specs.function.Temporaries.{is_key_there}
-use Rattle.alias_effects_laws.specs.entries.Named.{SiteNamed, SitesNamed, StateNamed, KeyNamed, AreNumbered, CreatesAt, CreatesHas, BlocksCreate, EntriesNamed}
+use Rattle.alias_effects_laws.specs.entries.Named.{SiteNamed, SitesNamed, StateNamed, KeyNamed, AreNumbered, CreatesAt}
+use Rattle.alias_effects_laws.specs.entries.Named.{CreatesHas, BlocksCreate, EntriesNamed}
 use Rattle.alias_effects_laws.proofs.entries.Entries.{entries_named}
 use Rattle.alias_certificate_laws.specs.accepting.Certifying.{NamesItsOwn, IsAcceptedAsSaid}
 use Rattle.alias_certificate_laws.specs.accepting.Saying.{NamesThere, AreCounted}
@@ -41,11 +43,13 @@ use Rattle.alias_walks.specs.Words.{all_mapped as all_on}
 
 -- ---- lists
 
-parts_of : {X : Type 0} (Q : X → Type 0) (xs ys : List X) → AllByRecursion Q (xs ++ ys) → AllByRecursion Q xs × AllByRecursion Q ys
+parts_of : {X : Type 0} (Q : X → Type 0) (xs ys : List X) → AllByRecursion Q (xs ++ ys) → AllByRecursion Q xs
+    × AllByRecursion Q ys
 parts_of Q [] ys h = (tt, h)
 parts_of Q (x ∷ xs) ys h = let b = parts_of Q xs ys h.1 in ((h.0, b.0), b.1)
 
-each_of : {A X : Type 0} (Q : X → Type 0) (f : A → List X) (as_ : List A) → AllByRecursion Q (flat_map f as_) → AllByRecursion (λ a. AllByRecursion Q (f a)) as_
+each_of : {A X : Type 0} (Q : X → Type 0) (f : A → List X) (as_ : List A) → AllByRecursion Q (flat_map f as_)
+    → AllByRecursion (λ a. AllByRecursion Q (f a)) as_
 each_of Q f [] h = tt
 each_of Q f (a ∷ as_) h = let b = parts_of Q (f a) (flat_map f as_) h in (b.0, each_of Q f as_ b.1)
 
@@ -63,7 +67,8 @@ all_created : (fs : List FunctionId) → AllByRecursion (λ f. is_created fs f �
 all_created [] = tt
 all_created (f ∷ fs) = (
   or_front (f.0 == f.0) (is_created fs f) (eq-eqb f.0 f.0 refl),
-  all_on (λ g. is_created fs g ≡ true) (λ g. is_created (f ∷ fs) g ≡ true) (λ g. or_back (f.0 == g.0) (is_created fs g)) fs (all_created fs),
+  all_on (λ g. is_created fs g ≡ true) (λ g. is_created (f ∷ fs) g ≡ true) (λ g. or_back (f.0 == g.0) (is_created fs g))
+      fs (all_created fs),
 )
 
 module _ (func : HirFunction) where
@@ -81,11 +86,14 @@ module _ (func : HirFunction) where
   blocks_create : BlocksCreate IsOne func
   blocks_create =
       all_on (λ (b : BlockId × BasicBlock). AllByRecursion IsOne (created_by_all func b.1.instructions))
-      (λ (b : BlockId × BasicBlock). AllByRecursion (λ (i : InstructionId). CreatesAt IsOne (slice_get func.instructions i.0)) b.1.instructions)
+      (λ (b : BlockId × BasicBlock). AllByRecursion
+      (λ (i : InstructionId). CreatesAt IsOne (slice_get func.instructions i.0)) b.1.instructions)
       (λ b h. all_on (λ (i : InstructionId). AllByRecursion IsOne (created_by (slice_get func.instructions i.0)))
-      (λ (i : InstructionId). CreatesAt IsOne (slice_get func.instructions i.0)) (λ i. at_has (slice_get func.instructions i.0)) b.1.instructions
+      (λ (i : InstructionId). CreatesAt IsOne (slice_get func.instructions i.0))
+      (λ i. at_has (slice_get func.instructions i.0)) b.1.instructions
       (each_of IsOne (λ (i : InstructionId). created_by (slice_get func.instructions i.0)) b.1.instructions h))
-      func.body.blocks (each_of IsOne (λ (b : BlockId × BasicBlock). created_by_all func b.1.instructions) func.body.blocks (all_created (created_functions func)))
+      func.body.blocks (each_of IsOne (λ (b : BlockId × BasicBlock). created_by_all func b.1.instructions)
+      func.body.blocks (all_created (created_functions func)))
 
 -- ---- states
 
@@ -106,15 +114,19 @@ module _ (n : ℕ) (created : List FunctionId) where
   site_there (site.AssignCopy from into) h = together _ _ (lt-ltb from.0 n h.0) (lt-ltb into.0 n h.1)
   site_there (site.Default x) h = lt-ltb x.0 n h
 
-  values_there : (vs : List (Site × AbstractValue)) → AllByRecursion (λ (e : Site × AbstractValue). SiteNamed Below Created e.0) vs
+  values_there : (vs : List (Site × AbstractValue))
+      → AllByRecursion (λ (e : Site × AbstractValue). SiteNamed Below Created e.0) vs
       → list_all (λ (e : Site × AbstractValue). is_site_there n created e.0) vs ≡ true
   values_there [] h = refl
-  values_there (e ∷ es) h = together (is_site_there n created e.0) (list_all (λ (e : Site × AbstractValue). is_site_there n created e.0) es) (site_there e.0 h.0) (values_there es h.1)
+  values_there (e ∷ es) h = together (is_site_there n created e.0)
+      (list_all (λ (e : Site × AbstractValue). is_site_there n created e.0) es) (site_there e.0 h.0)
+      (values_there es h.1)
 
   state_there : (s : State) → StateNamed Below Created s → NamesThere n created s
   state_there s h = record {
     values = values_there s.values h.values;
-    variables = all_on (λ (e : IdentifierId × Sites). Below e.0.0 × SitesNamed Below Created e.1) (λ (e : IdentifierId × Sites). e.0.0 < n) (λ e i. i.0) s.variables h.variables;
+    variables = all_on (λ (e : IdentifierId × Sites). Below e.0.0 × SitesNamed Below Created e.1)
+        (λ (e : IdentifierId × Sites). e.0.0 < n) (λ e i. i.0) s.variables h.variables;
   }
 
 -- ---- temporaries
@@ -125,11 +137,18 @@ key_there n f (key.Rest g) h = lt-ltb g.0 f h
 
 are_counted : (env : Environment) (done xs : List Temporary) → AreNumbered env done xs → AreCounted env done xs
 are_counted env done [] h = tt
-are_counted env done (x ∷ xs) h = (h.0.0, h.0.1, key_there (length env.identifiers + length done) (length env.functions) x.key h.0.2, h.0.3, are_counted env (done ++ x ∷ []) xs h.1)
+are_counted env done (x ∷ xs) h = (
+  h.0.0,
+  h.0.1,
+  key_there (length env.identifiers + length done) (length env.functions) x.key h.0.2,
+  h.0.3,
+  are_counted env (done ++ x ∷ []) xs h.1,
+)
 
 -- ---- a pass
 
-module _ (env : Environment) (func : HirFunction) (e : Bool) (w : SolverState (VisitLog State) TableLists BlockEffects) (fits : function_fits func env ≡ true)
+module _ (env : Environment) (func : HirFunction) (e : Bool) (w : SolverState (VisitLog State) TableLists BlockEffects)
+    (fits : function_fits func env ≡ true)
     (ends : visits_end (context_of env func e) ≡ Solved w) where
   named : EntriesNamed env (IsOne func) w
   named = entries_named func env e fits (IsOne func) (blocks_create func) w ends
@@ -139,7 +158,8 @@ module _ (env : Environment) (func : HirFunction) (e : Bool) (w : SolverState (V
       let n = length env.identifiers + length w.tables.temporaries in
       record {
         states = λ b s is. state_there n (created_functions func) s
-            (subst (HoldsOf (StateNamed (λ k. k < n) (IsOne func))) is (at_holds (StateNamed (λ k. k < n) (IsOne func)) w.progress.joined_input b named.states));
+            (subst (HoldsOf (StateNamed (λ k. k < n) (IsOne func))) is
+            (at_holds (StateNamed (λ k. k < n) (IsOne func)) w.progress.joined_input b named.states));
         temporaries = are_counted env [] w.tables.temporaries named.temporaries;
       }
 

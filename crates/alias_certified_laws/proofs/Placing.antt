@@ -18,7 +18,8 @@ abbrev pub IsPlace : Blocks → ℕ → Type 0
 IsPlace bs n = (k : BlockId) × (position_in bs k ≡ Some n)
 
 module _ (bs : Blocks) (n : ℕ) where
-  one_place : (k : BlockId) (o : Option ℕ) (ns : List ℕ) → position_in bs k ≡ o → (IsOneOf n ns → IsPlace bs n) → IsOneOf n (with_position o ns) → IsPlace bs n
+  one_place : (k : BlockId) (o : Option ℕ) (ns : List ℕ) → position_in bs k ≡ o → (IsOneOf n ns → IsPlace bs n)
+      → IsOneOf n (with_position o ns) → IsPlace bs n
   one_place k None ns at f h = f h
   one_place k (Some m) ns at f (inl same) = (k, at ∙ ap Some (sym same))
   one_place k (Some m) ns at f (inr h) = f h
@@ -38,11 +39,14 @@ module _ (bs : Blocks) (n : ℕ) where
       let same : b ≡ (p.0, r.0) = some_same b (p.0, r.0) (sym at ∙ r.1) in
       subst (λ k. position_in bs k ≡ Some n) (sym (ap (λ (z : BlockId × BasicBlock). z.0) same)) p.1
 
-entry_place : (bs : Blocks) (k : BlockId) (o : Option ℕ) → position_in bs k ≡ o → is_some o ≡ true → IsPlace bs (option_map_or (λ n. n) o 0)
+entry_place : (bs : Blocks) (k : BlockId) (o : Option ℕ) → position_in bs k ≡ o → is_some o ≡ true
+    → IsPlace bs (option_map_or (λ n. n) o 0)
 entry_place bs k None at h = cc
 entry_place bs k (Some n) at h = (k, at)
 
 module _ (c : BlockContext) (entered : is_some (value_at c.func.body.blocks c.func.body.entry) ≡ true) where
   pub reached_place : (n : ℕ) → IsReached (numbered c).flow n → IsPlace c.func.body.blocks n
-  reached_place n at_entry = entry_place c.func.body.blocks c.func.body.entry (position_in c.func.body.blocks c.func.body.entry) refl (found_has_position c.func.body.blocks c.func.body.entry entered)
+  reached_place n at_entry = entry_place c.func.body.blocks c.func.body.entry
+      (position_in c.func.body.blocks c.func.body.entry) refl
+      (found_has_position c.func.body.blocks c.func.body.entry entered)
   reached_place n (by_edge m k r h) = edge_place c.func.body.blocks k (slice_get c.func.body.blocks m) h

@@ -18,11 +18,15 @@ use Rattle.alias_effects.specs.Recording.{with_effects_of}
 use Rattle.alias_certificate_laws.specs.text.Certifying.{cert_block}
 use Rattle.alias_certificate_laws.specs.accepting.Saying.{said_each, those_there}
 
--- What infer_block records stands in the order of the block's instructions, an entry for each of which anything is recorded; each instruction is listed once (a rule), so
+-- What infer_block records stands in the order of the block's instructions, an entry for each of which anything is
+-- recorded; each instruction is listed once (a rule), so
 -- that it carries these effects and no others.
 abbrev pub PrintsWhatIsSaid : Type 0
 PrintsWhatIsSaid =
-    (env : Environment) (func : HirFunction) (is_function_expression : Bool) (w : SolverState (VisitLog State) TableLists BlockEffects) → function_fits func env ≡ true
-    → list_all instruction_is_uninferred func.instructions ≡ true → list_all (λ (b : BlockId × BasicBlock). terminal_is_uninferred b.1.terminal) func.body.blocks ≡ true
+    (env : Environment) (func : HirFunction) (is_function_expression : Bool)
+    (w : SolverState (VisitLog State) TableLists BlockEffects) → function_fits func env ≡ true
+    → list_all instruction_is_uninferred func.instructions ≡ true
+    → list_all (λ (b : BlockId × BasicBlock). terminal_is_uninferred b.1.terminal) func.body.blocks ≡ true
     → visits_end (context_of env func is_function_expression) ≡ Solved w
-    → map (cert_block (with_effects_of (solved_of func w) func)) (solved_of func w).entries ≡ those_there (said_each func.body.blocks w.progress.joined_input w.recorded)
+    → map (cert_block (with_effects_of (solved_of func w) func)) (solved_of func w).entries
+    ≡ those_there (said_each func.body.blocks w.progress.joined_input w.recorded)

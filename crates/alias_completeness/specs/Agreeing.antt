@@ -17,4 +17,11 @@ pub record Agrees (env more : Environment) : Type 0 where
   pub config : more.config ≡ env.config
 
 pub agrees_self : (env : Environment) → Agrees env env
-agrees_self env = record { longer = omega arith; declarations = λ x h. refl; type_ids = λ x h. refl; types = λ x h. refl; shapes = refl; config = refl }
+agrees_self env = record {
+  longer = omega arith;
+  declarations = λ x h. refl;
+  type_ids = λ x h. refl;
+  types = λ x h. refl;
+  shapes = refl;
+  config = refl;
+}

@@ -33,12 +33,16 @@ use Rattle.alias_tables.specs.Tables.{TableLists}
 use Rattle.alias_tables.specs.declared.faults.Refusal.TheVariants as refused
 use Rattle.alias_tables.specs.write_back.WriteBack.{tables_of}
 
-pub forward_settled : (env : Environment) (func : HirFunction) (b : Bool) → is_some (value_at func.body.blocks func.body.entry) ≡ true → GoesForward env func b → (n : ℕ) → visits_end (context_of env func b) ≡ end.NotSettled n → ⊥
+pub forward_settled : (env : Environment) (func : HirFunction) (b : Bool)
+    → is_some (value_at func.body.blocks func.body.entry) ≡ true → GoesForward env func b → (n : ℕ)
+    → visits_end (context_of env func b) ≡ end.NotSettled n → ⊥
 forward_settled env func b entry forward n e =
     let c = context_of env func b in
     let none = replicate (length func.body.blocks) None in
-    let laws : FlowLaws StateProper Extends (numbered c) none = pass_laws c entry none (length-replicate (length func.body.blocks) None) in
-    forward_settles state_laws laws forward (tables_of env) n (solution_work_list state_laws laws (tables_of env) ∙ ap (as_work_list_end state_below) e)
+    let laws : FlowLaws StateProper Extends (numbered c) none =
+    pass_laws c entry none (length-replicate (length func.body.blocks) None) in
+    forward_settles state_laws laws forward (tables_of env) n
+    (solution_work_list state_laws laws (tables_of env) ∙ ap (as_work_list_end state_below) e)
 
 -- the refusal of a step isn't NotSettled
 refusal_settles : (env : Environment) (b : BlockId) (c : BlockRefusal) → is_unsettled (refusal env b c) ≡ false
@@ -49,25 +53,34 @@ refusal_settles env b (block.Instruction i (refused.SpreadArgument span report))
 refusal_settles env b (block.Instruction i (refused.TooMany which)) = refl
 refusal_settles env b (block.Uninitialized m) = refl
 
-end_settles : (env : Environment) (func : HirFunction) (e : End (VisitLog State) TableLists BlockEffects BlockRefusal) → ((n : ℕ) → e ≡ end.NotSettled n → ⊥) → IsSettled (answer_of env func e)
+end_settles : (env : Environment) (func : HirFunction) (e : End (VisitLog State) TableLists BlockEffects BlockRefusal)
+    → ((n : ℕ) → e ≡ end.NotSettled n → ⊥) → IsSettled (answer_of env func e)
 end_settles env func (end.Solved w) h = tt
 end_settles env func (end.Fault m c) h = refusal_settles env (block_at func.body.blocks m) c
 end_settles env func (end.NotSettled m) h = absurd (h m refl)
 
-pub pass_settles : (env : Environment) (func : HirFunction) (b : Bool) → function_fits func env ≡ true → GoesForward env func b → IsSettled (pass_end env func b)
-pass_settles env func b fits forward = end_settles env func (visits_end (context_of env func b)) (forward_settled env func b (fitting_entry func env fits) forward)
+pub pass_settles : (env : Environment) (func : HirFunction) (b : Bool) → function_fits func env ≡ true
+    → GoesForward env func b → IsSettled (pass_end env func b)
+pass_settles env func b fits forward = end_settles env func (visits_end (context_of env func b))
+    (forward_settled env func b (fitting_entry func env fits) forward)
 
-settled_through : {A B : Type 0} (p : Result A InferError) (f : A → B) → IsSettled p → IsSettled {A = B} (p >>= (λ x. Ok (f x)))
+settled_through : {A B : Type 0} (p : Result A InferError) (f : A → B) → IsSettled p
+    → IsSettled {A = B} (p >>= (λ x. Ok (f x)))
 settled_through (Ok x) f h = tt
 settled_through (Err e) f h = h
 
-pub visits_settle : (env : Environment) (func : HirFunction) (b : Bool) → function_fits func env ≡ true → GoesForward env func b → IsSettled (last_visits env func b)
-visits_settle env func b fits forward = settled_through (pass_end env func b) last_of (pass_settles env func b fits forward)
+pub visits_settle : (env : Environment) (func : HirFunction) (b : Bool) → function_fits func env ≡ true
+    → GoesForward env func b → IsSettled (last_visits env func b)
+visits_settle env func b fits forward = settled_through (pass_end env func b) last_of
+    (pass_settles env func b fits forward)
 
-settled_error : {A : Type 0} (stated : Result A InferError) (e : InferError) → IsSettled stated → (is_memory e ≡ false → stated ≡ Err e) → is_unsettled e ≡ false
+settled_error : {A : Type 0} (stated : Result A InferError) (e : InferError) → IsSettled stated
+    → (is_memory e ≡ false → stated ≡ Err e) → is_unsettled e ≡ false
 settled_error {A} stated (error.NotSettled f n r) h g = subst (λ (q : Result A InferError). IsSettled q) (g refl) h
 settled_error stated e h g = refl
 
 -- an error that is given of such an answer isn't NotSettled
-pub settled_alike : {A B : Type 0} (stated : Result A InferError) (q : Result B InferError) (e : InferError) → IsSettled stated → (is_memory e ≡ false → stated ≡ Err e) → q ≡ Err e → IsSettled q
-settled_alike {A} {B} stated q e h g same = subst (λ (r : Result B InferError). IsSettled r) (sym same) (settled_error stated e h g)
+pub settled_alike : {A B : Type 0} (stated : Result A InferError) (q : Result B InferError) (e : InferError)
+    → IsSettled stated → (is_memory e ≡ false → stated ≡ Err e) → q ≡ Err e → IsSettled q
+settled_alike {A} {B} stated q e h g same =
+    subst (λ (r : Result B InferError). IsSettled r) (sym same) (settled_error stated e h g)

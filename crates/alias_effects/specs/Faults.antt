@@ -11,7 +11,8 @@ abbrev pub step_fault : BlockFault → StepFault BlockRefusal
 step_fault (block.Refused c) = flow.Refused c
 step_fault (block.Memory e) = flow.Memory e
 
--- at Ok what was given has become what is stated, and an error is the one stated. Out of memory is free: it can come in the place of any answer
+-- at Ok what was given has become what is stated, and an error is the one stated. Out of memory is free: it can come in
+-- the place of any answer
 abbrev pub GivesInto : {A E : Type 0} → (E → Bool) → Result A E → Result ⊤ E → A → Type 0
 GivesInto is_memory stated (Ok u) now = stated ≡ Ok now
 GivesInto is_memory stated (Err e) now = is_memory e ≡ false → stated ≡ Err e

@@ -15,12 +15,14 @@ use Rattle.alias_step.specs.block.Initial.{initial_state}
 use Rattle.alias_step.specs.block.Recorded.{no_effects}
 
 -- what the step of a block gives, as an outcome of a flow
-abbrev pub outcome_of : Result ((State × BlockEffects) × TableLists) BlockRefusal → Outcome State TableLists BlockEffects BlockRefusal
+abbrev pub outcome_of : Result ((State × BlockEffects) × TableLists) BlockRefusal
+    → Outcome State TableLists BlockEffects BlockRefusal
 outcome_of (Ok r) = Stepped r.0.0 r.1 r.0.1
 outcome_of (Err c) = Refused c
 
 -- a block that isn't there does nothing
-abbrev pub outcome_at : BlockContext → BlockId → Option BasicBlock → TableLists → State → Outcome State TableLists BlockEffects BlockRefusal
+abbrev pub outcome_at : BlockContext → BlockId → Option BasicBlock → TableLists → State
+    → Outcome State TableLists BlockEffects BlockRefusal
 outcome_at c b None tables x = Stepped x tables no_effects
 outcome_at c b (Some block) tables x = outcome_of (infer_block c b block x tables)
 

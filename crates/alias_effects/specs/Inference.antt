@@ -42,7 +42,8 @@ instruction_refusal i (refused.TooMany which) = error.TooMany which
 -- the refusal of a block's step, of the root function
 abbrev pub refusal : Environment → BlockId → BlockRefusal → InferError
 refusal env b (block.Instruction i c) = instruction_refusal i c
-refusal env b (block.Uninitialized m) = error.Uninitialized None b m.identifier m.span (uninitialized_report env m.identifier m.span)
+refusal env b (block.Uninitialized m) = error.Uninitialized None b m.identifier m.span
+    (uninitialized_report env m.identifier m.span)
 
 -- the name of the block at a position
 abbrev pub block_at : Blocks → ℕ → BlockId
@@ -65,7 +66,8 @@ abbrev pub terminal_recorded : Option BlockEffects → List TerminalEffects
 terminal_recorded None = []
 terminal_recorded (Some r) = r.terminal
 
--- what is handed out where nothing is dirty any more: entry states are the joins of what was sent, effects those of last visits, and interned effects and temporaries those of the tables
+-- what is handed out where nothing is dirty any more: entry states are the joins of what was sent, effects those of
+-- last visits, and interned effects and temporaries those of the tables
 abbrev pub solved_of : HirFunction → SolverState (VisitLog State) TableLists BlockEffects → Solved
 solved_of func w = record {
   function = None;
@@ -81,7 +83,8 @@ solved_of func w = record {
 abbrev pub end_of : HirFunction → SolverState (VisitLog State) TableLists BlockEffects → PassEnd
 end_of func w = record { solved = solved_of func w; reports = w.tables.reports; reads = w.tables.reads }
 
-abbrev pub answer_of : Environment → HirFunction → End (VisitLog State) TableLists BlockEffects BlockRefusal → Result PassEnd InferError
+abbrev pub answer_of : Environment → HirFunction → End (VisitLog State) TableLists BlockEffects BlockRefusal
+    → Result PassEnd InferError
 answer_of env func (end.Solved w) = Ok (end_of func w)
 answer_of env func (end.Fault n c) = Err (refusal env (block_at func.body.blocks n) c)
 answer_of env func (end.NotSettled visits) = Err (error.NotSettled None visits not_settled_report)
@@ -98,7 +101,12 @@ inferred env func is_function_expression = do
 
 -- the tables that the pass ends with
 abbrev pub end_tables : PassEnd → TableLists
-end_tables e = record { first = e.solved.first; temporaries = e.solved.temporaries; reports = e.reports; reads = e.reads }
+end_tables e = record {
+  first = e.solved.first;
+  temporaries = e.solved.temporaries;
+  reports = e.reports;
+  reads = e.reads;
+}
 
 -- the environment with what the pass added to it
 abbrev pub env_after : Environment → PassEnd → Environment

@@ -18,7 +18,8 @@ use Rattle.alias_tables.specs.Tables.{TableLists}
 use Rattle.alias_step.specs.declared.block.faults.BlockRefusal.{BlockRefusal}
 
 -- a position past the end does nothing
-abbrev pub step_at : BlockContext → Option (BlockId × BasicBlock) → TableLists → State → Outcome State TableLists BlockEffects BlockRefusal
+abbrev pub step_at : BlockContext → Option (BlockId × BasicBlock) → TableLists → State
+    → Outcome State TableLists BlockEffects BlockRefusal
 step_at c None tables x = Stepped x tables no_effects
 step_at c (Some b) tables x = outcome_of (infer_block c b.0 b.1 x tables)
 
@@ -36,7 +37,8 @@ numbered c = record {
 
 -- how the sequence of visits of the function ends
 abbrev pub visits_end : BlockContext → End (VisitLog State) TableLists BlockEffects BlockRefusal
-visits_end c = solution state_join state_below (numbered c) (tables_of c.env) (replicate (length c.func.body.blocks) None)
+visits_end c = solution state_join state_below (numbered c) (tables_of c.env)
+    (replicate (length c.func.body.blocks) None)
 
 -- the tables that the visits leave; where they are refused, those that they begin with
 abbrev pub tables_at : TableLists → End (VisitLog State) TableLists BlockEffects BlockRefusal → TableLists

@@ -29,11 +29,19 @@ entry_as b (Some x) = record { block = b; state = x } ∷ []
 
 -- what was recorded of all blocks that were visited
 abbrev pub all_recorded : List (Option BlockEffects) → BlockEffects
-all_recorded recorded = record { instructions = flat_map instructions_recorded recorded; terminal = flat_map terminal_recorded recorded }
+all_recorded recorded = record {
+  instructions = flat_map instructions_recorded recorded;
+  terminal = flat_map terminal_recorded recorded;
+}
 
 -- where the visits ended, as far as it is handed out
-abbrev pub solver_state_with : Solution State → TableLists → List (Option BlockEffects) → SolverState (VisitLog State) TableLists BlockEffects
-solver_state_with s tables recorded = record { progress = record { visits = s.visits; joined_input = s.entries; last_input = [] }; tables = tables; recorded = recorded }
+abbrev pub solver_state_with : Solution State → TableLists → List (Option BlockEffects)
+    → SolverState (VisitLog State) TableLists BlockEffects
+solver_state_with s tables recorded = record {
+  progress = record { visits = s.visits; joined_input = s.entries; last_input = [] };
+  tables = tables;
+  recorded = recorded;
+}
 
 -- a block was still dirty after 100 rounds
 abbrev pub unsettled : ℕ → InferError
@@ -59,8 +67,10 @@ last_visits env func is_function_expression = do
   Ok (last_of e)
 
 -- what is recorded and the tables are what the visits end with, and a fault is theirs. Memory may fail at any time.
-abbrev pub VisitsEnd : End (VisitLog State) TableLists BlockEffects BlockRefusal → Result (Unit {0}) (SolveFault BlockRefusal) → TableLists → List (Option BlockEffects) → Type 0
-VisitsEnd ending (Ok u) tables recorded = (w : SolverState (VisitLog State) TableLists BlockEffects) × (ending ≡ end.Solved w) × (tables ≡ w.tables) × (recorded ≡ w.recorded)
+abbrev pub VisitsEnd : End (VisitLog State) TableLists BlockEffects BlockRefusal
+    → Result (Unit {0}) (SolveFault BlockRefusal) → TableLists → List (Option BlockEffects) → Type 0
+VisitsEnd ending (Ok u) tables recorded = (w : SolverState (VisitLog State) TableLists BlockEffects)
+    × (ending ≡ end.Solved w) × (tables ≡ w.tables) × (recorded ≡ w.recorded)
 VisitsEnd ending (Err (Step n c)) tables recorded = ending ≡ end.Fault n c
 VisitsEnd ending (Err (NotSettled visits)) tables recorded = ending ≡ end.NotSettled visits
 VisitsEnd ending (Err (Memory e)) tables recorded = Unit {0}

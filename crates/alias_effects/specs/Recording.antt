@@ -16,7 +16,8 @@ use Rattle.alias_effects.specs.declared.solved.Solved.{Solved}
 
 -- the instruction of that number carries the effects
 abbrev pub with_recorded : InstructionEffects → List Instruction → List Instruction
-with_recorded e xs = option_map_or (λ (x : Instruction). slice_set xs e.instruction.0 (record x { effects = Some e.effects })) (slice_get xs e.instruction.0) xs
+with_recorded e xs = option_map_or (λ (x : Instruction).
+    slice_set xs e.instruction.0 (record x { effects = Some e.effects })) (slice_get xs e.instruction.0) xs
 
 abbrev pub recorded_instructions : List InstructionEffects → List Instruction → List Instruction
 recorded_instructions [] xs = xs
@@ -27,10 +28,12 @@ block_with b effects = record b { terminal = with_terminal_effects b.terminal ef
 
 -- the block at a position carries the effects on its terminal
 abbrev pub with_terminal_at : List AliasingEffect → List (BlockId × BasicBlock) → ℕ → List (BlockId × BasicBlock)
-with_terminal_at effects blocks i = option_map_or (λ (x : BlockId × BasicBlock). set_value_at blocks i (block_with x.1 effects)) (slice_get blocks i) blocks
+with_terminal_at effects blocks i = option_map_or
+    (λ (x : BlockId × BasicBlock). set_value_at blocks i (block_with x.1 effects)) (slice_get blocks i) blocks
 
 abbrev pub with_terminal : TerminalEffects → List (BlockId × BasicBlock) → List (BlockId × BasicBlock)
-with_terminal e blocks = option_map_or (with_terminal_at e.effects blocks) (position (same_block e.block) (keys_of blocks)) blocks
+with_terminal e blocks = option_map_or (with_terminal_at e.effects blocks)
+    (position (same_block e.block) (keys_of blocks)) blocks
 
 abbrev pub recorded_terminals : List TerminalEffects → List (BlockId × BasicBlock) → List (BlockId × BasicBlock)
 recorded_terminals [] blocks = blocks

@@ -1,4 +1,5 @@
--- What the effects pass hands out of a function: entry states that solve its flow, and what its blocks record from them.
+-- What the effects pass hands out of a function: entry states that solve its flow, and what its blocks record from
+-- them.
 use Rattle.std.specs.Prelude.{◌≡◌, ◌⊎◌, Bool, List, [], ◌∷◌, Option, Some, None, map, cond}
 use Rattle.std.specs.List.{flat_map, AllByRecursion}
 use Rattle.std.specs.Map.{keys_of}
@@ -59,18 +60,21 @@ module _ (env : Environment) (func : HirFunction) (is_function_expression : Bool
   abbrev pub recorded_from : BlockEntry → BlockEffects
   recorded_from = recorded_under tables
 
-  -- the entry states solve the flow of the function under these tables, and what is handed out is of these tables, and what the blocks record from these states
+  -- the entry states solve the flow of the function under these tables, and what is handed out is of these tables, and
+  -- what the blocks record from these states
   pub record IsSolvedUnder (under : TableLists) (s : Solved) : Type 0 where
     -- entry states stand in the stored order of their blocks
     pub in_order : IsSubsequence (map (λ (e : BlockEntry). e.block) s.entries) (keys_of func.body.blocks)
-    -- each reached block has one, the initial state is below the entry's, and each block steps to a state below that of each successor
+    -- each reached block has one, the initial state is below the entry's, and each block steps to a state below that of
+    -- each successor
     pub solution : IsSolution state_below flow under (entry_state s.entries)
     -- the interned effects and the temporaries are those of these tables
     pub first : s.first ≡ under.first
     pub temporaries : s.temporaries ≡ under.temporaries
     -- the effects are those that the steps record
     pub effects : s.effects ≡ flat_map (λ (e : BlockEntry). (recorded_under under e).instructions) s.entries
-    pub terminal_effects : s.terminal_effects ≡ flat_map (λ (e : BlockEntry). (recorded_under under e).terminal) s.entries
+    pub terminal_effects : s.terminal_effects
+        ≡ flat_map (λ (e : BlockEntry). (recorded_under under e).terminal) s.entries
     -- in a forward function each entry state is the join of what arrives
     pub joins : IsForward func flow.edges → AreJoins state_below flow StateProper under (entry_state s.entries)
 

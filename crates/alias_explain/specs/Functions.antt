@@ -27,13 +27,15 @@ with_found found id None = found
 with_found found id (Some e) = found ++ record { identifier = id; explanation = e } ∷ []
 
 -- after what was found, each of these identifiers that stands in the function
-abbrev pub each_explained : HirUnit → Option FunctionId → List IdentifierExplanation → List ℕ → Result (List IdentifierExplanation) ExplainFault
+abbrev pub each_explained : HirUnit → Option FunctionId → List IdentifierExplanation → List ℕ
+    → Result (List IdentifierExplanation) ExplainFault
 each_explained u function found [] = Ok found
 each_explained u function found (n ∷ ns) = do
   e ← if_here (explained u function (numbered n))
   each_explained u function (with_found found (numbered n) e) ns
 
-abbrev pub explained_there : HirUnit → Option FunctionId → Option HirFunction → Result (List IdentifierExplanation) ExplainFault
+abbrev pub explained_there : HirUnit → Option FunctionId → Option HirFunction
+    → Result (List IdentifierExplanation) ExplainFault
 explained_there u function None = Err NotHere
 explained_there u function (Some f) = each_explained u function [] (range_with_len 0 (length u.env.identifiers))
 

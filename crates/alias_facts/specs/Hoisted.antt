@@ -58,7 +58,8 @@ with_hoisted h None = h
 with_hoisted h (Some d) = with_value h d.0 None
 
 abbrev pub after_declaration : Environment → Accesses → LValue → Accesses
-after_declaration env h lvalue = if is_hoisting lvalue.kind then with_hoisted h (declaration_of env lvalue.place.identifier) else h
+after_declaration env h lvalue = if is_hoisting lvalue.kind
+    then with_hoisted h (declaration_of env lvalue.place.identifier) else h
 
 -- after an instruction: a declaration reads nothing
 abbrev pub after_value : Environment → Accesses → InstructionValue → Accesses
@@ -75,7 +76,8 @@ after_listed func env h id = after_instruction env h (slice_get func.instruction
 
 -- after a block: its instructions in order, then its terminal
 abbrev pub after_block : HirFunction → Environment → Accesses → BasicBlock → Accesses
-after_block func env h b = fold (after_read env) (fold (after_listed func env) h b.instructions) (terminal_places b.terminal)
+after_block func env h b = fold (after_read env) (fold (after_listed func env) h b.instructions)
+    (terminal_places b.terminal)
 
 abbrev pub after_entry : HirFunction → Environment → Accesses → BlockId × BasicBlock → Accesses
 after_entry func env h e = after_block func env h e.1

@@ -1,5 +1,6 @@
 -- The spreads of patterns that nothing writes.
-use Rattle.std.specs.Prelude.{ℕ, Bool, true, false, ◌&&◌, not, if◌then◌else◌, List, [], Option, None, Some, is_some, map, slice_get}
+use Rattle.std.specs.Prelude.{ℕ, Bool, true, false, ◌&&◌, not, if◌then◌else◌, List, [], Option, None, Some, is_some}
+use Rattle.std.specs.Prelude.{map, slice_get}
 use Rattle.std.specs.List.{fold}
 use Rattle.std.specs.Option.{option_map_or}
 use Rattle.alias_base.specs.declared.ids.BlockId.{BlockId}
@@ -17,14 +18,17 @@ use Rattle.alias_hir.specs.declared.types.Ty.{Ty}
 use Rattle.alias_hir.specs.declared.value.InstructionKind.{InstructionKind}
 use Rattle.alias_hir.specs.declared.value.InstructionKind.TheVariants.{Const, Let}
 use Rattle.alias_hir.specs.declared.value.InstructionValue.{InstructionValue}
-use Rattle.alias_hir.specs.declared.value.InstructionValue.TheVariants.{CallExpression, MethodCall, PropertyLoad, JsxExpression, JsxFragment, Destructure, LoadLocal, StoreLocal}
+use Rattle.alias_hir.specs.declared.value.InstructionValue.TheVariants.{CallExpression, MethodCall, PropertyLoad}
+use Rattle.alias_hir.specs.declared.value.InstructionValue.TheVariants.{JsxExpression, JsxFragment, Destructure}
+use Rattle.alias_hir.specs.declared.value.InstructionValue.TheVariants.{LoadLocal, StoreLocal}
 use Rattle.alias_hir.specs.declared.value.LValuePattern.{LValuePattern}
 use Rattle.alias_hir.specs.declared.value.Pattern.{Pattern}
 use Rattle.alias_hir.specs.declared.value.Pattern.TheVariants as pattern
 use Rattle.alias_visit.specs.Operands.{operands_of}
 use Rattle.alias_facts.specs.declared.candidates.Candidates.{Candidates}
 use Rattle.alias_facts.specs.Numbers.{has}
-use Rattle.alias_facts.specs.Candidates.{first_candidates, with_frozen, with_spread, is_frozen, spread_of, after_use, after_property, selves}
+use Rattle.alias_facts.specs.Candidates.{first_candidates, with_frozen, with_spread, is_frozen, spread_of, after_use}
+use Rattle.alias_facts.specs.Candidates.{after_property, selves}
 
 -- the set has the identifier of the place
 abbrev pub is_spread : List ℕ → Place → Bool
@@ -43,7 +47,8 @@ after_pattern c (pattern.Array p) = c
 
 -- the spreads of an object pattern, where a frozen value is taken apart by it and declares them
 abbrev pub after_destructure : Candidates → LValuePattern → Place → Candidates
-after_destructure c lvalue v = if is_frozen c v.identifier && is_declaring lvalue.kind then after_pattern c lvalue.pattern else c
+after_destructure c lvalue v = if is_frozen c v.identifier && is_declaring lvalue.kind
+    then after_pattern c lvalue.pattern else c
 
 -- the result stands for the spread that its operand stands for
 abbrev pub after_load : Candidates → IdentifierId → Option ℕ → Candidates
@@ -67,7 +72,8 @@ after_hook env c l = if is_ref_at env l then c else with_frozen c l
 
 -- a hook takes nothing out, and any other call does
 abbrev pub after_call : Environment → Candidates → IdentifierId → Place → List Place → Candidates
-after_call env c l callee operands = if is_hook_at env callee.identifier then after_hook env c l else fold after_use c operands
+after_call env c l callee operands = if is_hook_at env callee.identifier then after_hook env c l
+    else fold after_use c operands
 
 -- ---- instructions
 
@@ -79,8 +85,10 @@ after_value env c l (StoreLocal lvalue v) = after_store c l lvalue.place.identif
 after_value env c l (JsxExpression tag props children) = c
 after_value env c l (JsxFragment children) = c
 after_value env c l (PropertyLoad object) = c
-after_value env c l (CallExpression callee args) = after_call env c l callee (operands_of env (CallExpression callee args))
-after_value env c l (MethodCall receiver property args) = after_call env c l property (operands_of env (MethodCall receiver property args))
+after_value env c l (CallExpression callee args) =
+    after_call env c l callee (operands_of env (CallExpression callee args))
+after_value env c l (MethodCall receiver property args) =
+    after_call env c l property (operands_of env (MethodCall receiver property args))
 after_value env c l v = fold after_use c (operands_of env v)
 
 abbrev pub after_instruction : Environment → Candidates → Option Instruction → Candidates
@@ -108,4 +116,5 @@ after_entry func env c e = after_block func env c e.1
 
 -- the blocks in stored order
 abbrev pub find_non_mutated_destructure_spreads : HirFunction → Environment → List ℕ
-find_non_mutated_destructure_spreads func env = selves (fold (after_entry func env) (first_candidates func) func.body.blocks)
+find_non_mutated_destructure_spreads func env =
+    selves (fold (after_entry func env) (first_candidates func) func.body.blocks)

@@ -1,4 +1,5 @@
--- One round of a flow whose edges all go to later blocks, with the states that wait for a later visit alone: what `solve_forward` works with.
+-- One round of a flow whose edges all go to later blocks, with the states that wait for a later visit alone: what
+-- `solve_forward` works with.
 use Rattle.std.specs.Prelude.{ℕ, List, [], ◌∷◌, Option, Some, None, slice_index_or, slice_set, replicate}
 use Rattle.alias_lattice.specs.Flows.{Outcome, Stepped, Refused}
 use Rattle.alias_flow.specs.Machine.{Rules, SolverState, Run, Going, Stopped, after, send, send_all}
@@ -10,7 +11,11 @@ ForwardPass P = List (Option P)
 module _ {P T K C : Type 0} (join : P → P → P) (rules : Rules P T K C) where
   abbrev pub forward_outcome : SolverState (ForwardPass P) T K → ℕ → Outcome P T K C → Run (ForwardPass P) T K C
   forward_outcome w b (Stepped out tables recorded) =
-      Going (record { progress = send_all join out w.progress (rules.flow.edges b); tables = tables; recorded = slice_set w.recorded b (Some recorded) })
+      Going (record {
+        progress = send_all join out w.progress (rules.flow.edges b);
+        tables = tables;
+        recorded = slice_set w.recorded b (Some recorded);
+      })
   forward_outcome w b (Refused cause) = Stopped b cause
 
   abbrev pub forward_turn_at : SolverState (ForwardPass P) T K → ℕ → Option P → Run (ForwardPass P) T K C

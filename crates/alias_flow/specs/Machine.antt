@@ -1,10 +1,12 @@
 -- A flow over numbered blocks, and the sequence of visits that solves it.
-use Rattle.std.specs.Prelude.{◌≡◌, ℕ, ◌+◌, ◌<◌, Bool, true, false, not, ◌&&◌, if◌then◌else◌, List, [], ◌∷◌, ◌++◌, length, Option, Some, None, slice_index_or, slice_set, replicate}
+use Rattle.std.specs.Prelude.{◌≡◌, ℕ, ◌+◌, ◌<◌, Bool, true, false, not, ◌&&◌, if◌then◌else◌, List, [], ◌∷◌, ◌++◌}
+use Rattle.std.specs.Prelude.{length, Option, Some, None, slice_index_or, slice_set, replicate}
 use Rattle.std.specs.List.{list_any, AllByRecursion}
 use Rattle.std.proofs.Common.{zero, suc}
 use Rattle.alias_lattice.specs.Flows.{Flow, Outcome, Stepped, Refused}
 
--- a flow whose blocks are the numbers below `blocks`, in stored order. P are its states, T its tables, K what it keeps of a visit, C why it refuses
+-- a flow whose blocks are the numbers below `blocks`, in stored order. P are its states, T its tables, K what it keeps
+-- of a visit, C why it refuses
 pub record Rules (P T K C : Type 0) : Type 0 where
   pub blocks : ℕ
   pub flow : Flow ℕ P T K C
@@ -17,7 +19,8 @@ pub record VisitLog (P : Type 0) : Type 0 where
   -- the state of the last visit of each block
   pub last_input : List (Option P)
 
--- how far the visits have come: what is known of the blocks, the tables, and what the flow recorded of the last visit of each block
+-- how far the visits have come: what is known of the blocks, the tables, and what the flow recorded of the last visit
+-- of each block
 pub record SolverState (D T K : Type 0) : Type 0 where
   pub progress : D
   pub tables : T
@@ -73,7 +76,8 @@ module _ {P : Type 0} (join : P → P → P) where
     last_input = slice_set d.last_input b (Some x);
   }
 
--- something was sent that isn't the state of the last visit. Proper states are the same where they are below each other both ways
+-- something was sent that isn't the state of the last visit. Proper states are the same where they are below each other
+-- both ways
 abbrev pub input_changed : {P : Type 0} → (P → P → Bool) → Option P → Option P → Bool
 input_changed below None last = false
 input_changed below (Some x) None = true
@@ -86,7 +90,11 @@ dirty below d b = input_changed below (slice_index_or d.joined_input b None) (sl
 module _ {P T K C : Type 0} (join : P → P → P) (below : P → P → Bool) (rules : Rules P T K C) where
   abbrev pub outcome_after : SolverState (VisitLog P) T K → ℕ → P → Outcome P T K C → Run (VisitLog P) T K C
   outcome_after w b x (Stepped out tables recorded) =
-      Going (record { progress = visited join w.progress b x out (rules.flow.edges b); tables = tables; recorded = slice_set w.recorded b (Some recorded) })
+      Going (record {
+        progress = visited join w.progress b x out (rules.flow.edges b);
+        tables = tables;
+        recorded = slice_set w.recorded b (Some recorded);
+      })
   outcome_after w b x (Refused cause) = Stopped b cause
 
   abbrev pub visit_at : SolverState (VisitLog P) T K → ℕ → Option P → Run (VisitLog P) T K C
@@ -132,10 +140,12 @@ module _ {P T K C : Type 0} (join : P → P → P) (below : P → P → Bool) (r
   solution tables recorded = rounds 100 (start tables recorded)
 
 -- what a flow owes
-pub record FlowLaws {P T K C : Type 0} (proper : P → Type 0) (extends : T → T → Type 0) (rules : Rules P T K C) (recorded : List (Option K)) : Type 0 where
+pub record FlowLaws {P T K C : Type 0} (proper : P → Type 0) (extends : T → T → Type 0) (rules : Rules P T K C)
+    (recorded : List (Option K)) : Type 0 where
   pub recorded_length : length recorded ≡ rules.blocks
   pub initial_proper : proper rules.flow.initial
-  pub step_proper : (t : T) (b : ℕ) (x y : P) (u : T) (k : K) → proper x → rules.flow.step t b x ≡ Stepped y u k → proper y
+  pub step_proper : (t : T) (b : ℕ) (x y : P) (u : T) (k : K) → proper x → rules.flow.step t b x ≡ Stepped y u k
+      → proper y
   pub entry_below : rules.flow.entry < rules.blocks
   pub edges_below : (b : ℕ) → b < rules.blocks → AllByRecursion (λ e. e < rules.blocks) (rules.flow.edges b)
   pub reflexive : (t : T) → extends t t
@@ -143,4 +153,5 @@ pub record FlowLaws {P T K C : Type 0} (proper : P → Type 0) (extends : T → 
   -- tables grow at their ends alone
   pub grow : (t : T) (b : ℕ) (x y : P) (u : T) (k : K) → rules.flow.step t b x ≡ Stepped y u k → extends t u
   -- a step under the tables that it left, or under ones that extend them, gives the same and leaves them
-  pub replay : (t : T) (b : ℕ) (x y : P) (u v : T) (k : K) → rules.flow.step t b x ≡ Stepped y u k → extends u v → rules.flow.step v b x ≡ Stepped y v k
+  pub replay : (t : T) (b : ℕ) (x y : P) (u v : T) (k : K) → rules.flow.step t b x ≡ Stepped y u k → extends u v
+      → rules.flow.step v b x ≡ Stepped y v k

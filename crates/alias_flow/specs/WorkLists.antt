@@ -1,9 +1,12 @@
--- The same sequence of visits, with a flag for each block in place of the state of its last visit: what `solve` works with.
-use Rattle.std.specs.Prelude.{ℕ, Bool, true, false, not, if◌then◌else◌, List, [], ◌∷◌, ◌++◌, length, Option, Some, None, slice_index_or, slice_set, replicate}
+-- The same sequence of visits, with a flag for each block in place of the state of its last visit: what `solve` works
+-- with.
+use Rattle.std.specs.Prelude.{ℕ, Bool, true, false, not, if◌then◌else◌, List, [], ◌∷◌, ◌++◌, length, Option, Some, None}
+use Rattle.std.specs.Prelude.{slice_index_or, slice_set, replicate}
 use Rattle.std.specs.List.{list_any}
 use Rattle.std.proofs.Common.{zero, suc}
 use Rattle.alias_lattice.specs.Flows.{Outcome, Stepped, Refused}
-use Rattle.alias_flow.specs.Machine.{Rules, SolverState, Run, Going, Stopped, End, Solved, NotSettled, after, ending, up, send}
+use Rattle.alias_flow.specs.Machine.{Rules, SolverState, Run, Going, Stopped, End, Solved, NotSettled, after, ending}
+use Rattle.alias_flow.specs.Machine.{up, send}
 
 -- what was visited and sent, and which blocks are dirty
 pub record WorkList (P : Type 0) : Type 0 where
@@ -31,12 +34,20 @@ module _ {P : Type 0} (join : P → P → P) (below : P → P → Bool) where
 
   -- a visit of the block: it is dirty no longer
   abbrev pub work_list_visited : WorkList P → ℕ → WorkList P
-  work_list_visited d b = record { visits = d.visits ++ b ∷ []; joined_input = d.joined_input; dirty = slice_set d.dirty b false }
+  work_list_visited d b = record {
+    visits = d.visits ++ b ∷ [];
+    joined_input = d.joined_input;
+    dirty = slice_set d.dirty b false;
+  }
 
   module _ {T K C : Type 0} (rules : Rules P T K C) where
     abbrev pub work_list_outcome : SolverState (WorkList P) T K → ℕ → Outcome P T K C → Run (WorkList P) T K C
     work_list_outcome w b (Stepped out tables recorded) =
-        Going (record { progress = work_list_sends out (work_list_visited w.progress b) (rules.flow.edges b); tables = tables; recorded = slice_set w.recorded b (Some recorded) })
+        Going (record {
+          progress = work_list_sends out (work_list_visited w.progress b) (rules.flow.edges b);
+          tables = tables;
+          recorded = slice_set w.recorded b (Some recorded);
+        })
     work_list_outcome w b (Refused cause) = Stopped b cause
 
     abbrev pub work_list_visit_at : SolverState (WorkList P) T K → ℕ → Option P → Run (WorkList P) T K C
@@ -54,8 +65,10 @@ module _ {P : Type 0} (join : P → P → P) (below : P → P → Bool) where
     work_list_round w (b ∷ bs) = after (work_list_turn w b) (λ v. work_list_round v bs)
 
     unfoldable pub work_list_rounds : ℕ → SolverState (WorkList P) T K → End (WorkList P) T K C
-    work_list_rounds zero w = if list_any (λ x. x) w.progress.dirty then NotSettled (length w.progress.visits) else Solved w
-    work_list_rounds (suc n) w = if list_any (λ x. x) w.progress.dirty then ending (work_list_round w (up 0 rules.blocks)) (work_list_rounds n) else Solved w
+    work_list_rounds zero w = if list_any (λ x. x) w.progress.dirty then NotSettled (length w.progress.visits)
+        else Solved w
+    work_list_rounds (suc n) w = if list_any (λ x. x) w.progress.dirty
+        then ending (work_list_round w (up 0 rules.blocks)) (work_list_rounds n) else Solved w
 
     abbrev pub work_list_start : T → List (Option K) → SolverState (WorkList P) T K
     work_list_start tables recorded = record {

@@ -43,10 +43,13 @@ opened d e h = let m = second (d.id.0 == e.id.0) (mode_covers d e) h in
     let two = first flags (at_least (is_definite d.kind) (is_definite e.kind)) m in
     record {
       id = eqb_is d.id.0 e.id.0 (first (d.id.0 == e.id.0) (mode_covers d e) h);
-      transitive = first (at_least d.transitive e.transitive) (at_least (is_backwards d.direction) (is_backwards e.direction)) two;
-      direction = second (at_least d.transitive e.transitive) (at_least (is_backwards d.direction) (is_backwards e.direction)) two;
+      transitive = first (at_least d.transitive e.transitive)
+          (at_least (is_backwards d.direction) (is_backwards e.direction)) two;
+      direction = second (at_least d.transitive e.transitive)
+          (at_least (is_backwards d.direction) (is_backwards e.direction)) two;
       kind = second flags (at_least (is_definite d.kind) (is_definite e.kind)) m;
     }
 
 pub closed : (d e : Entry) → Covers d e → IsTrue (covers d e)
-closed d e h = both _ _ (ap (λ n. n == e.id.0) h.id ∙ eqb_itself e.id.0) (both _ _ (both _ _ h.transitive h.direction) h.kind)
+closed d e h = both _ _ (ap (λ n. n == e.id.0) h.id ∙ eqb_itself e.id.0)
+    (both _ _ (both _ _ h.transitive h.direction) h.kind)

@@ -1,5 +1,6 @@
 -- A walk ends.
-use Rattle.std.proofs.Common.{◌≡◌, ℕ, ◌+◌, ◌*◌, ◌≤◌, ◌⊎◌, inl, inr, ⊎_elim, Bool, true, false, List, [], ◌∷◌, length, refl, ap, ◌∙◌, arith, suc, zero, add-one}
+use Rattle.std.proofs.Common.{◌≡◌, ℕ, ◌+◌, ◌*◌, ◌≤◌, ◌⊎◌, inl, inr, ⊎_elim, Bool, true, false, List, [], ◌∷◌, length}
+use Rattle.std.proofs.Common.{refl, ap, ◌∙◌, arith, suc, zero, add-one}
 use Rattle.alias_graph.specs.declared.types.Entry.{Entry}
 use Rattle.alias_graph.specs.Nodes.{Nodes}
 use Rattle.alias_graph.specs.Links.{covers, next, node_exists, step_to, walk, all_links}
@@ -11,14 +12,17 @@ module _ (g : Nodes) (m : ℕ) where
   abbrev Goes : ℕ → Walk Entry → Type 0
   Goes n w = (w.stack ≡ []) ⊎ (w.popped ≡ n)
 
-  pop_popped : (b : Bool) (e : Entry) (es done : List Entry) (n : ℕ) → (pop covers (node_exists g) (next g m) b e es done n).popped ≡ n + 1
+  pop_popped : (b : Bool) (e : Entry) (es done : List Entry) (n : ℕ)
+      → (pop covers (node_exists g) (next g m) b e es done n).popped ≡ n + 1
   pop_popped true e es done n = refl
   pop_popped false e es done n = refl
 
-  step_goes : (es done : List Entry) (p n : ℕ) → Goes n (record { stack = es; done = done; popped = p }) → Goes (suc n) (step_at covers (node_exists g) (next g m) es done p)
+  step_goes : (es done : List Entry) (p n : ℕ) → Goes n (record { stack = es; done = done; popped = p })
+      → Goes (suc n) (step_at covers (node_exists g) (next g m) es done p)
   step_goes [] done p n h = inl refl
   step_goes (e ∷ es) done p n (inl h) = absurd (cc)
-  step_goes (e ∷ es) done p n (inr h) = inr (pop_popped (is_new covers (node_exists g) (next g m) done e) e es done p ∙ add-one p ∙ ap suc h)
+  step_goes (e ∷ es) done p n (inr h) = inr
+      (pop_popped (is_new covers (node_exists g) (next g m) done e) e es done p ∙ add-one p ∙ ap suc h)
 
   goes : (s : Entry) (n : ℕ) → Goes n (step_to g m s n)
   goes s zero = inr refl
@@ -31,5 +35,6 @@ module _ (g : Nodes) (m : ℕ) where
   pub walk_empties : (s : Entry) → (walk g m s).stack ≡ []
   walk_empties s = ⊎_elim
       (λ h. h)
-      (λ h. let few = pops_few g m s (1 + 8 * all_links g) in empty (walk g m s).stack (1 + 8 * all_links g) (omega arith))
+      (λ h. let few = pops_few g m s (1 + 8 * all_links g) in
+      empty (walk g m s).stack (1 + 8 * all_links g) (omega arith))
       (goes s (1 + 8 * all_links g))

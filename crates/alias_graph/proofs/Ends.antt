@@ -1,5 +1,6 @@
 -- The legal paths of walks settle all range ends.
-use Rattle.std.proofs.Common.{◌≡◌, ℕ, ◌≤◌, ⊎_elim, List, [], ◌∷◌, Some, option_map, length, slice_get, refl, ap, sym, ◌∙◌, subst, arith, suc}
+use Rattle.std.proofs.Common.{◌≡◌, ℕ, ◌≤◌, ⊎_elim, List, [], ◌∷◌, Some, option_map, length, slice_get, refl, ap, sym}
+use Rattle.std.proofs.Common.{◌∙◌, subst, arith, suc}
 use Rattle.alias_hir.specs.declared.env.Identifier.{Identifier}
 use Rattle.alias_graph.specs.Nodes.{Nodes}
 use Rattle.alias_graph.specs.declared.types.RangeWalk.{RangeWalk}
@@ -8,10 +9,14 @@ use Rattle.alias_graph.specs.Reach.{end_at, but_end}
 
 same_identifier : (x y : Identifier) → but_end x ≡ but_end y → x.mutable_range.end.0 ≡ y.mutable_range.end.0 → x ≡ y
 same_identifier x y rest end =
-    ap (λ n. let z : Identifier = record x { mutable_range = record x.mutable_range { end = record { 0 = n } } } in z) end
-    ∙ ap (λ (b : Identifier). let z : Identifier = record b { mutable_range = record b.mutable_range { end = record { 0 = y.mutable_range.end.0 } } } in z) rest
+    ap (λ n. let z : Identifier = record x { mutable_range = record x.mutable_range { end = record { 0 = n } } } in z)
+    end
+    ∙ ap (λ (b : Identifier). let z : Identifier =
+    record b { mutable_range = record b.mutable_range { end = record { 0 = y.mutable_range.end.0 } } } in z) rest
 
-same_all : (xs ys : List Identifier) → length xs ≡ length ys → ((i : ℕ) → option_map but_end (slice_get xs i) ≡ option_map but_end (slice_get ys i)) → ((i : ℕ) → end_at xs i ≡ end_at ys i) → xs ≡ ys
+same_all : (xs ys : List Identifier) → length xs ≡ length ys
+    → ((i : ℕ) → option_map but_end (slice_get xs i) ≡ option_map but_end (slice_get ys i))
+    → ((i : ℕ) → end_at xs i ≡ end_at ys i) → xs ≡ ys
 same_all [] [] size rest ends = refl
 same_all [] (y ∷ ys) size rest ends = absurd (omega arith)
 same_all (x ∷ xs) [] size rest ends = absurd (omega arith)
@@ -35,4 +40,5 @@ module _ (g : Nodes) (ws : List RangeWalk) (old : List Identifier) where
 
   -- there is one list of identifiers that is raised by these walks
   pub raised_once : (a b : List Identifier) → Raised g ws old a → Raised g ws old b → a ≡ b
-  raised_once a b p q = same_all a b (p.rise.size ∙ sym q.rise.size) (λ i. p.rise.rest i ∙ sym (q.rise.rest i)) (λ i. let x = at_most a b p q i in let y = at_most b a q p i in omega arith)
+  raised_once a b p q = same_all a b (p.rise.size ∙ sym q.rise.size) (λ i. p.rise.rest i ∙ sym (q.rise.rest i))
+      (λ i. let x = at_most a b p q i in let y = at_most b a q p i in omega arith)

@@ -1,5 +1,6 @@
 -- A visit over slots.
-use Rattle.std.proofs.Common.{◌≡◌, ℕ, List, [], ◌∷◌, Some, length, option_map, slice_get, refl, ap, sym, ◌∙◌, arith, suc}
+use Rattle.std.proofs.Common.{◌≡◌, ℕ, List, [], ◌∷◌, Some, length, option_map, slice_get, refl, ap, sym, ◌∙◌, arith}
+use Rattle.std.proofs.Common.{suc}
 use Rattle.alias_base.specs.declared.ids.IdentifierId.{IdentifierId}
 use Rattle.alias_graph.specs.declared.types.StoredLink.{StoredLink}
 use Rattle.alias_graph.specs.declared.types.Origin.{Origin}
@@ -12,11 +13,15 @@ use Rattle.alias_graph.proofs.Slots.{slot_found, found_node}
 use Rattle.alias_graph.proofs.Shapes.{led_visited}
 use Rattle.alias_graph.proofs.Flats.{visited_slot, node_at_of}
 
-pub next_slot : (links : List StoredLink) (g : Entries StoredNode) (m : ℕ) (e : Entry) (i : ℕ) (n w : StoredNode) (index : ℕ) (origin : Origin)
-    → slot_of g e.id ≡ Some i → Some n ≡ option_map (λ (p : IdentifierId × StoredNode). p.1) (slice_get g i) → w ≡ stored_visited index origin e n → next (nodes_of links g) m e ≡ led_to m e (node_of links w)
+pub next_slot : (links : List StoredLink) (g : Entries StoredNode) (m : ℕ) (e : Entry) (i : ℕ) (n w : StoredNode)
+    (index : ℕ) (origin : Origin)
+    → slot_of g e.id ≡ Some i → Some n ≡ option_map (λ (p : IdentifierId × StoredNode). p.1) (slice_get g i) → w
+    ≡ stored_visited index origin e n → next (nodes_of links g) m e ≡ led_to m e (node_of links w)
 next_slot links g m e i n w index origin p h is =
-    ap (led_from m e) (node_at_of links g e.id ∙ ap (option_map (node_of links)) (found_node g e.id i n (slot_found g e.id i n p (sym h))))
-    ∙ sym (ap (λ z. led_to m e (node_of links z)) is ∙ ap (led_to m e) (visited_slot links index origin e n) ∙ led_visited m e e index origin (node_of links n))
+    ap (led_from m e) (node_at_of links g e.id
+    ∙ ap (option_map (node_of links)) (found_node g e.id i n (slot_found g e.id i n p (sym h))))
+    ∙ sym (ap (λ z. led_to m e (node_of links z)) is ∙ ap (led_to m e) (visited_slot links index origin e n)
+    ∙ led_visited m e e index origin (node_of links n))
 
 edges_length : (links : List StoredLink) (ps : List ℕ) → length (edges_at links ps) ≡ length ps
 edges_length links [] = refl

@@ -1,5 +1,7 @@
 -- The table of what was seen is that of the entries that were expanded.
-use Rattle.std.proofs.Common.{◌≡◌, ℕ, ◌<◌, ⊎_elim, Bool, true, false, cond, ◌&&◌, ◌==◌, List, [], ◌∷◌, Option, Some, None, length, slice_index_or, slice_set, replicate, refl, ap, sym, ◌∙◌, subst, arith, suc, zero}
+use Rattle.std.proofs.Common.{◌≡◌, ℕ, ◌<◌, ⊎_elim, Bool, true, false, cond, ◌&&◌, ◌==◌, List, [], ◌∷◌, Option, Some}
+use Rattle.std.proofs.Common.{None, length, slice_index_or, slice_set, replicate, refl, ap, sym, ◌∙◌, subst, arith, suc}
+use Rattle.std.proofs.Common.{zero}
 use Rattle.std.proofs.lemmas.List.{get_or-set_same, get_or-set_other, length-set, length-replicate}
 use Rattle.std.proofs.lemmas.Bool.{cases_eq, false≢true}
 use Rattle.alias_base.specs.declared.ids.IdentifierId.{IdentifierId}
@@ -17,7 +19,8 @@ use Rattle.alias_graph.specs.Walks.{is_covered}
 use Rattle.alias_graph.proofs.Covering.{eqb_is, eqb_itself}
 use Rattle.alias_graph.proofs.Slots.{Found}
 
-reaches_risen : (k : MutationKind) (o : Option MutationKind) (j : MutationKind) → reaches (risen k o) j ≡ cond (at_least (is_definite k) (is_definite j)) true (reaches o j)
+reaches_risen : (k : MutationKind) (o : Option MutationKind) (j : MutationKind) → reaches (risen k o) j
+    ≡ cond (at_least (is_definite k) (is_definite j)) true (reaches o j)
 reaches_risen Definite o j = refl
 reaches_risen Conditional None Conditional = refl
 reaches_risen Conditional None Definite = refl
@@ -27,7 +30,9 @@ reaches_risen Conditional (Some Definite) Conditional = refl
 reaches_risen Conditional (Some Definite) Definite = refl
 
 seen_more_at : (t : Bool) (x : Direction) (k : MutationKind) (s : Seen) (u : Bool) (y : Direction) (j : MutationKind)
-    → reaches (level (see_at t x k s) u y) j ≡ cond (at_least t u && at_least (is_backwards x) (is_backwards y) && at_least (is_definite k) (is_definite j)) true (reaches (level s u y) j)
+    → reaches (level (see_at t x k s) u y) j
+    ≡ cond (at_least t u && at_least (is_backwards x) (is_backwards y) && at_least (is_definite k) (is_definite j))
+    true (reaches (level s u y) j)
 seen_more_at true Backwards k s true Backwards j = reaches_risen k s.transitive_backwards j
 seen_more_at true Backwards k s true Forwards j = reaches_risen k s.transitive_forwards j
 seen_more_at true Backwards k s false Backwards j = reaches_risen k s.local_backwards j
@@ -60,7 +65,8 @@ one_id [] a b i n w h k = absurd h
 one_id (p ∷ g) a b zero n w h k = let x = eqb_is a.0 p.0.0 h.0 in let y = eqb_is b.0 p.0.0 k.0 in x ∙ sym y
 one_id (p ∷ g) a b (suc i) n w h k = one_id g a b i n w h.1 k.1
 
-pub one_slot : (g : Nodes) (a b : IdentifierId) (i j : ℕ) (n w : Node) → a.0 ≡ b.0 → Found g a i n → Found g b j w → i ≡ j
+pub one_slot : (g : Nodes) (a b : IdentifierId) (i j : ℕ) (n w : Node) → a.0 ≡ b.0 → Found g a i n → Found g b j w → i
+    ≡ j
 one_slot [] a b i j n w e h k = absurd h
 one_slot (p ∷ g) a b zero zero n w e h k = refl
 one_slot (p ∷ g) a b zero (suc j) n w e h k = absurd (false≢true (sym k.0 ∙ ap (λ m. m == p.0.0) (sym e) ∙ h.0))
@@ -75,7 +81,8 @@ found_below (p ∷ g) a (suc i) n h = let r = found_below g a i n h.1 in omega a
 -- what the table says at a slot is what the expanded entries say
 pub record Sees (g : Nodes) (seen : List Seen) (done : List Entry) : Type 0 where
   pub size : length seen ≡ length g
-  pub says : (e : Entry) (i : ℕ) (n : Node) → Found g e.id i n → is_seen (slice_index_or seen i nothing_seen) e ≡ is_covered covers done e
+  pub says : (e : Entry) (i : ℕ) (n : Node) → Found g e.id i n → is_seen (slice_index_or seen i nothing_seen) e
+      ≡ is_covered covers done e
 
 at_nothing : (n i : ℕ) → slice_index_or (replicate n nothing_seen) i nothing_seen ≡ nothing_seen
 at_nothing zero i = refl
@@ -99,7 +106,8 @@ same_false false b c h = refl
 not_same : (a b : ℕ) → (a ≡ b → ⊥) → (a == b) ≡ false
 not_same a b h = grind arith
 
-pub sees_more : (g : Nodes) (seen : List Seen) (done : List Entry) (d : Entry) (p : ℕ) (n : Node) → Found g d.id p n → Sees g seen done
+pub sees_more : (g : Nodes) (seen : List Seen) (done : List Entry) (d : Entry) (p : ℕ) (n : Node) → Found g d.id p n
+    → Sees g seen done
     → Sees g (slice_set seen p (see d (slice_index_or seen p nothing_seen))) (d ∷ done)
 sees_more g seen done d p n found h =
     let s = slice_index_or seen p nothing_seen in
@@ -114,10 +122,12 @@ sees_more g seen done d p n found h =
           ∙ ap (λ z. is_seen z e) (get_or-set_same seen p (see d s) nothing_seen lt)
           ∙ seen_more d s e
           ∙ ap (cond (mode_covers d e) true) (h.says e p w at_p)
-          ∙ same_true (d.id.0 == e.id.0) (mode_covers d e) (is_covered covers done e) (ap (λ m. m == e.id.0) ids ∙ eqb_itself e.id.0))
+          ∙ same_true (d.id.0 == e.id.0) (mode_covers d e) (is_covered covers done e)
+          (ap (λ m. m == e.id.0) ids ∙ eqb_itself e.id.0))
           (λ other.
           ap (λ z. is_seen z e) (get_or-set_other seen p i (see d s) nothing_seen other)
           ∙ h.says e i w at
-          ∙ same_false (d.id.0 == e.id.0) (mode_covers d e) (is_covered covers done e) (not_same d.id.0 e.id.0 (λ ids. other (one_slot g e.id d.id i p w n (sym ids) at found))))
+          ∙ same_false (d.id.0 == e.id.0) (mode_covers d e) (is_covered covers done e)
+          (not_same d.id.0 e.id.0 (λ ids. other (one_slot g e.id d.id i p w n (sym ids) at found))))
           (cases_eq i p);
     }

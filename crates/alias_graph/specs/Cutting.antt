@@ -1,5 +1,6 @@
 -- Flags of the nodes of a part, and the nodes that are cut off to it.
-use Rattle.std.specs.Prelude.{◌≡◌, ℕ, ◌+◌, Bool, true, false, cond, not, ◌||◌, List, [], ◌∷◌, Option, Some, None, length, slice_index_or, zero, suc}
+use Rattle.std.specs.Prelude.{◌≡◌, ℕ, ◌+◌, Bool, true, false, cond, not, ◌||◌, List, [], ◌∷◌, Option, Some, None}
+use Rattle.std.specs.Prelude.{length, slice_index_or, zero, suc}
 use Rattle.alias_base.specs.declared.ids.IdentifierId.{IdentifierId}
 use Rattle.alias_hir.specs.declared.env.Environment.{Environment}
 use Rattle.alias_graph.specs.declared.types.Node.{Node as StoredNode}
@@ -29,7 +30,8 @@ module _ (keep : IdentifierId → Bool) where
 
   -- whether a link of the node leads into the part
   abbrev pub leads : Node → Bool
-  leads n = any_edge n.forward || (any_source n.created_from || (any_source n.captures || (any_source n.aliases || any_source n.maybe_aliases)))
+  leads n = any_edge n.forward || (any_source n.created_from
+      || (any_source n.captures || (any_source n.aliases || any_source n.maybe_aliases)))
 
   abbrev pub leads_at : List StoredLink → Option StoredNode → Bool
   leads_at links None = false
@@ -46,7 +48,8 @@ unflagged (b ∷ bs) = once (not b) + unflagged bs
 
 -- no link of a node without a flag leads to a node with one
 abbrev pub IsClosed : List StoredLink → Entries StoredNode → List Bool → Type 0
-IsClosed links g flags = (i : ℕ) → slice_index_or flags i false ≡ false → leads_at (flagged g flags) links (stored_at g i) ≡ false
+IsClosed links g flags = (i : ℕ) → slice_index_or flags i false ≡ false
+    → leads_at (flagged g flags) links (stored_at g i) ≡ false
 
 -- the nodes without a flag have no report
 abbrev pub stored_value_quiet : Environment → Option StoredNode → Type 0

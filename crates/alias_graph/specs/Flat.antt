@@ -1,5 +1,6 @@
 -- Nodes that have the slots of their links, as nodes with links.
-use Rattle.std.specs.Prelude.{◌≡◌, ℕ, ◌+◌, ◌*◌, ◌<◌, ◌≤◌, Bool, true, false, cond, List, [], ◌∷◌, ◌++◌, None, slice_index_or, length}
+use Rattle.std.specs.Prelude.{◌≡◌, ℕ, ◌+◌, ◌*◌, ◌<◌, ◌≤◌, Bool, true, false, cond, List, [], ◌∷◌, ◌++◌, None}
+use Rattle.std.specs.Prelude.{slice_index_or, length}
 use Rattle.std.specs.Option.{option_map_or}
 use Rattle.alias_base.specs.declared.ids.IdentifierId.{IdentifierId}
 use Rattle.alias_graph.specs.declared.types.EdgeKind.{EdgeKind}
@@ -16,7 +17,14 @@ use Rattle.alias_graph.specs.Nodes.{Edge, Source, Node, Entries, Nodes, node_at,
 use Rattle.alias_graph.specs.Graph.{has_source, changed}
 
 abbrev pub no_link : StoredLink
-no_link = record { index = 0; from = record { 0 = 0 }; into = record { 0 = 0 }; kind = Capture; from_hint = record { 0 = 0 }; into_hint = record { 0 = 0 } }
+no_link = record {
+  index = 0;
+  from = record { 0 = 0 };
+  into = record { 0 = 0 };
+  kind = Capture;
+  from_hint = record { 0 = 0 };
+  into_hint = record { 0 = 0 };
+}
 
 abbrev pub link_at : List StoredLink → ℕ → StoredLink
 link_at links p = slice_index_or links p no_link
@@ -70,7 +78,8 @@ AllFit n [] = Unit {0}
 AllFit n (e ∷ g) = NodeFits n e.1 × AllFit n g
 
 abbrev pub stored_links : StoredNode → ℕ
-stored_links n = length n.forward + length n.created_from + length n.aliases + length n.maybe_aliases + length n.captures
+stored_links n = length n.forward + length n.created_from + length n.aliases + length n.maybe_aliases
+    + length n.captures
 
 abbrev pub all_stored_links : Entries StoredNode → ℕ
 all_stored_links [] = 0
@@ -103,10 +112,22 @@ stored_marked_by true i n = record n { transitive = remarked i n.transitive }
 stored_marked_by false i n = record n { local = remarked i n.local }
 
 abbrev pub stored_visited : ℕ → Origin → Entry → StoredNode → StoredNode
-stored_visited index origin e n = record (stored_marked_by e.transitive (info e.kind origin.span) n) { last_mutated = later index n.last_mutated; mutation_reason = first_reason origin.reason n.mutation_reason }
+stored_visited index origin e n = record (stored_marked_by e.transitive (info e.kind origin.span) n)
+    { last_mutated = later index n.last_mutated; mutation_reason = first_reason origin.reason n.mutation_reason }
 
 abbrev pub stored_fresh : NodeValue → StoredNode
-stored_fresh value = record { value = value; local = None; transitive = None; last_mutated = None; mutation_reason = None; forward = []; created_from = []; captures = []; aliases = []; maybe_aliases = [] }
+stored_fresh value = record {
+  value = value;
+  local = None;
+  transitive = None;
+  last_mutated = None;
+  mutation_reason = None;
+  forward = [];
+  created_from = [];
+  captures = [];
+  aliases = [];
+  maybe_aliases = [];
+}
 
 abbrev pub with_forward_slot : ℕ → StoredNode → StoredNode
 with_forward_slot p n = record n { forward = n.forward ++ p ∷ [] }
@@ -138,7 +159,9 @@ stored_created false p = record (stored_fresh Object) { created_from = p ∷ [] 
 
 -- the nodes after the link at p makes its target
 abbrev pub IsCreated : Entries StoredNode → IdentifierId → IdentifierId → ℕ → Entries StoredNode → Type 0
-IsCreated g from into p new = (links : List StoredLink) → new ≡ changed (changed (with_node g into (stored_fresh Object)) from (with_forward_slot p)) into (with_created_slot links p)
+IsCreated g from into p new = (links : List StoredLink) → new
+    ≡ changed (changed (with_node g into (stored_fresh Object)) from (with_forward_slot p)) into
+    (with_created_slot links p)
 
 -- a node without its links
 abbrev pub marks_of : Node → Node

@@ -13,7 +13,18 @@ use Rattle.alias_graph.specs.Nodes.{Entries, Nodes, has_node, with_node, same_id
 
 -- a node with no mark and no link
 abbrev pub fresh : NodeValue → Node
-fresh value = record { value = value; local = None; transitive = None; last_mutated = None; mutation_reason = None; forward = []; created_from = []; captures = []; aliases = []; maybe_aliases = [] }
+fresh value = record {
+  value = value;
+  local = None;
+  transitive = None;
+  last_mutated = None;
+  mutation_reason = None;
+  forward = [];
+  created_from = [];
+  captures = [];
+  aliases = [];
+  maybe_aliases = [];
+}
 
 abbrev pub created : Nodes → IdentifierId → NodeValue → Nodes
 created g id value = with_node g id (fresh value)
@@ -49,11 +60,13 @@ abbrev pub source : ℕ → IdentifierId → Source
 source index other = record { index = index; other = other }
 
 abbrev pub made_from : Nodes → ℕ → IdentifierId → IdentifierId → Nodes
-made_from g index from into = changed (changed (created g into Object) from (with_edge (edge index into Alias))) into (with_created_from (source index from))
+made_from g index from into = changed (changed (created g into Object) from (with_edge (edge index into Alias))) into
+    (with_created_from (source index from))
 
 -- both nodes have to be there
 abbrev pub linked : EdgeKind → Nodes → ℕ → IdentifierId → IdentifierId → Nodes
-linked kind g index from into = cond (has_node g from && has_node g into) (changed (changed g from (with_edge (edge index into kind))) into (with_source kind (source index from))) g
+linked kind g index from into = cond (has_node g from && has_node g into)
+    (changed (changed g from (with_edge (edge index into kind))) into (with_source kind (source index from))) g
 
 pub data Event : Type 0 where
   made : IdentifierId → NodeValue → Event

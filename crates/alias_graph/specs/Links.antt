@@ -1,5 +1,6 @@
 -- Which entries an entry of a walk leads to.
-use Rattle.std.specs.Prelude.{ℕ, ◌+◌, Bool, true, false, cond, not, ◌&&◌, ◌||◌, ◌==◌, List, [], ◌∷◌, ◌++◌, Option, Some, None, nat_lt, is_some, length, ◌*◌}
+use Rattle.std.specs.Prelude.{ℕ, ◌+◌, Bool, true, false, cond, not, ◌&&◌, ◌||◌, ◌==◌, List, [], ◌∷◌, ◌++◌, Option, Some}
+use Rattle.std.specs.Prelude.{None, nat_lt, is_some, length, ◌*◌}
 use Rattle.alias_base.specs.declared.ids.IdentifierId.{IdentifierId}
 use Rattle.alias_graph.specs.declared.types.MutationKind.{MutationKind}
 use Rattle.alias_graph.specs.declared.types.MutationKind.TheVariants.{Conditional, Definite}
@@ -36,7 +37,8 @@ at_least false b = not b
 
 -- d has at least the flag, the direction and the kind of e
 abbrev pub mode_covers : Entry → Entry → Bool
-mode_covers d e = at_least d.transitive e.transitive && at_least (is_backwards d.direction) (is_backwards e.direction) && at_least (is_definite d.kind) (is_definite e.kind)
+mode_covers d e = at_least d.transitive e.transitive && at_least (is_backwards d.direction) (is_backwards e.direction)
+    && at_least (is_definite d.kind) (is_definite e.kind)
 
 abbrev pub covers : Entry → Entry → Bool
 covers d e = (d.id.0 == e.id.0) && mode_covers d e
@@ -47,7 +49,8 @@ entry id transitive direction kind = record { id = id; transitive = transitive; 
 -- the entries of the sources before m
 abbrev pub back_entries : ℕ → Bool → MutationKind → List Source → List Entry
 back_entries m t k [] = []
-back_entries m t k (l ∷ ls) = cond (nat_lt l.index m) (entry l.other t Backwards k ∷ back_entries m t k ls) (back_entries m t k ls)
+back_entries m t k (l ∷ ls) = cond (nat_lt l.index m) (entry l.other t Backwards k ∷ back_entries m t k ls)
+    (back_entries m t k ls)
 
 abbrev pub along : EdgeKind → IdentifierId → Bool → MutationKind → Entry
 along Capture id t k = entry id t Backwards k
@@ -57,7 +60,8 @@ along MaybeAlias id t k = entry id t Forwards Conditional
 -- the entries of the edges before m
 abbrev pub forward_entries : ℕ → Bool → MutationKind → List Edge → List Entry
 forward_entries m t k [] = []
-forward_entries m t k (l ∷ ls) = cond (nat_lt l.index m) (along l.kind l.other t k ∷ forward_entries m t k ls) (forward_entries m t k ls)
+forward_entries m t k (l ∷ ls) = cond (nat_lt l.index m) (along l.kind l.other t k ∷ forward_entries m t k ls)
+    (forward_entries m t k ls)
 
 -- a phi that is entered forwards leads to no source
 abbrev pub opens : NodeValue → Direction → Bool

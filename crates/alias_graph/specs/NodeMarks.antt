@@ -44,7 +44,8 @@ marked_by true i n = record n { transitive = remarked i n.transitive }
 marked_by false i n = record n { local = remarked i n.local }
 
 abbrev pub visited : ℕ → Origin → Entry → Node → Node
-visited index origin e n = record (marked_by e.transitive (info e.kind origin.span) n) { last_mutated = later index n.last_mutated; mutation_reason = first_reason origin.reason n.mutation_reason }
+visited index origin e n = record (marked_by e.transitive (info e.kind origin.span) n)
+    { last_mutated = later index n.last_mutated; mutation_reason = first_reason origin.reason n.mutation_reason }
 
 -- the nodes after a walk that expanded these entries, the latest first
 abbrev pub marked : ℕ → Origin → Nodes → List Entry → Nodes
@@ -53,7 +54,10 @@ marked index origin g (e ∷ es) = changed (marked index origin g es) e.id (visi
 
 -- the range ends no earlier
 abbrev pub raised : EvaluationOrder → Identifier → Identifier
-raised end x = record x { mutable_range = record x.mutable_range { end = record { 0 = max x.mutable_range.end.0 end.0 } } }
+raised end x = record x {
+  mutable_range =
+      record x.mutable_range { end = record { 0 = max x.mutable_range.end.0 end.0 } };
+}
 
 abbrev pub raised_at : List Identifier → ℕ → EvaluationOrder → List Identifier
 raised_at xs i end = option_map_or (λ x. slice_set xs i (raised end x)) (slice_get xs i) xs

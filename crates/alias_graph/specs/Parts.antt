@@ -21,7 +21,8 @@ pub record HasNoLink (n : Node) : Type 0 where
   pub aliases : n.aliases ≡ []
   pub maybe_aliases : n.maybe_aliases ≡ []
 
--- The same nodes, alike in the part. In the first graph no link leads into the part from outside, and in the second there is none outside.
+-- The same nodes, alike in the part. In the first graph no link leads into the part from outside, and in the second
+-- there is none outside.
 pub record SamePart (keep : IdentifierId → Bool) (g h : Nodes) : Type 0 where
   pub ids : SameIds g h
   pub alike : (id : IdentifierId) → keep id ≡ true → node_at h id ≡ node_at g id
@@ -30,10 +31,12 @@ pub record SamePart (keep : IdentifierId → Bool) (g h : Nodes) : Type 0 where
 
 -- no node outside of the part has a report
 abbrev pub IsQuiet : (IdentifierId → Bool) → Environment → Nodes → Type 0
-IsQuiet keep env g = (id : IdentifierId) (n : Node) → node_at g id ≡ Some n → keep id ≡ false → value_reports env n.value ≡ []
+IsQuiet keep env g = (id : IdentifierId) (n : Node) → node_at g id ≡ Some n → keep id ≡ false
+    → value_reports env n.value ≡ []
 
 -- a graph cut off to a part in which these identifiers are, and, where errors are recorded, all nodes with reports
-pub record CutOff (record_errors : Bool) (env : Environment) (targets : List IdentifierId) (old new : Nodes) : Type 0 where
+pub record CutOff (record_errors : Bool) (env : Environment) (targets : List IdentifierId) (old new : Nodes) : Type
+    0 where
   pub keep : IdentifierId → Bool
   pub part : SamePart keep old new
   pub kept : (id : IdentifierId) → IsOneOf id targets → IsTrue (has_node old id) → keep id ≡ true

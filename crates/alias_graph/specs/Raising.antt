@@ -23,7 +23,8 @@ pub record EndsRise (old new : List Identifier) : Type 0 where
 
 -- the end is that of a walk of which a legal path leads to the identifier
 abbrev pub RaiseCause : Nodes → List RangeWalk → ℕ → ℕ → Type 0
-RaiseCause g ws i end = (w : RangeWalk) × IsOneOf w ws × (e : Entry) × (e.id.0 ≡ i) × Legal g w.index (range_entry w) e × (end ≡ w.end.0)
+RaiseCause g ws i end = (w : RangeWalk) × IsOneOf w ws × (e : Entry) × (e.id.0 ≡ i) × Legal g w.index (range_entry w) e
+    × (end ≡ w.end.0)
 
 -- each end is the greatest of that of before and those of the walks of which a legal path leads to the identifier
 pub record Raised (g : Nodes) (ws : List RangeWalk) (old new : List Identifier) : Type 0 where
@@ -35,6 +36,8 @@ pub record Raised (g : Nodes) (ws : List RangeWalk) (old new : List Identifier) 
 pub record Swept (g : Nodes) (m end : ℕ) (rs : List Identifier) (seen : List Seen) : Type 0 where
   pub done : List Entry
   pub size : length seen ≡ length g
-  pub says : (e : Entry) (i : ℕ) → slot_of g e.id ≡ Some i → is_seen (slice_index_or seen i nothing_seen) e ≡ is_covered covers done e
-  pub closed : (d f : Entry) → IsOneOf d done → IsOneOf f (next g m d) → node_exists g f ≡ true → (c : Entry) × IsOneOf c done × IsTrue (covers c f)
+  pub says : (e : Entry) (i : ℕ) → slot_of g e.id ≡ Some i → is_seen (slice_index_or seen i nothing_seen) e
+      ≡ is_covered covers done e
+  pub closed : (d f : Entry) → IsOneOf d done → IsOneOf f (next g m d) → node_exists g f ≡ true → (c : Entry)
+      × IsOneOf c done × IsTrue (covers c f)
   pub ended : (d : Entry) → IsOneOf d done → end ≤ end_at rs d.id.0

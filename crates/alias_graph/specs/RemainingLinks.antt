@@ -1,5 +1,6 @@
 -- The graph of a list of events, as the links of the list that remain.
-use Rattle.std.specs.Prelude.{Bool, true, false, cond, ◌&&◌, ◌||◌, List, [], ◌∷◌, ◌++◌, Option, Some, None, option_to_list, fold}
+use Rattle.std.specs.Prelude.{Bool, true, false, cond, ◌&&◌, ◌||◌, List, [], ◌∷◌, ◌++◌, Option, Some, None}
+use Rattle.std.specs.Prelude.{option_to_list, fold}
 use Rattle.std.specs.List.{list_any}
 use Rattle.alias_base.specs.declared.ids.IdentifierId.{IdentifierId}
 use Rattle.alias_graph.specs.declared.types.EdgeKind.{EdgeKind}
@@ -30,8 +31,10 @@ when b x = cond b (Some x) None
 
 abbrev pub edge_own : IdentifierId → Own Edge
 edge_own id before (made at value) = None
-edge_own id before (created_out index from into) = when (same_id id from && (same_id id into || was_made id before)) (edge index into Alias)
-edge_own id before (joined kind index from into) = when (same_id id from && (was_made from before && was_made into before)) (edge index into kind)
+edge_own id before (created_out index from into) =
+    when (same_id id from && (same_id id into || was_made id before)) (edge index into Alias)
+edge_own id before (joined kind index from into) =
+    when (same_id id from && (was_made from before && was_made into before)) (edge index into kind)
 
 abbrev pub created_own : IdentifierId → Own Source
 created_own id before (made at value) = None
@@ -47,12 +50,15 @@ same_kind j k = false
 abbrev pub source_own : EdgeKind → IdentifierId → Own Source
 source_own want id before (made at value) = None
 source_own want id before (created_out index from into) = None
-source_own want id before (joined kind index from into) = when (same_kind want kind && (same_id id into && (was_made from before && was_made into before))) (source index from)
+source_own want id before (joined kind index from into) =
+    when (same_kind want kind && (same_id id into && (was_made from before && was_made into before)))
+    (source index from)
 
 -- the links that remain: those after which the node isn't made again
 abbrev pub remaining : {A : Type 0} → Own A → IdentifierId → List Event → List Event → List A
 remaining own id before [] = []
-remaining own id before (e ∷ later) = cond (was_made id later) (remaining own id (before ++ e ∷ []) later) (option_to_list (own before e) ++ remaining own id (before ++ e ∷ []) later)
+remaining own id before (e ∷ later) = cond (was_made id later) (remaining own id (before ++ e ∷ []) later)
+    (option_to_list (own before e) ++ remaining own id (before ++ e ∷ []) later)
 
 -- of several with the same ends the first
 abbrev pub firsts : List Source → List Source

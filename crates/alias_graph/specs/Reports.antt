@@ -36,7 +36,8 @@ stored_reported_at env (Some n) = reported env n.value n.local n.transitive
 -- the reports of a walk that expanded these entries, the latest first, with the marks as they were at each
 abbrev pub reports_after : Environment → ℕ → Origin → Nodes → List Entry → List Report
 reports_after env index origin g [] = []
-reports_after env index origin g (e ∷ es) = reports_after env index origin g es ++ reported_at env (node_at (marked index origin g es) e.id)
+reports_after env index origin g (e ∷ es) = reports_after env index origin g es
+    ++ reported_at env (node_at (marked index origin g es) e.id)
 
 -- they are added where errors are recorded
 abbrev pub recorded_after : Bool → Environment → ℕ → Origin → Nodes → List Entry → List Report
@@ -48,7 +49,8 @@ with_reports rs env = record env { errors = env.errors ++ rs }
 
 -- the environment after a walk that expanded these entries
 abbrev pub walked : Bool → ℕ → Origin → Option EvaluationOrder → Nodes → List Entry → Environment → Environment
-walked record_errors index origin end g done env = with_reports (recorded_after record_errors env index origin g done) (with_ranges end done env)
+walked record_errors index origin end g done env =
+    with_reports (recorded_after record_errors env index origin g done) (with_ranges end done env)
 
 -- some of these reports, from the first on, are behind those of before
 pub record Front (old new all : List Report) : Type 0 where
@@ -57,18 +59,21 @@ pub record Front (old new all : List Report) : Type 0 where
   pub grown : new ≡ old ++ some
   pub whole : some ++ rest ≡ all
 
-module _ (record_errors : Bool) (index : ℕ) (origin : Origin) (end : Option EvaluationOrder) (g : Nodes) (start : Entry) (env : Environment) where
+module _ (record_errors : Bool) (index : ℕ) (origin : Origin) (end : Option EvaluationOrder) (g : Nodes) (start : Entry)
+    (env : Environment) where
   -- the reports of the first n popped entries
   abbrev pub recorded_by : ℕ → List Report
   recorded_by n = recorded_after record_errors env index origin g (step_to g index start n).done
 
-  -- A walk that was refused: what its first popped entries have set stays, and of the next one at most some of its reports.
+  -- A walk that was refused: what its first popped entries have set stays, and of the next one at most some of its
+  -- reports.
   pub record Stopped (steps : ℕ) (new_nodes : Nodes) (new_env : Environment) (new_steps : ℕ) : Type 0 where
     pub popped : ℕ
     pub within : popped ≤ (walk g index start).popped
     pub nodes : new_nodes ≡ marked index origin g (step_to g index start popped).done
     pub counted : new_steps ≡ steps + popped
-    pub identifiers : new_env ≡ record env { identifiers = ranges_after end env.identifiers (step_to g index start popped).done; errors = new_env.errors }
+    pub identifiers : new_env ≡ record env
+        { identifiers = ranges_after end env.identifiers (step_to g index start popped).done; errors = new_env.errors }
     pub next : List Report
     pub whole : recorded_by popped ++ next ≡ recorded_by (popped + 1)
     pub reports : Front (env.errors ++ recorded_by popped) new_env.errors next

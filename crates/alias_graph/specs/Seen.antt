@@ -15,7 +15,12 @@ risen Conditional None = Some Conditional
 risen Conditional (Some j) = Some j
 
 abbrev pub nothing_seen : Seen
-nothing_seen = record { local_forwards = None; local_backwards = None; transitive_forwards = None; transitive_backwards = None }
+nothing_seen = record {
+  local_forwards = None;
+  local_backwards = None;
+  transitive_forwards = None;
+  transitive_backwards = None;
+}
 
 -- the highest kind that was seen with at least this flag and direction
 abbrev pub level : Seen → Bool → Direction → Option MutationKind
@@ -33,9 +38,20 @@ is_seen s e = reaches (level s e.transitive e.direction) e.kind
 
 abbrev pub see_at : Bool → Direction → MutationKind → Seen → Seen
 see_at false Forwards k s = record s { local_forwards = risen k s.local_forwards }
-see_at false Backwards k s = record s { local_forwards = risen k s.local_forwards; local_backwards = risen k s.local_backwards }
-see_at true Forwards k s = record s { local_forwards = risen k s.local_forwards; transitive_forwards = risen k s.transitive_forwards }
-see_at true Backwards k s = record { local_forwards = risen k s.local_forwards; local_backwards = risen k s.local_backwards; transitive_forwards = risen k s.transitive_forwards; transitive_backwards = risen k s.transitive_backwards }
+see_at false Backwards k s = record s {
+  local_forwards = risen k s.local_forwards;
+  local_backwards = risen k s.local_backwards;
+}
+see_at true Forwards k s = record s {
+  local_forwards = risen k s.local_forwards;
+  transitive_forwards = risen k s.transitive_forwards;
+}
+see_at true Backwards k s = record {
+  local_forwards = risen k s.local_forwards;
+  local_backwards = risen k s.local_backwards;
+  transitive_forwards = risen k s.transitive_forwards;
+  transitive_backwards = risen k s.transitive_backwards;
+}
 
 abbrev pub see : Entry → Seen → Seen
 see e s = see_at e.transitive e.direction e.kind s

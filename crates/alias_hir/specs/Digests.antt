@@ -1,4 +1,5 @@
--- Numbers below 2^32 by which interned reports are found. Reports that say the same of an identifier, and equal ones, have the same.
+-- Numbers below 2^32 by which interned reports are found. Reports that say the same of an identifier, and equal ones,
+-- have the same.
 use Rattle.std.specs.Prelude.{ℕ, ◌+◌, ◌*◌, ◌%◌, List, [], ◌∷◌, Option, None, Some}
 use Rattle.alias_base.specs.declared.ids.IdentifierId.{IdentifierId}
 use Rattle.alias_hir.specs.declared.report.Interned.{Interned}

@@ -1,5 +1,6 @@
 -- Interned reports, and recorded ones.
-use Rattle.std.specs.Prelude.{ℕ, ◌&&◌, Bool, true, false, cond, if◌then◌else◌, ◌==◌, List, [], ◌∷◌, ◌++◌, Option, None, Some, Result, Ok, Err, nat_lt, slice_get, option_map, option_to_list, length}
+use Rattle.std.specs.Prelude.{ℕ, ◌&&◌, Bool, true, false, cond, if◌then◌else◌, ◌==◌, List, [], ◌∷◌, ◌++◌, Option, None}
+use Rattle.std.specs.Prelude.{Some, Result, Ok, Err, nat_lt, slice_get, option_map, option_to_list, length}
 use Rattle.std.specs.Option.{option_map_or}
 use Rattle.std.specs.List.{list_any, flat_map}
 use Rattle.alias_base.specs.Answer.{◌>>=◌}
@@ -13,11 +14,13 @@ use Rattle.alias_hir.specs.declared.error.HirError.TheVariants.{TooMany}
 use Rattle.alias_hir.specs.declared.hir.HirFunction.{HirFunction}
 use Rattle.alias_hir.specs.declared.report.ReportId.{ReportId}
 use Rattle.alias_hir.specs.declared.report.ErrorCategory.{ErrorCategory}
-use Rattle.alias_hir.specs.declared.report.ErrorCategory.TheVariants.{Invariant, Todo, Immutability, Globals, Purity, IncompatibleLibrary}
+use Rattle.alias_hir.specs.declared.report.ErrorCategory.TheVariants.{Invariant, Todo, Immutability, Globals, Purity}
+use Rattle.alias_hir.specs.declared.report.ErrorCategory.TheVariants.{IncompatibleLibrary}
 use Rattle.alias_hir.specs.declared.report.Interned.{Interned}
 use Rattle.alias_hir.specs.declared.report.Report.{Report}
 use Rattle.alias_hir.specs.Effects.{error_of}
-pub use Rattle.alias_hir.specs.SameReports.{same_category, same_text, same_span, same_label, same_words, same_report, same_identity, same_instance, number_of}
+pub use Rattle.alias_hir.specs.SameReports.{same_category, same_text, same_span, same_label, same_words, same_report}
+pub use Rattle.alias_hir.specs.SameReports.{same_identity, same_instance, number_of}
 
 -- ---- numbers of interned reports
 
@@ -40,7 +43,8 @@ needs_entry es id r = number_of (same_instance id r) es == length es
 abbrev pub is_full : List Interned → Bool
 is_full es = length es == 4294967295
 
--- the answer, where no more reports are interned than there are numbers: all are taken exactly where a new entry is needed and none is left
+-- the answer, where no more reports are interned than there are numbers: all are taken exactly where a new entry is
+-- needed and none is left
 abbrev pub report_id_where_interned : List Interned → IdentifierId → Report → Result ReportId HirError
 report_id_where_interned es id r =
     if needs_entry es id r && is_full es then Err (TooMany Diagnostics)

@@ -30,7 +30,8 @@ identifier_span (Some i) = i.span
 -- the identifier as it is printed: name, `$`, number and type
 abbrev pub printed_identifier : Environment → IdentifierId → List ℕ
 printed_identifier env id =
-    identifier_name (slice_get env.identifiers id.0) ++ codes "$" ++ decimal id.0 ++ option_map_or printed_type (type_of env id) []
+    identifier_name (slice_get env.identifiers id.0) ++ codes "$" ++ decimal id.0
+    ++ option_map_or printed_type (type_of env id) []
 
 -- the first span that is there
 abbrev pub either_span : Option Span → Option Span → Option Span
@@ -54,7 +55,8 @@ uninitialized_report env id span = record {
 abbrev pub not_settled_report : Report
 not_settled_report = record {
   category = Invariant;
-  message = codes "[InferMutationAliasingEffects] Potential infinite loop: A value, temporary place, or effect was not cached properly";
+  message = codes
+      "[InferMutationAliasingEffects] Potential infinite loop: A value, temporary place, or effect was not cached properly";
   help = None;
   labels = [];
 }

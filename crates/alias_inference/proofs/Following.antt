@@ -31,11 +31,13 @@ use Rattle.alias_inference.specs.Inferences.{unit_with, NestedAreRangedIn}
 -- ---- a call that infers a unit
 
 module _ (u : HirUnit) (rules : rules_hold u ≡ Ok tt) where
-  caused_at : (r : Result Inferred InferError) → InfersUnit (unit_analysed u) r → IfErr r (λ e. is_free e ≡ false → IsCaused u e)
+  caused_at : (r : Result Inferred InferError) → InfersUnit (unit_analysed u) r
+      → IfErr r (λ e. is_free e ≡ false → IsCaused u e)
   caused_at (Ok i) h = tt
   caused_at (Err e) h = λ free. unit_caused u rules e (h free)
 
-  blameless_at : (r : Result Inferred InferError) → InfersUnit (unit_analysed u) r → IfErr r (λ e. is_free e ≡ false → BlamesNoPlain u e)
+  blameless_at : (r : Result Inferred InferError) → InfersUnit (unit_analysed u) r
+      → IfErr r (λ e. is_free e ≡ false → BlamesNoPlain u e)
   blameless_at (Ok i) h = tt
   blameless_at (Err e) h = λ free. blames_no_plain u e (unit_caused u rules e (h free))
 
@@ -47,15 +49,19 @@ module _ (u : HirUnit) (rules : rules_hold u ≡ Ok tt) where
   explained_at (Ok i) h = each_has_cause u (record { functions = h.0; inferred = i }) rules h.1
   explained_at (Err e) h = tt
 
-  nested_of : (a : UnitAnalysis) → unit_analysed u ≡ Ok a → IsOkAnd (unit_analysed u) (λ (b : UnitAnalysis). NestedAreRangedIn b.functions a.inferred)
-  nested_of a q = subst (λ r. IsOkAnd r (λ (b : UnitAnalysis). NestedAreRangedIn b.functions a.inferred)) (sym q) (nested_are_ranged u a rules q)
+  nested_of : (a : UnitAnalysis) → unit_analysed u ≡ Ok a
+      → IsOkAnd (unit_analysed u) (λ (b : UnitAnalysis). NestedAreRangedIn b.functions a.inferred)
+  nested_of a q = subst (λ r. IsOkAnd r (λ (b : UnitAnalysis). NestedAreRangedIn b.functions a.inferred)) (sym q)
+      (nested_are_ranged u a rules q)
 
-  nested_at : (r : Result Inferred InferError) → InfersUnit (unit_analysed u) r → IfOk r (λ i. IsOkAnd (unit_analysed u) (λ a. NestedAreRangedIn a.functions i))
+  nested_at : (r : Result Inferred InferError) → InfersUnit (unit_analysed u) r
+      → IfOk r (λ i. IsOkAnd (unit_analysed u) (λ a. NestedAreRangedIn a.functions i))
   nested_at (Ok i) h = nested_of (record { functions = h.0; inferred = i }) h.1
   nested_at (Err e) h = tt
 
 -- the unit as a call hands it out that tells that it is well formed
-module _ (u v : HirUnit) (same : v ≡ u) (rules : rules_hold v ≡ Ok tt) (r : Result Inferred InferError) (h : InfersUnit (unit_analysed u) r) where
+module _ (u v : HirUnit) (same : v ≡ u) (rules : rules_hold v ≡ Ok tt) (r : Result Inferred InferError)
+    (h : InfersUnit (unit_analysed u) r) where
   keeps : rules_hold u ≡ Ok tt
   keeps = subst (λ z. rules_hold z ≡ Ok tt) same rules
 
@@ -86,33 +92,52 @@ never_false : true ≡ false → ⊥
 never_false h = cc
 
 module _ (keeps_all : Bool) (f : HirFunction) (env : Environment) where
-  comes_of_none : (x : IdentifierId) → AnalysedWith keeps_all most_levels f (analysis env []) (Err (EffectsNotInferred x)) → ⊥
+  comes_of_none : (x : IdentifierId) → AnalysedWith keeps_all most_levels f (analysis env [])
+      (Err (EffectsNotInferred x)) → ⊥
   comes_of_none x h = never_false (never_unknown keeps_all most_levels f env [] (EffectsNotInferred x) h)
 
-  pub certified_operands : (r : Result (List Solved) InferError) (after : Environment) → Analyses (AnalysedWith keeps_all most_levels f (analysis env [])) r after → (x : IdentifierId) → r ≢ Err (EffectsNotInferred x)
-  certified_operands r after h x = λ q. comes_of_none x (subst (λ (z : Result (List Solved) InferError). Analyses (AnalysedWith keeps_all most_levels f (analysis env [])) z after) q h refl)
+  pub certified_operands : (r : Result (List Solved) InferError) (after : Environment)
+      → Analyses (AnalysedWith keeps_all most_levels f (analysis env [])) r after → (x : IdentifierId)
+      → r ≢ Err (EffectsNotInferred x)
+  certified_operands r after h x = λ q. comes_of_none x
+      (subst (λ (z : Result (List Solved) InferError).
+      Analyses (AnalysedWith keeps_all most_levels f (analysis env [])) z after) q h refl)
 
-  pub into_operands : (r : Result ⊤ InferError) (after : Environment) → AnalysesInto (AnalysedWith keeps_all most_levels f (analysis env [])) r after → (x : IdentifierId) → r ≢ Err (EffectsNotInferred x)
-  into_operands r after h x = λ q. comes_of_none x (subst (λ (z : Result ⊤ InferError). AnalysesInto (AnalysedWith keeps_all most_levels f (analysis env [])) z after) q h refl)
+  pub into_operands : (r : Result ⊤ InferError) (after : Environment)
+      → AnalysesInto (AnalysedWith keeps_all most_levels f (analysis env [])) r after → (x : IdentifierId)
+      → r ≢ Err (EffectsNotInferred x)
+  into_operands r after h x = λ q. comes_of_none x
+      (subst (λ (z : Result ⊤ InferError). AnalysesInto (AnalysedWith keeps_all most_levels f (analysis env [])) z
+      after) q h refl)
 
-  pub certified_blames : (r : Result (List Solved) InferError) (after : Environment) → Analyses (AnalysedWith keeps_all most_levels f (analysis env [])) r after → rules_hold (unit_with f env) ≡ Ok tt → IfErr r (λ e. BlamesRightly (unit_with f env) e)
+  pub certified_blames : (r : Result (List Solved) InferError) (after : Environment)
+      → Analyses (AnalysedWith keeps_all most_levels f (analysis env [])) r after → rules_hold (unit_with f env) ≡ Ok tt
+      → IfErr r (λ e. BlamesRightly (unit_with f env) e)
   certified_blames (Ok x) after h rules = tt
   certified_blames (Err e) after h rules = analyses_blame (unit_with f env) rules keeps_all (Err e) after h e refl
 
-  pub into_blames : (r : Result ⊤ InferError) (after : Environment) → AnalysesInto (AnalysedWith keeps_all most_levels f (analysis env [])) r after → rules_hold (unit_with f env) ≡ Ok tt → IfErr r (λ e. BlamesRightly (unit_with f env) e)
+  pub into_blames : (r : Result ⊤ InferError) (after : Environment)
+      → AnalysesInto (AnalysedWith keeps_all most_levels f (analysis env [])) r after → rules_hold (unit_with f env)
+      ≡ Ok tt → IfErr r (λ e. BlamesRightly (unit_with f env) e)
   into_blames (Ok x) after h rules = tt
   into_blames (Err e) after h rules = into_blame (unit_with f env) rules keeps_all (Err e) after h e refl
 
 -- over passes that keep everything
 module _ (f : HirFunction) (env : Environment) where
   -- the inference of the unit is refused where the analysis of its nested functions is
-  refused_unit : (e : InferError) → analysed most_levels f (analysis env []) ≡ Err e → unit_analysed (unit_with f env) ≡ Err e
-  refused_unit e h = ap (λ (r : Result Analysis InferError). (r >>= root_analysed f) >>= (λ (x : RootAnalysis). Ok (handed_out x))) h
+  refused_unit : (e : InferError) → analysed most_levels f (analysis env []) ≡ Err e → unit_analysed (unit_with f env)
+      ≡ Err e
+  refused_unit e h = ap (λ (r : Result Analysis InferError). (r >>= root_analysed f)
+      >>= (λ (x : RootAnalysis). Ok (handed_out x))) h
 
-  pub certified_complete : (r : Result (List Solved) InferError) (after : Environment) → AnalysesExactly (analysed most_levels f (analysis env [])) r after → rules_hold (unit_with f env) ≡ Ok tt → IfErr r (λ e. is_free e ≡ false → IsCaused (unit_with f env) e)
+  pub certified_complete : (r : Result (List Solved) InferError) (after : Environment)
+      → AnalysesExactly (analysed most_levels f (analysis env [])) r after → rules_hold (unit_with f env) ≡ Ok tt
+      → IfErr r (λ e. is_free e ≡ false → IsCaused (unit_with f env) e)
   certified_complete (Ok x) after h rules = tt
   certified_complete (Err e) after h rules = λ free. unit_caused (unit_with f env) rules e (refused_unit e (h free))
 
-  pub into_complete : (r : Result ⊤ InferError) (after : Environment) → AnalysesExactlyInto (analysed most_levels f (analysis env [])) r after → rules_hold (unit_with f env) ≡ Ok tt → IfErr r (λ e. is_free e ≡ false → IsCaused (unit_with f env) e)
+  pub into_complete : (r : Result ⊤ InferError) (after : Environment)
+      → AnalysesExactlyInto (analysed most_levels f (analysis env [])) r after → rules_hold (unit_with f env) ≡ Ok tt
+      → IfErr r (λ e. is_free e ≡ false → IsCaused (unit_with f env) e)
   into_complete (Ok x) after h rules = tt
   into_complete (Err e) after h rules = λ free. unit_caused (unit_with f env) rules e (refused_unit e (h free))

@@ -46,7 +46,8 @@ creation (Some i) = created i.value
 
 -- each place of the second list that has no effect stands in the first, without one there too
 abbrev pub NoneLost : List Place → List Place → Type 0
-NoneLost old new = (p : Place) → Contains new p → is_unknown p.effect ≡ true → (q : Place) × Contains old q × (q.identifier ≡ p.identifier) × (is_unknown q.effect ≡ true)
+NoneLost old new = (p : Place) → Contains new p → is_unknown p.effect ≡ true → (q : Place) × Contains old q
+    × (q.identifier ≡ p.identifier) × (is_unknown q.effect ≡ true)
 
 abbrev pub instruction_operands : Option Instruction → List Place
 instruction_operands None = []
@@ -81,13 +82,19 @@ pub record SameOutside (old new : HirFunction) : Type 0 where
 
 -- no instruction, effect or creation of a function is added, and no operand loses its effect
 pub record NothingAdded (old new : HirFunction) : Type 0 where
-  pub instructions : (k : ℕ) → is_among (listed_instructions old) k ≡ false → is_among (listed_instructions new) k ≡ false
-  pub effects : (k : ℕ) → NoneAdded (instruction_effects (slice_get old.instructions k)) (instruction_effects (slice_get new.instructions k))
-  pub terminals : (b : BlockId) → NoneAdded (block_effects (value_at old.body.blocks b)) (block_effects (value_at new.body.blocks b))
+  pub instructions : (k : ℕ) → is_among (listed_instructions old) k ≡ false → is_among (listed_instructions new) k
+      ≡ false
+  pub effects : (k : ℕ) → NoneAdded (instruction_effects (slice_get old.instructions k))
+      (instruction_effects (slice_get new.instructions k))
+  pub terminals : (b : BlockId) → NoneAdded (block_effects (value_at old.body.blocks b))
+      (block_effects (value_at new.body.blocks b))
   pub summary : NoneAdded old.aliasing_effects new.aliasing_effects
-  pub creations : (k : ℕ) (f : FunctionId) → creation (slice_get new.instructions k) ≡ Some f → creation (slice_get old.instructions k) ≡ Some f
-  pub operands : (k : ℕ) → NoneLost (instruction_operands (slice_get old.instructions k)) (instruction_operands (slice_get new.instructions k))
-  pub ends : (b : BlockId) → NoneLost (block_operands (value_at old.body.blocks b)) (block_operands (value_at new.body.blocks b))
+  pub creations : (k : ℕ) (f : FunctionId) → creation (slice_get new.instructions k) ≡ Some f
+      → creation (slice_get old.instructions k) ≡ Some f
+  pub operands : (k : ℕ) → NoneLost (instruction_operands (slice_get old.instructions k))
+      (instruction_operands (slice_get new.instructions k))
+  pub ends : (b : BlockId) → NoneLost (block_operands (value_at old.body.blocks b))
+      (block_operands (value_at new.body.blocks b))
 
 -- what a pass leaves of a function that the inference takes, and of its tables
 pub record Keeps (func : HirFunction) (env : Environment) (func' : HirFunction) (env' : Environment) : Type 0 where
@@ -100,4 +107,5 @@ pub record Keeps (func : HirFunction) (env : Environment) (func' : HirFunction) 
   -- no identifier comes to stand in the function
   pub present : (k : ℕ) → is_among (identifiers_in env func) k ≡ false → is_among (identifiers_in env' func') k ≡ false
   -- an identifier that doesn't stand in it stays
-  pub others : (k : ℕ) → is_among (identifiers_in env func) k ≡ false → slice_get env'.identifiers k ≡ slice_get env.identifiers k
+  pub others : (k : ℕ) → is_among (identifiers_in env func) k ≡ false → slice_get env'.identifiers k
+      ≡ slice_get env.identifiers k

@@ -31,21 +31,28 @@ second_ties Less s h = cc
 second_ties Equal s h = h
 second_ties Greater s h = cc
 
-module _ {A B : Type 0} (R : A → A → Ordering) (S : B → B → Ordering) (first : IsAntisymmetric R) (second : IsAntisymmetric S) where
+module _ {A B : Type 0} (R : A → A → Ordering) (S : B → B → Ordering) (first : IsAntisymmetric R)
+    (second : IsAntisymmetric S) where
   -- two parts, compared one after the other
   both : (make : A → B → EffectKey) (a b : A) (x y : B) → ordering_then (R a b) (S x y) ≡ Equal → make a x ≡ make b y
-  both make a b x y h = ap (λ z. make z x) (first a b (first_ties (R a b) (S x y) h)) ∙ ap (make b) (second x y (second_ties (R a b) (S x y) h))
+  both make a b x y h = ap (λ z. make z x) (first a b (first_ties (R a b) (S x y) h))
+      ∙ ap (make b) (second x y (second_ties (R a b) (S x y) h))
 
-ids : (make : IdentifierId → IdentifierId → EffectKey) (a b x y : IdentifierId) → ordering_then (id_cmp a b) (id_cmp x y) ≡ Equal → make a x ≡ make b y
+ids : (make : IdentifierId → IdentifierId → EffectKey) (a b x y : IdentifierId)
+    → ordering_then (id_cmp a b) (id_cmp x y) ≡ Equal → make a x ≡ make b y
 ids = both id_cmp id_cmp ids_apart ids_apart
 
-reports : (make : IdentifierId → ℕ → EffectKey) (a b : IdentifierId) (x y : ℕ) → ordering_then (id_cmp a b) (nat_cmp x y) ≡ Equal → make a x ≡ make b y
+reports : (make : IdentifierId → ℕ → EffectKey) (a b : IdentifierId) (x y : ℕ)
+    → ordering_then (id_cmp a b) (nat_cmp x y) ≡ Equal → make a x ≡ make b y
 reports = both id_cmp nat_cmp ids_apart nat_cmp-IsAntisymmetric
 
 captures_apart : IsAntisymmetric by_ids
-captures_apart c d h = ap (λ is. let taken : Captures = record { ids = is } in taken) (slice_cmp-IsAntisymmetric ids_apart c.ids d.ids h)
+captures_apart c d h = ap (λ is. let taken : Captures = record { ids = is } in taken)
+    (slice_cmp-IsAntisymmetric ids_apart c.ids d.ids h)
 
-created : (x y : IdentifierId) (k l : ValueKind) (r q : ValueReason) → ordering_then (id_cmp x y) (ordering_then (kind_cmp k l) (reason_cmp r q)) ≡ Equal → key.Create x k r ≡ key.Create y l q
+created : (x y : IdentifierId) (k l : ValueKind) (r q : ValueReason)
+    → ordering_then (id_cmp x y) (ordering_then (kind_cmp k l) (reason_cmp r q)) ≡ Equal → key.Create x k r
+    ≡ key.Create y l q
 created x y k l r q h =
     let rest = second_ties (id_cmp x y) (ordering_then (kind_cmp k l) (reason_cmp r q)) h in
     let e0 : x ≡ y = ids_apart x y (first_ties (id_cmp x y) (ordering_then (kind_cmp k l) (reason_cmp r q)) h) in
@@ -53,7 +60,9 @@ created x y k l r q h =
     let e2 : r ≡ q = reasons_apart r q (second_ties (kind_cmp k l) (reason_cmp r q) rest) in
     cc
 
-function_created : (x y : IdentifierId) (f g : FunctionId) (c d : Captures) → ordering_then (id_cmp x y) (ordering_then (function_cmp f g) (by_ids c d)) ≡ Equal → key.CreateFunction x f c ≡ key.CreateFunction y g d
+function_created : (x y : IdentifierId) (f g : FunctionId) (c d : Captures)
+    → ordering_then (id_cmp x y) (ordering_then (function_cmp f g) (by_ids c d)) ≡ Equal → key.CreateFunction x f c
+    ≡ key.CreateFunction y g d
 function_created x y f g c d h =
     let rest = second_ties (id_cmp x y) (ordering_then (function_cmp f g) (by_ids c d)) h in
     let e0 : x ≡ y = ids_apart x y (first_ties (id_cmp x y) (ordering_then (function_cmp f g) (by_ids c d)) h) in
@@ -77,6 +86,7 @@ keys_apart (key.Render p) (key.Render q) h = ap key.Render (ids_apart p q h)
 keys_apart (key.Mutate v) (key.Mutate w) h = ap key.Mutate (ids_apart v w h)
 keys_apart (key.MutateConditionally v) (key.MutateConditionally w) h = ap key.MutateConditionally (ids_apart v w h)
 keys_apart (key.MutateTransitive v) (key.MutateTransitive w) h = ap key.MutateTransitive (ids_apart v w h)
-keys_apart (key.MutateTransitiveConditionally v) (key.MutateTransitiveConditionally w) h = ap key.MutateTransitiveConditionally (ids_apart v w h)
+keys_apart (key.MutateTransitiveConditionally v) (key.MutateTransitiveConditionally w) h =
+    ap key.MutateTransitiveConditionally (ids_apart v w h)
 keys_apart (key.CreateFunction x f c) (key.CreateFunction y g d) h = function_created x y f g c d h
 keys_apart k l h = cc

@@ -23,9 +23,21 @@ module _ {K : Type 0} (R : K → K → Ordering) (total : IsTotalOrder R) (apart
   turned x y r h = total.antisymm y x ∙ ap ordering_reverse h
 
   one_by : (x y : K) (r : Ordering) → R x y ≡ r → ExactlyOne (R x y ≡ Less) (x ≡ y) (R y x ≡ Less)
-  one_by x y Less h = inl (h, (λ e. let t : R x y ≡ Equal = tied x y e in absurd (cc)), (λ g. let t : R y x ≡ Greater = turned x y Less h in absurd (cc)))
-  one_by x y Equal h = inr (inl ((λ g. absurd (cc)), apart x y h, (λ g. let t : R y x ≡ Equal = turned x y Equal h in absurd (cc))))
-  one_by x y Greater h = inr (inr ((λ g. absurd (cc)), (λ e. let t : R x y ≡ Equal = tied x y e in absurd (cc)), turned x y Greater h))
+  one_by x y Less h = inl (
+    h,
+    (λ e. let t : R x y ≡ Equal = tied x y e in absurd (cc)),
+    (λ g. let t : R y x ≡ Greater = turned x y Less h in absurd (cc)),
+  )
+  one_by x y Equal h = inr (inl (
+    (λ g. absurd (cc)),
+    apart x y h,
+    (λ g. let t : R y x ≡ Equal = turned x y Equal h in absurd (cc)),
+  ))
+  one_by x y Greater h = inr (inr (
+    (λ g. absurd (cc)),
+    (λ e. let t : R x y ≡ Equal = tied x y e in absurd (cc)),
+    turned x y Greater h,
+  ))
 
   pub linear : IsLinearOrder R
   linear = record {

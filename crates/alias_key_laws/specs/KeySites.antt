@@ -14,7 +14,8 @@ abbrev pub made_site : AliasingEffect → Option (IdentifierId × Site)
 made_site (effect.Create x k r) = Some (x.identifier, Created x.identifier k r)
 made_site (effect.CreateFrom a x) = Some (x.identifier, CreatedFrom a.identifier x.identifier)
 made_site (effect.CreateFunction x f captures) = Some (x.identifier, Function f)
--- what an Assign gives is its source's, and the others make nothing; each is named, so that a new effect doesn't go without a line
+-- what an Assign gives is its source's, and the others make nothing; each is named, so that a new effect doesn't go
+-- without a line
 made_site (effect.ImmutableCapture a x) = None
 made_site (effect.Assign a x) = None
 made_site (effect.Alias a x) = None

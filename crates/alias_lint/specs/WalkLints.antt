@@ -32,7 +32,8 @@ effects_at None = []
 effects_at (Some i) = recorded i.effects
 
 abbrev pub instruction_lints : Environment → HirFunction → BlockId → InstructionId → List Lint
-instruction_lints env f b i = lints_at (site None b (Some i)) (effect_reports env.interned (effects_at (slice_get f.instructions i.0)))
+instruction_lints env f b i = lints_at (site None b (Some i))
+    (effect_reports env.interned (effects_at (slice_get f.instructions i.0)))
 
 abbrev pub block_lints : Environment → HirFunction → BlockId × BasicBlock → List Lint
 block_lints env f e = flat_map (instruction_lints env f e.0) e.1.instructions
@@ -52,10 +53,12 @@ after_walk g m = nodes_after (mutation_start m) g
 -- what the walk of each mutation reports, at the instruction that recorded the mutation
 abbrev pub mutation_lints : Environment → HirFunction → Nodes → List RecordedMutation → List Lint
 mutation_lints env f g [] = []
-mutation_lints env f g (m ∷ ms) = lints_at (in_root f m.instruction) (walk_reports env g m) ++ mutation_lints env f (after_walk g m) ms
+mutation_lints env f g (m ∷ ms) = lints_at (in_root f m.instruction) (walk_reports env g m)
+    ++ mutation_lints env f (after_walk g m) ms
 
 abbrev pub render_lint : Environment → HirFunction → Nodes → RecordedRender → List Lint
-render_lint env f g r = lints_at (in_root f r.instruction) (render_reports env g (rendered g r.index r.place.identifier).done)
+render_lint env f g r = lints_at (in_root f r.instruction)
+    (render_reports env g (rendered g r.index r.place.identifier).done)
 
 -- the same of each render
 abbrev pub render_lints : Environment → HirFunction → Nodes → List RecordedRender → List Lint
@@ -63,7 +66,8 @@ render_lints env f g rs = flat_map (render_lint env f g) rs
 
 -- those of the walks and renders of what is listed, over a graph
 abbrev pub found_lints : Environment → HirFunction → Nodes → Listing → List Lint
-found_lints env f g l = mutation_lints env f g l.mutations ++ render_lints env f (fold after_walk g l.mutations) l.renders
+found_lints env f g l = mutation_lints env f g l.mutations
+    ++ render_lints env f (fold after_walk g l.mutations) l.renders
 
 -- the error effects first
 abbrev pub walked_lints : Environment → HirFunction → Listing → List Lint

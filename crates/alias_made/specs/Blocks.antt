@@ -16,12 +16,17 @@ plain_block listed ending = record { phis = []; instructions = listed; terminal 
 abbrev pub block_of : ℕ → BlockId × BasicBlock
 block_of block = (
   record { 0 = block },
-  plain_block (record { 0 = 3 * block } ∷ record { 0 = 3 * block + 1 } ∷ record { 0 = 3 * block + 2 } ∷ []) (Goto (record { 0 = 4 * block + 4 }) (record { 0 = block + 1 })),
+  plain_block (record { 0 = 3 * block } ∷ record { 0 = 3 * block + 1 } ∷ record { 0 = 3 * block + 2 } ∷ [])
+      (Goto (record { 0 = 4 * block + 4 }) (record { 0 = block + 1 })),
 )
 
 -- the block after so many others, which returns the object of the last of them
 abbrev pub last_block : ℕ → BlockId × BasicBlock
-last_block size = (record { 0 = size }, plain_block [] (Return (record { 0 = 4 * size + 1 }) (use_of (object_of (size - 1))) None))
+last_block size = (
+  record { 0 = size },
+  plain_block []
+      (Return (record { 0 = 4 * size + 1 }) (use_of (object_of (size - 1))) None),
+)
 
 -- so many blocks in a row, and the last one
 abbrev pub made_blocks : ℕ → List (BlockId × BasicBlock)

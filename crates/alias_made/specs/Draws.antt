@@ -15,6 +15,10 @@ abbrev pub state_before : ℕ → ℕ → ℕ
 state_before seed zero = seed
 state_before seed (suc block) = next_state (next_state (state_before seed block))
 
--- what a block takes: the kind of what it makes, of four, and the block whose object it makes that of, itself or one before it
+-- what a block takes: the kind of what it makes, of four, and the block whose object it makes that of, itself or one
+-- before it
 abbrev pub block_drawn : ℕ → ℕ → BlockDraw
-block_drawn state block = record { kind = drawn (next_state state) 4; source = drawn (next_state (next_state state)) (block + 1) }
+block_drawn state block = record {
+  kind = drawn (next_state state) 4;
+  source = drawn (next_state (next_state state)) (block + 1);
+}

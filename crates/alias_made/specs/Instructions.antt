@@ -5,7 +5,8 @@ use Rattle.alias_hir.specs.declared.place.Effect.TheVariants.{Unknown}
 use Rattle.alias_hir.specs.declared.place.Place.{Place}
 use Rattle.alias_hir.specs.declared.value.ArrayElement.TheVariants as element
 use Rattle.alias_hir.specs.declared.value.InstructionValue.{InstructionValue}
-use Rattle.alias_hir.specs.declared.value.InstructionValue.TheVariants.{ArrayExpression, LoadLocal, ObjectExpression, Primitive, PropertyLoad, PropertyStore}
+use Rattle.alias_hir.specs.declared.value.InstructionValue.TheVariants.{ArrayExpression, LoadLocal, ObjectExpression}
+use Rattle.alias_hir.specs.declared.value.InstructionValue.TheVariants.{Primitive, PropertyLoad, PropertyStore}
 use Rattle.alias_hir.specs.declared.value.PropertyLiteral.TheVariants.{String}
 use Rattle.alias_made.specs.declared.draws.BlockDraw.{BlockDraw}
 
@@ -15,7 +16,8 @@ use_of number = record { identifier = record { 0 = number }; effect = Unknown; r
 
 -- an instruction with its order and the identifier of its result
 abbrev pub instruction : ℕ → ℕ → InstructionValue → Instruction
-instruction order number computed = record { id = record { 0 = order }; lvalue = use_of number; value = computed; span = None; effects = None }
+instruction order number computed = record
+    { id = record { 0 = order }; lvalue = use_of number; value = computed; span = None; effects = None }
 
 -- the object that a block makes
 abbrev pub object_of : ℕ → ℕ
@@ -34,5 +36,6 @@ abbrev pub instructions_of : ℕ → BlockDraw → List Instruction
 instructions_of block d =
     instruction (4 * block + 1) (object_of block) (ObjectExpression [])
     ∷ instruction (4 * block + 2) (object_of block + 1) (value_of d.kind (use_of (object_of d.source)))
-    ∷ instruction (4 * block + 3) (object_of block + 2) (PropertyStore (use_of (object_of d.source)) (String (codes "a")) (use_of (object_of block + 1)))
+    ∷ instruction (4 * block + 3) (object_of block + 2)
+    (PropertyStore (use_of (object_of d.source)) (String (codes "a")) (use_of (object_of block + 1)))
     ∷ []

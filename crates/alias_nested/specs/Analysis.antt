@@ -1,12 +1,15 @@
 -- What the functions below a function lead to, innermost first.
-use Rattle.std.specs.Prelude.{◌≡◌, ℕ, zero, suc, Bool, true, false, List, [], ◌∷◌, ◌++◌, Option, Some, None, Result, Ok, Err, ⊤, map, slice_get}
+use Rattle.std.specs.Prelude.{◌≡◌, ℕ, zero, suc, Bool, true, false, List, [], ◌∷◌, ◌++◌, Option, Some, None, Result, Ok}
+use Rattle.std.specs.Prelude.{Err, ⊤, map, slice_get}
 use Rattle.std.specs.List.{AllByRecursion}
 use Rattle.alias_base.specs.Answer.{◌>>=◌}
 use Rattle.alias_base.specs.declared.ids.FunctionId.{FunctionId}
 use Rattle.alias_hir.specs.Errors.{is_memory}
 use Rattle.alias_hir.specs.declared.env.Environment.{Environment}
 use Rattle.alias_hir.specs.declared.error.InferError.{InferError}
-use Rattle.alias_hir.specs.declared.error.InferError.TheVariants.{NotSettled, Uninitialized, Reinitialized, AliasBeforeCreate, IncompatibleLibrary, SpreadArgument, PassFault, Memory}
+use Rattle.alias_hir.specs.declared.error.InferError.TheVariants.{NotSettled, Uninitialized, Reinitialized}
+use Rattle.alias_hir.specs.declared.error.InferError.TheVariants.{AliasBeforeCreate, IncompatibleLibrary}
+use Rattle.alias_hir.specs.declared.error.InferError.TheVariants.{SpreadArgument, PassFault, Memory}
 use Rattle.alias_hir.specs.declared.hir.HirFunction.{HirFunction}
 use Rattle.alias_effects.specs.declared.solved.Solved.{Solved}
 use Rattle.alias_effects.specs.Inference.{pass_end, env_after}
@@ -63,7 +66,12 @@ each step (x ∷ xs) a = step x a >>= each step xs
 abbrev pub effects_analysed : FunctionId → HirFunction → Analysis → Result (HirFunction × Analysis) InferError
 effects_analysed id f a = do
   e ← naming id (pass_end a.env f true)
-  Ok (with_effects_of e.solved f, analysis (env_after a.env e) (a.functions ++ record { env = a.env; func = f; is_function_expression = true; solved = numbered id e.solved } ∷ []))
+  Ok (
+    with_effects_of e.solved f,
+    analysis (env_after a.env e)
+        (a.functions ++ record { env = a.env; func = f; is_function_expression = true; solved = numbered id e.solved }
+        ∷ []),
+  )
 
 -- from the range pass on: the summary is stored
 abbrev pub completed : FunctionId → HirFunction → Environment → Result (HirFunction × Environment) InferError
@@ -76,25 +84,29 @@ completed_with id s = do
   c ← completed id s.0 s.1.env
   Ok (c.0, analysis c.1 s.1.functions)
 
--- a nested function, once those below it are analysed: the effects pass, then the range pass, and what is set once the summary is known
+-- a nested function, once those below it are analysed: the effects pass, then the range pass, and what is set once the
+-- summary is known
 abbrev pub function_analysed : FunctionId → HirFunction → Analysis → Result (HirFunction × Analysis) InferError
 function_analysed id f a = effects_analysed id f a >>= completed_with id
 
 -- a nested function that is out of its slot: first those below it
-abbrev pub taken_analysed : (HirFunction → Analysis → Result Analysis InferError) → FunctionId → HirFunction → Analysis → Result (HirFunction × Analysis) InferError
+abbrev pub taken_analysed : (HirFunction → Analysis → Result Analysis InferError) → FunctionId → HirFunction → Analysis
+    → Result (HirFunction × Analysis) InferError
 taken_analysed below id f a = below f a >>= function_analysed id f
 
 abbrev pub put_back : FunctionId → HirFunction × Analysis → Analysis
 put_back id s = record s.1 { env = with_function id s.0 s.1.env }
 
-abbrev pub found_analysed : (HirFunction → Analysis → Result Analysis InferError) → FunctionId → Analysis → Option HirFunction → Result Analysis InferError
+abbrev pub found_analysed : (HirFunction → Analysis → Result Analysis InferError) → FunctionId → Analysis
+    → Option HirFunction → Result Analysis InferError
 found_analysed below id a None = Ok a
 found_analysed below id a (Some f) = do
   s ← taken_analysed below id f (record a { env = with_function id (emptied f.returns) a.env })
   Ok (put_back id s)
 
 -- the nested function of a number is taken out of its slot, analysed, and put back
-abbrev pub slot_analysed : (HirFunction → Analysis → Result Analysis InferError) → FunctionId → Analysis → Result Analysis InferError
+abbrev pub slot_analysed : (HirFunction → Analysis → Result Analysis InferError) → FunctionId → Analysis
+    → Result Analysis InferError
 slot_analysed below id a = found_analysed below id a (slice_get a.env.functions id.0)
 
 -- the functions on the n levels below a function, in stored order, those below each before it
@@ -129,8 +141,10 @@ Leads stated (Ok u) env solved = (fs : List Analysed) × (stated ≡ Ok (analysi
 Leads stated (Err e) env solved = is_free e ≡ false → stated ≡ Err e
 
 -- the same of a call that has a function out of its slot, and that calls no pass of the caller
-abbrev pub LeadsWith : Result (HirFunction × Analysis) InferError → Result ⊤ InferError → HirFunction → Environment → List Solved → Type 0
-LeadsWith stated (Ok u) func env solved = (fs : List Analysed) × (stated ≡ Ok (func, analysis env fs)) × Accounts fs solved
+abbrev pub LeadsWith : Result (HirFunction × Analysis) InferError → Result ⊤ InferError → HirFunction → Environment
+    → List Solved → Type 0
+LeadsWith stated (Ok u) func env solved = (fs : List Analysed) × (stated ≡ Ok (func, analysis env fs))
+    × Accounts fs solved
 LeadsWith stated (Err e) func env solved = is_memory e ≡ false → stated ≡ Err e
 
 -- a pass of the caller failed

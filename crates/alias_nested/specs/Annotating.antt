@@ -1,5 +1,6 @@
 -- What is set of a nested function once its summary is known.
-use Rattle.std.specs.Prelude.{ℕ, Bool, true, false, ◌||◌, if◌then◌else◌, ◌==◌, List, [], ◌∷◌, Option, Some, None, map, slice_get, slice_set}
+use Rattle.std.specs.Prelude.{ℕ, Bool, true, false, ◌||◌, if◌then◌else◌, ◌==◌, List, [], ◌∷◌, Option, Some, None, map}
+use Rattle.std.specs.Prelude.{slice_get, slice_set}
 use Rattle.std.specs.List.{list_any}
 use Rattle.alias_fitting_laws.specs.bare.Bare.{without_range}
 use Rattle.alias_base.specs.declared.ids.IdentifierId.{IdentifierId}
@@ -9,7 +10,9 @@ use Rattle.alias_hir.specs.declared.env.Environment.{Environment}
 use Rattle.alias_hir.specs.declared.env.Identifier.{Identifier}
 use Rattle.alias_hir.specs.declared.hir.HirFunction.{HirFunction}
 use Rattle.alias_hir.specs.declared.place.Effect.{Effect}
-use Rattle.alias_hir.specs.declared.place.Effect.TheVariants.{Unknown, Freeze, Read, Capture, ConditionallyMutateIterator, ConditionallyMutate, Mutate, Store}
+use Rattle.alias_hir.specs.declared.place.Effect.TheVariants.{Unknown, Freeze, Read, Capture}
+use Rattle.alias_hir.specs.declared.place.Effect.TheVariants.{ConditionallyMutateIterator, ConditionallyMutate, Mutate}
+use Rattle.alias_hir.specs.declared.place.Effect.TheVariants.{Store}
 use Rattle.alias_hir.specs.declared.place.Place.{Place}
 
 -- the effect captures or mutates the identifier: it names it as what flows into another place, or as what is mutated
@@ -64,6 +67,10 @@ abbrev pub reset : List Place → List Identifier → List Identifier
 reset [] is = is
 reset (p ∷ ps) is = reset ps (reset_at is p.identifier.0 (slice_get is p.identifier.0))
 
--- the summary is stored, the effects of context places are set, and the ranges and scopes of their identifiers are reset
+-- the summary is stored, the effects of context places are set, and the ranges and scopes of their identifiers are
+-- reset
 abbrev pub annotated : List AliasingEffect → HirFunction × Environment → HirFunction × Environment
-annotated summary s = (summarized summary s.0, record s.1 { identifiers = reset (summarized summary s.0).context s.1.identifiers })
+annotated summary s = (
+  summarized summary s.0,
+  record s.1 { identifiers = reset (summarized summary s.0).context s.1.identifiers },
+)

@@ -1,17 +1,22 @@
--- Which answers the analysis of nested functions may come to, over passes of the caller that change functions within their law.
-use Rattle.std.specs.Prelude.{◌≡◌, ℕ, zero, suc, Bool, true, false, List, [], ◌∷◌, Option, Some, None, Result, Ok, Err, ⊤, slice_get}
+-- Which answers the analysis of nested functions may come to, over passes of the caller that change functions within
+-- their law.
+use Rattle.std.specs.Prelude.{◌≡◌, ℕ, zero, suc, Bool, true, false, List, [], ◌∷◌, Option, Some, None, Result, Ok, Err}
+use Rattle.std.specs.Prelude.{⊤, slice_get}
 use Rattle.alias_base.specs.declared.ids.FunctionId.{FunctionId}
 use Rattle.alias_hir.specs.Errors.{is_memory}
 use Rattle.alias_hir.specs.declared.env.Environment.{Environment}
 use Rattle.alias_hir.specs.declared.error.InferError.{InferError}
 use Rattle.alias_hir.specs.declared.error.InferError.TheVariants.{PassFault}
 use Rattle.alias_hir.specs.declared.error.Pass.{Pass}
-use Rattle.alias_hir.specs.declared.error.Pass.TheVariants.{DeadCodeElimination, RewriteInstructionKindsBasedOnReassignment, InferReactiveScopeVariables}
+use Rattle.alias_hir.specs.declared.error.Pass.TheVariants.{DeadCodeElimination}
+use Rattle.alias_hir.specs.declared.error.Pass.TheVariants.{RewriteInstructionKindsBasedOnReassignment}
+use Rattle.alias_hir.specs.declared.error.Pass.TheVariants.{InferReactiveScopeVariables}
 use Rattle.alias_hir.specs.declared.hir.HirFunction.{HirFunction}
 use Rattle.alias_effects.specs.declared.solved.Solved.{Solved}
 use Rattle.alias_inner_passes.specs.Passes.{Keeps}
 use Rattle.alias_range_pass.specs.Passes.{range_pass}
-use Rattle.alias_nested.specs.Analysis.{Analysed, Analysis, analysis, naming, effects_analysed, put_back, is_free, Accounts}
+use Rattle.alias_nested.specs.Analysis.{Analysed, Analysis, analysis, naming, effects_analysed, put_back, is_free}
+use Rattle.alias_nested.specs.Analysis.{Accounts}
 use Rattle.alias_nested.specs.Created.{created_functions}
 use Rattle.alias_nested.specs.Annotating.{annotated}
 use Rattle.alias_nested.specs.Slots.{emptied}
@@ -39,7 +44,8 @@ Each step (x ∷ xs) a = Then (step x a) (Each step xs)
 
 -- ---- a nested function
 
--- A pass of the caller that is done: of a function and its environment it leaves what it has to keep; all of both, where the passes keep everything.
+-- A pass of the caller that is done: of a function and its environment it leaves what it has to keep; all of both,
+-- where the passes keep everything.
 pub record IsPassed (keeps_all : Bool) (old new : HirFunction × Environment) : Type 0 where
   pub keeps : Keeps old.0 old.1 new.0 new.1
   pub same : keeps_all ≡ true → (new.0 ≡ old.0) × (new.1 ≡ old.1)
@@ -49,7 +55,8 @@ abbrev pub Passed : Bool → FunctionId → Pass → HirFunction × Environment 
 Passed keeps_all id pass old (Ok new) = IsPassed keeps_all old new
 Passed keeps_all id pass old (Err e) = e ≡ PassFault (Some id) pass
 
--- What follows the effects pass: `dead_code_elimination`, the range pass, the two other passes, and what is set once the summary is known.
+-- What follows the effects pass: `dead_code_elimination`, the range pass, the two other passes, and what is set once
+-- the summary is known.
 abbrev pub Completed : Bool → FunctionId → HirFunction × Environment → Answers (HirFunction × Environment)
 Completed keeps_all id s =
     Then (Passed keeps_all id DeadCodeElimination s) (λ dead.
@@ -59,32 +66,39 @@ Completed keeps_all id s =
     Only (Ok (annotated r.summary scopes))))))
 
 abbrev pub CompletedWith : Bool → FunctionId → HirFunction × Analysis → Answers (HirFunction × Analysis)
-CompletedWith keeps_all id s = Then (Completed keeps_all id (s.0, s.1.env)) (λ c. Only (Ok (c.0, analysis c.1 s.1.functions)))
+CompletedWith keeps_all id s = Then (Completed keeps_all id (s.0, s.1.env))
+    (λ c. Only (Ok (c.0, analysis c.1 s.1.functions)))
 
 -- a nested function, once those below it are analysed: first the effects pass
 abbrev pub FunctionAnalysed : Bool → FunctionId → HirFunction → Analysis → Answers (HirFunction × Analysis)
 FunctionAnalysed keeps_all id f a = Then (Only (effects_analysed id f a)) (CompletedWith keeps_all id)
 
 -- a nested function that is out of its slot: first those below it
-abbrev pub TakenAnalysed : Bool → (HirFunction → Analysis → Answers Analysis) → FunctionId → HirFunction → Analysis → Answers (HirFunction × Analysis)
+abbrev pub TakenAnalysed : Bool → (HirFunction → Analysis → Answers Analysis) → FunctionId → HirFunction → Analysis
+    → Answers (HirFunction × Analysis)
 TakenAnalysed keeps_all below id f a = Then (below f a) (FunctionAnalysed keeps_all id f)
 
-abbrev pub FoundAnalysed : Bool → (HirFunction → Analysis → Answers Analysis) → FunctionId → Analysis → Option HirFunction → Answers Analysis
+abbrev pub FoundAnalysed : Bool → (HirFunction → Analysis → Answers Analysis) → FunctionId → Analysis
+    → Option HirFunction → Answers Analysis
 FoundAnalysed keeps_all below id a None = Only (Ok a)
-FoundAnalysed keeps_all below id a (Some f) = Then (TakenAnalysed keeps_all below id f (record a { env = with_function id (emptied f.returns) a.env })) (λ s. Only (Ok (put_back id s)))
+FoundAnalysed keeps_all below id a (Some f) =
+    Then (TakenAnalysed keeps_all below id f (record a { env = with_function id (emptied f.returns) a.env }))
+    (λ s. Only (Ok (put_back id s)))
 
 -- the nested function of a number is taken out of its slot, analysed, and put back
 abbrev pub SlotAnalysed : Bool → (HirFunction → Analysis → Answers Analysis) → FunctionId → Analysis → Answers Analysis
 SlotAnalysed keeps_all below id a = FoundAnalysed keeps_all below id a (slice_get a.env.functions id.0)
 
--- The functions on the n levels below a function, in stored order, those below each before it. Where the passes keep everything, the one answer is that of `analysed`.
+-- The functions on the n levels below a function, in stored order, those below each before it. Where the passes keep
+-- everything, the one answer is that of `analysed`.
 unfoldable pub AnalysedWith : Bool → ℕ → HirFunction → Analysis → Answers Analysis
 AnalysedWith keeps_all zero f a = Only (Ok a)
 AnalysedWith keeps_all (suc n) f a = Each (SlotAnalysed keeps_all (AnalysedWith keeps_all n)) (created_functions f) a
 
 -- ---- what calls answer
 
--- The call comes to one of the answers: to an analysis whose solutions it hands out, innermost first, each of which solves the flow of its function as
+-- The call comes to one of the answers: to an analysis whose solutions it hands out, innermost first, each of which
+-- solves the flow of its function as
 -- its effects pass began; or to a refusal, or to a fault of a pass of the caller. Out of memory is free.
 abbrev pub Analyses : Answers Analysis → Result (List Solved) InferError → Environment → Type 0
 Analyses answers (Ok solved) env = (fs : List Analysed) × answers (Ok (analysis env fs)) × Accounts fs solved
@@ -95,7 +109,8 @@ abbrev pub AnalysesInto : Answers Analysis → Result ⊤ InferError → Environ
 AnalysesInto answers (Ok u) env = (fs : List Analysed) × answers (Ok (analysis env fs))
 AnalysesInto answers (Err e) env = is_memory e ≡ false → answers (Err e)
 
--- The same where there is one answer, that of passes that keep everything and never fail: a fault of a pass of the caller is free too.
+-- The same where there is one answer, that of passes that keep everything and never fail: a fault of a pass of the
+-- caller is free too.
 abbrev pub AnalysesExactly : Result Analysis InferError → Result (List Solved) InferError → Environment → Type 0
 AnalysesExactly stated (Ok solved) env = (fs : List Analysed) × (stated ≡ Ok (analysis env fs)) × Accounts fs solved
 AnalysesExactly stated (Err e) env = is_free e ≡ false → stated ≡ Err e

@@ -14,7 +14,9 @@ finished f env = do
   r ← range_pass true f env
   Ok (annotated r.summary r.after)
 
--- function and environment become what is stated, or stay where the refusal is the one stated. Out of memory is free: it can come in the place of any answer
-abbrev pub FinishesInto : Result (HirFunction × Environment) InferError → HirFunction → Environment → Result ⊤ InferError → HirFunction → Environment → Type 0
+-- function and environment become what is stated, or stay where the refusal is the one stated. Out of memory is free:
+-- it can come in the place of any answer
+abbrev pub FinishesInto : Result (HirFunction × Environment) InferError → HirFunction → Environment
+    → Result ⊤ InferError → HirFunction → Environment → Type 0
 FinishesInto stated f env (Ok u) new_f new_env = stated ≡ Ok (new_f, new_env)
 FinishesInto stated f env (Err e) new_f new_env = is_memory e ≡ false → (stated ≡ Err e) × (new_f ≡ f) × (new_env ≡ env)

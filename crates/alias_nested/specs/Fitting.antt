@@ -9,7 +9,8 @@ use Rattle.alias_fitting_laws.specs.bare.Bare.{bare, TablesFit}
 use Rattle.alias_fitting_laws.specs.bare.EvolvedLaws.{Evolves}
 use Rattle.alias_fitting_laws.specs.pruning.Pruning.{Prunes}
 
--- what the passes of the inference keep: tables that still keep their rules, and functions that are the same but for what is inferred
+-- what the passes of the inference keep: tables that still keep their rules, and functions that are the same but for
+-- what is inferred
 pub record EnvironmentKept (old new : Environment) : Type 0 where
   pub evolves : Evolves old new
   pub tables : TablesFit new
@@ -20,7 +21,8 @@ pub record FunctionKept (f : HirFunction) (env : Environment) (f' : HirFunction)
   pub still : bare f' ≡ bare f
   pub fits : function_fits f' env' ≡ true
 
--- What the analysis keeps over passes of the caller: tables that still keep their rules, and slots that hold their own functions, which have lost at most
+-- What the analysis keeps over passes of the caller: tables that still keep their rules, and slots that hold their own
+-- functions, which have lost at most
 -- some of what they create.
 pub record EnvironmentPruned (old new : Environment) : Type 0 where
   pub prunes : Prunes old new

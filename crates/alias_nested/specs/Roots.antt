@@ -1,4 +1,5 @@
--- What holds of the root of a unit that is inferred: of its range ends in the unit that is handed out, and of its summary.
+-- What holds of the root of a unit that is inferred: of its range ends in the unit that is handed out, and of its
+-- summary.
 use Rattle.std.specs.Prelude.{false, List, Option, None, IsOkAnd, IsSomeAnd}
 use Rattle.std.specs.List.{last_or}
 use Rattle.alias_hir.specs.declared.effect.AliasingEffect.{AliasingEffect}
@@ -20,15 +21,19 @@ root_of fs = last_or None fs
 abbrev pub with_effects : Analysed → HirFunction
 with_effects x = with_effects_of x.solved x.func
 
--- each range end is that of when the root's range pass began, or has a cause in what the root records or in one of its instructions
+-- each range end is that of when the root's range pass began, or has a cause in what the root records or in one of its
+-- instructions
 abbrev pub EndsHaveCauses : Analysed → List Identifier → Type 0
-EndsHaveCauses x ids = IsOkAnd (env_inferred x.env x.func false) (λ begun. RangesHaveCauses (with_effects x) begun.identifiers ids)
+EndsHaveCauses x ids = IsOkAnd (env_inferred x.env x.func false)
+    (λ begun. RangesHaveCauses (with_effects x) begun.identifiers ids)
 
--- each identifier that a legal path joins to a mutation that the root records has its range end past it, in the unit that is handed out
+-- each identifier that a legal path joins to a mutation that the root records has its range end past it, in the unit
+-- that is handed out
 abbrev pub RootIsCovered : List Analysed → Inferred → Type 0
 RootIsCovered fs i = IsSomeAnd (root_of fs) (λ x. RangesCover (with_effects x) i.unit.env.identifiers)
 
--- along each path of the root's blocks, the range of each identifier that reaches a written object ends past the write, in the unit that is handed out
+-- along each path of the root's blocks, the range of each identifier that reaches a written object ends past the write,
+-- in the unit that is handed out
 abbrev pub RootCoversHeap : List Analysed → Inferred → Type 0
 RootCoversHeap fs i = IsSomeAnd (root_of fs) (λ x. HeapIsCovered (with_effects x) i.unit.env.identifiers)
 

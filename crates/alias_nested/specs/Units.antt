@@ -15,7 +15,8 @@ use Rattle.alias_validate.specs.Freezing.{frozen_reports}
 use Rattle.alias_validate.specs.Reassigning.{reassigned_reports, with_reassigned}
 use Rattle.alias_validate.specs.Reports.{with_reports, with_errors}
 use Rattle.alias_nested.specs.declared.infer.Inferred.{Inferred}
-use Rattle.alias_nested.specs.Analysis.{Analysed, Analysis, analysis, most_levels, analysed, is_free, Accounts, SolvesItsFlow}
+use Rattle.alias_nested.specs.Analysis.{Analysed, Analysis, analysis, most_levels, analysed, is_free, Accounts}
+use Rattle.alias_nested.specs.Analysis.{SolvesItsFlow}
 
 -- the root with all that was analysed, and its summary
 pub record RootAnalysis : Type 0 where
@@ -40,7 +41,8 @@ root_finished f env fs = do
 abbrev pub root_analysed : HirFunction → Analysis → Result RootAnalysis InferError
 root_analysed f a = do
   e ← pass_end a.env f false
-  root_finished (with_effects_of e.solved f) (env_after a.env e) (a.functions ++ record { env = a.env; func = f; is_function_expression = false; solved = e.solved } ∷ [])
+  root_finished (with_effects_of e.solved f) (env_after a.env e)
+      (a.functions ++ record { env = a.env; func = f; is_function_expression = false; solved = e.solved } ∷ [])
 
 -- the functions below the root, innermost first, and then the root
 abbrev pub all_analysed : HirFunction → Analysis → Result RootAnalysis InferError
@@ -71,12 +73,16 @@ unit_analysed u = do
 
 -- ---- what calls answer
 
-abbrev pub RootLeads : Result RootAnalysis InferError → Result (List AliasingEffect) InferError → HirFunction → Environment → List Solved → Type 0
-RootLeads stated (Ok summary) func env solved = (fs : List Analysed) × (stated ≡ Ok (record { summary = summary; func = func; analysis = analysis env fs })) × Accounts fs solved
+abbrev pub RootLeads : Result RootAnalysis InferError → Result (List AliasingEffect) InferError → HirFunction
+    → Environment → List Solved → Type 0
+RootLeads stated (Ok summary) func env solved = (fs : List Analysed)
+    × (stated ≡ Ok (record { summary = summary; func = func; analysis = analysis env fs })) × Accounts fs solved
 RootLeads stated (Err e) func env solved = is_free e ≡ false → stated ≡ Err e
 
--- What is handed out is what is stated, and what is solved of each function solves its flow, or the refusal is the one stated. Out of memory is free,
+-- What is handed out is what is stated, and what is solved of each function solves its flow, or the refusal is the one
+-- stated. Out of memory is free,
 -- and so is a fault of a pass of the caller.
 abbrev pub InfersUnit : Result UnitAnalysis InferError → Result Inferred InferError → Type 0
-InfersUnit stated (Ok i) = (fs : List Analysed) × (stated ≡ Ok (record { functions = fs; inferred = i })) × AllByRecursion SolvesItsFlow fs
+InfersUnit stated (Ok i) = (fs : List Analysed) × (stated ≡ Ok (record { functions = fs; inferred = i }))
+    × AllByRecursion SolvesItsFlow fs
 InfersUnit stated (Err e) = is_free e ≡ false → stated ≡ Err e

@@ -9,7 +9,8 @@ use Rattle.alias_hir.specs.declared.hir.HirFunction.{HirFunction}
 
 -- the blocks, the first of which lists these
 abbrev pub first_lists : List InstructionId → List (BlockId × BasicBlock) → List (BlockId × BasicBlock)
-first_lists l bs = option_map_or (λ (x : BlockId × BasicBlock). set_value_at bs 0 (record x.1 { instructions = l })) (slice_get bs 0) bs
+first_lists l bs = option_map_or (λ (x : BlockId × BasicBlock). set_value_at bs 0 (record x.1 { instructions = l }))
+    (slice_get bs 0) bs
 
 -- the function with such blocks
 abbrev pub with_first : List InstructionId → HirFunction → HirFunction

@@ -1,5 +1,6 @@
 -- What is asked of a function that the inference takes, part by part.
-use Rattle.std.specs.Prelude.{◌≡◌, ℕ, Bool, true, false, ◌&&◌, ◌||◌, nat_eq, List, [], ◌∷◌, Option, Some, None, Result, Ok, Err, ⊤, is_ok, slice_get, refl}
+use Rattle.std.specs.Prelude.{◌≡◌, ℕ, Bool, true, false, ◌&&◌, ◌||◌, nat_eq, List, [], ◌∷◌, Option, Some, None, Result}
+use Rattle.std.specs.Prelude.{Ok, Err, ⊤, is_ok, slice_get, refl}
 use Rattle.std.specs.List.{list_all}
 use Rattle.std.specs.Option.{option_map_or}
 use Rattle.std.proofs.Common.{ap, ◌∙◌, eq-eqb}
@@ -9,14 +10,17 @@ use Rattle.alias_base.specs.AnswerLaws.{both_true, both_pass}
 use Rattle.alias_hir.specs.declared.env.Environment.{Environment}
 use Rattle.alias_hir.specs.declared.hir.HirFunction.{HirFunction}
 use Rattle.alias_rules.specs.function_rules.Rules.{is_among, tables_fit, types_fit, signatures_fit}
-use Rattle.alias_rules.specs.Fitting.{effects_fit, effects_fit_at, reports_no_invariant, family_rules, function_rules, function_fits_with, function_fits}
-use Rattle.alias_rules.specs.Functions.{rule_holds, at_function, each_function, FamilyRule, Tables, Types, Signatures, Apart, Each, family_holds}
+use Rattle.alias_rules.specs.Fitting.{effects_fit, effects_fit_at, reports_no_invariant, family_rules, function_rules}
+use Rattle.alias_rules.specs.Fitting.{function_fits_with, function_fits}
+use Rattle.alias_rules.specs.Functions.{rule_holds, at_function, each_function, FamilyRule, Tables, Types, Signatures}
+use Rattle.alias_rules.specs.Functions.{Apart, Each, family_holds}
 use Rattle.alias_rules.specs.Nesting.{tree_below}
 use Rattle.alias_rules.specs.RuleLaws.{fitting_tree, fitting_rules, passes_at}
 use Rattle.alias_rules.specs.Sharing.{identifiers_apart}
 use Rattle.alias_rules.specs.declared.rules.Rule.{Rule}
 use Rattle.alias_nesting_laws.specs.ClosureLaws.{left_true, right_true}
-use Rattle.alias_rules.specs.declared.rules.Rule.TheVariants.{Numbers, Entry, Successors, Listed, ListedOnce, Handlers, Phis, Orders, Distinct, Calls, ContextValues}
+use Rattle.alias_rules.specs.declared.rules.Rule.TheVariants.{Numbers, Entry, Successors, Listed, ListedOnce, Handlers}
+use Rattle.alias_rules.specs.declared.rules.Rule.TheVariants.{Phis, Orders, Distinct, Calls, ContextValues}
 
 -- ---- steps and lists
 
@@ -38,7 +42,8 @@ pub later_among : (x : ℕ) (xs : List ℕ) (k : ℕ) → is_among xs k ≡ true
 later_among x xs k h = right_true (nat_eq k x) (is_among xs k) h
 
 -- what passes for each of the numbers passes for one of them
-pub pass_among : {E : Type 0} (f : ℕ → Result ⊤ E) (ks : List ℕ) (k : ℕ) → all_pass f ks ≡ Ok tt → is_among ks k ≡ true → f k ≡ Ok tt
+pub pass_among : {E : Type 0} (f : ℕ → Result ⊤ E) (ks : List ℕ) (k : ℕ) → all_pass f ks ≡ Ok tt → is_among ks k ≡ true
+    → f k ≡ Ok tt
 pass_among f [] k h i = cc
 pass_among f (x ∷ xs) k h i =
     let b : (f x ≡ Ok tt) × (all_pass f xs ≡ Ok tt) = both_pass (f x) (all_pass f xs) h in
@@ -58,14 +63,17 @@ true_among p (x ∷ xs) k h i =
     ] refl i
 
 -- numbers each of which passes
-pub pass_each : {E : Type 0} (f : ℕ → Result ⊤ E) (ks : List ℕ) → ((k : ℕ) → is_among ks k ≡ true → f k ≡ Ok tt) → all_pass f ks ≡ Ok tt
+pub pass_each : {E : Type 0} (f : ℕ → Result ⊤ E) (ks : List ℕ) → ((k : ℕ) → is_among ks k ≡ true → f k ≡ Ok tt)
+    → all_pass f ks ≡ Ok tt
 pass_each f [] h = refl
-pass_each f (k ∷ ks) h = then_pass (f k) (all_pass f ks) (h k (first_among k ks)) (pass_each f ks (λ j e. h j (later_among k ks j e)))
+pass_each f (k ∷ ks) h = then_pass (f k) (all_pass f ks) (h k (first_among k ks))
+    (pass_each f ks (λ j e. h j (later_among k ks j e)))
 
 -- numbers of each of which it holds
 pub true_each : (p : ℕ → Bool) (ks : List ℕ) → ((k : ℕ) → is_among ks k ≡ true → p k ≡ true) → list_all p ks ≡ true
 true_each p [] h = refl
-true_each p (k ∷ ks) h = together (p k) (list_all p ks) (h k (first_among k ks)) (true_each p ks (λ j e. h j (later_among k ks j e)))
+true_each p (k ∷ ks) h = together (p k) (list_all p ks) (h k (first_among k ks))
+    (true_each p ks (λ j e. h j (later_among k ks j e)))
 
 -- ---- the parts
 
@@ -127,11 +135,14 @@ family_place Signatures e = (11, refl)
 family_place (Each r) e = place_of r e
 
 -- each that is asked holds
-asked_of : (func : HirFunction) (env : Environment) (ks : List ℕ) → function_rules env func ks ≡ Ok tt → (rule : FamilyRule) → family_is_asked rule ≡ true → family_holds env func ks rule ≡ Ok tt
-asked_of func env ks h rule e = let p = family_place rule e in passes_at (family_holds env func ks) family_rules p.0 rule h p.1
+asked_of : (func : HirFunction) (env : Environment) (ks : List ℕ) → function_rules env func ks ≡ Ok tt
+    → (rule : FamilyRule) → family_is_asked rule ≡ true → family_holds env func ks rule ≡ Ok tt
+asked_of func env ks h rule e = let p = family_place rule e in
+    passes_at (family_holds env func ks) family_rules p.0 rule h p.1
 
 -- items of which each that passes a test passes
-pass_where : {A E : Type 0} (p : A → Bool) (f : A → Result ⊤ E) → ((x : A) → p x ≡ true → f x ≡ Ok tt) → (xs : List A) → list_all p xs ≡ true → all_pass f xs ≡ Ok tt
+pass_where : {A E : Type 0} (p : A → Bool) (f : A → Result ⊤ E) → ((x : A) → p x ≡ true → f x ≡ Ok tt) → (xs : List A)
+    → list_all p xs ≡ true → all_pass f xs ≡ Ok tt
 pass_where p f h [] t = refl
 pass_where p f h (x ∷ xs) t =
     let b : (p x ≡ true) × (list_all p xs ≡ true) = both_true (p x) (list_all p xs) t in
@@ -153,7 +164,8 @@ fitted func env h =
       signatures = asked Signatures refl;
       reports = a.1;
       rule = λ r i. (both_pass (rule_holds r env None func) (all_pass (at_function r env) ks) (asked (Each r) i)).0;
-      rule_below = λ r i k. pass_among (at_function r env) ks k (both_pass (rule_holds r env None func) (all_pass (at_function r env) ks) (asked (Each r) i)).1;
+      rule_below = λ r i k. pass_among (at_function r env) ks k
+          (both_pass (rule_holds r env None func) (all_pass (at_function r env) ks) (asked (Each r) i)).1;
       apart = asked Apart refl;
       effects = c.1;
       effects_below = λ k. true_among (effects_fit_at env) ks k b.1;
@@ -161,7 +173,8 @@ fitted func env h =
 
 module _ (func : HirFunction) (env : Environment) (f : Fitted func env) where
   each_of : (r : Rule) → is_asked r ≡ true → each_function r env func f.below ≡ Ok tt
-  each_of r i = then_pass (rule_holds r env None func) (all_pass (at_function r env) f.below) (f.rule r i) (pass_each (at_function r env) f.below (f.rule_below r i))
+  each_of r i = then_pass (rule_holds r env None func) (all_pass (at_function r env) f.below) (f.rule r i)
+      (pass_each (at_function r env) f.below (f.rule_below r i))
 
   family_of : (rule : FamilyRule) → family_is_asked rule ≡ true → family_holds env func f.below rule ≡ Ok tt
   family_of Tables e = f.tables
@@ -177,7 +190,10 @@ module _ (func : HirFunction) (env : Environment) (f : Fitted func env) where
   pub fits_of_parts : function_fits func env ≡ true
   fits_of_parts =
       let with_them : function_fits_with env func f.below ≡ true =
-      together (is_ok (function_rules env func f.below) && effects_fit env func && list_all (effects_fit_at env) f.below) (reports_no_invariant env)
-      (together (is_ok (function_rules env func f.below) && effects_fit env func) (list_all (effects_fit_at env) f.below)
-      (together (is_ok (function_rules env func f.below)) (effects_fit env func) (ap is_ok rules_of) f.effects) (true_each (effects_fit_at env) f.below f.effects_below)) f.reports in
+      together (is_ok (function_rules env func f.below) && effects_fit env func
+      && list_all (effects_fit_at env) f.below) (reports_no_invariant env)
+      (together (is_ok (function_rules env func f.below) && effects_fit env func)
+      (list_all (effects_fit_at env) f.below)
+      (together (is_ok (function_rules env func f.below)) (effects_fit env func) (ap is_ok rules_of) f.effects)
+      (true_each (effects_fit_at env) f.below f.effects_below)) f.reports in
       ap (λ (o : Option (List ℕ)). option_map_or (function_fits_with env func) o false) f.tree ∙ with_them

@@ -22,7 +22,8 @@ abbrev pub Scans : Result (⊤ × TableLists) Stop → Result ⊤ Stop → Table
 Scans stated (Ok u) t = stated ≡ Ok (tt, t)
 Scans stated (Err e) t = is_memory e ≡ false → stated ≡ Err e
 
--- how a fault ends a step of which only the numbers count: where they are wanting, it stops there, and else nothing is left in the tables
+-- how a fault ends a step of which only the numbers count: where they are wanting, it stops there, and else nothing is
+-- left in the tables
 abbrev pub IsStopped : EffectFault → Result ⊤ Stop → TableLists → Type 0
 IsStopped (tables.Memory e) r t = r ≡ Err (stop.Memory e)
 IsStopped (tables.Refused (refusal.TooMany which)) r t = r ≡ Err (stop.TooMany which)
@@ -30,7 +31,8 @@ IsStopped (tables.Refused c) r t = (r ≡ Ok tt) × (t ≡ no_tables)
 
 -- ---- a unit
 
--- After Ok all functions are gone through, and these are the tables. A stop is the one stated. Memory may fail at any time.
+-- After Ok all functions are gone through, and these are the tables. A stop is the one stated. Memory may fail at any
+-- time.
 abbrev pub EndsAs : UnitEnd → Result TableLists StoppedIn → Type 0
 EndsAs stated (Ok t) = stated ≡ AllPlain t
 EndsAs stated (Err e) = is_memory e.stop ≡ false → stated ≡ StopsIn e.function e.stop

@@ -19,12 +19,15 @@ use Rattle.alias_certificate_laws.specs.accepting.Alike.{Paired, Maybe, AlikeEff
 -- ---- functions that carry effects that are alike
 
 pub data CarryAlike : Instruction → Instruction → Type 0 where
-  carried : (i : Instruction) (effects : Option (List AliasingEffect)) → Maybe AlikeEffects i.effects effects → CarryAlike i (record i { effects = effects })
+  carried : (i : Instruction) (effects : Option (List AliasingEffect)) → Maybe AlikeEffects i.effects effects
+      → CarryAlike i (record i { effects = effects })
 
 -- the same block, or one whose terminal carries effects that are alike
 pub data EndAlike : BlockId × BasicBlock → BlockId × BasicBlock → Type 0 where
   stays : (b : BlockId) (block : BasicBlock) → EndAlike (b, block) (b, block)
-  ended : (b : BlockId) (block : BasicBlock) (effects : List AliasingEffect) → Maybe AlikeEffects (terminal_effects block.terminal) (terminal_effects (with_terminal_effects block.terminal effects))
+  ended : (b : BlockId) (block : BasicBlock) (effects : List AliasingEffect)
+      → Maybe AlikeEffects (terminal_effects block.terminal)
+      (terminal_effects (with_terminal_effects block.terminal effects))
       → EndAlike (b, block) (b, record block { terminal = with_terminal_effects block.terminal effects })
 
 -- the same function, but that its instructions and terminals carry effects that are alike
@@ -36,9 +39,12 @@ pub record CarriesAlike (f g : HirFunction) : Type 0 where
 
 -- ---- environments
 
--- Functions that are seen alike, but that the effects of their context places may differ: an effects pass sets these for what it finds to be only read.
+-- Functions that are seen alike, but that the effects of their context places may differ: an effects pass sets these
+-- for what it finds to be only read.
 pub data NearlyAlike : HirFunction → HirFunction → Type 0 where
-  near : (f g : HirFunction) (context : List Place) → map but_effect context ≡ map but_effect f.context → Maybe AlikeEffects f.aliasing_effects g.aliasing_effects → NearlyAlike f (record g { params = f.params; context = context; returns = f.returns })
+  near : (f g : HirFunction) (context : List Place) → map but_effect context ≡ map but_effect f.context
+      → Maybe AlikeEffects f.aliasing_effects g.aliasing_effects
+      → NearlyAlike f (record g { params = f.params; context = context; returns = f.returns })
 
 -- what an environment may have nearby: functions that are seen nearly alike, and other reports
 pub record Nearby (env : Environment) : Type 0 where
@@ -76,7 +82,8 @@ pub record SetsContext (f : HirFunction) (k : ℕ) : Type 0 where
 
 -- ---- the pass
 
--- What the pass gives elsewhere: a summary that is alike, a function that carries alike, and the same environment but for what is elsewhere in it. Where errors are recorded,
+-- What the pass gives elsewhere: a summary that is alike, a function that carries alike, and the same environment but
+-- for what is elsewhere in it. Where errors are recorded,
 -- their reports are those that are interned elsewhere.
 pub record RangesAlike (env : Environment) (o : Elsewhere env) (g : HirFunction) (b : Bool) (r : Ranged) : Type 0 where
   pub other : Ranged
@@ -88,9 +95,11 @@ pub record RangesAlike (env : Environment) (o : Elsewhere env) (g : HirFunction)
   pub errors : records b env ≡ false → other.after.1.errors ≡ r.after.1.errors
 
 abbrev pub RangePassIsAlike : Type 0
-RangePassIsAlike = (env : Environment) (o : Elsewhere env) (f g : HirFunction) (b : Bool) (r : Ranged) → CarriesAlike f g → range_pass b f env ≡ Ok r → RangesAlike env o g b r
+RangePassIsAlike = (env : Environment) (o : Elsewhere env) (f g : HirFunction) (b : Bool) (r : Ranged)
+    → CarriesAlike f g → range_pass b f env ≡ Ok r → RangesAlike env o g b r
 
--- The same of what the pass gives nearby. Context places that had the same effects have the same ones after it, and so have those of each function that an instruction with effects creates:
+-- The same of what the pass gives nearby. Context places that had the same effects have the same ones after it, and so
+-- have those of each function that an instruction with effects creates:
 -- the pass sets them all.
 pub record RangesNearby (env : Environment) (o : Nearby env) (f g : HirFunction) (b : Bool) (r : Ranged) : Type 0 where
   pub other : Ranged
@@ -105,4 +114,5 @@ pub record RangesNearby (env : Environment) (o : Nearby env) (f g : HirFunction)
   pub set : (k : ℕ) → SetsContext f k → SameContextAt r.after.1.functions away.functions k
 
 abbrev pub RangePassIsNearlyAlike : Type 0
-RangePassIsNearlyAlike = (env : Environment) (o : Nearby env) (f g : HirFunction) (b : Bool) (r : Ranged) → CarriesAlike f g → range_pass b f env ≡ Ok r → RangesNearby env o f g b r
+RangePassIsNearlyAlike = (env : Environment) (o : Nearby env) (f g : HirFunction) (b : Bool) (r : Ranged)
+    → CarriesAlike f g → range_pass b f env ≡ Ok r → RangesNearby env o f g b r

@@ -13,6 +13,8 @@ pub data Respanned : Identifier → Identifier → Type 0 where
 
 abbrev pub RangesReadNoSpan : Type 0
 RangesReadNoSpan =
-    (env : Environment) (is : List Identifier) (f : HirFunction) (b : Bool) (r : Ranged) → Paired Respanned env.identifiers is → range_pass b f env ≡ Ok r
+    (env : Environment) (is : List Identifier) (f : HirFunction) (b : Bool) (r : Ranged)
+    → Paired Respanned env.identifiers is → range_pass b f env ≡ Ok r
     → (js : List Identifier) × Paired Respanned r.after.1.identifiers js
-    × (range_pass b f (record env { identifiers = is }) ≡ Ok (record r { after = (r.after.0, record r.after.1 { identifiers = js }) }))
+    × (range_pass b f (record env { identifiers = is })
+    ≡ Ok (record r { after = (r.after.0, record r.after.1 { identifiers = js }) }))

@@ -14,13 +14,19 @@ use Rattle.alias_range_pass.specs.places.Causes.{InstructionCause}
 use Rattle.alias_range_pass.specs.places.Keeping.{but_range, but_effect, but_context, but_effects}
 use Rattle.alias_range_pass.specs.summary.Laws.{MutationCause}
 
--- each range end is that of before, or one past a recorded mutation that a legal path joins to the identifier, or one past an instruction that assigns or stores it
+-- each range end is that of before, or one past a recorded mutation that a legal path joins to the identifier, or one
+-- past an instruction that assigns or stores it
 abbrev pub Causes : Nodes → List RecordedMutation → List Instruction → List Identifier → List Identifier → Type 0
-Causes g ms is old new = (k : ℕ) → (end_at new k ≡ end_at old k) ⊎ (MutationCause g ms k (end_at new k) ⊎ InstructionCause is k (end_at new k))
+Causes g ms is old new = (k : ℕ) → (end_at new k ≡ end_at old k)
+    ⊎ (MutationCause g ms k (end_at new k) ⊎ InstructionCause is k (end_at new k))
 
 -- all of the environment but reports, ranges and the effects of context places
 abbrev pub but_inferred : Environment → Environment
-but_inferred env = record env { identifiers = map but_range env.identifiers; functions = map but_context env.functions; errors = [] }
+but_inferred env = record env {
+  identifiers = map but_range env.identifiers;
+  functions = map but_context env.functions;
+  errors = [];
+}
 
 -- nothing but ranges, effects of context places and reports changes, no end falls, and no report goes
 pub record PassKeeps (old new : Environment) : Type 0 where

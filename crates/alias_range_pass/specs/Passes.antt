@@ -31,7 +31,9 @@ ranged_after is_function_expression f l w env = record {
 -- the pass, where this is recorded: mutations walk, then renders run where errors are recorded
 abbrev pub ranged : Bool → HirFunction → Environment → Listing → Ranged
 ranged is_function_expression f env l =
-    ranged_after is_function_expression f l (mutations_done (records is_function_expression env) l env) (renders_done (records is_function_expression env) l (mutations_done (records is_function_expression env) l env))
+    ranged_after is_function_expression f l (mutations_done (records is_function_expression env) l env)
+    (renders_done (records is_function_expression env) l
+    (mutations_done (records is_function_expression env) l env))
 
 -- the range pass
 abbrev pub range_pass : Bool → HirFunction → Environment → Result Ranged InferError
@@ -39,7 +41,9 @@ range_pass is_function_expression f env = do
   l ← recorded f
   Ok (ranged is_function_expression f env l)
 
--- What a call of the pass answers and leaves. A refusal leaves function and environment as they were. Memory may fail at any time.
-abbrev pub PassGives : Result Ranged InferError → HirFunction → Environment → Result (List AliasingEffect) InferError → HirFunction → Environment → Type 0
+-- What a call of the pass answers and leaves. A refusal leaves function and environment as they were. Memory may fail
+-- at any time.
+abbrev pub PassGives : Result Ranged InferError → HirFunction → Environment → Result (List AliasingEffect) InferError
+    → HirFunction → Environment → Type 0
 PassGives stated f env (Ok summary) new_f new_env = stated ≡ Ok (record { summary = summary; after = (new_f, new_env) })
 PassGives stated f env (Err e) new_f new_env = is_memory e ≡ false → (stated ≡ Err e) × (new_f ≡ f) × (new_env ≡ env)

@@ -12,19 +12,23 @@ use Rattle.alias_range_pass.specs.Laws.{Causes}
 use Rattle.alias_range_pass.specs.Passes.{records}
 use Rattle.alias_range_pass.specs.Refusals.{recorded}
 
--- in the graph that the effects record, each identifier that a legal path joins to a recorded mutation has its range end past it
+-- in the graph that the effects record, each identifier that a legal path joins to a recorded mutation has its range
+-- end past it
 abbrev pub RangesCover : HirFunction → List Identifier → Type 0
 RangesCover f ids = IsOkAnd (recorded f) (λ l. Covers (graph_listed l) l.mutations ids)
 
 -- where such a path ends with Definite, the node is marked as Definite after the walks
 abbrev pub MarksAreDefinite : Bool → HirFunction → Environment → Type 0
 MarksAreDefinite is_function_expression f env =
-    IsOkAnd (recorded f) (λ l. SeesDefinite (graph_listed l) l.mutations (mutations_done (records is_function_expression env) l env).0)
+    IsOkAnd (recorded f) (λ l. SeesDefinite (graph_listed l) l.mutations
+    (mutations_done (records is_function_expression env) l env).0)
 
--- each range end is that of before, or one past a recorded mutation that a legal path joins to the identifier, or one past an instruction that assigns or stores it
+-- each range end is that of before, or one past a recorded mutation that a legal path joins to the identifier, or one
+-- past an instruction that assigns or stores it
 abbrev pub RangesHaveCauses : HirFunction → List Identifier → List Identifier → Type 0
 RangesHaveCauses f old new = IsOkAnd (recorded f) (λ l. Causes (graph_listed l) l.mutations f.instructions old new)
 
--- the summary ends with the flows between parameters, context places and what is returned, which are those of legal paths
+-- the summary ends with the flows between parameters, context places and what is returned, which are those of legal
+-- paths
 abbrev pub ListsFlows : HirFunction → List AliasingEffect → Type 0
 ListsFlows f summary = IsOkAnd (recorded f) (λ l. EndsWithFlows (graph_listed l) l.next f.returns (tracked f) summary)

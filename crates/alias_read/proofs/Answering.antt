@@ -1,4 +1,4 @@
--- From what a reader of data gives to what `read_unit` answers.
+-- From what a reader of data gives to what a reader of units answers.
 use Rattle.std.proofs.Common.{◌≡◌, ℕ, List}
 use Rattle.std.specs.Prelude.{Result, Ok, Err, IfErr}
 use Rattle.serde_json.specs.Data.{Data}
@@ -19,7 +19,8 @@ no_unit bytes d e r g u h =
     let same : d ≡ h.0 = one_reading bytes d h.0 r h.1 in
     err_not_ok e u (unit_of d) g (rw same h.2)
 
-pub none_of : (bytes : List ℕ) (result : Result HirUnit TextFault) → ReadsUnit bytes result → IfErr result (λ e. ¬ IsMemory e → NoUnit bytes)
+pub none_of : (bytes : List ℕ) (result : Result HirUnit TextFault) → ReadsUnit bytes result
+    → IfErr result (λ e. ¬ IsMemory e → NoUnit bytes)
 none_of bytes (Ok u) r = tt
 none_of bytes (Err (fault.NotUnit p q)) r = λ m. no_unit bytes r.0 (value.Refused p q) r.1 r.2
 none_of bytes (Err fault.NotJson) r = λ m. λ u. λ h. r h.0 h.1

@@ -22,7 +22,8 @@ abbrev pub new_block : {V : Type 0} → List (BlockId × V) → List ℕ → Blo
 new_block found p id = if is_some (value_at found id) then refusal p Twice else Ok tt
 
 -- the found entries and then the items, the first of which has the index i
-abbrev pub entry_items_at : {V : Type 0} → ReadsEntry V → List ℕ → ℕ → List (BlockId × V) → Items → Result (List (BlockId × V)) ValueFault
+abbrev pub entry_items_at : {V : Type 0} → ReadsEntry V → List ℕ → ℕ → List (BlockId × V) → Items
+    → Result (List (BlockId × V)) ValueFault
 entry_items_at f p i found no_items = Ok found
 entry_items_at f p i found (item d ds) = do
   e ← f found (at_index p i) d

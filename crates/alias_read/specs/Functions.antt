@@ -60,7 +60,8 @@ block_at found p d = do
   Ok (id, record { phis = phis; instructions = instructions; terminal = ending })
 
 abbrev pub function_keys : Reads ⊤
-function_keys = known_keys (codes "fn_type" ∷ codes "params" ∷ codes "context" ∷ codes "returns" ∷ codes "entry" ∷ codes "is_async" ∷ codes "span" ∷ codes "instructions" ∷ codes "blocks" ∷ [])
+function_keys = known_keys (codes "fn_type" ∷ codes "params" ∷ codes "context" ∷ codes "returns" ∷ codes "entry"
+    ∷ codes "is_async" ∷ codes "span" ∷ codes "instructions" ∷ codes "blocks" ∷ [])
 
 -- a function of which nothing special is known of its context places
 abbrev pub function_at : Reads HirFunction
@@ -76,4 +77,15 @@ function_at p d = do
   instructions ← list_of instruction_at p (codes "instructions") d
   blocks ← required (entries_at block_at) p (codes "blocks") d
   _ ← function_keys p d
-  Ok (record { fn_type = fn_type; params = params; context = context; context_values = []; returns = returns; body = record { entry = entry; blocks = blocks }; instructions = instructions; is_async = is_async; span = span; aliasing_effects = None })
+  Ok (record {
+    fn_type = fn_type;
+    params = params;
+    context = context;
+    context_values = [];
+    returns = returns;
+    body = record { entry = entry; blocks = blocks };
+    instructions = instructions;
+    is_async = is_async;
+    span = span;
+    aliasing_effects = None;
+  })

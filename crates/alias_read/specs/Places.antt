@@ -48,7 +48,8 @@ spread_at p d = do
 -- a place, or an object that has one as its spread
 abbrev pub place_or_spread : {A : Type 0} → (Place → A) → (SpreadPattern → A) → Reads A
 place_or_spread of_place of_spread p d =
-    if is_object d then (spread_at p d >>= (λ spread. Ok (of_spread spread))) else (place_at p d >>= (λ place. Ok (of_place place)))
+    if is_object d then (spread_at p d >>= (λ spread. Ok (of_spread spread)))
+    else (place_at p d >>= (λ place. Ok (of_place place)))
 
 abbrev pub argument_at : Reads PlaceOrSpread
 argument_at = place_or_spread argument.Place argument.Spread

@@ -14,7 +14,8 @@ use Rattle.alias_read.specs.Names.{effect_names, value_kind_names, value_reason_
 use Rattle.alias_read.specs.declared.config_kinds.FlowKind.{FlowKind}
 use Rattle.alias_read.specs.declared.config_kinds.FlowKind.TheVariants as flow
 use Rattle.alias_read.specs.declared.config_kinds.ConfigEffectKind.{ConfigEffectKind}
-use Rattle.alias_read.specs.declared.config_kinds.ConfigEffectKind.TheVariants.{Flow, Freeze, Create, Impure, Mutate, MutateTransitiveConditionally, Apply}
+use Rattle.alias_read.specs.declared.config_kinds.ConfigEffectKind.TheVariants.{Flow, Freeze, Create, Impure, Mutate}
+use Rattle.alias_read.specs.declared.config_kinds.ConfigEffectKind.TheVariants.{MutateTransitiveConditionally, Apply}
 
 unfoldable pub config_effect_names : List (List ℕ × ConfigEffectKind)
 config_effect_names =
@@ -94,7 +95,8 @@ apply_at p d = do
   mutates_function ← flag p (codes "mutates_function") d
   args ← list_of apply_arg_at p (codes "args") d
   into ← required text_at p (codes "into") d
-  _ ← known_keys (codes "kind" ∷ codes "receiver" ∷ codes "function" ∷ codes "mutates_function" ∷ codes "args" ∷ codes "into" ∷ []) p d
+  _ ← known_keys (codes "kind" ∷ codes "receiver" ∷ codes "function" ∷ codes "mutates_function" ∷ codes "args"
+      ∷ codes "into" ∷ []) p d
   Ok (config.Apply receiver function mutates_function args into)
 
 abbrev pub config_effect_of_kind : ConfigEffectKind → Reads AliasingEffectConfig
@@ -121,11 +123,22 @@ aliasing_at p d = do
   returns ← required text_at p (codes "returns") d
   temporaries ← list_of text_at p (codes "temporaries") d
   effects ← list_of config_effect_at p (codes "effects") d
-  _ ← known_keys (codes "receiver" ∷ codes "params" ∷ codes "rest" ∷ codes "returns" ∷ codes "temporaries" ∷ codes "effects" ∷ []) p d
-  Ok (record { receiver = receiver; params = params; rest = rest; returns = returns; temporaries = temporaries; effects = effects })
+  _ ← known_keys (codes "receiver" ∷ codes "params" ∷ codes "rest" ∷ codes "returns" ∷ codes "temporaries"
+      ∷ codes "effects" ∷ []) p d
+  Ok (record {
+    receiver = receiver;
+    params = params;
+    rest = rest;
+    returns = returns;
+    temporaries = temporaries;
+    effects = effects;
+  })
 
 abbrev pub signature_keys : List (List ℕ)
-signature_keys = codes "positional_params" ∷ codes "rest_param" ∷ codes "return_value_kind" ∷ codes "return_value_reason" ∷ codes "callee_effect" ∷ codes "no_alias" ∷ codes "mutable_only_if_operands_are_mutable" ∷ codes "impure" ∷ codes "known_incompatible" ∷ codes "canonical_name" ∷ codes "aliasing" ∷ []
+signature_keys = codes "positional_params" ∷ codes "rest_param" ∷ codes "return_value_kind"
+    ∷ codes "return_value_reason" ∷ codes "callee_effect" ∷ codes "no_alias"
+    ∷ codes "mutable_only_if_operands_are_mutable" ∷ codes "impure" ∷ codes "known_incompatible"
+    ∷ codes "canonical_name" ∷ codes "aliasing" ∷ []
 
 abbrev pub signature_at : Reads FunctionSignature
 signature_at p d = do
@@ -142,4 +155,16 @@ signature_at p d = do
   canonical_name ← optional text_at p (codes "canonical_name") d
   aliasing ← optional aliasing_at p (codes "aliasing") d
   _ ← known_keys signature_keys p d
-  Ok (record { positional_params = positional_params; rest_param = rest_param; return_value_kind = return_value_kind; return_value_reason = return_value_reason; callee_effect = callee_effect; no_alias = no_alias; mutable_only_if_operands_are_mutable = mutable_only_if_operands_are_mutable; impure = impure; known_incompatible = known_incompatible; canonical_name = canonical_name; aliasing = aliasing })
+  Ok (record {
+    positional_params = positional_params;
+    rest_param = rest_param;
+    return_value_kind = return_value_kind;
+    return_value_reason = return_value_reason;
+    callee_effect = callee_effect;
+    no_alias = no_alias;
+    mutable_only_if_operands_are_mutable = mutable_only_if_operands_are_mutable;
+    impure = impure;
+    known_incompatible = known_incompatible;
+    canonical_name = canonical_name;
+    aliasing = aliasing;
+  })

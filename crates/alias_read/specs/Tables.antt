@@ -27,13 +27,26 @@ identifier_at p d = do
   name ← optional name_at p (codes "name") d
   span ← optional span_at p (codes "span") d
   _ ← known_keys (codes "declaration" ∷ codes "type" ∷ codes "name" ∷ codes "span" ∷ []) p d
-  Ok (record { declaration_id = record { 0 = declaration }; name = name; mutable_range = record { start = record { 0 = 0 }; end = record { 0 = 0 } }; scope = None; type_ = record { 0 = t }; span = span })
+  Ok (record {
+    declaration_id = record { 0 = declaration };
+    name = name;
+    mutable_range = record { start = record { 0 = 0 }; end = record { 0 = 0 } };
+    scope = None;
+    type_ = record { 0 = t };
+    span = span;
+  })
 
 abbrev pub unset : Config
-unset = record { enable_validations = false; enable_preserve_existing_memoization_guarantees = false; enable_transitively_freeze_function_expressions = false; validate_no_impure_functions_in_render = false }
+unset = record {
+  enable_validations = false;
+  enable_preserve_existing_memoization_guarantees = false;
+  enable_transitively_freeze_function_expressions = false;
+  validate_no_impure_functions_in_render = false;
+}
 
 abbrev pub config_keys : List (List ℕ)
-config_keys = codes "enable_validations" ∷ codes "enable_preserve_existing_memoization_guarantees" ∷ codes "enable_transitively_freeze_function_expressions" ∷ codes "validate_no_impure_functions_in_render" ∷ []
+config_keys = codes "enable_validations" ∷ codes "enable_preserve_existing_memoization_guarantees"
+    ∷ codes "enable_transitively_freeze_function_expressions" ∷ codes "validate_no_impure_functions_in_render" ∷ []
 
 abbrev pub config_at : Reads Config
 config_at p d = do
@@ -43,4 +56,9 @@ config_at p d = do
   freeze ← flag p (codes "enable_transitively_freeze_function_expressions") d
   no_impure ← flag p (codes "validate_no_impure_functions_in_render") d
   _ ← known_keys config_keys p d
-  Ok (record { enable_validations = validations; enable_preserve_existing_memoization_guarantees = preserve; enable_transitively_freeze_function_expressions = freeze; validate_no_impure_functions_in_render = no_impure })
+  Ok (record {
+    enable_validations = validations;
+    enable_preserve_existing_memoization_guarantees = preserve;
+    enable_transitively_freeze_function_expressions = freeze;
+    validate_no_impure_functions_in_render = no_impure;
+  })

@@ -4,7 +4,8 @@ use Rattle.alias_read.specs.declared.terminal_kinds.JumpKind.TheVariants as jump
 use Rattle.alias_read.specs.declared.terminal_kinds.BranchKind.TheVariants as branch
 use Rattle.alias_read.specs.declared.terminal_kinds.ExitKind.TheVariants as exit
 use Rattle.alias_read.specs.declared.terminal_kinds.TerminalKind.{TerminalKind}
-use Rattle.alias_read.specs.declared.terminal_kinds.TerminalKind.TheVariants.{Jump, Branch, Exit, Switch, Unreachable, Try, MaybeThrow}
+use Rattle.alias_read.specs.declared.terminal_kinds.TerminalKind.TheVariants.{Jump, Branch, Exit, Switch, Unreachable}
+use Rattle.alias_read.specs.declared.terminal_kinds.TerminalKind.TheVariants.{Try, MaybeThrow}
 
 unfoldable pub terminal_names : List (List ℕ × TerminalKind)
 terminal_names =

@@ -20,7 +20,8 @@ use Rattle.alias_read.specs.declared.terminal_kinds.BranchKind.TheVariants as br
 use Rattle.alias_read.specs.declared.terminal_kinds.ExitKind.{ExitKind}
 use Rattle.alias_read.specs.declared.terminal_kinds.ExitKind.TheVariants as exit
 use Rattle.alias_read.specs.declared.terminal_kinds.TerminalKind.{TerminalKind}
-use Rattle.alias_read.specs.declared.terminal_kinds.TerminalKind.TheVariants.{Jump, Branch, Exit, Switch, Unreachable, Try, MaybeThrow}
+use Rattle.alias_read.specs.declared.terminal_kinds.TerminalKind.TheVariants.{Jump, Branch, Exit, Switch, Unreachable}
+use Rattle.alias_read.specs.declared.terminal_kinds.TerminalKind.TheVariants.{Try, MaybeThrow}
 
 abbrev pub order_at : Reads EvaluationOrder
 order_at p d = number_at p d >>= (λ n. Ok (record { 0 = n }))

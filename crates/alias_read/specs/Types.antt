@@ -96,4 +96,5 @@ abbrev mutual
 
   pub return_type_in : List ℕ → Members → Result Ty ValueFault
   return_type_in p no_members = refusal p Missing
-  return_type_in p (member k d ms) = match_ordering (slice_cmp nat_cmp (codes "return_type") k) (return_type_in p ms) (type_at p d) (return_type_in p ms)
+  return_type_in p (member k d ms) = match_ordering (slice_cmp nat_cmp (codes "return_type") k) (return_type_in p ms)
+      (type_at p d) (return_type_in p ms)

@@ -1,5 +1,6 @@
 -- The unit that JSON data spell, and the one that a text spells.
-use Rattle.std.specs.Prelude.{◌≡◌, ℕ, ◌==◌, List, [], ◌∷◌, length, Some, Result, Ok, Err, ⊤, codes, if◌then◌else◌, IsUtf8}
+use Rattle.std.specs.Prelude.{◌≡◌, ℕ, ◌==◌, List, [], ◌∷◌, length, Some, Result, Ok, Err, ⊤, codes, if◌then◌else◌}
+use Rattle.std.specs.Prelude.{IsUtf8}
 use Rattle.alias_base.specs.Answer.{◌>>=◌}
 use Rattle.serde_json.specs.Data.{Data}
 use Rattle.serde_json.specs.Read.{read}
@@ -51,10 +52,12 @@ root_values_at First root p d = Ok []
 root_values_at Second root p d = given_or (context_values_at (length root.context)) [] p (codes "context_values") d
 
 abbrev pub first_keys : List (List ℕ)
-first_keys = codes "format" ∷ codes "config" ∷ codes "types" ∷ codes "shapes" ∷ codes "identifiers" ∷ codes "functions" ∷ codes "root" ∷ []
+first_keys = codes "format" ∷ codes "config" ∷ codes "types" ∷ codes "shapes" ∷ codes "identifiers" ∷ codes "functions"
+    ∷ codes "root" ∷ []
 
 abbrev pub second_keys : List (List ℕ)
-second_keys = codes "format" ∷ codes "config" ∷ codes "types" ∷ codes "shapes" ∷ codes "identifiers" ∷ codes "functions" ∷ codes "root" ∷ codes "context_values" ∷ []
+second_keys = codes "format" ∷ codes "config" ∷ codes "types" ∷ codes "shapes" ∷ codes "identifiers" ∷ codes "functions"
+    ∷ codes "root" ∷ codes "context_values" ∷ []
 
 abbrev pub unit_keys : Format → Reads ⊤
 unit_keys First p d = known_keys first_keys p d
@@ -68,7 +71,15 @@ environment_at p d = do
   shapes ← given_or shapes_at [] p (codes "shapes") d
   identifiers ← list_of identifier_at p (codes "identifiers") d
   functions ← list_of function_at p (codes "functions") d
-  Ok (record { identifiers = identifiers; types = types; functions = functions; shapes = shapes; errors = []; interned = []; config = config })
+  Ok (record {
+    identifiers = identifiers;
+    types = types;
+    functions = functions;
+    shapes = shapes;
+    errors = [];
+    interned = [];
+    config = config;
+  })
 
 abbrev pub with_context_values : HirFunction → List ContextValue → HirFunction
 with_context_values root values = record root { context_values = values }
@@ -105,7 +116,7 @@ UnitReading bytes u = (d : Data) × IsReading bytes d × (unit_of d ≡ Ok u)
 abbrev pub NoUnit : List ℕ → Type 0
 NoUnit bytes = (u : HirUnit) → UnitReading bytes u → ⊥
 
--- what `read_unit` answers
+-- what a reader of units answers
 abbrev pub ReadsUnit : List ℕ → Result HirUnit TextFault → Type 0
 ReadsUnit bytes (Ok u) = UnitReading bytes u
 ReadsUnit bytes (Err (fault.NotUnit p r)) = (d : Data) × IsReading bytes d × (unit_of d ≡ Err (value.Refused p r))

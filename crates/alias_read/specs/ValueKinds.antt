@@ -1,7 +1,13 @@
 -- The names of the kinds of instruction.
 use Rattle.std.specs.Prelude.{ℕ, List, [], ◌∷◌, codes}
 use Rattle.alias_read.specs.declared.value_kinds.InstructionValueKind.{InstructionValueKind}
-use Rattle.alias_read.specs.declared.value_kinds.InstructionValueKind.TheVariants.{Plain, OnePlace, TwoPlaces, PlaceList, Function, Declare, Store, Call, ArrayExpression, ObjectExpression, MethodCall, PropertyStore, ComputedStore, JsxExpression, Destructure, StoreGlobal}
+use Rattle.alias_read.specs.declared.value_kinds.InstructionValueKind.TheVariants.{Plain, OnePlace, TwoPlaces}
+use Rattle.alias_read.specs.declared.value_kinds.InstructionValueKind.TheVariants.{PlaceList, Function, Declare, Store}
+use Rattle.alias_read.specs.declared.value_kinds.InstructionValueKind.TheVariants.{Call, ArrayExpression}
+use Rattle.alias_read.specs.declared.value_kinds.InstructionValueKind.TheVariants.{ObjectExpression, MethodCall}
+use Rattle.alias_read.specs.declared.value_kinds.InstructionValueKind.TheVariants.{PropertyStore, ComputedStore}
+use Rattle.alias_read.specs.declared.value_kinds.InstructionValueKind.TheVariants.{JsxExpression, Destructure}
+use Rattle.alias_read.specs.declared.value_kinds.InstructionValueKind.TheVariants.{StoreGlobal}
 use Rattle.alias_read.specs.declared.value_kinds.PlainKind.TheVariants as plain
 use Rattle.alias_read.specs.declared.value_kinds.OnePlaceKind.TheVariants as one
 use Rattle.alias_read.specs.declared.value_kinds.TwoPlacesKind.TheVariants as two

@@ -9,9 +9,16 @@ use Rattle.alias_read.specs.ValueKinds.{instruction_value_names}
 use Rattle.alias_read.specs.Operations.{plain_at, one_place_at, two_places_at, place_list_at}
 use Rattle.alias_read.specs.Calls.{call_at, method_call_at, function_value_at}
 use Rattle.alias_read.specs.Objects.{array_expression_at, object_expression_at, jsx_expression_at}
-use Rattle.alias_read.specs.Stores.{declare_at, store_at, destructure_at, store_global_at, property_store_at, computed_store_at}
+use Rattle.alias_read.specs.Stores.{declare_at, store_at, destructure_at, store_global_at, property_store_at}
+use Rattle.alias_read.specs.Stores.{computed_store_at}
 use Rattle.alias_read.specs.declared.value_kinds.InstructionValueKind.{InstructionValueKind}
-use Rattle.alias_read.specs.declared.value_kinds.InstructionValueKind.TheVariants.{Plain, OnePlace, TwoPlaces, PlaceList, Function, Declare, Store, Call, ArrayExpression, ObjectExpression, MethodCall, PropertyStore, ComputedStore, JsxExpression, Destructure, StoreGlobal}
+use Rattle.alias_read.specs.declared.value_kinds.InstructionValueKind.TheVariants.{Plain, OnePlace, TwoPlaces}
+use Rattle.alias_read.specs.declared.value_kinds.InstructionValueKind.TheVariants.{PlaceList, Function, Declare, Store}
+use Rattle.alias_read.specs.declared.value_kinds.InstructionValueKind.TheVariants.{Call, ArrayExpression}
+use Rattle.alias_read.specs.declared.value_kinds.InstructionValueKind.TheVariants.{ObjectExpression, MethodCall}
+use Rattle.alias_read.specs.declared.value_kinds.InstructionValueKind.TheVariants.{PropertyStore, ComputedStore}
+use Rattle.alias_read.specs.declared.value_kinds.InstructionValueKind.TheVariants.{JsxExpression, Destructure}
+use Rattle.alias_read.specs.declared.value_kinds.InstructionValueKind.TheVariants.{StoreGlobal}
 
 abbrev pub value_of_kind : InstructionValueKind → Reads InstructionValue
 value_of_kind (Plain kind) p d = plain_at kind p d

@@ -14,7 +14,8 @@ use alias_hir::value::{InstructionValue, LoweredFunction};
 use alias_json::{Path, Tree, ValueFault, known_keys};
 use std::alloc::Global;
 
-fn call_with(kind: CallKind, callee: Place, args: List<PlaceOrSpread>) -> InstructionValue
+/// The call of a kind.
+pub fn call_with(kind: CallKind, callee: Place, args: List<PlaceOrSpread>) -> InstructionValue
     ensures { result ≡ call_with kind callee args }
 {
     match kind {
@@ -58,7 +59,8 @@ pub fn method_call(alloc: Global, path: &Path, value: &Tree) -> Result<Instructi
     })
 }
 
-fn function_with(kind: FunctionKind, lowered_func: LoweredFunction) -> InstructionValue
+/// The instruction of a kind that creates a function.
+pub fn function_with(kind: FunctionKind, lowered_func: LoweredFunction) -> InstructionValue
     ensures { result ≡ function_with kind lowered_func }
 {
     match kind {

@@ -1,5 +1,6 @@
 //! Names of effects, of kinds and reasons of values, of declarations and of functions.
-ghost use Rattle.alias_json.specs.Names.{named_at};
+ghost use Rattle.std.specs.Prelude.{◌≡◌};
+ghost use Rattle.alias_json.specs.Names.{named, named_at};
 ghost use Rattle.alias_read.specs.Names.{effect_names, value_kind_names, value_reason_names, instruction_kind_names, function_type_names};
 
 use crate::json::FromJson;
@@ -7,7 +8,7 @@ use alias_hir::effect::{ValueKind, ValueReason};
 use alias_hir::hir::FunctionType;
 use alias_hir::place::Effect;
 use alias_hir::value::InstructionKind;
-use alias_json::{Path, Tree, ValueFault, by_name};
+use alias_json::{Path, Tree, ValueFault, by_name, named};
 use std::alloc::Global;
 
 static EFFECTS: [(&str, Effect); 8] = [
@@ -111,4 +112,20 @@ impl FromJson for FunctionType {
     fn from_json(alloc: Global, path: &Path, value: &Tree) -> Result<FunctionType, ValueFault> {
         by_name(alloc, &FUNCTION_TYPES, path, value)
     }
+}
+
+/// The kind of a declaration that a name stands for.
+#[tactic(auto, unfolding(crate::specs::Names::instruction_kind_names))]
+pub fn instruction_kind(name: &str) -> Option<InstructionKind>
+    ensures { result ≡ named instruction_kind_names name.now }
+{
+    named(&INSTRUCTION_KINDS, name)
+}
+
+/// The type of a function that a name stands for.
+#[tactic(auto, unfolding(crate::specs::Names::function_type_names))]
+pub fn function_type(name: &str) -> Option<FunctionType>
+    ensures { result ≡ named function_type_names name.now }
+{
+    named(&FUNCTION_TYPES, name)
 }

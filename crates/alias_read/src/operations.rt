@@ -14,7 +14,8 @@ use alias_hir::value::InstructionValue;
 use alias_json::{Path, Tree, ValueFault, known_keys};
 use std::alloc::Global;
 
-fn plain_with(kind: PlainKind) -> InstructionValue
+/// The instruction of a kind that has no further key.
+pub fn plain_with(kind: PlainKind) -> InstructionValue
     ensures { result ≡ plain_with kind }
 {
     match kind {
@@ -40,7 +41,8 @@ pub fn plain(
     Ok(plain_with(kind))
 }
 
-fn one_place_key(kind: OnePlaceKind) -> &'static str
+/// The key of the one place of a kind.
+pub fn one_place_key(kind: OnePlaceKind) -> &'static str
     ensures { result.now ≡ one_place_key kind }
 {
     match kind {
@@ -56,7 +58,8 @@ fn one_place_key(kind: OnePlaceKind) -> &'static str
     }
 }
 
-fn one_place_with(kind: OnePlaceKind, place: Place) -> InstructionValue
+/// The instruction of a kind that has one place.
+pub fn one_place_with(kind: OnePlaceKind, place: Place) -> InstructionValue
     ensures { result ≡ one_place_with kind place }
 {
     match kind {
@@ -91,7 +94,8 @@ pub fn one_place(
     Ok(one_place_with(kind, place))
 }
 
-fn first_key(kind: TwoPlacesKind) -> &'static str
+/// The key of the first of two places of a kind.
+pub fn first_key(kind: TwoPlacesKind) -> &'static str
     ensures { result.now ≡ first_key kind }
 {
     match kind {
@@ -102,7 +106,8 @@ fn first_key(kind: TwoPlacesKind) -> &'static str
     }
 }
 
-fn second_key(kind: TwoPlacesKind) -> &'static str
+/// The key of the second of two places of a kind.
+pub fn second_key(kind: TwoPlacesKind) -> &'static str
     ensures { result.now ≡ second_key kind }
 {
     match kind {
@@ -113,7 +118,8 @@ fn second_key(kind: TwoPlacesKind) -> &'static str
     }
 }
 
-fn two_places_with(kind: TwoPlacesKind, first: Place, second: Place) -> InstructionValue
+/// The instruction of a kind that has two places.
+pub fn two_places_with(kind: TwoPlacesKind, first: Place, second: Place) -> InstructionValue
     ensures { result ≡ two_places_with kind first second }
 {
     match kind {
@@ -161,7 +167,8 @@ pub fn two_places(
     Ok(two_places_with(kind, first, second))
 }
 
-fn place_list_key(kind: PlaceListKind) -> &'static str
+/// The key of the list of places of a kind.
+pub fn place_list_key(kind: PlaceListKind) -> &'static str
     ensures { result.now ≡ place_list_key kind }
 {
     match kind {
@@ -171,7 +178,8 @@ fn place_list_key(kind: PlaceListKind) -> &'static str
     }
 }
 
-fn place_list_with(kind: PlaceListKind, places: List<Place>) -> InstructionValue
+/// The instruction of a kind that has a list of places.
+pub fn place_list_with(kind: PlaceListKind, places: List<Place>) -> InstructionValue
     ensures { result ≡ place_list_with kind places }
 {
     match kind {

@@ -13,7 +13,8 @@ use alias_hir::value::{InstructionValue, LValue};
 use alias_json::{Path, Tree, ValueFault, known_keys};
 use std::alloc::Global;
 
-fn declare_with(kind: DeclareKind, lvalue: LValue) -> InstructionValue
+/// The declaration of a kind.
+pub fn declare_with(kind: DeclareKind, lvalue: LValue) -> InstructionValue
     ensures { result ≡ declare_with kind lvalue }
 {
     match kind {
@@ -36,7 +37,8 @@ pub fn declare(
     Ok(declare_with(kind, lvalue))
 }
 
-fn store_with(kind: StoreKind, lvalue: LValue, value: Place) -> InstructionValue
+/// The store of a kind.
+pub fn store_with(kind: StoreKind, lvalue: LValue, value: Place) -> InstructionValue
     ensures { result ≡ store_with kind lvalue value }
 {
     match kind {

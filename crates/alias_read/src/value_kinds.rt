@@ -1,9 +1,10 @@
 //! The kinds of instruction, by what keys they have, and their names.
-ghost use Rattle.alias_json.specs.Names.{named_at};
+ghost use Rattle.std.specs.Prelude.{◌≡◌};
+ghost use Rattle.alias_json.specs.Names.{named, named_at};
 ghost use Rattle.alias_read.specs.ValueKinds.{instruction_value_names};
 
 use crate::json::FromJson;
-use alias_json::{Path, Tree, ValueFault, by_name};
+use alias_json::{Path, Tree, ValueFault, by_name, named};
 use std::alloc::Global;
 
 /// The kinds that have no further key.
@@ -250,4 +251,12 @@ impl FromJson for InstructionValueKind {
     ) -> Result<InstructionValueKind, ValueFault> {
         by_name(alloc, &INSTRUCTION_VALUES, path, value)
     }
+}
+
+/// The kind of instruction that a name stands for.
+#[tactic(auto, unfolding(crate::specs::ValueKinds::instruction_value_names))]
+pub fn instruction_value_kind(name: &str) -> Option<InstructionValueKind>
+    ensures { result ≡ named instruction_value_names name.now }
+{
+    named(&INSTRUCTION_VALUES, name)
 }

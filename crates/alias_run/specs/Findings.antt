@@ -11,13 +11,18 @@ use Rattle.alias_read.specs.Units.{UnitReading, ReadsUnit}
 use Rattle.alias_read.specs.declared.fault.TextFault.TheVariants as text
 use Rattle.alias_stream.specs.Streams.{IsAllOf, IsAtEnd, IfKnown}
 use Rattle.alias_run.specs.declared.command.Command.{Command}
-use Rattle.alias_run.specs.declared.command.Command.TheVariants.{Infer, Certify, Check, Lint, Explain, ExplainFunction, Plain, Made, Help, Version}
+use Rattle.alias_run.specs.declared.command.Command.TheVariants.{Infer, Certify, Check, Lint, Explain, ExplainFunction}
+use Rattle.alias_run.specs.declared.command.Command.TheVariants.{Plain, Made, Help, Version}
 use Rattle.alias_run.specs.declared.query.Query.{Query}
-use Rattle.alias_run.specs.declared.query.Query.TheVariants.{Inference, Acceptance, Lints, Explanation, FunctionExplanation, Plainness}
+use Rattle.alias_run.specs.declared.query.Query.TheVariants.{Inference, Acceptance, Lints, Explanation}
+use Rattle.alias_run.specs.declared.query.Query.TheVariants.{FunctionExplanation, Plainness}
 use Rattle.alias_run.specs.declared.status.Status.{Status}
-use Rattle.alias_run.specs.declared.status.Status.TheVariants.{Done, Words, NotJson, NotUnit, Unfit, BadLine, Rejected, PlainRefused, Refused, NotHere, ReadFault, WriteFault, TooLong, Memory}
+use Rattle.alias_run.specs.declared.status.Status.TheVariants.{Done, Words, NotJson, NotUnit, Unfit, BadLine, Rejected}
+use Rattle.alias_run.specs.declared.status.Status.TheVariants.{PlainRefused, Refused, NotHere, ReadFault, WriteFault}
+use Rattle.alias_run.specs.declared.status.Status.TheVariants.{TooLong, Memory}
 use Rattle.alias_run.specs.declared.answer.Answer.{Answer}
-use Rattle.alias_run.specs.declared.answer.Answer.TheVariants.{Nothing, Inferred, Accepted, Linted, Explained, FunctionExplained, Decided}
+use Rattle.alias_run.specs.declared.answer.Answer.TheVariants.{Nothing, Inferred, Accepted, Linted, Explained}
+use Rattle.alias_run.specs.declared.answer.Answer.TheVariants.{FunctionExplained, Decided}
 use Rattle.alias_cert.specs.Units.{unit_checked, Accepts}
 use Rattle.alias_cert_text.specs.Certificates.{certificate_of_text}
 use Rattle.alias_cert_text.specs.Input.{input_parts}
@@ -51,10 +56,12 @@ use Rattle.alias_unit_completeness.specs.Refusals.{IsCaused, IsForwardUnit, IsTo
 abbrev pub greatest_input : ℕ
 greatest_input = 16777216
 
--- what a unit that is well formed leads to: what is handed out is what is inferred of it, and of each function, as its effects pass begins, the entry
+-- what a unit that is well formed leads to: what is handed out is what is inferred of it, and of each function, as its
+-- effects pass begins, the entry
 -- states solve the flow; or it is refused, with a cause in the unit
 abbrev pub IsInferred : HirUnit → Status → Answer → Type 0
-IsInferred u Done (Inferred i) = (fs : List Analysed) × (unit_analysed u ≡ Ok (record { functions = fs; inferred = i })) × AllByRecursion SolvesItsFlow fs
+IsInferred u Done (Inferred i) = (fs : List Analysed) × (unit_analysed u ≡ Ok (record { functions = fs; inferred = i }))
+    × AllByRecursion SolvesItsFlow fs
 IsInferred u (Refused e) a = (unit_analysed u ≡ Err e) × IsCaused u e × (a ≡ Nothing)
 IsInferred u Memory a = a ≡ Nothing
 IsInferred u status a = ⊥
@@ -80,14 +87,16 @@ IsInference u (Err status) = IsInferred u status Nothing
 abbrev pub Infers : HirUnit → UnitInference → Type 0
 Infers u i = (fs : List Analysed) × (unit_analysed u ≡ Ok (record { functions = fs; inferred = i }))
 
--- what the check of a certificate leads to: it is accepted, and of each function the entry states that it says solve the flow; or it is rejected, with the first fault
+-- what the check of a certificate leads to: it is accepted, and of each function the entry states that it says solve
+-- the flow; or it is rejected, with the first fault
 abbrev pub IsAcceptedOf : Certificate → HirUnit → Status → Answer → Type 0
 IsAcceptedOf c u Done (Accepted x) = Accepts c.functions u (Ok x)
 IsAcceptedOf c u (Rejected fault) a = (unit_checked c.functions u ≡ Err fault) × (a ≡ Nothing)
 IsAcceptedOf c u Memory a = a ≡ Nothing
 IsAcceptedOf c u status a = ⊥
 
--- whether a text is a certificate of a unit: the line of this number is the first that isn't in the grammar, or it is the text of a certificate, which is checked
+-- whether a text is a certificate of a unit: the line of this number is the first that isn't in the grammar, or it is
+-- the text of a certificate, which is checked
 abbrev pub IsAccepted : List ℕ → HirUnit → Status → Answer → Type 0
 IsAccepted text u (BadLine number) a = (certificate_of_text text ≡ Err (text_fault.BadLine number)) × (a ≡ Nothing)
 IsAccepted text u Memory a = a ≡ Nothing
@@ -160,7 +169,8 @@ EndsInferred status = ⊥
 
 -- its functions are settled within 100 rounds, as each is whose edges all go to later blocks
 abbrev pub Settles : HirUnit → Type 0
-Settles u = IsForwardUnit u ⊎ ((f : Option FunctionId) (visits : ℕ) (report : Report) → unit_analysed u ≢ Err (error.NotSettled f visits report))
+Settles u = IsForwardUnit u ⊎ ((f : Option FunctionId) (visits : ℕ) (report : Report)
+    → unit_analysed u ≢ Err (error.NotSettled f visits report))
 
 -- where the unit is plain, and settles as well, so does its inference end
 abbrev pub EndsWherePlain : HirUnit → PlainAnswer → Type 0
@@ -193,7 +203,8 @@ IsChecked q certificate u status a = (rules_hold u ≡ Ok tt) × IsAnswered q ce
 abbrev pub IsFit : HirUnit → Status → Answer → Type 0
 IsFit u status a = (rules_hold u ≡ Ok tt) × IsInferred u status a × EndsInferred status
 
--- the parts of the whole input: where a certificate is asked about, the unit before the first newline and the certificate behind it; else the unit alone
+-- the parts of the whole input: where a certificate is asked about, the unit before the first newline and the
+-- certificate behind it; else the unit alone
 abbrev pub parts_of : Query → List ℕ → List ℕ × List ℕ
 parts_of Acceptance bytes = input_parts bytes
 parts_of q bytes = (bytes, [])
@@ -205,15 +216,18 @@ IsJudged q parts (NotUnit pointer rule) a = ReadsUnit parts.0 (Err (text.NotUnit
 IsJudged q parts Memory a = a ≡ Nothing
 IsJudged q parts status a = (u : HirUnit) × UnitReading parts.0 u × IsChecked q parts.1 u status a
 
--- What a source leads to. `known` is what it had at the call, where that is known, and `failed` says that its count of faults
+-- What a source leads to. `known` is what it had at the call, where that is known, and `failed` says that its count of
+-- faults
 -- rose.
 abbrev pub IsRead : Query → Option (List ℕ) → Type 0 → Status → Answer → Type 0
 IsRead q known failed ReadFault a = failed × (a ≡ Nothing)
 IsRead q known failed TooLong a = IfKnown known (λ all. greatest_input < length all) × (a ≡ Nothing)
 IsRead q known failed Memory a = a ≡ Nothing
-IsRead q known failed status a = (bytes : List ℕ) × IsAllOf known bytes × (length bytes ≤ greatest_input) × IsJudged q (parts_of q bytes) status a
+IsRead q known failed status a = (bytes : List ℕ) × IsAllOf known bytes × (length bytes ≤ greatest_input)
+    × IsJudged q (parts_of q bytes) status a
 
--- What the words and a source lead to, before anything is written: `asked` is the command of the words, where they are one. A made unit is well formed, so
+-- What the words and a source lead to, before anything is written: `asked` is the command of the words, where they are
+-- one. A made unit is well formed, so
 -- none of them refuses it, and nor does the inference.
 unfoldable pub IsFound : Option Command → Option (List ℕ) → Type 0 → Status → Answer → Type 0
 IsFound None known failed status a = (status ≡ Words) × (a ≡ Nothing)

@@ -22,7 +22,9 @@ use Rattle.alias_stream.specs.declared.whole.ReadStop.{ReadStop}
 use Rattle.alias_stream.specs.declared.whole.ReadStop.TheVariants as read
 use Rattle.alias_text.specs.Refusals.{number_text, refused_text, unfit_text, not_unit_text}
 use Rattle.alias_run.specs.declared.status.Status.{Status}
-use Rattle.alias_run.specs.declared.status.Status.TheVariants.{Done, Words, NotJson, NotUnit, Unfit, BadLine, Rejected, PlainRefused, Refused, NotHere, ReadFault, WriteFault, TooLong, Memory}
+use Rattle.alias_run.specs.declared.status.Status.TheVariants.{Done, Words, NotJson, NotUnit, Unfit, BadLine, Rejected}
+use Rattle.alias_run.specs.declared.status.Status.TheVariants.{PlainRefused, Refused, NotHere, ReadFault, WriteFault}
+use Rattle.alias_run.specs.declared.status.Status.TheVariants.{TooLong, Memory}
 
 -- ---- faults. Out of memory has one status, wherever it comes
 

@@ -6,9 +6,11 @@ use Rattle.alias_text.specs.Results.{result_text}
 use Rattle.alias_text.specs.Fitting.{IfCertify}
 use Rattle.alias_nested.specs.declared.infer.Inferred.{Inferred as UnitInference}
 use Rattle.alias_run.specs.declared.answer.Answer.{Answer}
-use Rattle.alias_run.specs.declared.answer.Answer.TheVariants.{Nothing, Inferred, Accepted, Linted, Explained, FunctionExplained, Decided}
+use Rattle.alias_run.specs.declared.answer.Answer.TheVariants.{Nothing, Inferred, Accepted, Linted, Explained}
+use Rattle.alias_run.specs.declared.answer.Answer.TheVariants.{FunctionExplained, Decided}
 use Rattle.alias_run.specs.declared.command.Command.{Command}
-use Rattle.alias_run.specs.declared.command.Command.TheVariants.{Infer, Certify, Check, Lint, Explain, ExplainFunction, Plain, Made, Help, Version}
+use Rattle.alias_run.specs.declared.command.Command.TheVariants.{Infer, Certify, Check, Lint, Explain, ExplainFunction}
+use Rattle.alias_run.specs.declared.command.Command.TheVariants.{Plain, Made, Help, Version}
 use Rattle.alias_run.specs.declared.status.Status.{Status}
 use Rattle.alias_cert.specs.declared.check.Accepted.{Accepted as AcceptedUnit}
 use Rattle.alias_cert_text.specs.check_lines.CheckLines.{accepted_text as functions_accepted}

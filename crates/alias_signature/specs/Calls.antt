@@ -25,7 +25,8 @@ argument (arg.Place p) = apply.Place p
 argument (arg.Spread s) = apply.Spread s
 
 -- a call, whose function's type has its signature
-abbrev pub call_effects : Environment → Place → Place → Bool → List PlaceOrSpread → Place → Option Span → List AliasingEffect
+abbrev pub call_effects : Environment → Place → Place → Bool → List PlaceOrSpread → Place → Option Span
+    → List AliasingEffect
 call_effects env receiver function mutates_function args l span =
     Apply receiver function mutates_function (map argument args) l (type_id_of env function.identifier) span ∷ []
 

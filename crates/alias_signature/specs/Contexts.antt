@@ -16,7 +16,8 @@ use Rattle.alias_signature.specs.Created.{created}
 
 -- the identifier's declaration is hoisted
 abbrev pub is_hoisted_at : Environment → Accesses → IdentifierId → Bool
-is_hoisted_at env hoisted id = option_map_or (λ (d : DeclarationId). is_some (access_at hoisted d)) (declaration_of env id) false
+is_hoisted_at env hoisted id = option_map_or (λ (d : DeclarationId). is_some (access_at hoisted d))
+    (declaration_of env id) false
 
 abbrev pub is_reassigning : InstructionKind → Bool
 is_reassigning Reassign = true
@@ -33,9 +34,11 @@ load_context_effects l place = CreateFrom place l ∷ []
 -- the declaration itself writes a variable that was hoisted
 abbrev pub declare_context_effects : Environment → Accesses → Place → LValue → List AliasingEffect
 declare_context_effects env hoisted l variable =
-    binding_effect (not (is_hoisting variable.kind) && is_hoisted_at env hoisted variable.place.identifier) variable.place ∷ created l Primitive ∷ []
+    binding_effect (not (is_hoisting variable.kind) && is_hoisted_at env hoisted variable.place.identifier)
+    variable.place ∷ created l Primitive ∷ []
 
 -- the variable is written, or made, and takes the value in; the result is the value
 abbrev pub store_context_effects : Environment → Accesses → Place → LValue → Place → List AliasingEffect
 store_context_effects env hoisted l variable v =
-    binding_effect (is_reassigning variable.kind || is_hoisted_at env hoisted variable.place.identifier) variable.place ∷ Capture v variable.place ∷ Assign v l ∷ []
+    binding_effect (is_reassigning variable.kind || is_hoisted_at env hoisted variable.place.identifier) variable.place
+    ∷ Capture v variable.place ∷ Assign v l ∷ []

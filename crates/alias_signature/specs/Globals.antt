@@ -31,14 +31,17 @@ store_global_effects error l v = global_effects error v ++ Assign v l ∷ []
 
 abbrev pub globals_labels : List ℕ → Option Span → List Label
 globals_labels name None = []
-globals_labels name (Some s) = record { span = s; text = Some (codes "`" ++ name ++ codes "` cannot be reassigned") } ∷ []
+globals_labels name (Some s) = record { span = s; text = Some (codes "`" ++ name ++ codes "` cannot be reassigned") }
+    ∷ []
 
 -- what is reported of a write of a global variable of that name
 abbrev pub globals_report : List ℕ → Option Span → Report
 globals_report name span = record {
   category = Globals;
   message = codes "Cannot reassign variables declared outside of the component/hook";
-  help = Some (codes "Variable `" ++ name ++ codes "` is declared outside of the component/hook. Reassigning this value during render is a form of side effect, which can cause unpredictable behavior depending on when the component happens to re-render. If this variable is used in rendering, use useState instead. Otherwise, consider updating it in an effect. (https://react.dev/reference/rules/components-and-hooks-must-be-pure#side-effects-must-run-outside-of-render)");
+  help = Some (codes "Variable `" ++ name
+      ++ codes
+      "` is declared outside of the component/hook. Reassigning this value during render is a form of side effect, which can cause unpredictable behavior depending on when the component happens to re-render. If this variable is used in rendering, use useState instead. Otherwise, consider updating it in an effect. (https://react.dev/reference/rules/components-and-hooks-must-be-pure#side-effects-must-run-outside-of-render)");
   labels = globals_labels name span;
 }
 

@@ -2,7 +2,8 @@
 use Rattle.std.specs.Prelude.{List, [], ◌∷◌, if◌then◌else◌}
 use Rattle.alias_hir.specs.Types.{is_builtin_collection_at}
 use Rattle.alias_hir.specs.declared.effect.AliasingEffect.{AliasingEffect}
-use Rattle.alias_hir.specs.declared.effect.AliasingEffect.TheVariants.{CreateFrom, Capture, Alias, MutateConditionally, MutateTransitiveConditionally}
+use Rattle.alias_hir.specs.declared.effect.AliasingEffect.TheVariants.{CreateFrom, Capture, Alias, MutateConditionally}
+use Rattle.alias_hir.specs.declared.effect.AliasingEffect.TheVariants.{MutateTransitiveConditionally}
 use Rattle.alias_hir.specs.declared.effect.ValueKind.TheVariants.{Mutable}
 use Rattle.alias_hir.specs.declared.env.Environment.{Environment}
 use Rattle.alias_hir.specs.declared.place.Place.{Place}
@@ -15,7 +16,8 @@ iteration_effects env p = if is_builtin_collection_at env p.identifier then [] e
 -- a new iterator, of a builtin collection that it holds, or else of a value that may be its own iterator
 abbrev pub get_iterator_effects : Environment → Place → Place → List AliasingEffect
 get_iterator_effects env l collection =
-    created l Mutable ∷ (if is_builtin_collection_at env collection.identifier then Capture collection l ∷ [] else Alias collection l ∷ MutateTransitiveConditionally collection ∷ [])
+    created l Mutable ∷ (if is_builtin_collection_at env collection.identifier then Capture collection l ∷ []
+    else Alias collection l ∷ MutateTransitiveConditionally collection ∷ [])
 
 -- the iterator moves on, and gives a part of the collection
 abbrev pub iterator_next_effects : Place → Place → Place → List AliasingEffect

@@ -28,4 +28,5 @@ attribute_effects env (attribute.Spread p) = []
 
 -- what is called while rendering: the tag, the children, and some attributes
 abbrev pub render_effects : Environment → JsxTag → List JsxAttribute → List Place → List AliasingEffect
-render_effects env tag props children = map Render (tag_places tag) ++ map Render children ++ flat_map (attribute_effects env) props
+render_effects env tag props children = map Render (tag_places tag) ++ map Render children
+    ++ flat_map (attribute_effects env) props

@@ -13,4 +13,5 @@ frozen p = Freeze p HookCaptured
 
 -- the operands are frozen where memoization that is there is kept
 abbrev pub memoize_effects : Environment → Place → List Place → List AliasingEffect
-memoize_effects env l operands = (if env.config.enable_preserve_existing_memoization_guarantees then map frozen operands else []) ++ created l Primitive ∷ []
+memoize_effects env l operands = (if env.config.enable_preserve_existing_memoization_guarantees then map frozen operands
+    else []) ++ created l Primitive ∷ []

@@ -14,7 +14,20 @@ use Rattle.alias_hir.specs.declared.report.ReportId.{ReportId}
 use Rattle.alias_hir.specs.declared.report.Interned.{Interned}
 use Rattle.alias_hir.specs.declared.report.Report.{Report}
 use Rattle.alias_hir.specs.declared.value.InstructionValue.{InstructionValue}
-use Rattle.alias_hir.specs.declared.value.InstructionValue.TheVariants.{ArrayExpression, ObjectExpression, Await, NewExpression, CallExpression, MethodCall, PropertyDelete, ComputedDelete, PropertyLoad, ComputedLoad, PropertyStore, ComputedStore, FunctionExpression, ObjectMethod, GetIterator, IteratorNext, NextPropertyOf, JsxExpression, JsxFragment, DeclareLocal, Destructure, LoadContext, DeclareContext, StoreContext, LoadLocal, StoreLocal, PostfixUpdate, PrefixUpdate, StoreGlobal, TypeCastExpression, LoadGlobal, StartMemoize, FinishMemoize, TaggedTemplateExpression, BinaryExpression, TemplateLiteral, UnaryExpression, Debugger, JSXText, MetaProperty, Primitive, RegExpLiteral}
+use Rattle.alias_hir.specs.declared.value.InstructionValue.TheVariants.{ArrayExpression, ObjectExpression, Await}
+use Rattle.alias_hir.specs.declared.value.InstructionValue.TheVariants.{NewExpression, CallExpression, MethodCall}
+use Rattle.alias_hir.specs.declared.value.InstructionValue.TheVariants.{PropertyDelete, ComputedDelete, PropertyLoad}
+use Rattle.alias_hir.specs.declared.value.InstructionValue.TheVariants.{ComputedLoad, PropertyStore, ComputedStore}
+use Rattle.alias_hir.specs.declared.value.InstructionValue.TheVariants.{FunctionExpression, ObjectMethod, GetIterator}
+use Rattle.alias_hir.specs.declared.value.InstructionValue.TheVariants.{IteratorNext, NextPropertyOf, JsxExpression}
+use Rattle.alias_hir.specs.declared.value.InstructionValue.TheVariants.{JsxFragment, DeclareLocal, Destructure}
+use Rattle.alias_hir.specs.declared.value.InstructionValue.TheVariants.{LoadContext, DeclareContext, StoreContext}
+use Rattle.alias_hir.specs.declared.value.InstructionValue.TheVariants.{LoadLocal, StoreLocal, PostfixUpdate}
+use Rattle.alias_hir.specs.declared.value.InstructionValue.TheVariants.{PrefixUpdate, StoreGlobal, TypeCastExpression}
+use Rattle.alias_hir.specs.declared.value.InstructionValue.TheVariants.{LoadGlobal, StartMemoize, FinishMemoize}
+use Rattle.alias_hir.specs.declared.value.InstructionValue.TheVariants.{TaggedTemplateExpression, BinaryExpression}
+use Rattle.alias_hir.specs.declared.value.InstructionValue.TheVariants.{TemplateLiteral, UnaryExpression, Debugger}
+use Rattle.alias_hir.specs.declared.value.InstructionValue.TheVariants.{JSXText, MetaProperty, Primitive, RegExpLiteral}
 use Rattle.alias_visit.specs.Operands.{operands_of}
 use Rattle.alias_signature.specs.Known.{Known, known}
 use Rattle.alias_signature.specs.Literals.{primitive_effects}
@@ -22,7 +35,8 @@ use Rattle.alias_signature.specs.Objects.{object_expression_effects}
 use Rattle.alias_signature.specs.Arrays.{array_expression_effects}
 use Rattle.alias_signature.specs.Calls.{call_effects, await_effects}
 use Rattle.alias_signature.specs.Loads.{load_local_effects, property_load_effects}
-use Rattle.alias_signature.specs.Stores.{store_local_effects, declare_local_effects, update_effects, store_reason, property_store_effects, delete_effects}
+use Rattle.alias_signature.specs.Stores.{store_local_effects, declare_local_effects, update_effects, store_reason}
+use Rattle.alias_signature.specs.Stores.{property_store_effects, delete_effects}
 use Rattle.alias_signature.specs.Functions.{function_effects}
 use Rattle.alias_signature.specs.Iterators.{get_iterator_effects, iterator_next_effects}
 use Rattle.alias_signature.specs.Jsx.{jsx_effects, render_effects}
@@ -43,7 +57,8 @@ signature_of_value k l span (PropertyDelete object) = delete_effects l object
 signature_of_value k l span (ComputedDelete object property) = delete_effects l object
 signature_of_value k l span (PropertyLoad object) = property_load_effects k.env l object
 signature_of_value k l span (ComputedLoad object property) = property_load_effects k.env l object
-signature_of_value k l span (PropertyStore object property v) = property_store_effects l object v (store_reason k.env object property)
+signature_of_value k l span (PropertyStore object property v) =
+    property_store_effects l object v (store_reason k.env object property)
 signature_of_value k l span (ComputedStore object property v) = property_store_effects l object v None
 signature_of_value k l span (FunctionExpression lowered) = function_effects k.env l lowered.func
 signature_of_value k l span (ObjectMethod lowered) = function_effects k.env l lowered.func
@@ -97,6 +112,8 @@ abbrev pub env_after_signature : Environment → Instruction → Environment
 env_after_signature env i = with_report env (instruction_report i.value i.span)
 
 -- the report first, and then the effects, one of which has it
-abbrev pub compute_signature_for_instruction : Environment → FunctionFacts → Instruction → Result (List AliasingEffect) HirError
+abbrev pub compute_signature_for_instruction : Environment → FunctionFacts → Instruction
+    → Result (List AliasingEffect) HirError
 compute_signature_for_instruction env facts i =
-    error_of_report env.interned (instruction_report i.value i.span) >>= (λ (error : Option ReportId). Ok (signature_of (known (env_after_signature env i) facts error) i))
+    error_of_report env.interned (instruction_report i.value i.span)
+    >>= (λ (error : Option ReportId). Ok (signature_of (known (env_after_signature env i) facts error) i))

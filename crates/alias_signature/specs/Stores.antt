@@ -37,7 +37,8 @@ is_current property.Number = false
 
 -- why the object of the write is written, where that is known
 abbrev pub store_reason : Environment → Place → PropertyLiteral → Option MutationReason
-store_reason env object property = if is_current property && is_untyped_at env object.identifier then Some AssignCurrentProperty else None
+store_reason env object property = if is_current property && is_untyped_at env object.identifier
+    then Some AssignCurrentProperty else None
 
 -- the object is written and takes the value in; the result is primitive
 abbrev pub property_store_effects : Place → Place → Place → Option MutationReason → List AliasingEffect

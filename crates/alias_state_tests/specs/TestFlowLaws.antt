@@ -1,11 +1,13 @@
 -- The laws of the tests' flows.
-use Rattle.std.proofs.Common.{◌≡◌, ℕ, ◌+◌, ◌<◌, Bool, true, false, if◌then◌else◌, nat_lt, nat_le, ◌==◌, IsTrue, List, [], ◌∷◌, length, Option, refl, arith}
+use Rattle.std.proofs.Common.{◌≡◌, ℕ, ◌+◌, ◌<◌, Bool, true, false, if◌then◌else◌, nat_lt, nat_le, ◌==◌, IsTrue, List}
+use Rattle.std.proofs.Common.{[], ◌∷◌, length, Option, refl, arith}
 use Rattle.std.proofs.lemmas.Bool.Decides.{nat_tests}
 use Rattle.std.specs.List.{AllByRecursion}
 use Rattle.alias_lattice.specs.Laws.{LatticeLaws}
 use Rattle.alias_flow.specs.Machine.{FlowLaws}
 use Rattle.alias_flow.specs.Solutions.{IsForward}
-use Rattle.alias_state_tests.specs.TestFlows.{higher, IsHeight, Extends, forward_edges, forward_rules, loop_edges, loop_rules}
+use Rattle.alias_state_tests.specs.TestFlows.{higher, IsHeight, Extends, forward_edges, forward_rules, loop_edges}
+use Rattle.alias_state_tests.specs.TestFlows.{loop_rules}
 
 higher_commutes : (x y : ℕ) → higher x y ≡ higher y x
 higher_commutes x y = grind (arith, nat_tests)
@@ -55,10 +57,12 @@ forward_laws recorded h = record {
 }
 
 loop_below : (b : ℕ) → b < 4 → AllByRecursion (λ e. e < 4) (loop_edges b)
-loop_below b h = elim (b == 0) as (λ r. AllByRecursion (λ e. e < 4) (if r then 1 ∷ [] else if b == 1 then 1 ∷ 2 ∷ [] else [])) [
-  | true ↦ (omega arith, tt)
-  | false ↦ elim (b == 1) as (λ r. AllByRecursion (λ e. e < 4) (if r then 1 ∷ 2 ∷ [] else [])) [ true ↦ (omega arith, (omega arith, tt)) | false ↦ tt ]
-]
+loop_below b h = elim (b == 0) as (λ r. AllByRecursion (λ e. e < 4)
+    (if r then 1 ∷ [] else if b == 1 then 1 ∷ 2 ∷ [] else [])) [
+      | true ↦ (omega arith, tt)
+      | false ↦ elim (b == 1) as (λ r. AllByRecursion (λ e. e < 4) (if r then 1 ∷ 2 ∷ [] else []))
+          [ true ↦ (omega arith, (omega arith, tt)) | false ↦ tt ]
+    ]
 
 pub loop_laws : (recorded : List (Option ℕ)) → length recorded ≡ 4 → FlowLaws IsHeight Extends loop_rules recorded
 loop_laws recorded h = record {

@@ -24,7 +24,11 @@ abbrev pub forward_step : Unit {0} → ℕ → ℕ → Outcome ℕ (Unit {0}) �
 forward_step t b x = if x == 4294967295 then Refused tt else Stepped (x + 1) t x
 
 abbrev pub forward_rules : Rules ℕ (Unit {0}) ℕ (Unit {0})
-forward_rules = record { blocks = 4; flow = record { entry = 0; initial = 0; edges = forward_edges; step = forward_step } }
+forward_rules = record {
+  blocks = 4;
+  flow =
+      record { entry = 0; initial = 0; edges = forward_edges; step = forward_step };
+}
 
 -- 0 goes to 1, and 1 to itself and to 2
 abbrev pub loop_edges : ℕ → List ℕ

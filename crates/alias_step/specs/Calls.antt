@@ -1,5 +1,7 @@
--- The step of each effect, and the three ways of a call: by the summary of the function that is called, by the signature of its
--- type, or by default. A call in the list of an aliasing part has no signature, and its own list holds no call. So a call is
+-- The step of each effect, and the three ways of a call: by the summary of the function that is called, by the
+-- signature of its
+-- type, or by default. A call in the list of an aliasing part has no signature, and its own list holds no call. So a
+-- call is
 -- expanded at most twice.
 use Rattle.std.specs.Prelude.{ℕ, Bool, List, Option, Some, None, if◌then◌else◌}
 use Rattle.alias_base.specs.declared.ids.TypeId.{TypeId}
@@ -57,7 +59,8 @@ module _ (c : StepContext) where
     apply_inner_call_by list call s
 
   abbrev pub apply_inner_effect : AliasingEffect → StepProgress → Step StepProgress
-  apply_inner_effect (effect.Apply receiver function mutates args into signature span) s = apply_inner_call (call_of receiver function mutates args into span) s
+  apply_inner_effect (effect.Apply receiver function mutates args into signature span) s =
+      apply_inner_call (call_of receiver function mutates args into span) s
   apply_inner_effect e s = intern_and_apply_plain c e s
 
   abbrev pub apply_inner_effects : List AliasingEffect → StepProgress → Step StepProgress
@@ -80,7 +83,8 @@ module _ (c : StepContext) where
 
   -- by the aliasing part, and where that gives no list by the rest of the signature
   abbrev pub apply_compatible : Option (List ℕ) → FunctionSignature → Call → StepProgress → Step StepProgress
-  apply_compatible (Some text) signature call s = refuses (IncompatibleLibrary (incompatible_report call.site.receiver.span text))
+  apply_compatible (Some text) signature call s =
+      refuses (IncompatibleLibrary (incompatible_report call.site.receiver.span text))
   apply_compatible None signature call s = do
     list ← expansion_of_config c.env call signature.aliasing
     apply_by_config list signature call s
@@ -103,7 +107,8 @@ module _ (c : StepContext) where
 
   -- the step of each effect of an instruction
   abbrev pub apply_effect : AliasingEffect → StepProgress → Step StepProgress
-  apply_effect (effect.Apply receiver function mutates args into signature span) s = apply_call signature (call_of receiver function mutates args into span) s
+  apply_effect (effect.Apply receiver function mutates args into signature span) s =
+      apply_call signature (call_of receiver function mutates args into span) s
   apply_effect e s = intern_and_apply_plain c e s
 
   -- the steps of the effects, in order

@@ -22,7 +22,8 @@ module _ (c : StepContext) where
   -- a spread is iterated, which may write it unless it is an array, a set or a map
   abbrev pub iterate_operand : Operand → StepProgress → Step StepProgress
   iterate_operand o s =
-      if o.is_spread && not (is_builtin_collection_at c.env o.place.identifier) then intern_and_apply_simple c (effect.MutateTransitiveConditionally o.place) s
+      if o.is_spread && not (is_builtin_collection_at c.env o.place.identifier)
+      then intern_and_apply_simple c (effect.MutateTransitiveConditionally o.place) s
       else gives s
 
   -- an operand may be put into another, and a spread into itself

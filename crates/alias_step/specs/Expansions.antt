@@ -38,9 +38,11 @@ called_function u p = only_function (sites_at u p.identifier)
 
 -- ---- by its summary
 
-abbrev pub expansion_of_summary : Environment → Call → FunctionId → HirFunction → Option (List AliasingEffect) → Step Collected
+abbrev pub expansion_of_summary : Environment → Call → FunctionId → HirFunction → Option (List AliasingEffect)
+    → Step Collected
 expansion_of_summary env call f function None = gives None
-expansion_of_summary env call f function (Some effects) = summary_expansion env f function effects call.site.into call.args
+expansion_of_summary env call f function (Some effects) =
+    summary_expansion env f function effects call.site.into call.args
 
 abbrev pub expansion_of_function : Environment → Call → FunctionId → Option HirFunction → Step Collected
 expansion_of_function env call f None = gives None

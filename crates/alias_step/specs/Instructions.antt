@@ -1,4 +1,5 @@
--- The step of an instruction: what is reported of it, what the summary of the function that it creates writes, the effects of its
+-- The step of an instruction: what is reported of it, what the summary of the function that it creates writes, the
+-- effects of its
 -- signature, and a value for its result.
 use Rattle.std.specs.Prelude.{Bool, true, false, ◌&&◌, List, [], Option, Some, None, if◌then◌else◌}
 use Rattle.std.specs.List.{list_any}
@@ -42,7 +43,8 @@ written_by e = None
 -- it is a context place, and frozen here
 abbrev pub is_frozen_context : List Place → State → Place → Bool
 is_frozen_context context u v =
-    list_any (λ (p : Place). same_place p v) context && is_some (sites_of u v.identifier) && is_frozen (lookup u v.identifier).kind
+    list_any (λ (p : Place). same_place p v) context && is_some (sites_of u v.identifier)
+    && is_frozen (lookup u v.identifier).kind
 
 -- the report is interned, and the effect is recorded as it is
 abbrev pub record_mutate_frozen : Report → Place → StepProgress → Step StepProgress
@@ -59,7 +61,8 @@ module _ (c : StepContext) where
 
   abbrev pub check_write : List Place → Option Place → StepProgress → Step StepProgress
   check_write context None s = gives s
-  check_write context (Some v) s = record_write_if (is_frozen_context context s.state v) (lookup s.state v.identifier) v s
+  check_write context (Some v) s = record_write_if (is_frozen_context context s.state v) (lookup s.state v.identifier) v
+      s
 
   abbrev pub check_effect : List Place → AliasingEffect → StepProgress → Step StepProgress
   check_effect context e s = check_write context (written_by e) s
@@ -88,7 +91,8 @@ with_result true x s = s
 with_result false x s = with_state (given x (Default x) mutable_other s.state) s
 
 -- what creates this function, has these effects and this result
-abbrev pub apply_instruction : StepContext → Option FunctionId → List AliasingEffect → IdentifierId → StepProgress → Step StepProgress
+abbrev pub apply_instruction : StepContext → Option FunctionId → List AliasingEffect → IdentifierId → StepProgress
+    → Step StepProgress
 apply_instruction c f effects x s = do
   t ← check_created c f (begun s)
   u ← apply_effects c effects t
@@ -105,9 +109,11 @@ abbrev pub context_with : Environment → FunctionFacts → StepContext
 context_with env facts = record { env = env; hoisted = facts.hoisted }
 
 -- the step with the report of what is reported, if something is
-abbrev pub apply_signature_with : Environment → FunctionFacts → Instruction → Option ReportId → StepProgress → Step StepProgress
+abbrev pub apply_signature_with : Environment → FunctionFacts → Instruction → Option ReportId → StepProgress
+    → Step StepProgress
 apply_signature_with env facts i error s =
-    apply_instruction (context_with env facts) (created i.value) (signature_of (known env facts error) i) i.lvalue.identifier s
+    apply_instruction (context_with env facts) (created i.value) (signature_of (known env facts error) i)
+    i.lvalue.identifier s
 
 abbrev pub apply_signature : Environment → FunctionFacts → Instruction → StepProgress → Step StepProgress
 apply_signature env facts i s = do

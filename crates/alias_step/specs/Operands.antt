@@ -17,7 +17,12 @@ pub record Call : Type 0 where
 
 -- what a call that holds references speaks of
 abbrev pub held_call : HeldCall → Call
-held_call call = record { site = call.site; function = call.function; mutates_function = call.mutates_function; args = call.args.now }
+held_call call = record {
+  site = call.site;
+  function = call.function;
+  mutates_function = call.mutates_function;
+  args = call.args.now;
+}
 
 -- two places of one identifier
 abbrev pub same_place : Place → Place → Bool

@@ -15,13 +15,15 @@ alone : (n a b : ℕ) → (a == b) ≡ true → of n a 0 ≡ of n b 0
 alone n a b h = ap (λ m. of n m 0) (eqb-true a b h)
 
 both : (n a b x y : ℕ) → ((a == b) && (x == y)) ≡ true → of n a x ≡ of n b y
-both n a b x y h = ap (λ m. of n m x) (eqb-true a b (first_so (a == b) (x == y) h)) ∙ ap (of n b) (eqb-true x y (second_so (a == b) (x == y) h))
+both n a b x y h = ap (λ m. of n m x) (eqb-true a b (first_so (a == b) (x == y) h))
+    ∙ ap (of n b) (eqb-true x y (second_so (a == b) (x == y) h))
 
 first_alone : (n a b : ℕ) (r : Bool) → ((a == b) && r) ≡ true → of n a 0 ≡ of n b 0
 first_alone n a b r h = alone n a b (first_so (a == b) r h)
 
 first_two : (n a b x y : ℕ) (r : Bool) → ((a == b) && ((x == y) && r)) ≡ true → of n a x ≡ of n b y
-first_two n a b x y r h = ap (λ m. of n m x) (eqb-true a b (first_so (a == b) _ h)) ∙ ap (of n b) (eqb-true x y (first_so (x == y) r (second_so (a == b) _ h)))
+first_two n a b x y r h = ap (λ m. of n m x) (eqb-true a b (first_so (a == b) _ h))
+    ∙ ap (of n b) (eqb-true x y (first_so (x == y) r (second_so (a == b) _ h)))
 
 same_numbers : (k l : EffectKey) → keys.ghosts.eq k l ≡ true → key_numbers k ≡ key_numbers l
 same_numbers (key.CreateFrom a x) (key.CreateFrom b y) h = both 0 a.0 b.0 x.0 y.0 h

@@ -45,7 +45,8 @@ with_error_of (effect.Impure p error) e = effect.Impure p error
 with_error_of (effect.MutateFrozen p error) e = effect.MutateFrozen p error
 with_error_of (effect.MutateGlobal p error) e = effect.MutateGlobal p error
 -- these have no report; each is named, so that a new effect doesn't go without its own
-with_error_of (effect.Apply receiver function mutates args into signature span) e = effect.Apply receiver function mutates args into signature span
+with_error_of (effect.Apply receiver function mutates args into signature span) e =
+    effect.Apply receiver function mutates args into signature span
 with_error_of (effect.CreateFrom a x) e = effect.CreateFrom a x
 with_error_of (effect.ImmutableCapture a x) e = effect.ImmutableCapture a x
 with_error_of (effect.Assign a x) e = effect.Assign a x

@@ -30,12 +30,15 @@ or_later true true c = refl
 or_later true false c = refl
 or_later false b c = refl
 
-noted_more : (q r : ContextRead) (reads : List ContextRead) → is_noted q (reads ++ r ∷ []) ≡ cond (same_read r q) true (is_noted q reads)
+noted_more : (q r : ContextRead) (reads : List ContextRead) → is_noted q (reads ++ r ∷ [])
+    ≡ cond (same_read r q) true (is_noted q reads)
 noted_more q r [] = elim (same_read r q) as (λ b. (b || false) ≡ cond b true false) [ true ↦ refl | false ↦ refl ]
-noted_more q r (x ∷ reads) = ap (λ b. same_read x q || b) (noted_more q r reads) ∙ or_later (same_read x q) (same_read r q) (is_noted q reads)
+noted_more q r (x ∷ reads) = ap (λ b. same_read x q || b) (noted_more q r reads)
+    ∙ or_later (same_read x q) (same_read r q) (is_noted q reads)
 
 -- the set with one more place has those of the list with one more
-pub set_of_more : (s n : BTreeSet ContextRead) (reads : List ContextRead) (r : ContextRead) → IsSetOf s reads → Updates read_cmp s n r true → IsSetOf n (reads ++ r ∷ [])
+pub set_of_more : (s n : BTreeSet ContextRead) (reads : List ContextRead) (r : ContextRead) → IsSetOf s reads
+    → Updates read_cmp s n r true → IsSetOf n (reads ++ r ∷ [])
 set_of_more s n reads r is u q =
     u.0 q
     ∙ ap (λ b. cond b true (contains read_cmp s q)) (ties r q)

@@ -1,5 +1,6 @@
 -- Reports and read-only places are found again.
-use Rattle.std.specs.Prelude.{◌≡◌, ℕ, ◌+◌, ◌<◌, Bool, true, false, cond, ◌&&◌, ◌||◌, ◌==◌, nat_lt, List, [], ◌∷◌, ◌++◌, length, Option, Some, None, Ok, Err, refl, if◌then◌else◌}
+use Rattle.std.specs.Prelude.{◌≡◌, ℕ, ◌+◌, ◌<◌, Bool, true, false, cond, ◌&&◌, ◌||◌, ◌==◌, nat_lt, List, [], ◌∷◌, ◌++◌}
+use Rattle.std.specs.Prelude.{length, Option, Some, None, Ok, Err, refl, if◌then◌else◌}
 use Rattle.std.proofs.Common.{ap, sym, ◌∙◌, subst, append_assoc, eq-eqb, arith}
 use Rattle.std.proofs.lemmas.Bool.Decides.{nat_tests}
 use Rattle.std.specs.List.{list_any}
@@ -9,11 +10,13 @@ use Rattle.alias_base.specs.declared.ids.IdentifierId.{IdentifierId}
 use Rattle.alias_hir.specs.declared.error.Counter.TheVariants.{Diagnostics}
 use Rattle.alias_hir.specs.declared.report.ReportId.{ReportId}
 use Rattle.alias_hir.specs.declared.report.ErrorCategory.{ErrorCategory}
-use Rattle.alias_hir.specs.declared.report.ErrorCategory.TheVariants.{Invariant, Todo, Immutability, Globals, Purity, IncompatibleLibrary}
+use Rattle.alias_hir.specs.declared.report.ErrorCategory.TheVariants.{Invariant, Todo, Immutability, Globals, Purity}
+use Rattle.alias_hir.specs.declared.report.ErrorCategory.TheVariants.{IncompatibleLibrary}
 use Rattle.alias_hir.specs.declared.report.Interned.{Interned}
 use Rattle.alias_hir.specs.declared.report.Label.{Label}
 use Rattle.alias_hir.specs.declared.report.Report.{Report}
-use Rattle.alias_hir.specs.ReportNumbers.{same_category, same_text, same_span, same_label, same_words, same_report, same_identity, same_instance, number_of, interned, with_interned}
+use Rattle.alias_hir.specs.ReportNumbers.{same_category, same_text, same_span, same_label, same_words, same_report}
+use Rattle.alias_hir.specs.ReportNumbers.{same_identity, same_instance, number_of, interned, with_interned}
 use Rattle.alias_tables.specs.declared.reads.ContextRead.{ContextRead}
 use Rattle.alias_tables.specs.declared.faults.Refusal.TheVariants.{TooMany}
 use Rattle.alias_tables.specs.Reads.{same_read, is_noted}
@@ -52,17 +55,20 @@ category_itself IncompatibleLibrary = refl
 label_itself : (l : Label) → same_label l l ≡ true
 label_itself l =
     and_true (same_span l.span l.span) (option_eq same_text l.text l.text)
-    (and_true (l.span.start == l.span.start) (l.span.end == l.span.end) (same_itself l.span.start) (same_itself l.span.end))
+    (and_true (l.span.start == l.span.start) (l.span.end == l.span.end) (same_itself l.span.start)
+    (same_itself l.span.end))
     (option_itself l.text)
 
 pub words_itself : (r : Report) → same_words r r ≡ true
 words_itself r =
     and_true (same_category r.category r.category && same_text r.message r.message) (option_eq same_text r.help r.help)
-    (and_true (same_category r.category r.category) (same_text r.message r.message) (category_itself r.category) (text_itself r.message))
+    (and_true (same_category r.category r.category) (same_text r.message r.message) (category_itself r.category)
+    (text_itself r.message))
     (option_itself r.help)
 
 report_itself : (r : Report) → same_report r r ≡ true
-report_itself r = and_true (same_words r r) (pointwise same_label r.labels r.labels) (words_itself r) (pointwise_itself same_label label_itself r.labels)
+report_itself r = and_true (same_words r r) (pointwise same_label r.labels r.labels) (words_itself r)
+    (pointwise_itself same_label label_itself r.labels)
 
 module _ (id : IdentifierId) (r : Report) where
   identity_itself : same_identity id r (interned id r) ≡ true
@@ -77,7 +83,8 @@ module _ (id : IdentifierId) (r : Report) where
   equal_says_same false b c h = cc
 
   says_same : (e : Interned) → same_instance id r e ≡ true → same_identity id r e ≡ true
-  says_same e h = equal_says_same (e.identifier.0 == id.0) (same_words e.report r) (pointwise same_label e.report.labels r.labels) h
+  says_same e h = equal_says_same (e.identifier.0 == id.0) (same_words e.report r)
+      (pointwise same_label e.report.labels r.labels) h
 
 -- ---- numbers of entries
 
@@ -89,18 +96,21 @@ module _ (f : Interned → Bool) where
   pub number_still : (l more : List Interned) → list_any f l ≡ true → number_of f (l ++ more) ≡ number_of f l
   number_still [] more h = cc
   number_still (y ∷ l) more h =
-      elim (f y) as (λ b. (b || list_any f l) ≡ true → cond b 0 (number_of f (l ++ more) + 1) ≡ cond b 0 (number_of f l + 1)) [
+      elim (f y) as (λ b. (b || list_any f l) ≡ true → cond b 0 (number_of f (l ++ more) + 1)
+      ≡ cond b 0 (number_of f l + 1)) [
         | true ↦ λ g. refl
         | false ↦ λ g. ap (λ n. n + 1) (number_still l more g)
       ] h
 
   any_here : (l more : List Interned) (x : Interned) → f x ≡ true → list_any f (l ++ x ∷ more) ≡ true
   any_here [] more x h = ap (λ b. b || list_any f more) h
-  any_here (y ∷ l) more x h = elim (f y) as (λ b. (b || list_any f (l ++ x ∷ more)) ≡ true) [ true ↦ refl | false ↦ any_here l more x h ]
+  any_here (y ∷ l) more x h = elim (f y) as (λ b. (b || list_any f (l ++ x ∷ more)) ≡ true)
+      [ true ↦ refl | false ↦ any_here l more x h ]
 
   any_still : (l more : List Interned) → list_any f l ≡ true → list_any f (l ++ more) ≡ true
   any_still [] more h = cc
-  any_still (y ∷ l) more h = elim (f y) as (λ b. (b || list_any f l) ≡ true → (b || list_any f (l ++ more)) ≡ true) [ true ↦ λ g. refl | false ↦ λ g. any_still l more g ] h
+  any_still (y ∷ l) more h = elim (f y) as (λ b. (b || list_any f l) ≡ true → (b || list_any f (l ++ more)) ≡ true)
+      [ true ↦ λ g. refl | false ↦ λ g. any_still l more g ] h
 
   number_within : (l : List Interned) → list_any f l ≡ true → number_of f l < length l
   number_within [] h = cc
@@ -129,10 +139,12 @@ module _ (f : Interned → Bool) where
   passes l h =
       elim (list_any f l) as (λ b. list_any f l ≡ b → b ≡ true) [
         | true ↦ λ e. refl
-        | false ↦ λ e. let same : (number_of f l == length l) ≡ true = eq-eqb (number_of f l) (length l) (number_past l e) in cc
+        | false ↦ λ e. let same : (number_of f l == length l) ≡ true =
+            eq-eqb (number_of f l) (length l) (number_past l e) in cc
       ] refl
 
-any_weaker : (f g : Interned → Bool) → ((e : Interned) → f e ≡ true → g e ≡ true) → (l : List Interned) → list_any f l ≡ true → list_any g l ≡ true
+any_weaker : (f g : Interned → Bool) → ((e : Interned) → f e ≡ true → g e ≡ true) → (l : List Interned) → list_any f l
+    ≡ true → list_any g l ≡ true
 any_weaker f g h [] e = cc
 any_weaker f g h (y ∷ l) e = or_weaker (f y) (list_any f l) (g y) (list_any g l) (h y) (any_weaker f g h l) e
   where
@@ -160,7 +172,8 @@ module _ (id : IdentifierId) (r : Report) where
     pub instance : number_of inst m ≡ number_of inst l
     pub there : list_any inst m ≡ true
 
-  stays_if : (b : Bool) (l more m : List Interned) → (number_of inst l == length l) ≡ b → kept_if b l ++ more ≡ m → Stays l m
+  stays_if : (b : Bool) (l more m : List Interned) → (number_of inst l == length l) ≡ b → kept_if b l ++ more ≡ m
+      → Stays l m
   stays_if true l more m h e =
       let e2 : l ++ interned id r ∷ more ≡ m = sym (append_assoc l (interned id r ∷ []) more) ∙ e in record {
         identity = ap (number_of ident) (sym e2) ∙ number_here ident l more (interned id r) (identity_itself id r);
@@ -169,7 +182,8 @@ module _ (id : IdentifierId) (r : Report) where
       }
   stays_if false l more m h e =
       let p = passes inst l h in record {
-        identity = ap (number_of ident) (sym e) ∙ number_still ident l more (any_weaker inst ident (says_same id r) l p);
+        identity = ap (number_of ident) (sym e)
+            ∙ number_still ident l more (any_weaker inst ident (says_same id r) l p);
         instance = ap (number_of inst) (sym e) ∙ number_still inst l more p;
         there = ap (list_any inst) (sym e) ∙ any_still inst l more p;
       }
@@ -185,13 +199,19 @@ module _ (id : IdentifierId) (r : Report) where
   grows_by_report l = grows_if (number_of inst l == length l) l
 
   abbrev answer_if : Bool → ℕ → ℕ → List Interned → Step ReportId
-  answer_if b i j reports t = if b then Ok (record { identity = i; instance = j }, with_reports t reports) else Err (TooMany Diagnostics)
+  answer_if b i j reports t = if b then Ok (record { identity = i; instance = j }, with_reports t reports)
+      else Err (TooMany Diagnostics)
 
   abbrev few : ℕ → ℕ → Bool
   few i j = nat_lt i 4294967295 && nat_lt j 4294967295
 
   added : (t : TableLists) → Extends t (with_reports t (with_interned t.reports id r))
-  added t = record { first = grows_self t.first; temporaries = grows_self t.temporaries; reports = grows_by_report t.reports; reads = grows_self t.reads }
+  added t = record {
+    first = grows_self t.first;
+    temporaries = grows_self t.temporaries;
+    reports = grows_by_report t.reports;
+    reads = grows_self t.reads;
+  }
 
   module _ (t u : TableLists) (y : ReportId) where
     abbrev d : ReportId
@@ -200,17 +220,24 @@ module _ (id : IdentifierId) (r : Report) where
     abbrev kept : TableLists
     kept = with_reports t (with_interned t.reports id r)
 
-    report_grows : (b : Bool) → answer_if b (number_of ident t.reports) (number_of inst t.reports) (with_interned t.reports id r) t ≡ Ok (y, u) → Extends t u
+    report_grows : (b : Bool) → answer_if b (number_of ident t.reports) (number_of inst t.reports)
+        (with_interned t.reports id r) t ≡ Ok (y, u) → Extends t u
     report_grows true h = subst (Extends t) (tables_are d y kept u h) (added t)
     report_grows false h = not_given _ y u h
 
-    report_again : (b : Bool) (v : TableLists) → few (number_of ident t.reports) (number_of inst t.reports) ≡ b → answer_if b (number_of ident t.reports) (number_of inst t.reports) (with_interned t.reports id r) t ≡ Ok (y, u) → Extends u v → intern_report id r v ≡ Ok (y, v)
+    report_again : (b : Bool) (v : TableLists) → few (number_of ident t.reports) (number_of inst t.reports) ≡ b
+        → answer_if b (number_of ident t.reports) (number_of inst t.reports) (with_interned t.reports id r) t
+        ≡ Ok (y, u) → Extends u v → intern_report id r v ≡ Ok (y, v)
     report_again true v enough h x =
         let tables : kept ≡ u = tables_are d y kept u h in
-        let s : Stays t.reports v.reports = stays t.reports v.reports (subst (λ (w : TableLists). Grows w.reports v.reports) (sym tables) x.reports) in
-        ap (λ i. answer_if (few i (number_of inst v.reports)) i (number_of inst v.reports) (with_interned v.reports id r) v) s.identity
-        ∙ ap (λ j. answer_if (few (number_of ident t.reports) j) (number_of ident t.reports) j (with_interned v.reports id r) v) s.instance
-        ∙ ap (λ b. answer_if b (number_of ident t.reports) (number_of inst t.reports) (with_interned v.reports id r) v) enough
+        let s : Stays t.reports v.reports = stays t.reports v.reports
+        (subst (λ (w : TableLists). Grows w.reports v.reports) (sym tables) x.reports) in
+        ap (λ i. answer_if (few i (number_of inst v.reports)) i (number_of inst v.reports)
+        (with_interned v.reports id r) v) s.identity
+        ∙ ap (λ j. answer_if (few (number_of ident t.reports) j) (number_of ident t.reports) j
+        (with_interned v.reports id r) v) s.instance
+        ∙ ap (λ b. answer_if b (number_of ident t.reports) (number_of inst t.reports) (with_interned v.reports id r) v)
+        enough
         ∙ ap (λ b. Ok (d, with_reports v (kept_if b v.reports))) (not_next inst v.reports s.there)
         ∙ ap (λ z. Ok (z, v)) (first_is d y kept u h)
     report_again false v enough h x = not_given _ y u h
@@ -225,16 +252,20 @@ module _ (id : IdentifierId) (r : Report) where
 -- ---- read-only places
 
 read_itself : (r : ContextRead) → same_read r r ≡ true
-read_itself r = and_true (r.function.0 == r.function.0) (r.place.0 == r.place.0) (same_itself r.function.0) (same_itself r.place.0)
+read_itself r = and_true (r.function.0 == r.function.0) (r.place.0 == r.place.0) (same_itself r.function.0)
+    (same_itself r.place.0)
 
 module _ (r : ContextRead) where
   noted_last : (l : List ContextRead) → is_noted r (l ++ r ∷ []) ≡ true
   noted_last [] = ap (λ b. b || false) (read_itself r)
-  noted_last (x ∷ l) = elim (same_read x r) as (λ b. (b || is_noted r (l ++ r ∷ [])) ≡ true) [ true ↦ refl | false ↦ noted_last l ]
+  noted_last (x ∷ l) = elim (same_read x r) as (λ b. (b || is_noted r (l ++ r ∷ [])) ≡ true)
+      [ true ↦ refl | false ↦ noted_last l ]
 
   noted_still : (l more : List ContextRead) → is_noted r l ≡ true → is_noted r (l ++ more) ≡ true
   noted_still [] more h = cc
-  noted_still (x ∷ l) more h = elim (same_read x r) as (λ b. (b || is_noted r l) ≡ true → (b || is_noted r (l ++ more)) ≡ true) [ true ↦ λ g. refl | false ↦ λ g. noted_still l more g ] h
+  noted_still (x ∷ l) more h = elim (same_read x r) as
+      (λ b. (b || is_noted r l) ≡ true → (b || is_noted r (l ++ more)) ≡ true)
+      [ true ↦ λ g. refl | false ↦ λ g. noted_still l more g ] h
 
   abbrev reads_if : Bool → List ContextRead → List ContextRead
   reads_if b l = if b then l else l ++ r ∷ []
@@ -248,11 +279,17 @@ module _ (r : ContextRead) where
   then_noted false l h = noted_last l
 
   read_added : (t : TableLists) → Extends t (note_read r t)
-  read_added t = record { first = grows_self t.first; temporaries = grows_self t.temporaries; reports = grows_self t.reports; reads = reads_grow (is_noted r t.reads) t.reads }
+  read_added t = record {
+    first = grows_self t.first;
+    temporaries = grows_self t.temporaries;
+    reports = grows_self t.reports;
+    reads = reads_grow (is_noted r t.reads) t.reads;
+  }
 
   read_there : (t u v : TableLists) → note_read r t ≡ u → Extends u v → is_noted r v.reads ≡ true
   read_there t u v e x =
-      let there : is_noted r u.reads ≡ true = ap (λ (w : TableLists). is_noted r w.reads) (sym e) ∙ then_noted (is_noted r t.reads) t.reads refl in
+      let there : is_noted r u.reads ≡ true = ap (λ (w : TableLists). is_noted r w.reads) (sym e)
+      ∙ then_noted (is_noted r t.reads) t.reads refl in
       ap (is_noted r) (sym x.reads.is) ∙ noted_still u.reads x.reads.more there
 
   -- a read-only place is noted once
@@ -260,6 +297,7 @@ module _ (r : ContextRead) where
   again_noted {A} a = record {
     grows = λ t u y h. subst (Extends t) (tables_are a y (note_read r t) u h) (read_added t);
     again = λ t u v y h x.
-        ap (λ b. Ok (a, record v { reads = reads_if b v.reads })) (read_there t u v (tables_are a y (note_read r t) u h) x)
+        ap (λ b. Ok (a, record v { reads = reads_if b v.reads }))
+        (read_there t u v (tables_are a y (note_read r t) u h) x)
         ∙ ap (λ z. Ok (z, v)) (first_is a y (note_read r t) u h);
   }

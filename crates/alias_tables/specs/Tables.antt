@@ -1,5 +1,6 @@
 -- The tables, and what is found and added in them.
-use Rattle.std.specs.Prelude.{◌≡◌, ℕ, ◌+◌, Bool, false, ◌&&◌, nat_lt, List, [], ◌∷◌, ◌++◌, length, Option, Some, None, Result, Ok, Err, ⊤, if◌then◌else◌}
+use Rattle.std.specs.Prelude.{◌≡◌, ℕ, ◌+◌, Bool, false, ◌&&◌, nat_lt, List, [], ◌∷◌, ◌++◌, length, Option, Some, None}
+use Rattle.std.specs.Prelude.{Result, Ok, Err, ⊤, if◌then◌else◌}
 use Rattle.alias_base.specs.declared.ids.IdentifierId.{IdentifierId}
 use Rattle.alias_hir.specs.declared.error.Counter.TheVariants.{Diagnostics, Identifiers}
 use Rattle.alias_hir.specs.declared.place.Effect.TheVariants.{Unknown}
@@ -66,13 +67,15 @@ has_room identifiers types more = nat_lt (identifiers + more) 4294967295 && nat_
 
 -- the place of the identifier after so many
 abbrev pub new_place : ℕ → ℕ → Option Span → Place
-new_place identifiers more span = record { identifier = record { 0 = identifiers + more }; effect = Unknown; reactive = false; span = span }
+new_place identifiers more span = record
+    { identifier = record { 0 = identifiers + more }; effect = Unknown; reactive = false; span = span }
 
 abbrev pub temporary_after : Option Temporary → Environment → TempKey → Option Span → Step Place
 temporary_after (Some temporary) env key span t = Ok (temporary.place, t)
 temporary_after None env key span t =
     if has_room (length env.identifiers) (length env.types) (length t.temporaries)
-    then (let p = new_place (length env.identifiers) (length t.temporaries) span in Ok (p, record t { temporaries = t.temporaries ++ temporary_of key p ∷ [] }))
+    then (let p = new_place (length env.identifiers) (length t.temporaries) span in
+    Ok (p, record t { temporaries = t.temporaries ++ temporary_of key p ∷ [] }))
     else Err (TooMany Identifiers)
 
 -- the place of the key's temporary: a new identifier with this span, where there is none
@@ -84,7 +87,8 @@ temporary env key span t = temporary_after (temp_like key t.temporaries) env key
 abbrev pub with_reports : TableLists → List Interned → TableLists
 with_reports t reports = record t { reports = reports }
 
--- the numbers of the first report of the identifier that says the same, and of the one that is equal; a new one takes the next number, of which there are 4,294,967,295
+-- the numbers of the first report of the identifier that says the same, and of the one that is equal; a new one takes
+-- the next number, of which there are 4,294,967,295
 abbrev pub intern_report : IdentifierId → Report → Step ReportId
 intern_report id r t =
     let identity = number_of (same_identity id r) t.reports in

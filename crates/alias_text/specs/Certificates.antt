@@ -10,7 +10,8 @@ use Rattle.alias_hir.specs.declared.effect.ValueReason.{ValueReason}
 use Rattle.alias_lattice.specs.Reasons.{reasons_in}
 use Rattle.alias_lattice.specs.States.{State, Sites}
 use Rattle.alias_lattice.specs.declared.site.Site.{Site}
-use Rattle.alias_lattice.specs.declared.site.Site.TheVariants.{Parameter, Context, Created, CreatedFrom, Function, AssignFrozen, AssignCopy, Default}
+use Rattle.alias_lattice.specs.declared.site.Site.TheVariants.{Parameter, Context, Created, CreatedFrom, Function}
+use Rattle.alias_lattice.specs.declared.site.Site.TheVariants.{AssignFrozen, AssignCopy, Default}
 use Rattle.alias_lattice.specs.declared.value.AbstractValue.{AbstractValue}
 use Rattle.alias_tables.specs.declared.temp_key.TempKey.{TempKey}
 use Rattle.alias_tables.specs.declared.temp_key.TempKey.TheVariants.{Named, Rest}
@@ -34,7 +35,8 @@ two_ids from into = both_text (decimal from.0) (decimal into.0)
 abbrev pub site_text : Site → List ℕ
 site_text (Parameter x) = form_text (codes "Parameter") (decimal x.0)
 site_text (Context x) = form_text (codes "Context") (decimal x.0)
-site_text (Created into kind reason) = form_text (codes "Created") (both_text (decimal into.0) (both_text (kind_word kind) (reason_word reason)))
+site_text (Created into kind reason) = form_text (codes "Created")
+    (both_text (decimal into.0) (both_text (kind_word kind) (reason_word reason)))
 site_text (CreatedFrom from into) = form_text (codes "CreatedFrom") (two_ids from into)
 site_text (Function f) = form_text (codes "Function") (decimal f.0)
 site_text (AssignFrozen from into) = form_text (codes "AssignFrozen") (two_ids from into)
@@ -48,7 +50,8 @@ reasons_text (r ∷ rs) = join_by reason_word (codes "+") (r ∷ rs)
 
 -- the site, and the kind and the reasons of its value
 abbrev pub value_line : Site × AbstractValue → List ℕ
-value_line e = codes "value " ++ site_text e.0 ++ codes " " ++ kind_word e.1.kind ++ codes " " ++ reasons_text (reasons_in e.1.reason) ++ codes "\n"
+value_line e = codes "value " ++ site_text e.0 ++ codes " " ++ kind_word e.1.kind ++ codes " "
+    ++ reasons_text (reasons_in e.1.reason) ++ codes "\n"
 
 abbrev pub spaced_site : Site → List ℕ
 spaced_site site = codes " " ++ site_text site

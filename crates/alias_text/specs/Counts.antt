@@ -33,11 +33,14 @@ count_line name count = name ++ spaced count ++ codes "\n"
 
 -- the blocks and instructions of the root
 abbrev pub size_lines : HirUnit → List ℕ
-size_lines u = count_line (codes "blocks") (length u.function.body.blocks) ++ count_line (codes "instructions") (length u.function.instructions)
+size_lines u = count_line (codes "blocks") (length u.function.body.blocks)
+    ++ count_line (codes "instructions") (length u.function.instructions)
 
 -- the effects and visits of all functions
 abbrev pub solved_lines : List Solved → List ℕ
-solved_lines solved = count_line (codes "effects") (sum_by effects_of solved) ++ count_line (codes "visits") (sum_by visits_of solved)
+solved_lines solved = count_line (codes "effects") (sum_by effects_of solved)
+    ++ count_line (codes "visits") (sum_by visits_of solved)
 
 abbrev pub counts_text : HirUnit → List Solved → List Report → List ℕ
-counts_text u solved reports = size_lines u ++ solved_lines solved ++ count_line (codes "ranges") (range_count u.env.identifiers) ++ count_line (codes "reports") (length reports)
+counts_text u solved reports = size_lines u ++ solved_lines solved
+    ++ count_line (codes "ranges") (range_count u.env.identifiers) ++ count_line (codes "reports") (length reports)

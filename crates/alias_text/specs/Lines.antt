@@ -7,7 +7,11 @@ use Rattle.alias_base.specs.declared.ids.FunctionId.{FunctionId}
 use Rattle.alias_base.specs.declared.ids.InstructionId.{InstructionId}
 use Rattle.alias_hir.specs.Terminals.{terminal_effects}
 use Rattle.alias_hir.specs.declared.effect.AliasingEffect.{AliasingEffect}
-use Rattle.alias_hir.specs.declared.effect.AliasingEffect.TheVariants.{Apply, CreateFrom, ImmutableCapture, Assign, Alias, Capture, MaybeAlias, Create, Freeze, Impure, MutateFrozen, MutateGlobal, Render, Mutate, MutateConditionally, MutateTransitive, MutateTransitiveConditionally, CreateFunction}
+use Rattle.alias_hir.specs.declared.effect.AliasingEffect.TheVariants.{Apply, CreateFrom, ImmutableCapture, Assign}
+use Rattle.alias_hir.specs.declared.effect.AliasingEffect.TheVariants.{Alias, Capture, MaybeAlias, Create, Freeze}
+use Rattle.alias_hir.specs.declared.effect.AliasingEffect.TheVariants.{Impure, MutateFrozen, MutateGlobal, Render}
+use Rattle.alias_hir.specs.declared.effect.AliasingEffect.TheVariants.{Mutate, MutateConditionally, MutateTransitive}
+use Rattle.alias_hir.specs.declared.effect.AliasingEffect.TheVariants.{MutateTransitiveConditionally, CreateFunction}
 use Rattle.alias_hir.specs.declared.report.ReportId.{ReportId}
 use Rattle.alias_hir.specs.declared.effect.MutationReason.{MutationReason}
 use Rattle.alias_hir.specs.declared.effect.MutationReason.TheVariants.{AssignCurrentProperty}
@@ -62,7 +66,8 @@ abbrev pub pair_text : List ℕ → Place → Place → List ℕ
 pair_text name from into = one_text name from ++ spaced into.identifier.0
 
 abbrev pub create_text : Place → ValueKind → ValueReason → List ℕ
-create_text into value reason = one_text (codes "Create") into ++ codes " " ++ kind_word value ++ codes " " ++ reason_word reason
+create_text into value reason = one_text (codes "Create") into ++ codes " " ++ kind_word value ++ codes " "
+    ++ reason_word reason
 
 abbrev pub freeze_text : Place → ValueReason → List ℕ
 freeze_text value reason = one_text (codes "Freeze") value ++ codes " " ++ reason_word reason
@@ -81,10 +86,12 @@ arg_text (arg.Spread s) = spaced s.place.identifier.0
 arg_text arg.Hole = []
 
 abbrev pub apply_text : Place → Place → List PlaceOrSpreadOrHole → Place → List ℕ
-apply_text receiver function args into = pair_text (codes "Apply") receiver function ++ flat_map arg_text args ++ spaced into.identifier.0
+apply_text receiver function args into = pair_text (codes "Apply") receiver function ++ flat_map arg_text args
+    ++ spaced into.identifier.0
 
 abbrev pub create_function_text : Place → FunctionId → List Place → List ℕ
-create_function_text into f captures = one_text (codes "CreateFunction") into ++ spaced f.0 ++ flat_map (λ (p : Place). spaced p.identifier.0) captures
+create_function_text into f captures = one_text (codes "CreateFunction") into ++ spaced f.0
+    ++ flat_map (λ (p : Place). spaced p.identifier.0) captures
 
 -- the name, the identifiers in the order of the fields, and then kind and reason
 abbrev pub effect_text : AliasingEffect → List ℕ

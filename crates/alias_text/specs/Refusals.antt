@@ -6,14 +6,24 @@ use Rattle.alias_hir.specs.declared.error.InferError.TheVariants as infer
 use Rattle.alias_hir.specs.declared.error.Counter.{Counter}
 use Rattle.alias_hir.specs.declared.error.Counter.TheVariants as counter
 use Rattle.alias_hir.specs.declared.error.Pass.{Pass}
-use Rattle.alias_hir.specs.declared.error.Pass.TheVariants.{DeadCodeElimination, RewriteInstructionKindsBasedOnReassignment, InferReactiveScopeVariables}
+use Rattle.alias_hir.specs.declared.error.Pass.TheVariants.{DeadCodeElimination}
+use Rattle.alias_hir.specs.declared.error.Pass.TheVariants.{RewriteInstructionKindsBasedOnReassignment}
+use Rattle.alias_hir.specs.declared.error.Pass.TheVariants.{InferReactiveScopeVariables}
 use Rattle.alias_rules.specs.function_rules.Fault.{rule_number}
 use Rattle.alias_rules.specs.declared.function_rules.fault.Holder.{Holder}
 use Rattle.alias_rules.specs.declared.function_rules.fault.Holder.TheVariants as holder
 use Rattle.alias_rules.specs.declared.function_rules.fault.Table.{Table}
-use Rattle.alias_rules.specs.declared.function_rules.fault.Table.TheVariants.{Identifiers, Types, Functions, Instructions, Declarations}
+use Rattle.alias_rules.specs.declared.function_rules.fault.Table.TheVariants.{Identifiers, Types, Functions}
+use Rattle.alias_rules.specs.declared.function_rules.fault.Table.TheVariants.{Instructions, Declarations}
 use Rattle.alias_rules.specs.declared.function_rules.fault.UnitFault.{UnitFault}
-use Rattle.alias_rules.specs.declared.function_rules.fault.UnitFault.TheVariants.{IdOutOfRange, EntryMissing, SuccessorMissing, NestingNoTree, NestingTooDeep, TypeTooDeep, InstructionMissing, InstructionTwice, TwoTrys, PhiNoPredecessor, OrderOutOfRange, SomethingInferred, NotDistinct, IdentifierInTwo, TooMuch, ContextValues, Memory}
+use Rattle.alias_rules.specs.declared.function_rules.fault.UnitFault.TheVariants.{IdOutOfRange, EntryMissing}
+use Rattle.alias_rules.specs.declared.function_rules.fault.UnitFault.TheVariants.{SuccessorMissing, NestingNoTree}
+use Rattle.alias_rules.specs.declared.function_rules.fault.UnitFault.TheVariants.{NestingTooDeep, TypeTooDeep}
+use Rattle.alias_rules.specs.declared.function_rules.fault.UnitFault.TheVariants.{InstructionMissing, InstructionTwice}
+use Rattle.alias_rules.specs.declared.function_rules.fault.UnitFault.TheVariants.{TwoTrys, PhiNoPredecessor}
+use Rattle.alias_rules.specs.declared.function_rules.fault.UnitFault.TheVariants.{OrderOutOfRange, SomethingInferred}
+use Rattle.alias_rules.specs.declared.function_rules.fault.UnitFault.TheVariants.{NotDistinct, IdentifierInTwo, TooMuch}
+use Rattle.alias_rules.specs.declared.function_rules.fault.UnitFault.TheVariants.{ContextValues, Memory}
 use Rattle.alias_json.specs.declared.fault.TextRule.{TextRule}
 use Rattle.alias_json.specs.declared.fault.TextRule.TheVariants.{Missing, Unknown, Kind, Float, Range, Name, Twice}
 use Rattle.json.specs.Print.{quoted}

@@ -5,7 +5,8 @@ use Rattle.std.specs.Fmt.{decimal}
 use Rattle.json.specs.Print.{quoted}
 use Rattle.alias_hir.specs.declared.place.Span.{Span}
 use Rattle.alias_hir.specs.declared.report.ErrorCategory.{ErrorCategory}
-use Rattle.alias_hir.specs.declared.report.ErrorCategory.TheVariants.{Invariant, Todo, Immutability, Globals, Purity, IncompatibleLibrary}
+use Rattle.alias_hir.specs.declared.report.ErrorCategory.TheVariants.{Invariant, Todo, Immutability, Globals, Purity}
+use Rattle.alias_hir.specs.declared.report.ErrorCategory.TheVariants.{IncompatibleLibrary}
 use Rattle.alias_hir.specs.declared.report.Label.{Label}
 use Rattle.alias_hir.specs.declared.report.Report.{Report}
 
@@ -31,7 +32,8 @@ label_text label = codes " " ++ span_text label.span ++ codes " " ++ optional_te
 
 -- the category, the message, the help and the labels
 abbrev pub report_text : Report → List ℕ
-report_text report = category_word report.category ++ codes " " ++ quoted report.message ++ codes " " ++ optional_text report.help ++ flat_map label_text report.labels
+report_text report = category_word report.category ++ codes " " ++ quoted report.message ++ codes " "
+    ++ optional_text report.help ++ flat_map label_text report.labels
 
 abbrev pub report_line : Report → List ℕ
 report_line report = codes "report " ++ report_text report ++ codes "\n"

@@ -31,7 +31,8 @@ certify_only Counts text = []
 
 -- the block's line, the lines of its entry state, and those of its effects
 abbrev pub entry_text : Detail → HirFunction → BlockEntry → List ℕ
-entry_text detail func e = block_head e.block ++ certify_only detail (state_lines e.state) ++ block_lines func.instructions (value_at func.body.blocks e.block)
+entry_text detail func e = block_head e.block ++ certify_only detail (state_lines e.state)
+    ++ block_lines func.instructions (value_at func.body.blocks e.block)
 
 abbrev pub blocks_text : Detail → HirFunction → List BlockEntry → List ℕ
 blocks_text detail func entries = flat_map (entry_text detail func) entries
@@ -41,7 +42,8 @@ abbrev pub found_text : Detail → Option HirFunction → List BlockEntry → Li
 found_text detail None entries = []
 found_text detail (Some func) entries = blocks_text detail func entries
 
--- the lines of the function that was solved, of its visits, its reached blocks and its tables, and then its summary. `summary` is that of the root
+-- the lines of the function that was solved, of its visits, its reached blocks and its tables, and then its summary.
+-- `summary` is that of the root
 abbrev pub function_text : Detail → HirUnit → List AliasingEffect → Solved → List ℕ
 function_text detail u summary s =
     function_head s.function ++ certify_only detail (visits_line s.visits)
@@ -54,7 +56,8 @@ functions_text detail u summary solved = flat_map (function_text detail u summar
 
 -- the functions, the mutable ranges and the reports
 abbrev pub listing_text : Detail → HirUnit → List Solved → List AliasingEffect → List Report → List ℕ
-listing_text detail u solved summary reports = functions_text detail u summary solved ++ ranges_text u.env.identifiers ++ reports_text reports
+listing_text detail u solved summary reports = functions_text detail u summary solved ++ ranges_text u.env.identifiers
+    ++ reports_text reports
 
 -- what was inferred, in this detail
 abbrev pub result_text : Detail → HirUnit → List Solved → List AliasingEffect → List Report → List ℕ

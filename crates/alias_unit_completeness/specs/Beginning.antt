@@ -1,5 +1,7 @@
--- What the functions of a unit that is well formed begin with, and that tables which are kept agree with those of the unit.
-use Rattle.std.specs.Prelude.{◌≡◌, ℕ, ◌<◌, true, List, [], ◌∷◌, Option, Some, None, Ok, option_map, nat_lt, length, slice_get, refl}
+-- What the functions of a unit that is well formed begin with, and that tables which are kept agree with those of the
+-- unit.
+use Rattle.std.specs.Prelude.{◌≡◌, ℕ, ◌<◌, true, List, [], ◌∷◌, Option, Some, None, Ok, option_map, nat_lt, length}
+use Rattle.std.specs.Prelude.{slice_get, refl}
 use Rattle.std.proofs.Common.{ap, sym, ◌∙◌, ltb-true}
 use Rattle.std.specs.List.{AllByRecursion}
 use Rattle.std.specs.Option.{option_map_or}
@@ -10,7 +12,8 @@ use Rattle.alias_base.specs.declared.ids.DeclarationId.{DeclarationId}
 use Rattle.alias_base.specs.declared.ids.FunctionId.{FunctionId}
 use Rattle.alias_base.specs.declared.ids.TypeId.{TypeId}
 use Rattle.alias_step_laws.specs.blocks.ContextLaws.{numbers_of}
-use Rattle.alias_rules.specs.function_rules.Rules.{place_fits, created_fits, identifier_fits, instruction_fits, phi_fits, block_fits, numbers_fit, tables_fit, is_block}
+use Rattle.alias_rules.specs.function_rules.Rules.{place_fits, created_fits, identifier_fits, instruction_fits}
+use Rattle.alias_rules.specs.function_rules.Rules.{phi_fits, block_fits, numbers_fit, tables_fit, is_block}
 use Rattle.alias_hir.specs.Terminals.{terminal_places}
 use Rattle.alias_hir.specs.Types.{type_at}
 use Rattle.alias_hir.specs.Values.{places_of, created}
@@ -34,18 +37,21 @@ use Rattle.alias_unit_completeness.specs.Moments.{asked}
 
 module _ (env : Environment) where
   place_in : (p : Place) → place_fits env p ≡ Ok tt → InTable env p
-  place_in p h = ltb-true p.identifier.0 (length env.identifiers) (asked (nat_lt p.identifier.0 (length env.identifiers)) _ h)
+  place_in p h = ltb-true p.identifier.0 (length env.identifiers)
+      (asked (nat_lt p.identifier.0 (length env.identifiers)) _ h)
 
   places_in : (ps : List Place) → all_pass (place_fits env) ps ≡ Ok tt → AllByRecursion (InTable env) ps
   places_in [] h = tt
-  places_in (p ∷ ps) h = let b = both_pass (place_fits env p) (all_pass (place_fits env) ps) h in (place_in p b.0, places_in ps b.1)
+  places_in (p ∷ ps) h = let b = both_pass (place_fits env p) (all_pass (place_fits env) ps) h in
+      (place_in p b.0, places_in ps b.1)
 
   -- the numbers of all nested functions fit
   abbrev pub NestedFit : Type 0
   NestedFit = (k : ℕ) (g : HirFunction) → slice_get env.functions k ≡ Some g → numbers_fit env g ≡ Ok tt
 
   module _ (nested : NestedFit) where
-    context_in : (o : Option HirFunction) → ((g : HirFunction) → o ≡ Some g → numbers_fit env g ≡ Ok tt) → AllByRecursion (InTable env) (option_map_or (λ (g : HirFunction). g.context) o [])
+    context_in : (o : Option HirFunction) → ((g : HirFunction) → o ≡ Some g → numbers_fit env g ≡ Ok tt)
+        → AllByRecursion (InTable env) (option_map_or (λ (g : HirFunction). g.context) o [])
     context_in None h = tt
     context_in (Some g) h = places_in g.context (numbers_of env g (h g refl)).context
 
@@ -57,9 +63,15 @@ module _ (env : Environment) where
     instruction_in x h =
         let a = both_pass (place_fits env x.lvalue) _ h in
         let b = both_pass (created_fits env (created x.value)) (all_pass (place_fits env) (places_of x.value)) a.1 in
-        record { lvalue = place_in x.lvalue a.0; places = places_in (places_of x.value) b.1; contexts = contexts_in (created x.value) }
+        record {
+          lvalue = place_in x.lvalue a.0;
+          places = places_in (places_of x.value) b.1;
+          contexts = contexts_in (created x.value);
+        }
 
-    ends_in : (g : HirFunction) (bs : List (BlockId × BasicBlock)) → all_pass (λ (e : BlockId × BasicBlock). block_fits env g e.1) bs ≡ Ok tt → AllByRecursion (λ (e : BlockId × BasicBlock). AllByRecursion (InTable env) (terminal_places e.1.terminal)) bs
+    ends_in : (g : HirFunction) (bs : List (BlockId × BasicBlock))
+        → all_pass (λ (e : BlockId × BasicBlock). block_fits env g e.1) bs ≡ Ok tt
+        → AllByRecursion (λ (e : BlockId × BasicBlock). AllByRecursion (InTable env) (terminal_places e.1.terminal)) bs
     ends_in g [] h = tt
     ends_in g (b ∷ bs) h =
         let p = both_pass (block_fits env g b.1) (all_pass (λ (e : BlockId × BasicBlock). block_fits env g e.1) bs) h in
@@ -70,19 +82,27 @@ module _ (env : Environment) where
     pub all_inside : (g : HirFunction) → numbers_fit env g ≡ Ok tt → AllInside env g
     all_inside g h =
         let n = numbers_of env g h in
-        record { instructions = λ i x e. instruction_in x (passes_at (instruction_fits env) g.instructions i.0 x n.instructions e); ends = ends_in g g.body.blocks n.blocks }
+        record {
+          instructions = λ i x e. instruction_in x
+              (passes_at (instruction_fits env) g.instructions i.0 x n.instructions e);
+          ends = ends_in g g.body.blocks n.blocks;
+        }
 
 -- ---- tables that are kept
 
-declared_as : (o : Option Identifier) → option_map (λ (b : DeclarationId × TypeId). b.0) (option_map bound_to o) ≡ option_map (λ (i : Identifier). i.declaration_id) o
+declared_as : (o : Option Identifier) → option_map (λ (b : DeclarationId × TypeId). b.0) (option_map bound_to o)
+    ≡ option_map (λ (i : Identifier). i.declaration_id) o
 declared_as None = refl
 declared_as (Some i) = refl
 
-typed_as : (o : Option Identifier) → option_map (λ (b : DeclarationId × TypeId). b.1) (option_map bound_to o) ≡ option_map (λ (i : Identifier). i.type_) o
+typed_as : (o : Option Identifier) → option_map (λ (b : DeclarationId × TypeId). b.1) (option_map bound_to o)
+    ≡ option_map (λ (i : Identifier). i.type_) o
 typed_as None = refl
 typed_as (Some i) = refl
 
-types_alike : (base more : Environment) → TablesKept base more → (o p : Option Identifier) → option_map bound_to p ≡ option_map bound_to o → ((i : Identifier) → o ≡ Some i → i.type_.0 < length base.types) → type_at more p ≡ type_at base o
+types_alike : (base more : Environment) → TablesKept base more → (o p : Option Identifier) → option_map bound_to p
+    ≡ option_map bound_to o → ((i : Identifier) → o ≡ Some i → i.type_.0 < length base.types) → type_at more p
+    ≡ type_at base o
 types_alike base more k None None e h = refl
 types_alike base more k None (Some j) e h = cc
 types_alike base more k (Some i) None e h = cc
@@ -91,15 +111,21 @@ types_alike base more k (Some i) (Some j) e h =
     ap (λ (b : DeclarationId × TypeId). slice_get more.types b.1.0) same ∙ k.types i.type_.0 (h i refl)
 
 type_in : (base : Environment) (i : Identifier) → identifier_fits base i ≡ Ok tt → i.type_.0 < length base.types
-type_in base i h = ltb-true i.type_.0 (length base.types) (asked (nat_lt i.type_.0 (length base.types)) _ (both_pass _ _ h).1)
+type_in base i h = ltb-true i.type_.0 (length base.types)
+    (asked (nat_lt i.type_.0 (length base.types)) _ (both_pass _ _ h).1)
 
 -- what the tables of base say of its identifiers, those that kept them say
 pub agrees_kept : (base more : Environment) → tables_fit base ≡ Ok tt → TablesKept base more → Agrees base more
 agrees_kept base more fit k = record {
   longer = k.longer;
-  declarations = λ x h. sym (declared_as (slice_get more.identifiers x.0)) ∙ ap (option_map (λ (b : DeclarationId × TypeId). b.0)) (k.identifiers x.0 h) ∙ declared_as (slice_get base.identifiers x.0);
-  type_ids = λ x h. sym (typed_as (slice_get more.identifiers x.0)) ∙ ap (option_map (λ (b : DeclarationId × TypeId). b.1)) (k.identifiers x.0 h) ∙ typed_as (slice_get base.identifiers x.0);
-  types = λ x h. types_alike base more k (slice_get base.identifiers x.0) (slice_get more.identifiers x.0) (k.identifiers x.0 h) (λ i e. type_in base i (passes_at (identifier_fits base) base.identifiers x.0 i fit e));
+  declarations = λ x h. sym (declared_as (slice_get more.identifiers x.0))
+      ∙ ap (option_map (λ (b : DeclarationId × TypeId). b.0)) (k.identifiers x.0 h)
+      ∙ declared_as (slice_get base.identifiers x.0);
+  type_ids = λ x h. sym (typed_as (slice_get more.identifiers x.0))
+      ∙ ap (option_map (λ (b : DeclarationId × TypeId). b.1)) (k.identifiers x.0 h)
+      ∙ typed_as (slice_get base.identifiers x.0);
+  types = λ x h. types_alike base more k (slice_get base.identifiers x.0) (slice_get more.identifiers x.0)
+      (k.identifiers x.0 h) (λ i e. type_in base i (passes_at (identifier_fits base) base.identifiers x.0 i fit e));
   shapes = k.shapes;
   config = k.config;
 }
@@ -108,7 +134,8 @@ agrees_kept base more fit k = record {
 
 module _ (u : HirUnit) (rules : rules_hold u ≡ Ok tt) where
   pub nested_fit : NestedFit u.env
-  nested_fit k g e = sym (ap (of_function Numbers u.env k) e) ∙ nested_of_rules Numbers u k (parts_of_rules u rules).numbers
+  nested_fit k g e = sym (ap (of_function Numbers u.env k) e)
+      ∙ nested_of_rules Numbers u k (parts_of_rules u rules).numbers
 
   pub root_inside : AllInside u.env u.function
   root_inside = all_inside u.env nested_fit u.function (root_of_rules Numbers u (parts_of_rules u rules).numbers)
@@ -117,7 +144,9 @@ module _ (u : HirUnit) (rules : rules_hold u ≡ Ok tt) where
   nested_inside k g e = all_inside u.env nested_fit g (nested_fit k g e)
 
   pub root_entry : is_block u.function u.function.body.entry ≡ true
-  root_entry = asked (is_block u.function u.function.body.entry) _ (root_of_rules Entry u (parts_of_rules u rules).entry)
+  root_entry = asked (is_block u.function u.function.body.entry) _
+      (root_of_rules Entry u (parts_of_rules u rules).entry)
 
   pub nested_entry : (k : ℕ) (g : HirFunction) → slice_get u.env.functions k ≡ Some g → is_block g g.body.entry ≡ true
-  nested_entry k g e = asked (is_block g g.body.entry) _ (sym (ap (of_function Entry u.env k) e) ∙ nested_of_rules Entry u k (parts_of_rules u rules).entry)
+  nested_entry k g e = asked (is_block g g.body.entry) _
+      (sym (ap (of_function Entry u.env k) e) ∙ nested_of_rules Entry u k (parts_of_rules u rules).entry)

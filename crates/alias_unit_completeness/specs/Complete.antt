@@ -1,6 +1,7 @@
 -- Each refusal of an inference has its cause in the unit: it blames a function that isn't plain, or that isn't
 -- forward, or numbers are wanting.
-use Rattle.std.specs.Prelude.{◌≡◌, ◌≢◌, ℕ, ◌+◌, ◌≤◌, Bool, true, false, if◌then◌else◌, nat_le, List, [], Option, Some, None, Result, Ok, Err, ⊤, is_some, length, map, slice_get, refl}
+use Rattle.std.specs.Prelude.{◌≡◌, ◌≢◌, ℕ, ◌+◌, ◌≤◌, Bool, true, false, if◌then◌else◌, nat_le, List, [], Option, Some}
+use Rattle.std.specs.Prelude.{None, Result, Ok, Err, ⊤, is_some, length, map, slice_get, refl}
 use Rattle.alias_base.specs.Answer.{◌>>=◌}
 use Rattle.alias_base.specs.Find.{value_at}
 use Rattle.std.proofs.Common.{ap, sym, subst, arith}
@@ -34,7 +35,8 @@ use Rattle.alias_nested.specs.Analysis.{named, Analysis, analysis, analysed, mos
 use Rattle.alias_nested.specs.Answers.{FunctionAnalysed, AnalysedWith, Analyses, AnalysesInto}
 use Rattle.alias_nested.specs.Created.{created_functions}
 use Rattle.alias_nested.specs.Order.{created_by_slot, innermost_first, numbers}
-use Rattle.alias_nested.specs.Units.{RootAnalysis, validated, root_analysed, all_analysed, UnitAnalysis, unit_analysed, InfersUnit}
+use Rattle.alias_nested.specs.Units.{RootAnalysis, validated, root_analysed, all_analysed, UnitAnalysis, unit_analysed}
+use Rattle.alias_nested.specs.Units.{InfersUnit}
 use Rattle.alias_nested.specs.declared.infer.Inferred.{Inferred}
 use Rattle.alias_answer_laws.proofs.order.Levels.{fits_within}
 use Rattle.alias_answer_laws.proofs.order.Solving.{root_apart}
@@ -56,7 +58,8 @@ use Rattle.alias_completeness.specs.Completeness.{with_context, grown_pass}
 use Rattle.alias_completeness.specs.Grown.{forward_alike}
 use Rattle.alias_completeness.specs.Passing.{IsPlainAnswer}
 use Rattle.alias_completeness.specs.summaries.Faces.{HasPlaces, HaveFaces, faces_callable, context_ids}
-use Rattle.alias_unit_completeness.specs.Answering.{Meets, AllMeet, meets_then, caused_meets, meets_error, One, Below, AsStated, below_with, below_stated}
+use Rattle.alias_unit_completeness.specs.Answering.{Meets, AllMeet, meets_then, caused_meets, meets_error, One, Below}
+use Rattle.alias_unit_completeness.specs.Answering.{AsStated, below_with, below_stated}
 use Rattle.alias_unit_completeness.specs.Beginning.{agrees_kept, root_inside, nested_inside, root_entry, nested_entry}
 use Rattle.alias_unit_completeness.specs.Counted.{IsCounted, listed_counted}
 use Rattle.alias_unit_completeness.specs.Moments.{unit_holds}
@@ -78,7 +81,8 @@ is_early e = true
 abbrev IsLate : {A : Type 0} → Result A InferError → Type 0
 IsLate {A} r = Avoids is_early (Answered {A = A}) r
 
-late_then : {A B : Type 0} (r : Result A InferError) (g : A → Result B InferError) → IsLate r → ((x : A) → IsLate (g x)) → IsLate (r >>= g)
+late_then : {A B : Type 0} (r : Result A InferError) (g : A → Result B InferError) → IsLate r → ((x : A) → IsLate (g x))
+    → IsLate (r >>= g)
 late_then {A} {B} r g h k = avoids_then is_early (Answered {A = A}) (Answered {A = B}) r g h (λ x t. k x)
 
 late_left : (o : Option InstructionId) → IsLate (none_unreplaced o)
@@ -90,7 +94,8 @@ late_listing (Ok l) h = tt
 late_listing (Err (hir.TooMany which)) h = refl
 late_listing (Err (hir.Memory e)) h = absurd h
 
-late_room : (b : Bool) → (let r : Result ⊤ InferError = if b then Ok tt else Err (error.TooMany GraphPositions) in IsLate r)
+late_room : (b : Bool) → (let r : Result ⊤ InferError = if b then Ok tt else Err (error.TooMany GraphPositions) in
+    IsLate r)
 late_room true = tt
 late_room false = refl
 
@@ -99,7 +104,8 @@ late_ranges b f env =
     late_then (recorded f) (λ l. Ok (ranged b f env l))
     (late_then (none_unreplaced (unreplaced f)) _ (late_left (unreplaced f)) (λ q.
     late_then (listing_or (listed f)) _ (late_listing (listed f) (listed_counted f)) (λ l.
-    late_then (positions_left l.next (length (tracked f))) _ (late_room (nat_le (l.next + length (tracked f)) 4294967295)) (λ t. tt)))) (λ l. tt)
+    late_then (positions_left l.next (length (tracked f))) _
+    (late_room (nat_le (l.next + length (tracked f)) 4294967295)) (λ t. tt)))) (λ l. tt)
 
 late_error : {A : Type 0} (r : Result A InferError) (e : InferError) → IsLate r → r ≡ Err e → is_early e ≡ false
 late_error {A} r e h q = subst (Avoids is_early (Answered {A = A})) q h
@@ -123,16 +129,25 @@ module _ (u : HirUnit) where
   late_meets r h = caused_meets (Caused u) r (λ e q. late_caused e (late_error r e h q))
 
   -- the root, whose effects pass is refused with cause
-  root_meets : (f : HirFunction) (a : Analysis) → ((e : InferError) → pass_end a.env f false ≡ Err e → Caused u e) → Meets (Caused u) (λ (r : RootAnalysis). Unit {0}) (root_analysed f a)
+  root_meets : (f : HirFunction) (a : Analysis) → ((e : InferError) → pass_end a.env f false ≡ Err e → Caused u e)
+      → Meets (Caused u) (λ (r : RootAnalysis). Unit {0}) (root_analysed f a)
   root_meets f a h =
-      meets_then (Caused u) (λ (e : PassEnd). Unit {0}) (λ (r : RootAnalysis). Unit {0}) (pass_end a.env f false) _ (caused_meets (Caused u) (pass_end a.env f false) h) (λ e p.
-      meets_then (Caused u) (λ (r : Ranged). Unit {0}) (λ (r : RootAnalysis). Unit {0}) (range_pass false (with_effects_of e.solved f) (env_after a.env e)) _
-      (late_meets (range_pass false (with_effects_of e.solved f) (env_after a.env e)) (late_ranges false (with_effects_of e.solved f) (env_after a.env e))) (λ r q.
-      meets_then (Caused u) (λ (m : Environment). Unit {0}) (λ (r : RootAnalysis). Unit {0}) (validated r.after.0 r.after.1) _
-      (late_meets (validated r.after.0 r.after.1) (validated_says is_early (λ x. refl) r.after.0 r.after.1)) (λ more t. tt)))
+      meets_then (Caused u) (λ (e : PassEnd). Unit {0}) (λ (r : RootAnalysis). Unit {0}) (pass_end a.env f false) _
+      (caused_meets (Caused u) (pass_end a.env f false) h) (λ e p.
+      meets_then (Caused u) (λ (r : Ranged). Unit {0}) (λ (r : RootAnalysis). Unit {0})
+      (range_pass false (with_effects_of e.solved f) (env_after a.env e)) _
+      (late_meets (range_pass false (with_effects_of e.solved f) (env_after a.env e))
+      (late_ranges false (with_effects_of e.solved f) (env_after a.env e))) (λ r q.
+      meets_then (Caused u) (λ (m : Environment). Unit {0}) (λ (r : RootAnalysis). Unit {0})
+      (validated r.after.0 r.after.1) _
+      (late_meets (validated r.after.0 r.after.1) (validated_says is_early (λ x. refl) r.after.0 r.after.1))
+      (λ more t. tt)))
 
 -- neither since an Apply is left nor since an operand lacks an effect
-is_caused : (u : HirUnit) (r : Result UnitAnalysis InferError) → ((i : InstructionId) (report : Report) → r ≢ Err (error.UnreplacedApply i report)) → ((x : IdentifierId) → r ≢ Err (error.EffectsNotInferred x)) → (e : InferError) → r ≡ Err e → Caused u e → IsCaused u e
+is_caused : (u : HirUnit) (r : Result UnitAnalysis InferError)
+    → ((i : InstructionId) (report : Report) → r ≢ Err (error.UnreplacedApply i report))
+    → ((x : IdentifierId) → r ≢ Err (error.EffectsNotInferred x)) → (e : InferError) → r ≡ Err e → Caused u e
+    → IsCaused u e
 is_caused u r apply operand (error.UnreplacedApply i report) q h = apply i report q
 is_caused u r apply operand (error.EffectsNotInferred x) q h = operand x q
 is_caused u r apply operand (error.PassFault f pass) q h = let no : true ≡ false = h.1 in cc
@@ -143,11 +158,14 @@ is_caused u r apply operand e q h = h.0
 
 module _ (u : HirUnit) (rules : rules_hold u ≡ Ok tt) where
   -- what a function's instructions create its blocks list
-  listed_creations : (k : ℕ) (f : HirFunction) → slice_get u.env.functions k ≡ Some f → (j : ℕ) → 1 ≤ times (created_in f) j → 1 ≤ times (numbers (created_functions f)) j
+  listed_creations : (k : ℕ) (f : HirFunction) → slice_get u.env.functions k ≡ Some f → (j : ℕ) → 1
+      ≤ times (created_in f) j → 1 ≤ times (numbers (created_functions f)) j
   listed_creations k f at j h =
       let a : times (created_numbers u.env.functions k) j ≡ times (created_at u.env k) j = slots_as_often u rules k j in
-      let b : times (created_numbers u.env.functions k) j ≡ times (numbers (created_functions f)) j = ap (λ (o : Option HirFunction). times (numbers (created_by_slot o)) j) at in
-      let c : times (created_at u.env k) j ≡ times (created_in f) j = ap (λ (o : Option HirFunction). times (created_of o) j) at in
+      let b : times (created_numbers u.env.functions k) j ≡ times (numbers (created_functions f)) j =
+      ap (λ (o : Option HirFunction). times (numbers (created_by_slot o)) j) at in
+      let c : times (created_at u.env k) j ≡ times (created_in f) j =
+      ap (λ (o : Option HirFunction). times (created_of o) j) at in
       omega arith
 
   faces : HaveFaces (length u.env.identifiers) u.env.functions
@@ -158,7 +176,10 @@ module _ (u : HirUnit) (rules : rules_hold u ≡ Ok tt) where
 
   -- what the root names means the same once the functions below it are analysed
   root_agrees : (W : ℕ → Type 0) (env : Environment) → Stands u.env [] W env → AgreesOn u.function u.env env
-  root_agrees W env s = record { agrees = agrees_kept u.env env tables s.tables; contexts = λ i x found. of_created (created x.value) }
+  root_agrees W env s = record {
+    agrees = agrees_kept u.env env tables s.tables;
+    contexts = λ i x found. of_created (created x.value);
+  }
     where
       of_created : (o : Option FunctionId) → map number (created_places env o) ≡ map number (created_places u.env o)
       of_created None = refl
@@ -176,14 +197,17 @@ module _ (u : HirUnit) (rules : rules_hold u ≡ Ok tt) where
   other_context : (f g : HirFunction) → but_context g ≡ but_context f → g ≡ with_context g.context f
   other_context f g same = ap (λ (z : HirFunction). record z { context = g.context }) same
 
-  module _ (id : FunctionId) (f g : HirFunction) (env : Environment) (at : slice_get u.env.functions id.0 ≡ Some f) (same : but_context g ≡ but_context f) (agrees : AgreesOn f u.env env) (callable : AreCallable env) where
+  module _ (id : FunctionId) (f g : HirFunction) (env : Environment) (at : slice_get u.env.functions id.0 ≡ Some f)
+      (same : but_context g ≡ but_context f) (agrees : AgreesOn f u.env env) (callable : AreCallable env) where
     nested_plain : IsPlain f u.env → IsPlainAnswer (pass_end env g true)
     nested_plain plain =
         subst (λ (z : HirFunction). IsPlainAnswer (pass_end env z true)) (sym (other_context f g same))
-        (grown_pass f u.env env g.context true (nested_entry u rules id.0 f at) callable agrees (nested_inside u rules id.0 f at) (context_ids f g same) plain)
+        (grown_pass f u.env env g.context true (nested_entry u rules id.0 f at) callable agrees
+        (nested_inside u rules id.0 f at) (context_ids f g same) plain)
 
     same_entry : is_some (value_at g.body.blocks g.body.entry) ≡ true
-    same_entry = subst (λ (z : HirFunction). is_some (value_at z.body.blocks z.body.entry) ≡ true) (sym (other_context f g same)) (nested_entry u rules id.0 f at)
+    same_entry = subst (λ (z : HirFunction). is_some (value_at z.body.blocks z.body.entry) ≡ true)
+        (sym (other_context f g same)) (nested_entry u rules id.0 f at)
 
     same_body : g.body ≡ f.body
     same_body = ap (λ (z : HirFunction). z.body) same
@@ -193,13 +217,17 @@ module _ (u : HirUnit) (rules : rules_hold u ≡ Ok tt) where
         nested_blamed u id f at e (pass_of env g true e q) (λ plain. subst IsPlainAnswer q (nested_plain plain))
         (λ forward. forward_is_settled env g true same_entry (forward_alike f g u.env env true same_body forward) e q)
 
-  root_caused : (env : Environment) → AgreesOn u.function u.env env → AreCallable env → (e : InferError) → pass_end env u.function false ≡ Err e → Caused u e
+  root_caused : (env : Environment) → AgreesOn u.function u.env env → AreCallable env → (e : InferError)
+      → pass_end env u.function false ≡ Err e → Caused u e
   root_caused env agrees callable e q =
       root_blamed u e (pass_of env u.function false e q)
-      (λ plain. subst IsPlainAnswer q (grown_pass u.function u.env env u.function.context false (root_entry u rules) callable agrees (root_inside u rules) refl plain))
-      (λ forward. forward_is_settled env u.function false (root_entry u rules) (forward_alike u.function u.function u.env env false refl forward) e q)
+      (λ plain. subst IsPlainAnswer q (grown_pass u.function u.env env u.function.context false (root_entry u rules)
+      callable agrees (root_inside u rules) refl plain))
+      (λ forward. forward_is_settled env u.function false (root_entry u rules)
+      (forward_alike u.function u.function u.env env false refl forward) e q)
 
-  ranges_caused : (id : FunctionId) (f : HirFunction) (env : Environment) (e : InferError) → range_pass true f env ≡ Err e → Caused u (named id e)
+  ranges_caused : (id : FunctionId) (f : HirFunction) (env : Environment) (e : InferError) → range_pass true f env
+      ≡ Err e → Caused u (named id e)
   ranges_caused id f env e q = late_named u id e (late_error (range_pass true f env) e (late_ranges true f env) q)
 
   -- ---- the analysis of nested functions
@@ -213,39 +241,54 @@ module _ (u : HirUnit) (rules : rules_hold u ≡ Ok tt) where
 
   -- where each function's passes are refused for a cause alone, which what has its cause in the unit is
   module _ (E : InferError → Type 0) (weaker : (e : InferError) → Caused u e → E e) (one : One)
-      (turns : (id : FunctionId) (g : HirFunction) (a : Analysis) → HasPlaces (length a.env.identifiers) g → ((e : InferError) → pass_end a.env g true ≡ Err e → E (named id e)) → AllMeet E (Turned g a) (one id g a)) where
+      (turns : (id : FunctionId) (g : HirFunction) (a : Analysis) → HasPlaces (length a.env.identifiers) g
+      → ((e : InferError) → pass_end a.env g true ≡ Err e → E (named id e))
+      → AllMeet E (Turned g a) (one id g a)) where
     below_root : AllMeet E AllStand (Below one most_levels u.function (analysis u.env []))
     below_root =
-        goes E one u.env tables faces listed_creations (λ id f g a at same agrees callable places. turns id g a places (λ e q. weaker (named id e) (nested_caused id f g a.env at same agrees callable e q))) most_levels u.function u.function [] (λ k. Unit {0})
+        goes E one u.env tables faces listed_creations
+        (λ id f g a at same agrees callable places.
+        turns id g a places (λ e q. weaker (named id e) (nested_caused id f g a.env at same agrees callable e q)))
+        most_levels u.function u.function [] (λ k. Unit {0})
         (analysis u.env []) refl deep (stands_self u.env faces) all_once
 
   -- where the passes keep all
   nested_stated : Meets (Caused u) AllStand (analysed most_levels u.function (analysis u.env []))
   nested_stated =
-      below_root (Caused u) (λ e h. h) AsStated (λ id g a places caused. turns_stated (Caused u) id (ranges_caused id) g a places caused) (analysed most_levels u.function (analysis u.env []))
-      (below_stated most_levels u.function (analysis u.env []) (analysed most_levels u.function (analysis u.env [])) refl)
+      below_root (Caused u) (λ e h. h) AsStated
+      (λ id g a places caused. turns_stated (Caused u) id (ranges_caused id) g a places caused)
+      (analysed most_levels u.function (analysis u.env []))
+      (below_stated most_levels u.function (analysis u.env []) (analysed most_levels u.function (analysis u.env []))
+      refl)
 
   -- over passes of the caller, whatever their law lets them change
-  pub passes_blame : (b : Bool) (e : InferError) → AnalysedWith b most_levels u.function (analysis u.env []) (Err e) → BlamesRightly u e
+  pub passes_blame : (b : Bool) (e : InferError) → AnalysedWith b most_levels u.function (analysis u.env []) (Err e)
+      → BlamesRightly u e
   passes_blame b e h =
       below_root (BlamesRightly u) (λ e c. c.0) (FunctionAnalysed b)
-      (λ id g a places caused. turns_by_passes (BlamesRightly u) id (λ f env e q. (ranges_caused id f env e q).0) g a places caused (λ pass. tt) b) (Err e)
+      (λ id g a places caused. turns_by_passes (BlamesRightly u) id (λ f env e q. (ranges_caused id f env e q).0) g a
+      places caused (λ pass. tt) b) (Err e)
       (below_with b most_levels u.function (analysis u.env []) (Err e) h)
 
   -- ---- the whole inference
 
   unit_meets : Meets (Caused u) (λ (a : UnitAnalysis). Unit {0}) (unit_analysed u)
   unit_meets =
-      meets_then (Caused u) (λ (r : RootAnalysis). Unit {0}) (λ (a : UnitAnalysis). Unit {0}) (all_analysed u.function (analysis u.env [])) _
-      (meets_then (Caused u) AllStand (λ (r : RootAnalysis). Unit {0}) (analysed most_levels u.function (analysis u.env [])) (root_analysed u.function) nested_stated
-      (λ b s. root_meets u u.function b (root_caused b.env (root_agrees NoneWaits b.env s) (faces_callable b.env s.faces)))) (λ r t. tt)
+      meets_then (Caused u) (λ (r : RootAnalysis). Unit {0}) (λ (a : UnitAnalysis). Unit {0})
+      (all_analysed u.function (analysis u.env [])) _
+      (meets_then (Caused u) AllStand (λ (r : RootAnalysis). Unit {0})
+      (analysed most_levels u.function (analysis u.env [])) (root_analysed u.function) nested_stated
+      (λ b s. root_meets u u.function b (root_caused b.env (root_agrees NoneWaits b.env s)
+      (faces_callable b.env s.faces)))) (λ r t. tt)
 
   -- each refusal has its cause
   pub unit_caused : (e : InferError) → unit_analysed u ≡ Err e → IsCaused u e
-  unit_caused e q = is_caused u (unit_analysed u) (unit_never_left u rules) (unit_always_known u) e q (meets_error (Caused u) (λ (a : UnitAnalysis). Unit {0}) (unit_analysed u) e unit_meets q)
+  unit_caused e q = is_caused u (unit_analysed u) (unit_never_left u rules) (unit_always_known u) e q
+      (meets_error (Caused u) (λ (a : UnitAnalysis). Unit {0}) (unit_analysed u) e unit_meets q)
 
   -- so has one of a call that infers the unit, but for what is free
-  pub call_caused : (answer : Result Inferred InferError) → InfersUnit (unit_analysed u) answer → (e : InferError) → answer ≡ Err e → is_free e ≡ false → IsCaused u e
+  pub call_caused : (answer : Result Inferred InferError) → InfersUnit (unit_analysed u) answer → (e : InferError)
+      → answer ≡ Err e → is_free e ≡ false → IsCaused u e
   call_caused answer h e q free = unit_caused e (subst (InfersUnit (unit_analysed u)) q h free)
 
 -- ---- calls that analyse the functions below the root
@@ -254,13 +297,23 @@ memory_blames : (u : HirUnit) (e : InferError) → is_memory e ≡ true → Blam
 memory_blames u (error.Memory x) h = tt
 memory_blames u e h = cc
 
-answer_blames : (u : HirUnit) (rules : rules_hold u ≡ Ok tt) (b : Bool) (e : InferError) → (is_memory e ≡ false → AnalysedWith b most_levels u.function (analysis u.env []) (Err e)) → (free : Bool) → is_memory e ≡ free → BlamesRightly u e
+answer_blames : (u : HirUnit) (rules : rules_hold u ≡ Ok tt) (b : Bool) (e : InferError)
+    → (is_memory e ≡ false → AnalysedWith b most_levels u.function (analysis u.env []) (Err e)) → (free : Bool)
+    → is_memory e ≡ free → BlamesRightly u e
 answer_blames u rules b e h true free = memory_blames u e free
 answer_blames u rules b e h false free = passes_blame u rules b e (h free)
 
-pub analyses_blame : (u : HirUnit) → rules_hold u ≡ Ok tt → (b : Bool) (answer : Result (List Solved) InferError) (env : Environment) → Analyses (AnalysedWith b most_levels u.function (analysis u.env [])) answer env → (e : InferError) → answer ≡ Err e
+pub analyses_blame : (u : HirUnit) → rules_hold u ≡ Ok tt
+    → (b : Bool) (answer : Result (List Solved) InferError) (env : Environment)
+    → Analyses (AnalysedWith b most_levels u.function (analysis u.env [])) answer env → (e : InferError) → answer
+    ≡ Err e
     → BlamesRightly u e
-analyses_blame u rules b answer env h e q = answer_blames u rules b e (subst (λ r. Analyses (AnalysedWith b most_levels u.function (analysis u.env [])) r env) q h) (is_memory e) refl
+analyses_blame u rules b answer env h e q =
+    answer_blames u rules b e (subst (λ r. Analyses (AnalysedWith b most_levels u.function (analysis u.env [])) r env) q
+    h) (is_memory e) refl
 
-pub into_blame : (u : HirUnit) → rules_hold u ≡ Ok tt → (b : Bool) (answer : Result ⊤ InferError) (env : Environment) → AnalysesInto (AnalysedWith b most_levels u.function (analysis u.env [])) answer env → (e : InferError) → answer ≡ Err e → BlamesRightly u e
-into_blame u rules b answer env h e q = answer_blames u rules b e (subst (λ r. AnalysesInto (AnalysedWith b most_levels u.function (analysis u.env [])) r env) q h) (is_memory e) refl
+pub into_blame : (u : HirUnit) → rules_hold u ≡ Ok tt → (b : Bool) (answer : Result ⊤ InferError) (env : Environment)
+    → AnalysesInto (AnalysedWith b most_levels u.function (analysis u.env [])) answer env → (e : InferError) → answer
+    ≡ Err e → BlamesRightly u e
+into_blame u rules b answer env h e q = answer_blames u rules b e
+    (subst (λ r. AnalysesInto (AnalysedWith b most_levels u.function (analysis u.env [])) r env) q h) (is_memory e) refl

@@ -1,5 +1,6 @@
 -- Why the effects pass of a function is refused.
-use Rattle.std.specs.Prelude.{◌≡◌, ℕ, Bool, true, false, Option, Some, None, Result, Err, is_some, length, replicate, slice_get, refl}
+use Rattle.std.specs.Prelude.{◌≡◌, ℕ, Bool, true, false, Option, Some, None, Result, Err, is_some, length, replicate}
+use Rattle.std.specs.Prelude.{slice_get, refl}
 use Rattle.std.proofs.Common.{ap, sym, ◌∙◌, subst}
 use Rattle.std.proofs.lemmas.List.{length-replicate}
 use Rattle.alias_base.specs.Find.{value_at}
@@ -54,14 +55,16 @@ abbrev pub IsUnsettled : InferError → Type 0
 IsUnsettled (error.NotSettled f visits report) = Unit {0}
 IsUnsettled e = ⊥
 
-step_of_pass : (i : InstructionId) (c : Refusal) → IsOfPass (instruction_refusal i c) × (IsUnsettled (instruction_refusal i c) → ⊥)
+step_of_pass : (i : InstructionId) (c : Refusal) → IsOfPass (instruction_refusal i c)
+    × (IsUnsettled (instruction_refusal i c) → ⊥)
 step_of_pass i (refused.Reinitialized x) = (refl, λ h. h)
 step_of_pass i (refused.AliasBeforeCreate x) = (refl, λ h. h)
 step_of_pass i (refused.IncompatibleLibrary report) = (refl, λ h. h)
 step_of_pass i (refused.SpreadArgument span report) = (refl, λ h. h)
 step_of_pass i (refused.TooMany which) = (tt, λ h. h)
 
-block_of_pass : (env : Environment) (b : BlockId) (c : BlockRefusal) → IsOfPass (refusal env b c) × (IsUnsettled (refusal env b c) → ⊥)
+block_of_pass : (env : Environment) (b : BlockId) (c : BlockRefusal) → IsOfPass (refusal env b c)
+    × (IsUnsettled (refusal env b c) → ⊥)
 block_of_pass env b (block.Instruction i c) = step_of_pass i c
 block_of_pass env b (block.Uninitialized m) = (refl, λ h. h)
 
@@ -72,31 +75,45 @@ Ended = End (VisitLog State) TableLists BlockEffects BlockRefusal
 same_error : (x y : InferError) → ◌≡◌ {A = Result PassEnd InferError} (Err x) (Err y) → x ≡ y
 same_error x y h = cc
 
-end_of_pass : (env : Environment) (func : HirFunction) (r : Ended) (e : InferError) → answer_of env func r ≡ Err e → IsOfPass e
+end_of_pass : (env : Environment) (func : HirFunction) (r : Ended) (e : InferError) → answer_of env func r ≡ Err e
+    → IsOfPass e
 end_of_pass env func (end.Solved w) e q = cc
-end_of_pass env func (end.Fault n c) e q = subst IsOfPass (same_error (refusal env (block_at func.body.blocks n) c) e q) (block_of_pass env (block_at func.body.blocks n) c).0
+end_of_pass env func (end.Fault n c) e q =
+    subst IsOfPass (same_error (refusal env (block_at func.body.blocks n) c) e q)
+    (block_of_pass env (block_at func.body.blocks n) c).0
 end_of_pass env func (end.NotSettled n) e q = subst IsOfPass (same_error _ e q) refl
 
-pub pass_of : (env : Environment) (func : HirFunction) (b : Bool) (e : InferError) → pass_end env func b ≡ Err e → IsOfPass e
+pub pass_of : (env : Environment) (func : HirFunction) (b : Bool) (e : InferError) → pass_end env func b ≡ Err e
+    → IsOfPass e
 pass_of env func b e q = end_of_pass env func (visits_end (context_of env func b)) e q
 
 -- ---- a forward function settles
 
-never_ends_so : (env : Environment) (func : HirFunction) (b : Bool) → is_some (value_at func.body.blocks func.body.entry) ≡ true → GoesForward env func b → (n : ℕ) → visits_end (context_of env func b) ≡ end.NotSettled n → ⊥
+never_ends_so : (env : Environment) (func : HirFunction) (b : Bool)
+    → is_some (value_at func.body.blocks func.body.entry) ≡ true → GoesForward env func b → (n : ℕ)
+    → visits_end (context_of env func b) ≡ end.NotSettled n → ⊥
 never_ends_so env func b entry forward n e =
     let c = context_of env func b in
     let none = replicate (length func.body.blocks) None in
-    let laws : FlowLaws StateProper Extends (numbered c) none = pass_laws c entry none (length-replicate (length func.body.blocks) None) in
-    forward_settles state_laws laws forward (tables_of env) n (solution_work_list state_laws laws (tables_of env) ∙ ap (as_work_list_end state_below) e)
+    let laws : FlowLaws StateProper Extends (numbered c) none =
+    pass_laws c entry none (length-replicate (length func.body.blocks) None) in
+    forward_settles state_laws laws forward (tables_of env) n
+    (solution_work_list state_laws laws (tables_of env) ∙ ap (as_work_list_end state_below) e)
 
-settled_case : (env : Environment) (func : HirFunction) (r : Ended) → ((n : ℕ) → r ≡ end.NotSettled n → ⊥) → (e : InferError) → answer_of env func r ≡ Err e → IsUnsettled e → ⊥
+settled_case : (env : Environment) (func : HirFunction) (r : Ended) → ((n : ℕ) → r ≡ end.NotSettled n → ⊥)
+    → (e : InferError) → answer_of env func r ≡ Err e → IsUnsettled e → ⊥
 settled_case env func (end.Solved w) h e q i = cc
-settled_case env func (end.Fault n c) h e q i = (block_of_pass env (block_at func.body.blocks n) c).1 (subst IsUnsettled (sym (same_error (refusal env (block_at func.body.blocks n) c) e q)) i)
+settled_case env func (end.Fault n c) h e q i =
+    (block_of_pass env (block_at func.body.blocks n) c).1
+    (subst IsUnsettled (sym (same_error (refusal env (block_at func.body.blocks n) c) e q)) i)
 settled_case env func (end.NotSettled n) h e q i = h n refl
 
 -- so it is never refused since it isn't settled
-pub forward_is_settled : (env : Environment) (func : HirFunction) (b : Bool) → is_some (value_at func.body.blocks func.body.entry) ≡ true → GoesForward env func b → (e : InferError) → pass_end env func b ≡ Err e → IsUnsettled e → ⊥
-forward_is_settled env func b entry forward e q i = settled_case env func (visits_end (context_of env func b)) (never_ends_so env func b entry forward) e q i
+pub forward_is_settled : (env : Environment) (func : HirFunction) (b : Bool)
+    → is_some (value_at func.body.blocks func.body.entry) ≡ true → GoesForward env func b → (e : InferError)
+    → pass_end env func b ≡ Err e → IsUnsettled e → ⊥
+forward_is_settled env func b entry forward e q i =
+    settled_case env func (visits_end (context_of env func b)) (never_ends_so env func b entry forward) e q i
 
 -- ---- who is blamed
 
@@ -106,9 +123,12 @@ Caused u e = BlamesRightly u e × (is_free e ≡ false)
 
 module _ (u : HirUnit) where
   -- a nested function: it isn't plain, or not forward
-  pub nested_blamed : (id : FunctionId) (f : HirFunction) → slice_get u.env.functions id.0 ≡ Some f → (e : InferError) → IsOfPass e → (IsPlain f u.env → IsPlainAnswer {A = PassEnd} (Err e)) → (GoesForward u.env f true → IsUnsettled e → ⊥)
+  pub nested_blamed : (id : FunctionId) (f : HirFunction) → slice_get u.env.functions id.0 ≡ Some f → (e : InferError)
+      → IsOfPass e → (IsPlain f u.env → IsPlainAnswer {A = PassEnd} (Err e))
+      → (GoesForward u.env f true → IsUnsettled e → ⊥)
       → Caused u (named id e)
-  nested_blamed id f at (error.NotSettled g visits report) p plain settles = ((f, at, λ forward. settles forward tt), refl)
+  nested_blamed id f at (error.NotSettled g visits report) p plain settles =
+      ((f, at, λ forward. settles forward tt), refl)
   nested_blamed id f at (error.Uninitialized g block identifier span report) p plain settles = ((f, at, plain), refl)
   nested_blamed id f at (error.Reinitialized g instruction identifier) p plain settles = ((f, at, plain), refl)
   nested_blamed id f at (error.AliasBeforeCreate g instruction identifier) p plain settles = ((f, at, plain), refl)
@@ -121,8 +141,10 @@ module _ (u : HirUnit) where
   not_plain g p plain = subst (IsNotPlain u) (sym p) (u.function, refl, plain)
 
   -- the root
-  pub root_blamed : (e : InferError) → IsOfPass e → (IsPlain u.function u.env → IsPlainAnswer {A = PassEnd} (Err e)) → (GoesForward u.env u.function false → IsUnsettled e → ⊥) → Caused u e
-  root_blamed (error.NotSettled g visits report) p plain settles = (subst (IsNotForward u) (sym p) (u.function, refl, λ forward. settles forward tt), refl)
+  pub root_blamed : (e : InferError) → IsOfPass e → (IsPlain u.function u.env → IsPlainAnswer {A = PassEnd} (Err e))
+      → (GoesForward u.env u.function false → IsUnsettled e → ⊥) → Caused u e
+  root_blamed (error.NotSettled g visits report) p plain settles =
+      (subst (IsNotForward u) (sym p) (u.function, refl, λ forward. settles forward tt), refl)
   root_blamed (error.Uninitialized g block identifier span report) p plain settles = (not_plain g p plain, refl)
   root_blamed (error.Reinitialized g instruction identifier) p plain settles = (not_plain g p plain, refl)
   root_blamed (error.AliasBeforeCreate g instruction identifier) p plain settles = (not_plain g p plain, refl)

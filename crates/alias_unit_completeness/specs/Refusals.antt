@@ -66,7 +66,8 @@ same_some f g h = cc
 
 module _ (u : HirUnit) where
   forward_contradicts : (f : Option FunctionId) → IsForwardUnit u → IsNotForward u f → ⊥
-  forward_contradicts None h c = c.2 (subst (λ (g : HirFunction). GoesForward u.env g false) (same_some u.function c.0 c.1) h.root)
+  forward_contradicts None h c = c.2 (subst (λ (g : HirFunction). GoesForward u.env g false)
+      (same_some u.function c.0 c.1) h.root)
   forward_contradicts (Some id) h c = c.2 (h.nested id.0 c.0 c.1)
 
   plain_contradicts : (f : Option FunctionId) → IsPlainUnit u → IsNotPlain u f → ⊥

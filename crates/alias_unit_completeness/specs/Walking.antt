@@ -1,6 +1,7 @@
 -- The analysis of the functions below a function is refused for the causes alone for which the passes of the unit's
 -- functions are, over tables that keep those of the unit.
-use Rattle.std.specs.Prelude.{◌≡◌, ◌⊎◌, ℕ, ◌+◌, ◌<◌, ◌≤◌, ◌==◌, nat_eq, Bool, true, false, cond, List, [], ◌∷◌, ◌++◌, Option, Some, None, Ok, option_map, length, map, slice_get, slice_set, refl}
+use Rattle.std.specs.Prelude.{◌≡◌, ◌⊎◌, ℕ, ◌+◌, ◌<◌, ◌≤◌, ◌==◌, nat_eq, Bool, true, false, cond, List, [], ◌∷◌, ◌++◌}
+use Rattle.std.specs.Prelude.{Option, Some, None, Ok, option_map, length, map, slice_get, slice_set, refl}
 use Rattle.std.proofs.Common.{zero, suc, ap, sym, ◌∙◌, subst, inl, inr, arith}
 use Rattle.std.proofs.lemmas.Bool.Decides.{nat_tests}
 use Rattle.std.proofs.lemmas.Bool.{eqb-true}
@@ -38,11 +39,13 @@ use Rattle.alias_plainness.specs.Making.{number}
 use Rattle.alias_completeness.specs.Calling.{AreCallable}
 use Rattle.alias_completeness.specs.Fitting.{among_both}
 use Rattle.alias_completeness.specs.Going.{all_both}
-use Rattle.alias_completeness.specs.summaries.Faces.{HasPlaces, HasFace, HaveFaces, faces_callable, SameOwn, context_ids, in_slot, places_alike, faces_alike, Stays}
+use Rattle.alias_completeness.specs.summaries.Faces.{HasPlaces, HasFace, HaveFaces, faces_callable, SameOwn}
+use Rattle.alias_completeness.specs.summaries.Faces.{context_ids, in_slot, places_alike, faces_alike, Stays}
 use Rattle.alias_completeness.specs.summaries.KeptTables.{TablesKept, tables_self, tables_then}
 use Rattle.alias_completeness.specs.AgreeingFacts.{AgreesOn}
 use Rattle.alias_unit_completeness.specs.Beginning.{agrees_kept}
-use Rattle.alias_unit_completeness.specs.Answering.{AllMeet, meets_on, only_meets, then_meets, One, Taken, Found, InSlot, Below}
+use Rattle.alias_unit_completeness.specs.Answering.{AllMeet, meets_on, only_meets, then_meets, One, Taken, Found}
+use Rattle.alias_unit_completeness.specs.Answering.{InSlot, Below}
 use Rattle.alias_unit_completeness.specs.Moments.{set_face, found_face, stand_in, all_at}
 
 -- ---- what stands while functions are out
@@ -50,23 +53,41 @@ use Rattle.alias_unit_completeness.specs.Moments.{set_face, found_face, stand_in
 abbrev pub context_numbers : Option HirFunction → List ℕ
 context_numbers o = map number (option_map_or (λ (g : HirFunction). g.context) o [])
 
--- Of the environment of a unit: its tables are kept; the functions that aren't out have context places of the same identifiers; and those that wait for their
+-- Of the environment of a unit: its tables are kept; the functions that aren't out have context places of the same
+-- identifiers; and those that wait for their
 -- analysis are the same but for the effects of these.
 pub record Stands (base : Environment) (out : List ℕ) (Waits : ℕ → Type 0) (env : Environment) : Type 0 where
   pub tables : TablesKept base env
   pub faces : HaveFaces (length env.identifiers) env.functions
   pub count : length env.functions ≡ length base.functions
-  pub contexts : (k : ℕ) → is_among out k ≡ false → context_numbers (slice_get env.functions k) ≡ context_numbers (slice_get base.functions k)
-  pub waiting : (k : ℕ) → is_among out k ≡ false → Waits k → option_map but_context (slice_get env.functions k) ≡ option_map but_context (slice_get base.functions k)
+  pub contexts : (k : ℕ) → is_among out k ≡ false → context_numbers (slice_get env.functions k)
+      ≡ context_numbers (slice_get base.functions k)
+  pub waiting : (k : ℕ) → is_among out k ≡ false → Waits k → option_map but_context (slice_get env.functions k)
+      ≡ option_map but_context (slice_get base.functions k)
 
-pub stands_self : (base : Environment) → HaveFaces (length base.identifiers) base.functions → Stands base [] (λ k. Unit {0}) base
-stands_self base faces = record { tables = tables_self base; faces = faces; count = refl; contexts = λ k h. refl; waiting = λ k h w. refl }
+pub stands_self : (base : Environment) → HaveFaces (length base.identifiers) base.functions
+    → Stands base [] (λ k. Unit {0}) base
+stands_self base faces = record {
+  tables = tables_self base;
+  faces = faces;
+  count = refl;
+  contexts = λ k h. refl;
+  waiting = λ k h w. refl;
+}
 
 -- fewer wait
-stands_fewer : (base : Environment) (out : List ℕ) (V W : ℕ → Type 0) (env : Environment) → ((k : ℕ) → W k → V k) → Stands base out V env → Stands base out W env
-stands_fewer base out V W env f s = record { tables = s.tables; faces = s.faces; count = s.count; contexts = s.contexts; waiting = λ k h w. s.waiting k h (f k w) }
+stands_fewer : (base : Environment) (out : List ℕ) (V W : ℕ → Type 0) (env : Environment) → ((k : ℕ) → W k → V k)
+    → Stands base out V env → Stands base out W env
+stands_fewer base out V W env f s = record {
+  tables = s.tables;
+  faces = s.faces;
+  count = s.count;
+  contexts = s.contexts;
+  waiting = λ k h w. s.waiting k h (f k w);
+}
 
-same_numbers : (o p : Option HirFunction) → option_map but_context p ≡ option_map but_context o → context_numbers p ≡ context_numbers o
+same_numbers : (o p : Option HirFunction) → option_map but_context p ≡ option_map but_context o → context_numbers p
+    ≡ context_numbers o
 same_numbers None None e = refl
 same_numbers None (Some g) e = cc
 same_numbers (Some f) None e = cc
@@ -75,27 +96,42 @@ same_numbers (Some f) (Some g) e = context_ids f g (let same : but_context g ≡
 as_many : (fs gs : List HirFunction) → map but_context gs ≡ map but_context fs → length gs ≡ length fs
 as_many fs gs e = sym (length-map gs but_context) ∙ ap length e ∙ length-map fs but_context
 
-stands_stays : (base : Environment) (out : List ℕ) (W : ℕ → Type 0) (env more : Environment) → Stands base out W env → Stays env more → Stands base out W more
+stands_stays : (base : Environment) (out : List ℕ) (W : ℕ → Type 0) (env more : Environment) → Stands base out W env
+    → Stays env more → Stands base out W more
 stands_stays base out W env more s t = record {
   tables = tables_then base env more s.tables t.tables;
-  faces = faces_alike (length env.identifiers) (length more.identifiers) env.functions more.functions t.functions t.tables.longer s.faces;
+  faces = faces_alike (length env.identifiers) (length more.identifiers) env.functions more.functions t.functions
+      t.tables.longer s.faces;
   count = as_many env.functions more.functions t.functions ∙ s.count;
-  contexts = λ k h. same_numbers (slice_get env.functions k) (slice_get more.functions k) (slots_stay env more t.functions k) ∙ s.contexts k h;
+  contexts = λ k h. same_numbers (slice_get env.functions k) (slice_get more.functions k)
+      (slots_stay env more t.functions k) ∙ s.contexts k h;
   waiting = λ k h w. slots_stay env more t.functions k ∙ s.waiting k h w;
 }
 
 -- a function is taken out
-stands_out : (base : Environment) (id : FunctionId) (g : HirFunction) (out : List ℕ) (W : ℕ → Type 0) (env : Environment) → slice_get env.functions id.0 ≡ Some g → Stands base out W env
+stands_out : (base : Environment) (id : FunctionId) (g : HirFunction) (out : List ℕ) (W : ℕ → Type 0)
+    (env : Environment) → slice_get env.functions id.0 ≡ Some g → Stands base out W env
     → Stands base (id.0 ∷ out) W (with_function id (emptied g.returns) env)
 stands_out base id g out W env e s =
     let n = length env.identifiers in
-    let other : (k : ℕ) → nat_eq k id.0 ≡ false → slice_get (slice_set env.functions id.0 (emptied g.returns)) k ≡ slice_get env.functions k = λ k h. set_other env.functions id.0 k (emptied g.returns) (differs k id.0 h) in
+    let other : (k : ℕ) → nat_eq k id.0 ≡ false → slice_get (slice_set env.functions id.0 (emptied g.returns)) k
+    ≡ slice_get env.functions k = λ k h. set_other env.functions id.0 k (emptied g.returns) (differs k id.0 h) in
     record {
-      tables = record { identifiers = s.tables.identifiers; longer = s.tables.longer; types = s.tables.types; more_types = s.tables.more_types; shapes = s.tables.shapes; config = s.tables.config };
-      faces = set_face n env.functions id.0 (emptied g.returns) (stand_in n g (found_face n env.functions id.0 g e s.faces)) s.faces;
+      tables = record {
+        identifiers = s.tables.identifiers;
+        longer = s.tables.longer;
+        types = s.tables.types;
+        more_types = s.tables.more_types;
+        shapes = s.tables.shapes;
+        config = s.tables.config;
+      };
+      faces = set_face n env.functions id.0 (emptied g.returns)
+          (stand_in n g (found_face n env.functions id.0 g e s.faces)) s.faces;
       count = length_set env.functions id.0 (emptied g.returns) ∙ s.count;
-      contexts = λ k h. let b = neither (nat_eq k id.0) (is_among out k) h in ap context_numbers (other k b.0) ∙ s.contexts k b.1;
-      waiting = λ k h w. let b = neither (nat_eq k id.0) (is_among out k) h in ap (λ (o : Option HirFunction). option_map but_context o) (other k b.0) ∙ s.waiting k b.1 w;
+      contexts = λ k h. let b = neither (nat_eq k id.0) (is_among out k) h in ap context_numbers (other k b.0)
+          ∙ s.contexts k b.1;
+      waiting = λ k h w. let b = neither (nat_eq k id.0) (is_among out k) h in
+          ap (λ (o : Option HirFunction). option_map but_context o) (other k b.0) ∙ s.waiting k b.1 w;
     }
 
 put : (xs : List HirFunction) (k : ℕ) (g : HirFunction) → k < length xs → slice_get (slice_set xs k g) k ≡ Some g
@@ -107,19 +143,34 @@ below_equal : (k n m : ℕ) → m ≡ n → k < n → k < m
 below_equal k n m e h = omega arith
 
 -- and is put back
-stands_back : (base : Environment) (id : FunctionId) (g : HirFunction) (out : List ℕ) (W : ℕ → Type 0) (env : Environment) → id.0 < length base.functions → map number g.context ≡ context_numbers (slice_get base.functions id.0) → HasFace (length env.identifiers) g
+stands_back : (base : Environment) (id : FunctionId) (g : HirFunction) (out : List ℕ) (W : ℕ → Type 0)
+    (env : Environment) → id.0 < length base.functions → map number g.context
+    ≡ context_numbers (slice_get base.functions id.0) → HasFace (length env.identifiers) g
     → Stands base (id.0 ∷ out) W env → Stands base out (λ k. W k × (nat_eq k id.0 ≡ false)) (with_function id g env)
 stands_back base id g out W env there same face s = record {
-  tables = record { identifiers = s.tables.identifiers; longer = s.tables.longer; types = s.tables.types; more_types = s.tables.more_types; shapes = s.tables.shapes; config = s.tables.config };
+  tables = record {
+    identifiers = s.tables.identifiers;
+    longer = s.tables.longer;
+    types = s.tables.types;
+    more_types = s.tables.more_types;
+    shapes = s.tables.shapes;
+    config = s.tables.config;
+  };
   faces = set_face (length env.identifiers) env.functions id.0 g face s.faces;
   count = length_set env.functions id.0 g ∙ s.count;
   contexts = λ k h.
-      elim (nat_eq k id.0) as (λ b. nat_eq k id.0 ≡ b → context_numbers (slice_get (slice_set env.functions id.0 g) k) ≡ context_numbers (slice_get base.functions k)) [
-        | true ↦ λ e. subst (λ z. context_numbers (slice_get (slice_set env.functions id.0 g) z) ≡ context_numbers (slice_get base.functions z)) (sym (eqb-true k id.0 e))
-            (ap context_numbers (put env.functions id.0 g (below_equal id.0 (length base.functions) (length env.functions) s.count there)) ∙ same)
-        | false ↦ λ e. ap context_numbers (set_other env.functions id.0 k g (differs k id.0 e)) ∙ s.contexts k (both_false (nat_eq k id.0) (is_among out k) e h)
+      elim (nat_eq k id.0) as (λ b. nat_eq k id.0 ≡ b → context_numbers (slice_get (slice_set env.functions id.0 g) k)
+      ≡ context_numbers (slice_get base.functions k)) [
+        | true ↦ λ e. subst (λ z. context_numbers (slice_get (slice_set env.functions id.0 g) z)
+            ≡ context_numbers (slice_get base.functions z)) (sym (eqb-true k id.0 e))
+            (ap context_numbers (put env.functions id.0 g
+            (below_equal id.0 (length base.functions) (length env.functions) s.count there)) ∙ same)
+        | false ↦ λ e. ap context_numbers (set_other env.functions id.0 k g (differs k id.0 e))
+            ∙ s.contexts k (both_false (nat_eq k id.0) (is_among out k) e h)
       ] refl;
-  waiting = λ k h w. ap (λ (o : Option HirFunction). option_map but_context o) (set_other env.functions id.0 k g (differs k id.0 w.1)) ∙ s.waiting k (both_false (nat_eq k id.0) (is_among out k) w.1 h) w.0;
+  waiting = λ k h w. ap (λ (o : Option HirFunction). option_map but_context o)
+      (set_other env.functions id.0 k g (differs k id.0 w.1))
+      ∙ s.waiting k (both_false (nat_eq k id.0) (is_among out k) w.1 h) w.0;
 }
 
 -- ---- functions that are analysed once
@@ -146,14 +197,18 @@ once_rest : (out : List ℕ) (W : ℕ → Type 0) (xs ys : List FunctionId) → 
 once_rest out W xs ys p = record {
   once = λ j. let o = p.once j in let t = times_append xs ys j in omega arith;
   waits = λ j h.
-      let t = times_append xs ys j in
-      (p.waits j (let a = h in omega arith), not_twice (numbers xs) (numbers ys) j (let o = p.once j in let a = t in omega arith) h);
+      let t = times_append xs ys j in (
+        p.waits j (let a = h in omega arith),
+        not_twice (numbers xs) (numbers ys) j (let o = p.once j in let a = t in omega arith) h,
+      );
 }
 
-among_append : (xs ys : List FunctionId) (k : ℕ) → is_among (numbers (xs ++ ys)) k ≡ false → (is_among (numbers xs) k ≡ false) × (is_among (numbers ys) k ≡ false)
+among_append : (xs ys : List FunctionId) (k : ℕ) → is_among (numbers (xs ++ ys)) k ≡ false
+    → (is_among (numbers xs) k ≡ false) × (is_among (numbers ys) k ≡ false)
 among_append xs ys k h =
     neither (is_among (numbers xs) k) (is_among (numbers ys) k)
-    (sym (among_both (numbers xs) (numbers ys) k) ∙ sym (ap (λ ns. is_among ns k) (map-append (λ (id : FunctionId). id.0) xs ys)) ∙ h)
+    (sym (among_both (numbers xs) (numbers ys) k)
+    ∙ sym (ap (λ ns. is_among ns k) (map-append (λ (id : FunctionId). id.0) xs ys)) ∙ h)
 
 self_once : (n : ℕ) → times (n ∷ []) n ≡ 1
 self_once n =
@@ -165,18 +220,22 @@ abbrev creates : List Instruction → List ℕ
 creates is = flat_map (λ (i : Instruction). number_of (created i.value)) is
 
 -- what one of them creates is among these
-created_there : (is : List Instruction) (n : ℕ) (x : Instruction) (c : FunctionId) → slice_get is n ≡ Some x → created x.value ≡ Some c → 1 ≤ times (creates is) c.0
+created_there : (is : List Instruction) (n : ℕ) (x : Instruction) (c : FunctionId) → slice_get is n ≡ Some x
+    → created x.value ≡ Some c → 1 ≤ times (creates is) c.0
 created_there [] n x c e h = cc
 created_there (y ∷ is) zero x c e h =
     let same : y ≡ x = cc in
-    let first : number_of (created y.value) ≡ c.0 ∷ [] = ap (λ (i : Instruction). number_of (created i.value)) same ∙ ap number_of h in
+    let first : number_of (created y.value) ≡ c.0 ∷ [] = ap (λ (i : Instruction). number_of (created i.value)) same
+    ∙ ap number_of h in
     let one : times (number_of (created y.value)) c.0 ≡ times (c.0 ∷ []) c.0 = ap (λ ns. times ns c.0) first in
     let t : times (c.0 ∷ []) c.0 ≡ 1 = self_once c.0 in
-    let all : times (creates (y ∷ is)) c.0 ≡ times (number_of (created y.value)) c.0 + times (creates is) c.0 = times_both (number_of (created y.value)) (creates is) c.0 in
+    let all : times (creates (y ∷ is)) c.0 ≡ times (number_of (created y.value)) c.0 + times (creates is) c.0 =
+    times_both (number_of (created y.value)) (creates is) c.0 in
     omega arith
 created_there (y ∷ is) (suc n) x c e h =
     let rest : 1 ≤ times (creates is) c.0 = created_there is n x c e h in
-    let all : times (creates (y ∷ is)) c.0 ≡ times (number_of (created y.value)) c.0 + times (creates is) c.0 = times_both (number_of (created y.value)) (creates is) c.0 in
+    let all : times (creates (y ∷ is)) c.0 ≡ times (number_of (created y.value)) c.0 + times (creates is) c.0 =
+    times_both (number_of (created y.value)) (creates is) c.0 in
     omega arith
 
 -- ---- the walk
@@ -187,9 +246,14 @@ pub record InUnit (base : Environment) (k : ℕ) (g : HirFunction) : Type 0 wher
   pub at : slice_get base.functions k ≡ Some func
   pub same : but_context g ≡ but_context func
 
-in_unit : (base : Environment) (k : ℕ) (g : HirFunction) (o : Option HirFunction) → slice_get base.functions k ≡ o → option_map but_context (Some g) ≡ option_map but_context o → InUnit base k g
+in_unit : (base : Environment) (k : ℕ) (g : HirFunction) (o : Option HirFunction) → slice_get base.functions k ≡ o
+    → option_map but_context (Some g) ≡ option_map but_context o → InUnit base k g
 in_unit base k g None e h = cc
-in_unit base k g (Some f) e h = record { func = f; at = e; same = (let same : but_context g ≡ but_context f = cc in same) }
+in_unit base k g (Some f) e h = record {
+  func = f;
+  at = e;
+  same = (let same : but_context g ≡ but_context f = cc in same);
+}
 
 same_none : (fs gs : List HirFunction) (k : ℕ) → length gs ≡ length fs → slice_get fs k ≡ None → slice_get gs k ≡ None
 same_none [] [] k e h = refl
@@ -205,12 +269,17 @@ found_below (x ∷ fs) (suc k) f e = let h = found_below fs k f e in omega arith
 
 -- ---- what is analysed below a function
 
-level_there : (base : Environment) (n : ℕ) (f : HirFunction) (c : ℕ) → 1 ≤ times (numbers (created_functions f)) c → 1 ≤ times (numbers (innermost_first (suc n) base.functions (created_functions f))) c
+level_there : (base : Environment) (n : ℕ) (f : HirFunction) (c : ℕ) → 1 ≤ times (numbers (created_functions f)) c → 1
+    ≤ times (numbers (innermost_first (suc n) base.functions (created_functions f))) c
 level_there base n f c own =
-    let level : times (numbers_innermost_first (suc n) (created_numbers base.functions) (numbers (created_functions f))) c
-    ≡ times (numbers (created_functions f)) c + times (numbers_innermost_first n (created_numbers base.functions) (flat_map (created_numbers base.functions) (numbers (created_functions f)))) c
+    let level : times (numbers_innermost_first (suc n) (created_numbers base.functions) (numbers (created_functions f)))
+    c
+    ≡ times (numbers (created_functions f)) c
+    + times (numbers_innermost_first n (created_numbers base.functions)
+    (flat_map (created_numbers base.functions) (numbers (created_functions f)))) c
     = listed_level n (created_numbers base.functions) (numbers (created_functions f)) c in
-    let order : times (numbers (innermost_first (suc n) base.functions (created_functions f))) c ≡ times (numbers_innermost_first (suc n) (created_numbers base.functions) (numbers (created_functions f))) c
+    let order : times (numbers (innermost_first (suc n) base.functions (created_functions f))) c
+    ≡ times (numbers_innermost_first (suc n) (created_numbers base.functions) (numbers (created_functions f))) c
     = ap (λ ns. times ns c) (order_numbers (suc n) base.functions (created_functions f)) in
     omega arith
 
@@ -225,29 +294,38 @@ module _ (base : Environment) where
   abbrev IsDeep : ℕ → FunctionId → Type 0
   IsDeep n id = function_within (is_within n base) (slice_get base.functions id.0) ≡ true
 
-  deep_created : (n : ℕ) (f : HirFunction) → is_within (suc n) base f ≡ true → (i : InstructionId) (x : Instruction) → slice_get f.instructions i.0 ≡ Some x → created_within (is_within n base) base (created x.value) ≡ true
+  deep_created : (n : ℕ) (f : HirFunction) → is_within (suc n) base f ≡ true → (i : InstructionId) (x : Instruction)
+      → slice_get f.instructions i.0 ≡ Some x → created_within (is_within n base) base (created x.value) ≡ true
   unfolding is_within
-  deep_created n f h i x e = all_at (λ (y : Instruction). created_within (is_within n base) base (created y.value)) f.instructions i.0 x h e
+  deep_created n f h i x e = all_at (λ (y : Instruction). created_within (is_within n base) base (created y.value))
+      f.instructions i.0 x h e
 
-  deep_one : (n : ℕ) (o : Option FunctionId) → created_within (is_within n base) base o ≡ true → AllByRecursion (IsDeep n) (one_of o)
+  deep_one : (n : ℕ) (o : Option FunctionId) → created_within (is_within n base) base o ≡ true
+      → AllByRecursion (IsDeep n) (one_of o)
   deep_one n None h = tt
   deep_one n (Some c) h = (h, tt)
 
-  deep_listed : (n : ℕ) (f : HirFunction) → is_within (suc n) base f ≡ true → (is : List InstructionId) → AllByRecursion (IsDeep n) (created_by_all f is)
+  deep_listed : (n : ℕ) (f : HirFunction) → is_within (suc n) base f ≡ true → (is : List InstructionId)
+      → AllByRecursion (IsDeep n) (created_by_all f is)
   deep_listed n f h [] = tt
-  deep_listed n f h (i ∷ is) = all_both (IsDeep n) (created_by (slice_get f.instructions i.0)) (created_by_all f is) (by_found (slice_get f.instructions i.0) refl) (deep_listed n f h is)
+  deep_listed n f h (i ∷ is) = all_both (IsDeep n) (created_by (slice_get f.instructions i.0)) (created_by_all f is)
+      (by_found (slice_get f.instructions i.0) refl) (deep_listed n f h is)
     where
       by_found : (o : Option Instruction) → slice_get f.instructions i.0 ≡ o → AllByRecursion (IsDeep n) (created_by o)
       by_found None e = tt
       by_found (Some x) e = deep_one n (created x.value) (deep_created n f h i x e)
 
   -- those that a function creates go one level less far down
-  all_deep : (n : ℕ) (f : HirFunction) → is_within (suc n) base f ≡ true → AllByRecursion (IsDeep n) (created_functions f)
+  all_deep : (n : ℕ) (f : HirFunction) → is_within (suc n) base f ≡ true
+      → AllByRecursion (IsDeep n) (created_functions f)
   all_deep n f h = in_blocks f.body.blocks
     where
-      in_blocks : (bs : List (BlockId × BasicBlock)) → AllByRecursion (IsDeep n) (flat_map (λ (b : BlockId × BasicBlock). created_by_all f b.1.instructions) bs)
+      in_blocks : (bs : List (BlockId × BasicBlock))
+          → AllByRecursion (IsDeep n) (flat_map (λ (b : BlockId × BasicBlock). created_by_all f b.1.instructions) bs)
       in_blocks [] = tt
-      in_blocks (b ∷ bs) = all_both (IsDeep n) (created_by_all f b.1.instructions) (flat_map (λ (b : BlockId × BasicBlock). created_by_all f b.1.instructions) bs) (deep_listed n f h b.1.instructions) (in_blocks bs)
+      in_blocks (b ∷ bs) = all_both (IsDeep n) (created_by_all f b.1.instructions)
+          (flat_map (λ (b : BlockId × BasicBlock). created_by_all f b.1.instructions) bs)
+          (deep_listed n f h b.1.instructions) (in_blocks bs)
 
   nothing_deep : (o : Option HirFunction) → function_within (is_within zero base) o ≡ true → o ≡ None
   unfolding is_within
@@ -284,25 +362,42 @@ module _ (base : Environment) where
     itself_waits : W id.0
     itself_waits = once.waits id.0 (let b = itself_once in omega arith)
 
-  module _ (fit : tables_fit base ≡ Ok tt) (listed : (k : ℕ) (f : HirFunction) → slice_get base.functions k ≡ Some f → (j : ℕ) → 1 ≤ times (created_in f) j → 1 ≤ times (numbers (created_functions f)) j) where
+  module _ (fit : tables_fit base ≡ Ok tt)
+      (listed : (k : ℕ) (f : HirFunction) → slice_get base.functions k ≡ Some f → (j : ℕ) → 1 ≤ times (created_in f) j
+      → 1 ≤ times (numbers (created_functions f)) j) where
     -- what the function creates isn't out while it is analysed
-    created_not_out : (n : ℕ) (k : ℕ) (f : HirFunction) (out : List ℕ) (W : ℕ → Type 0) → slice_get base.functions k ≡ Some f → is_within (suc n) base f ≡ true → Once out W (innermost_first n base.functions (created_functions f))
-        → (i : InstructionId) (x : Instruction) (c : FunctionId) → slice_get f.instructions i.0 ≡ Some x → created x.value ≡ Some c → (is_among out c.0 ≡ false) ⊎ (slice_get base.functions c.0 ≡ None)
-    created_not_out zero k f out W at deep once i x c found makes = inr (nothing_deep (slice_get base.functions c.0) (sym (ap (created_within (is_within zero base) base) makes) ∙ deep_created zero f deep i x found))
+    created_not_out : (n : ℕ) (k : ℕ) (f : HirFunction) (out : List ℕ) (W : ℕ → Type 0) → slice_get base.functions k
+        ≡ Some f → is_within (suc n) base f ≡ true → Once out W (innermost_first n base.functions (created_functions f))
+        → (i : InstructionId) (x : Instruction) (c : FunctionId) → slice_get f.instructions i.0 ≡ Some x
+        → created x.value ≡ Some c → (is_among out c.0 ≡ false) ⊎ (slice_get base.functions c.0 ≡ None)
+    created_not_out zero k f out W at deep once i x c found makes =
+        inr (nothing_deep (slice_get base.functions c.0)
+        (sym (ap (created_within (is_within zero base) base) makes) ∙ deep_created zero f deep i x found))
     created_not_out (suc n) k f out W at deep once i x c found makes =
-        let there : 1 ≤ times (numbers (innermost_first (suc n) base.functions (created_functions f))) c.0 = level_there base n f c.0 (listed k f at c.0 (created_there f.instructions i.0 x c found makes)) in
-        inl (not_twice out (numbers (innermost_first (suc n) base.functions (created_functions f))) c.0 (once.once c.0) there)
+        let there : 1 ≤ times (numbers (innermost_first (suc n) base.functions (created_functions f))) c.0 =
+        level_there base n f c.0 (listed k f at c.0 (created_there f.instructions i.0 x c found makes)) in
+        inl (not_twice out (numbers (innermost_first (suc n) base.functions (created_functions f))) c.0 (once.once c.0)
+        there)
 
     -- over what a function's environment has become, more says of what the function names what the unit does
-    agrees_now : (n : ℕ) (k : ℕ) (f : HirFunction) (out : List ℕ) (V W : ℕ → Type 0) (env : Environment) → slice_get base.functions k ≡ Some f → is_within (suc n) base f ≡ true
-        → Once out W (innermost_first n base.functions (created_functions f)) → Stands base out V env → AgreesOn f base env
-    agrees_now n k f out V W env at deep once s = record { agrees = agrees_kept base env fit s.tables; contexts = λ i x found. of_created i x found (created x.value) refl }
+    agrees_now : (n : ℕ) (k : ℕ) (f : HirFunction) (out : List ℕ) (V W : ℕ → Type 0) (env : Environment)
+        → slice_get base.functions k ≡ Some f → is_within (suc n) base f ≡ true
+        → Once out W (innermost_first n base.functions (created_functions f)) → Stands base out V env
+        → AgreesOn f base env
+    agrees_now n k f out V W env at deep once s =
+        record {
+          agrees = agrees_kept base env fit s.tables;
+          contexts = λ i x found. of_created i x found (created x.value) refl;
+        }
       where
-        of_created : (i : InstructionId) (x : Instruction) → slice_get f.instructions i.0 ≡ Some x → (o : Option FunctionId) → created x.value ≡ o → map number (created_places env o) ≡ map number (created_places base o)
+        of_created : (i : InstructionId) (x : Instruction) → slice_get f.instructions i.0 ≡ Some x
+            → (o : Option FunctionId) → created x.value ≡ o → map number (created_places env o)
+            ≡ map number (created_places base o)
         of_created i x found None e = refl
         of_created i x found (Some c) e = elim (created_not_out n k f out W at deep once i x c found e) [
           | inl h ↦ s.contexts c.0 h
-          | inr h ↦ ap context_numbers (same_none base.functions env.functions c.0 s.count h) ∙ sym (ap context_numbers h)
+          | inr h ↦ ap context_numbers (same_none base.functions env.functions c.0 s.count h)
+              ∙ sym (ap context_numbers h)
         ]
 
 -- a function's passes leave its own places and the environment
@@ -312,22 +407,30 @@ pub record Turned (g : HirFunction) (a : Analysis) (s : HirFunction × Analysis)
   pub stays : Stays a.env s.1.env
 
 -- what a function leaves that is out of its slot
-record Left (base : Environment) (id : FunctionId) (out : List ℕ) (W : ℕ → Type 0) (t : HirFunction × Analysis) : Type 0 where
+record Left (base : Environment) (id : FunctionId) (out : List ℕ) (W : ℕ → Type 0) (t : HirFunction × Analysis) : Type
+    0 where
   contexts : map number t.0.context ≡ context_numbers (slice_get base.functions id.0)
   face : HasFace (length t.1.env.identifiers) t.0
   stands : Stands base (id.0 ∷ out) W t.1.env
 
-module _ (E : InferError → Type 0) (one : One) (base : Environment) (fit : tables_fit base ≡ Ok tt) (faces : HaveFaces (length base.identifiers) base.functions)
-    (listed : (k : ℕ) (f : HirFunction) → slice_get base.functions k ≡ Some f → (j : ℕ) → 1 ≤ times (created_in f) j → 1 ≤ times (numbers (created_functions f)) j)
-    (turns : (id : FunctionId) (f g : HirFunction) (a : Analysis) → slice_get base.functions id.0 ≡ Some f → but_context g ≡ but_context f → AgreesOn f base a.env → AreCallable a.env → HasPlaces (length a.env.identifiers) g → AllMeet E (Turned g a) (one id g a)) where
+module _ (E : InferError → Type 0) (one : One) (base : Environment) (fit : tables_fit base ≡ Ok tt)
+    (faces : HaveFaces (length base.identifiers) base.functions)
+    (listed : (k : ℕ) (f : HirFunction) → slice_get base.functions k ≡ Some f → (j : ℕ) → 1 ≤ times (created_in f) j → 1
+    ≤ times (numbers (created_functions f)) j)
+    (turns : (id : FunctionId) (f g : HirFunction) (a : Analysis) → slice_get base.functions id.0 ≡ Some f
+    → but_context g ≡ but_context f → AgreesOn f base a.env → AreCallable a.env
+    → HasPlaces (length a.env.identifiers) g → AllMeet E (Turned g a) (one id g a)) where
   abbrev AllStand : List ℕ → (ℕ → Type 0) → List FunctionId → Answers Analysis → Type 0
   AllStand out W ids answers = AllMeet E (λ (b : Analysis). Stands base out (After W ids) b.env) answers
 
   abbrev Goes : ℕ → Type 1
-  Goes n = (f g : HirFunction) (out : List ℕ) (W : ℕ → Type 0) (a : Analysis) → but_context g ≡ but_context f → is_within (suc n) base f ≡ true → Stands base out W a.env → Once out W (innermost_first n base.functions (created_functions f))
+  Goes n = (f g : HirFunction) (out : List ℕ) (W : ℕ → Type 0) (a : Analysis) → but_context g ≡ but_context f
+      → is_within (suc n) base f ≡ true → Stands base out W a.env
+      → Once out W (innermost_first n base.functions (created_functions f))
       → AllStand out W (innermost_first n base.functions (created_functions f)) (Below one n g a)
 
-  module _ (n : ℕ) (goes : Goes n) (id : FunctionId) (out : List ℕ) (W : ℕ → Type 0) (once : Once out W (ids_of base n id)) where
+  module _ (n : ℕ) (goes : Goes n) (id : FunctionId) (out : List ℕ) (W : ℕ → Type 0)
+      (once : Once out W (ids_of base n id)) where
     module _ (g : HirFunction) (slot : InUnit base id.0 g) (deep : is_within (suc n) base slot.func ≡ true) where
       same_order : innermost_first n base.functions (created_functions slot.func) ≡ ids_below base n id
       same_order = ap (λ (o : Option HirFunction). innermost_first n base.functions (created_by_slot o)) (sym slot.at)
@@ -336,13 +439,18 @@ module _ (E : InferError → Type 0) (one : One) (base : Environment) (fit : tab
       once_slot = subst (Once (id.0 ∷ out) W) (sym same_order) (once_below base n id out W once)
 
       -- its own passes, once those below it are analysed
-      own_passes : (b : Analysis) → Stands base (id.0 ∷ out) (After W (ids_below base n id)) b.env → AllMeet E (Left base id out (After W (ids_below base n id))) (one id g b)
+      own_passes : (b : Analysis) → Stands base (id.0 ∷ out) (After W (ids_below base n id)) b.env
+          → AllMeet E (Left base id out (After W (ids_below base n id))) (one id g b)
       own_passes b s =
           let V : ℕ → Type 0 = After W (ids_below base n id) in
-          let agrees : AgreesOn slot.func base b.env = agrees_now base fit listed n id.0 slot.func (id.0 ∷ out) V W b.env slot.at deep once_slot s in
+          let agrees : AgreesOn slot.func base b.env =
+          agrees_now base fit listed n id.0 slot.func (id.0 ∷ out) V W b.env slot.at deep once_slot s in
           let places : HasPlaces (length b.env.identifiers) g
-          = places_alike (length base.identifiers) (length b.env.identifiers) slot.func g (in_slot slot.func g slot.same) s.tables.longer (found_face (length base.identifiers) base.functions id.0 slot.func slot.at faces).places in
-          let turned : AllMeet E (Turned g b) (one id g b) = turns id slot.func g b slot.at slot.same agrees (faces_callable b.env s.faces) places in
+          = places_alike (length base.identifiers) (length b.env.identifiers) slot.func g
+          (in_slot slot.func g slot.same) s.tables.longer
+          (found_face (length base.identifiers) base.functions id.0 slot.func slot.at faces).places in
+          let turned : AllMeet E (Turned g b) (one id g b) =
+          turns id slot.func g b slot.at slot.same agrees (faces_callable b.env s.faces) places in
           λ r h. meets_on E (Turned g b) (Left base id out V) r
           (λ t k. record {
             contexts = k.own.context ∙ context_ids slot.func g slot.same ∙ sym (ap context_numbers slot.at);
@@ -350,39 +458,65 @@ module _ (E : InferError → Type 0) (one : One) (base : Environment) (fit : tab
             stands = stands_stays base (id.0 ∷ out) V b.env t.1.env s k.stays;
           }) (turned r h)
 
-      taken_goes : (a : Analysis) → Stands base (id.0 ∷ out) W a.env → AllMeet E (Left base id out (After W (ids_below base n id))) (Taken one (Below one n) id g a)
+      taken_goes : (a : Analysis) → Stands base (id.0 ∷ out) W a.env
+          → AllMeet E (Left base id out (After W (ids_below base n id))) (Taken one (Below one n) id g a)
       taken_goes a s =
-          then_meets E (λ (b : Analysis). Stands base (id.0 ∷ out) (After W (ids_below base n id)) b.env) (Left base id out (After W (ids_below base n id))) (Below one n g a) (one id g)
-          (subst (λ ids. AllStand (id.0 ∷ out) W ids (Below one n g a)) same_order (goes slot.func g (id.0 ∷ out) W a slot.same deep s once_slot)) own_passes
+          then_meets E (λ (b : Analysis). Stands base (id.0 ∷ out) (After W (ids_below base n id)) b.env)
+          (Left base id out (After W (ids_below base n id))) (Below one n g a) (one id g)
+          (subst (λ ids. AllStand (id.0 ∷ out) W ids (Below one n g a)) same_order
+          (goes slot.func g (id.0 ∷ out) W a slot.same deep s once_slot)) own_passes
 
-    found_goes : (a : Analysis) → IsDeep base (suc n) id → Stands base out W a.env → (o : Option HirFunction) → slice_get a.env.functions id.0 ≡ o → AllStand out W (ids_of base n id) (Found one (Below one n) id a o)
-    found_goes a deep s None e = only_meets E (λ (b : Analysis). Stands base out (After W (ids_of base n id)) b.env) (Ok a) (stands_fewer base out W (After W (ids_of base n id)) a.env (λ k h. h.0) s)
+    found_goes : (a : Analysis) → IsDeep base (suc n) id → Stands base out W a.env → (o : Option HirFunction)
+        → slice_get a.env.functions id.0 ≡ o → AllStand out W (ids_of base n id) (Found one (Below one n) id a o)
+    found_goes a deep s None e = only_meets E (λ (b : Analysis). Stands base out (After W (ids_of base n id)) b.env)
+        (Ok a) (stands_fewer base out W (After W (ids_of base n id)) a.env (λ k h. h.0) s)
     found_goes a deep s (Some g) e =
-        let slot : InUnit base id.0 g = in_unit base id.0 g (slice_get base.functions id.0) refl (sym (ap (λ (o : Option HirFunction). option_map but_context o) e) ∙ s.waiting id.0 (not_out base n id out W once) (itself_waits base n id out W once)) in
-        let below : is_within (suc n) base slot.func ≡ true = sym (ap (function_within (is_within (suc n) base)) slot.at) ∙ deep in
+        let slot : InUnit base id.0 g = in_unit base id.0 g (slice_get base.functions id.0) refl
+        (sym (ap (λ (o : Option HirFunction). option_map but_context o) e)
+        ∙ s.waiting id.0 (not_out base n id out W once) (itself_waits base n id out W once)) in
+        let below : is_within (suc n) base slot.func ≡ true =
+        sym (ap (function_within (is_within (suc n) base)) slot.at) ∙ deep in
         let out_of : Analysis = record a { env = with_function id (emptied g.returns) a.env } in
-        then_meets E (Left base id out (After W (ids_below base n id))) (λ (b : Analysis). Stands base out (After W (ids_of base n id)) b.env) (Taken one (Below one n) id g out_of) _
+        then_meets E (Left base id out (After W (ids_below base n id)))
+        (λ (b : Analysis). Stands base out (After W (ids_of base n id)) b.env) (Taken one (Below one n) id g out_of)
+        _
         (taken_goes g slot below out_of (stands_out base id g out W a.env e s))
         (λ t h. only_meets E (λ (b : Analysis). Stands base out (After W (ids_of base n id)) b.env) (Ok (put_back id t))
-        (stands_fewer base out (λ k. After W (ids_below base n id) k × (nat_eq k id.0 ≡ false)) (After W (ids_of base n id)) (with_function id t.0 t.1.env) (fewer_after base n id out W once)
-        (stands_back base id t.0 out (After W (ids_below base n id)) t.1.env (found_below base.functions id.0 slot.func slot.at) h.contexts h.face h.stands)))
+        (stands_fewer base out (λ k. After W (ids_below base n id) k × (nat_eq k id.0 ≡ false))
+        (After W (ids_of base n id)) (with_function id t.0 t.1.env) (fewer_after base n id out W once)
+        (stands_back base id t.0 out (After W (ids_below base n id)) t.1.env
+        (found_below base.functions id.0 slot.func slot.at) h.contexts h.face h.stands)))
 
-  each_goes : (n : ℕ) → Goes n → (ids : List FunctionId) → AllByRecursion (IsDeep base (suc n)) ids → (out : List ℕ) (W : ℕ → Type 0) (a : Analysis) → Stands base out W a.env → Once out W (flat_map (ids_of base n) ids)
+  each_goes : (n : ℕ) → Goes n → (ids : List FunctionId) → AllByRecursion (IsDeep base (suc n)) ids
+      → (out : List ℕ) (W : ℕ → Type 0) (a : Analysis) → Stands base out W a.env
+      → Once out W (flat_map (ids_of base n) ids)
       → AllStand out W (flat_map (ids_of base n) ids) (Each (InSlot one (Below one n)) ids a)
-  each_goes n goes [] deep out W a s once = only_meets E (λ (b : Analysis). Stands base out (After W []) b.env) (Ok a) (stands_fewer base out W (After W []) a.env (λ k h. h.0) s)
+  each_goes n goes [] deep out W a s once =
+      only_meets E (λ (b : Analysis). Stands base out (After W []) b.env) (Ok a)
+      (stands_fewer base out W (After W []) a.env (λ k h. h.0) s)
   each_goes n goes (id ∷ ids) deep out W a s once =
-      then_meets E (λ (b : Analysis). Stands base out (After W (ids_of base n id)) b.env) (λ (b : Analysis). Stands base out (After W (flat_map (ids_of base n) (id ∷ ids))) b.env) (InSlot one (Below one n) id a) (Each (InSlot one (Below one n)) ids)
-      (found_goes n goes id out W (once_first out W (ids_of base n id) (flat_map (ids_of base n) ids) once) a deep.0 s (slice_get a.env.functions id.0) refl)
-      (λ b t r h. meets_on E (λ (c : Analysis). Stands base out (After (After W (ids_of base n id)) (flat_map (ids_of base n) ids)) c.env) (λ (c : Analysis). Stands base out (After W (flat_map (ids_of base n) (id ∷ ids))) c.env) r
-      (λ c k. stands_fewer base out (After (After W (ids_of base n id)) (flat_map (ids_of base n) ids)) (After W (flat_map (ids_of base n) (id ∷ ids))) c.env
+      then_meets E (λ (b : Analysis). Stands base out (After W (ids_of base n id)) b.env)
+      (λ (b : Analysis). Stands base out (After W (flat_map (ids_of base n) (id ∷ ids))) b.env)
+      (InSlot one (Below one n) id a) (Each (InSlot one (Below one n)) ids)
+      (found_goes n goes id out W (once_first out W (ids_of base n id) (flat_map (ids_of base n) ids) once) a deep.0 s
+      (slice_get a.env.functions id.0) refl)
+      (λ b t r h. meets_on E (λ (c : Analysis).
+      Stands base out (After (After W (ids_of base n id)) (flat_map (ids_of base n) ids)) c.env)
+      (λ (c : Analysis). Stands base out (After W (flat_map (ids_of base n) (id ∷ ids))) c.env) r
+      (λ c k. stands_fewer base out (After (After W (ids_of base n id)) (flat_map (ids_of base n) ids))
+      (After W (flat_map (ids_of base n) (id ∷ ids))) c.env
       (λ j l. let p = among_append (ids_of base n id) (flat_map (ids_of base n) ids) j l.1 in ((l.0, p.0), p.1)) k)
-      (each_goes n goes ids deep.1 out (After W (ids_of base n id)) b t (once_rest out W (ids_of base n id) (flat_map (ids_of base n) ids) once) r h))
+      (each_goes n goes ids deep.1 out (After W (ids_of base n id)) b t
+      (once_rest out W (ids_of base n id) (flat_map (ids_of base n) ids) once) r h))
 
   -- the analysis of the functions on n levels
   pub goes : (n : ℕ) → Goes n
   unfolding Below innermost_first
-  goes zero f g out W a same deep s once = only_meets E (λ (b : Analysis). Stands base out (After W []) b.env) (Ok a) (stands_fewer base out W (After W []) a.env (λ k h. h.0) s)
+  goes zero f g out W a same deep s once =
+      only_meets E (λ (b : Analysis). Stands base out (After W []) b.env) (Ok a)
+      (stands_fewer base out W (After W []) a.env (λ k h. h.0) s)
   goes (suc n) f g out W a same deep s once =
       let same_created : created_functions f ≡ created_functions g = sym (ap created_functions same) in
-      subst (λ ids. AllStand out W (flat_map (ids_of base n) (created_functions f)) (Each (InSlot one (Below one n)) ids a)) same_created
+      subst (λ ids. AllStand out W (flat_map (ids_of base n) (created_functions f))
+      (Each (InSlot one (Below one n)) ids a)) same_created
       (each_goes n (goes n) (created_functions f) (all_deep base (suc n) f deep) out W a s once)

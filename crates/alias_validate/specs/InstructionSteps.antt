@@ -6,7 +6,8 @@ use Rattle.alias_hir.specs.declared.error.InferError.{InferError}
 use Rattle.alias_hir.specs.declared.place.Place.{Place}
 use Rattle.alias_hir.specs.declared.report.Report.{Report}
 use Rattle.alias_hir.specs.declared.value.InstructionValue.{InstructionValue}
-use Rattle.alias_hir.specs.declared.value.InstructionValue.TheVariants.{DeclareContext, LoadLocal, StoreContext, StoreLocal}
+use Rattle.alias_hir.specs.declared.value.InstructionValue.TheVariants.{DeclareContext, LoadLocal, StoreContext}
+use Rattle.alias_hir.specs.declared.value.InstructionValue.TheVariants.{StoreLocal}
 use Rattle.alias_validate.specs.Marking.{mark_of, marked, loaded, stored}
 use Rattle.alias_validate.specs.OperandMarks.{ReassigningFunctions, Seen, seen, other_step}
 use Rattle.alias_validate.specs.Reports.{async_report}
@@ -34,14 +35,20 @@ context_stored is_function_expression lvalue s x value =
     (seen (stored s.0 value.identifier lvalue x.identifier) (declared is_function_expression s.1 x.identifier) Continue)
 
 -- an instruction that creates no function
-abbrev pub plain_step : Environment → Bool → Seen → IdentifierId → List IdentifierId → InstructionValue → Result (Seen × WalkOutcome) InferError
-plain_step env is_function_expression s lvalue lvalues (LoadLocal place) = Ok (seen (loaded s.0 place.identifier lvalue) s.1 Continue)
-plain_step env is_function_expression s lvalue lvalues (StoreLocal target value) = Ok (seen (stored s.0 value.identifier lvalue target.place.identifier) s.1 Continue)
-plain_step env is_function_expression s lvalue lvalues (DeclareContext target) = Ok (seen s.0 (declared is_function_expression s.1 target.place.identifier) Continue)
-plain_step env is_function_expression s lvalue lvalues (StoreContext target value) = Ok (context_stored is_function_expression lvalue s target.place value)
+abbrev pub plain_step : Environment → Bool → Seen → IdentifierId → List IdentifierId → InstructionValue
+    → Result (Seen × WalkOutcome) InferError
+plain_step env is_function_expression s lvalue lvalues (LoadLocal place) =
+    Ok (seen (loaded s.0 place.identifier lvalue) s.1 Continue)
+plain_step env is_function_expression s lvalue lvalues (StoreLocal target value) =
+    Ok (seen (stored s.0 value.identifier lvalue target.place.identifier) s.1 Continue)
+plain_step env is_function_expression s lvalue lvalues (DeclareContext target) =
+    Ok (seen s.0 (declared is_function_expression s.1 target.place.identifier) Continue)
+plain_step env is_function_expression s lvalue lvalues (StoreContext target value) =
+    Ok (context_stored is_function_expression lvalue s target.place value)
 plain_step env is_function_expression s lvalue lvalues v = other_step env s lvalues v
 
 -- a place that a created function reassigns: where it is async, it is reported, and the walk ends with none
 abbrev pub found : Environment → Bool → IdentifierId → ReassigningFunctions → Shared → Option Place → Seen × WalkOutcome
 found env async lvalue ms sh None = seen ms sh Continue
-found env async lvalue ms sh (Some x) = cond async (seen ms (with_report sh (async_report env x)) (End None)) (seen (marked ms lvalue x) sh Continue)
+found env async lvalue ms sh (Some x) = cond async (seen ms (with_report sh (async_report env x)) (End None))
+    (seen (marked ms lvalue x) sh Continue)

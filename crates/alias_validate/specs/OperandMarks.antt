@@ -30,17 +30,24 @@ first_mark ms (p ∷ ps) = option_or (mark_of ms p.identifier) (first_mark ms ps
 -- ---- operands
 
 -- an operand that is frozen ends the walk with its mark; another one marks the lvalues
-abbrev pub marked_operand : List IdentifierId → ReassigningFunctions → Effect → Option Place → ReassigningFunctions × WalkOutcome
+abbrev pub marked_operand : List IdentifierId → ReassigningFunctions → Effect → Option Place → ReassigningFunctions
+    × WalkOutcome
 marked_operand lvalues ms effect None = (ms, Continue)
-marked_operand lvalues ms effect (Some x) = cond (is_freeze effect) (ms, End (Some x)) (all_marked ms lvalues x, Continue)
+marked_operand lvalues ms effect (Some x) =
+    cond (is_freeze effect) (ms, End (Some x)) (all_marked ms lvalues x, Continue)
 
-abbrev pub operand : List IdentifierId → ReassigningFunctions → Place → Result (ReassigningFunctions × WalkOutcome) InferError
-operand lvalues ms o = cond (is_unknown o.effect) (Err (EffectsNotInferred o.identifier)) (Ok (marked_operand lvalues ms o.effect (mark_of ms o.identifier)))
+abbrev pub operand : List IdentifierId → ReassigningFunctions → Place
+    → Result (ReassigningFunctions × WalkOutcome) InferError
+operand lvalues ms o = cond (is_unknown o.effect) (Err (EffectsNotInferred o.identifier))
+    (Ok (marked_operand lvalues ms o.effect (mark_of ms o.identifier)))
 
 -- all operands; only what is called where it keeps nothing of its arguments. A tag is the only operand of its template
 abbrev pub checked : Environment → InstructionValue → List Place
-checked env (CallExpression callee args) = cond (has_no_alias env callee.identifier) (callee ∷ []) (operands_of env (CallExpression callee args))
-checked env (MethodCall receiver property args) = cond (has_no_alias env property.identifier) (receiver ∷ property ∷ []) (operands_of env (MethodCall receiver property args))
+checked env (CallExpression callee args) =
+    cond (has_no_alias env callee.identifier) (callee ∷ []) (operands_of env (CallExpression callee args))
+checked env (MethodCall receiver property args) =
+    cond (has_no_alias env property.identifier) (receiver ∷ property ∷ [])
+    (operands_of env (MethodCall receiver property args))
 checked env v = operands_of env v
 
 -- ---- instructions
@@ -53,5 +60,6 @@ abbrev pub seen : ReassigningFunctions → Shared → WalkOutcome → Seen × Wa
 seen ms sh o = ((ms, sh), o)
 
 -- an instruction whose operands are checked
-abbrev pub other_step : Environment → Seen → List IdentifierId → InstructionValue → Result (Seen × WalkOutcome) InferError
+abbrev pub other_step : Environment → Seen → List IdentifierId → InstructionValue
+    → Result (Seen × WalkOutcome) InferError
 other_step env s lvalues v = each (operand lvalues) s.0 (checked env v) >>= (λ r. Ok (seen r.0 s.1 r.1))

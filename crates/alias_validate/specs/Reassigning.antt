@@ -1,5 +1,6 @@
 -- Locals that are reassigned after rendering.
-use Rattle.std.specs.Prelude.{Bool, true, false, ◌||◌, ℕ, List, [], ◌++◌, Option, None, Some, Result, Ok, slice_get, option_map, option_to_list}
+use Rattle.std.specs.Prelude.{Bool, true, false, ◌||◌, ℕ, List, [], ◌++◌, Option, None, Some, Result, Ok, slice_get}
+use Rattle.std.specs.Prelude.{option_map, option_to_list}
 use Rattle.std.proofs.Common.{zero, suc}
 use Rattle.std.specs.Option.{option_or}
 use Rattle.alias_base.specs.Answer.{◌>>=◌}
@@ -31,9 +32,11 @@ Below = Bool → HirFunction → Shared → Result (Shared × Option Place) Infe
 
 module _ (env : Environment) where
   -- a created function: the place of its walk, or else the first mark of its context
-  abbrev pub created_step : Below → Bool → IdentifierId → Seen → Option HirFunction → Result (Seen × WalkOutcome) InferError
+  abbrev pub created_step : Below → Bool → IdentifierId → Seen → Option HirFunction
+      → Result (Seen × WalkOutcome) InferError
   created_step below async lvalue s None = Ok (s, Continue)
-  created_step below async lvalue s (Some f) = below (async || f.is_async) f s.1 >>= (λ r. Ok (found env (async || f.is_async) lvalue s.0 r.0 (option_or r.1 (first_mark s.0 f.context))))
+  created_step below async lvalue s (Some f) = below (async || f.is_async) f s.1
+      >>= (λ r. Ok (found env (async || f.is_async) lvalue s.0 r.0 (option_or r.1 (first_mark s.0 f.context))))
 
   module _ (below : Below) (is_function_expression async : Bool) where
     abbrev pub value_step : Seen → Instruction → Option FunctionId → Result (Seen × WalkOutcome) InferError
@@ -48,11 +51,13 @@ module _ (env : Environment) where
 
     -- the instructions, by their numbers
     abbrev pub instruction_steps : HirFunction → Seen → List InstructionId → Result (Seen × WalkOutcome) InferError
-    instruction_steps func s is = each (λ t (i : InstructionId). instruction_step t (slice_get func.instructions i.0)) s is
+    instruction_steps func s is = each (λ t (i : InstructionId). instruction_step t (slice_get func.instructions i.0)) s
+        is
 
     -- after the instructions a marked operand of the terminal ends the walk
     abbrev pub block_step : HirFunction → Seen → BasicBlock → Result (Seen × WalkOutcome) InferError
-    block_step func s b = instruction_steps func s b.instructions >>= (λ r. and_then (λ t. Ok (t, ended (first_mark t.0 (terminal_places b.terminal)))) r.0 r.1)
+    block_step func s b = instruction_steps func s b.instructions
+        >>= (λ r. and_then (λ t. Ok (t, ended (first_mark t.0 (terminal_places b.terminal)))) r.0 r.1)
 
     abbrev pub block_steps : HirFunction → Seen → List (BlockId × BasicBlock) → Result (Seen × WalkOutcome) InferError
     block_steps func s bs = each (λ t (b : BlockId × BasicBlock). block_step func t b.1) s bs
@@ -61,9 +66,12 @@ abbrev pub walk_ended : Shared → Option Place → Shared × Option Place
 walk_ended sh p = (sh, p)
 
 -- the walk of a function, and of those that it creates, within so many levels; each function has marks of its own
-unfoldable pub context_reassignment : ℕ → Environment → Bool → Bool → HirFunction → Shared → Result (Shared × Option Place) InferError
+unfoldable pub context_reassignment : ℕ → Environment → Bool → Bool → HirFunction → Shared
+    → Result (Shared × Option Place) InferError
 context_reassignment zero env is_function_expression async func sh = Ok (sh, None)
-context_reassignment (suc n) env is_function_expression async func sh = block_steps env (context_reassignment n env true) is_function_expression async func ([], sh) func.body.blocks >>= (λ r. Ok (r.0.1, place_of r.1))
+context_reassignment (suc n) env is_function_expression async func sh =
+    block_steps env (context_reassignment n env true) is_function_expression async func ([], sh) func.body.blocks
+    >>= (λ r. Ok (r.0.1, place_of r.1))
 
 -- the async reports, then that of the function's own place
 abbrev pub reassignment_reports : Environment → Shared → Option Place → List Report
@@ -71,7 +79,8 @@ reassignment_reports env sh p = sh.reports ++ option_to_list (option_map (reassi
 
 -- the reports of the walk within so many levels; whether the outermost function is async isn't read
 abbrev pub reassigned_within : ℕ → Environment → HirFunction → Result (List Report) InferError
-reassigned_within n env func = context_reassignment n env false false func (record { context_variables = []; reports = [] }) >>= (λ r. Ok (reassignment_reports env r.0 r.1))
+reassigned_within n env func = context_reassignment n env false false func
+    (record { context_variables = []; reports = [] }) >>= (λ r. Ok (reassignment_reports env r.0 r.1))
 
 -- the reports of the first validation; functions are nested in at most 64 levels
 abbrev pub reassigned_reports : Environment → HirFunction → Result (List Report) InferError

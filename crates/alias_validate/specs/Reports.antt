@@ -28,13 +28,15 @@ label None text = []
 label (Some s) text = record { span = s; text = Some text } ∷ []
 
 abbrev pub immutability : List ℕ → List ℕ → List Label → Report
-immutability message help labels = record { category = Immutability; message = message; help = Some help; labels = labels }
+immutability message help labels = record
+    { category = Immutability; message = message; help = Some help; labels = labels }
 
 -- the report where an async function reassigns a place
 abbrev pub async_report : Environment → Place → Report
 async_report env x =
     immutability (codes "Cannot reassign variable in async function")
-    (codes "Reassigning a variable in an async function can cause inconsistent behavior on subsequent renders. Consider using state instead")
+    (codes
+    "Reassigning a variable in an async function can cause inconsistent behavior on subsequent renders. Consider using state instead")
     (label x.span (codes "Cannot reassign " ++ variable_or env x.identifier (codes "variable")))
 
 -- the report where a place is reassigned once rendering is over
@@ -42,20 +44,25 @@ abbrev pub reassigned_report : Environment → Place → Report
 reassigned_report env x =
     let v = variable_or env x.identifier (codes "variable") in
     immutability (codes "Cannot reassign variable after render completes")
-    (codes "Reassigning " ++ v ++ codes " after render has completed can cause inconsistent behavior on subsequent renders. Consider using state instead")
+    (codes "Reassigning " ++ v ++ codes
+    " after render has completed can cause inconsistent behavior on subsequent renders. Consider using state instead")
     (label x.span (codes "Cannot reassign " ++ v ++ codes " after render completes"))
 
 -- the operand, then what it mutates
 abbrev pub frozen_labels : Environment → Place → ContextMutation → List Label
 frozen_labels env operand m =
     let v = variable_or env m.identifier (codes "a local variable") in
-    label operand.span (codes "This function may (indirectly) reassign or modify " ++ v ++ codes " after render") ++ label m.span (codes "This modifies " ++ v)
+    label operand.span (codes "This function may (indirectly) reassign or modify " ++ v ++ codes " after render")
+    ++ label m.span (codes "This modifies " ++ v)
 
 -- the report where a function is frozen that mutates an identifier
 abbrev pub frozen_report : Environment → Place → ContextMutation → Report
 frozen_report env operand m =
     immutability (codes "Cannot modify local variables after render completes")
-    (codes "This argument is a function which may reassign or mutate " ++ variable_or env m.identifier (codes "a local variable") ++ codes " after render, which can cause inconsistent behavior on subsequent renders. Consider using state instead")
+    (codes "This argument is a function which may reassign or mutate "
+    ++ variable_or env m.identifier (codes "a local variable")
+    ++ codes
+    " after render, which can cause inconsistent behavior on subsequent renders. Consider using state instead")
     (frozen_labels env operand m)
 
 -- the tables with reports recorded after those that are there

@@ -7,12 +7,14 @@ use Rattle.alias_validate.specs.declared.outcome.WalkOutcome.{WalkOutcome}
 use Rattle.alias_validate.specs.declared.outcome.WalkOutcome.TheVariants.{Continue, End}
 
 -- the next step, unless the walk has ended
-abbrev pub and_then : {S : Type 0} → (S → Result (S × WalkOutcome) InferError) → S → WalkOutcome → Result (S × WalkOutcome) InferError
+abbrev pub and_then : {S : Type 0} → (S → Result (S × WalkOutcome) InferError) → S → WalkOutcome
+    → Result (S × WalkOutcome) InferError
 and_then f s Continue = f s
 and_then f s (End p) = Ok (s, End p)
 
 -- a step at each of xs, until one ends the walk
-abbrev pub each : {S X : Type 0} → (S → X → Result (S × WalkOutcome) InferError) → S → List X → Result (S × WalkOutcome) InferError
+abbrev pub each : {S X : Type 0} → (S → X → Result (S × WalkOutcome) InferError) → S → List X
+    → Result (S × WalkOutcome) InferError
 each f s [] = Ok (s, Continue)
 each f s (x ∷ xs) = f s x >>= (λ r. and_then (λ t. each f t xs) r.0 r.1)
 

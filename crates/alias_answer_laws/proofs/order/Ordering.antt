@@ -1,5 +1,6 @@
 -- The analysis goes over the functions below a function in the order that is stated.
-use Rattle.std.specs.Prelude.{◌≡◌, ℕ, ◌==◌, ◌||◌, nat_eq, Bool, true, false, cond, List, [], ◌∷◌, ◌++◌, Option, Some, None, Result, Ok, Err, length, map, slice_get, slice_set}
+use Rattle.std.specs.Prelude.{◌≡◌, ℕ, ◌==◌, ◌||◌, nat_eq, Bool, true, false, cond, List, [], ◌∷◌, ◌++◌, Option, Some}
+use Rattle.std.specs.Prelude.{None, Result, Ok, Err, length, map, slice_get, slice_set}
 use Rattle.std.specs.List.{flat_map}
 use Rattle.std.proofs.Common.{zero, suc, refl, ap, sym, ◌∙◌, subst, arith, ◌+◌, ◌<◌, ◌≤◌}
 use Rattle.std.proofs.lemmas.Bool.{eqb-true}
@@ -21,7 +22,9 @@ use Rattle.alias_effects.specs.Recording.{with_effects_of}
 use Rattle.alias_effects.specs.declared.output.PassEnd.{PassEnd}
 use Rattle.alias_range_pass.specs.places.Keeping.{but_context}
 use Rattle.alias_range_pass.specs.Passes.{Ranged, range_pass}
-use Rattle.alias_nested.specs.Analysis.{naming, numbered, Analysed, Analysis, analysis, each, effects_analysed, completed, completed_with, function_analysed, taken_analysed, put_back, found_analysed, slot_analysed, analysed}
+use Rattle.alias_nested.specs.Analysis.{naming, numbered, Analysed, Analysis, analysis, each, effects_analysed}
+use Rattle.alias_nested.specs.Analysis.{completed, completed_with, function_analysed, taken_analysed, put_back}
+use Rattle.alias_nested.specs.Analysis.{found_analysed, slot_analysed, analysed}
 use Rattle.alias_nested.specs.Created.{created_functions}
 use Rattle.alias_nested.specs.Annotating.{annotated}
 use Rattle.alias_nested.specs.Slots.{emptied}
@@ -34,7 +37,8 @@ use Rattle.alias_answer_laws.proofs.order.Staying.{created_recorded, created_ran
 -- ---- steps and lists
 
 -- what a step answered, where the next one answered
-pub went : {A B E : Type 0} (r : Result A E) (k : A → Result B E) (b : B) → (r >>= k) ≡ Ok b → (a : A) × (r ≡ Ok a) × (k a ≡ Ok b)
+pub went : {A B E : Type 0} (r : Result A E) (k : A → Result B E) (b : B) → (r >>= k) ≡ Ok b → (a : A) × (r ≡ Ok a)
+    × (k a ≡ Ok b)
 went (Ok x) k b h = (x, refl, h)
 went (Err e) k b h = cc
 
@@ -67,7 +71,8 @@ done a = map (λ (x : Analysed). x.solved.function) a.functions
 -- the slots of functions that aren't out hold functions that create what those of before do
 pub record Stands (fs : List HirFunction) (out : List ℕ) (env : Environment) : Type 0 where
   pub count : length env.functions ≡ length fs
-  pub slots : (k : ℕ) → is_among out k ≡ false → created_by_slot (slice_get env.functions k) ≡ created_by_slot (slice_get fs k)
+  pub slots : (k : ℕ) → is_among out k ≡ false → created_by_slot (slice_get env.functions k)
+      ≡ created_by_slot (slice_get fs k)
 
 -- the functions are each there once, are in their slots, and none of them is out
 pub record Apart (fs : List HirFunction) (out : List ℕ) (ids : List FunctionId) : Type 0 where
@@ -79,23 +84,27 @@ pub record Done (fs : List HirFunction) (out : List ℕ) (a b : Analysis) (ids :
   pub functions : done b ≡ done a ++ map Some ids
   pub stands : Stands fs out b.env
 
-apart_first : (fs : List HirFunction) (out : List ℕ) (xs ys : List FunctionId) → Apart fs out (xs ++ ys) → Apart fs out xs
+apart_first : (fs : List HirFunction) (out : List ℕ) (xs ys : List FunctionId) → Apart fs out (xs ++ ys)
+    → Apart fs out xs
 apart_first fs out xs ys p = record {
   once = λ j. let o = p.once j in let t = times_append xs ys j in omega arith;
   there = λ j h. p.there j (let t = times_append xs ys j in omega arith);
 }
 
-apart_rest : (fs : List HirFunction) (out : List ℕ) (xs ys : List FunctionId) → Apart fs out (xs ++ ys) → Apart fs out ys
+apart_rest : (fs : List HirFunction) (out : List ℕ) (xs ys : List FunctionId) → Apart fs out (xs ++ ys)
+    → Apart fs out ys
 apart_rest fs out xs ys p = record {
   once = λ j. let o = p.once j in let t = times_append xs ys j in omega arith;
   there = λ j h. p.there j (let t = times_append xs ys j in omega arith);
 }
 
 -- changes of context places alone
-stands_alike : (fs : List HirFunction) (out : List ℕ) (env more : Environment) → map but_context more.functions ≡ map but_context env.functions → Stands fs out env → Stands fs out more
+stands_alike : (fs : List HirFunction) (out : List ℕ) (env more : Environment) → map but_context more.functions
+    ≡ map but_context env.functions → Stands fs out env → Stands fs out more
 stands_alike fs out env more same s = record {
   count = count_alike env.functions more.functions same ∙ s.count;
-  slots = λ k h. same_creates (slice_get env.functions k) (slice_get more.functions k) (slots_stay env more same k) ∙ s.slots k h;
+  slots = λ k h. same_creates (slice_get env.functions k) (slice_get more.functions k) (slots_stay env more same k)
+      ∙ s.slots k h;
 }
 
 -- ---- the passes over a nested function
@@ -107,9 +116,14 @@ pub record Finished (id : FunctionId) (f : HirFunction) (a : Analysis) (g : HirF
   pub contexts : map but_context b.env.functions ≡ map but_context a.env.functions
 
 abbrev pub effects_made : FunctionId → HirFunction → Analysis → PassEnd → HirFunction × Analysis
-effects_made id f a e = (with_effects_of e.solved f, analysis (env_after a.env e) (a.functions ++ record { env = a.env; func = f; is_function_expression = true; solved = numbered id e.solved } ∷ []))
+effects_made id f a e = (
+  with_effects_of e.solved f,
+  analysis (env_after a.env e) (a.functions
+      ++ record { env = a.env; func = f; is_function_expression = true; solved = numbered id e.solved } ∷ []),
+)
 
-effects_finished : (id : FunctionId) (f : HirFunction) (a : Analysis) (p : HirFunction × Analysis) → effects_analysed id f a ≡ Ok p → Finished id f a p.0 p.1
+effects_finished : (id : FunctionId) (f : HirFunction) (a : Analysis) (p : HirFunction × Analysis)
+    → effects_analysed id f a ≡ Ok p → Finished id f a p.0 p.1
 effects_finished id f a p h =
     let w = went (naming id (pass_end a.env f true)) (λ e. Ok (effects_made id f a e)) p h in
     let e : PassEnd = w.0 in
@@ -126,24 +140,33 @@ record Completed (f : HirFunction) (env : Environment) (g : HirFunction) (more :
   creates : created_functions g ≡ created_functions f
   contexts : map but_context more.functions ≡ map but_context env.functions
 
-ranges_completed : (id : FunctionId) (f : HirFunction) (env : Environment) (c : HirFunction × Environment) → completed id f env ≡ Ok c → Completed f env c.0 c.1
+ranges_completed : (id : FunctionId) (f : HirFunction) (env : Environment) (c : HirFunction × Environment)
+    → completed id f env ≡ Ok c → Completed f env c.0 c.1
 ranges_completed id f env c h =
     let w = went (naming id (range_pass true f env)) (λ (r : Ranged). Ok (annotated r.summary r.after)) c h in
     let r : Ranged = w.0 in
     let ran : range_pass true f env ≡ Ok r = naming_ok id (range_pass true f env) r w.1 in
     let is : annotated r.summary r.after ≡ c = cc in
-    subst (λ (q : HirFunction × Environment). Completed f env q.0 q.1) is (record { creates = created_ranged f env r ran; contexts = ranged_contexts f env r ran })
+    subst (λ (q : HirFunction × Environment). Completed f env q.0 q.1) is
+    (record { creates = created_ranged f env r ran; contexts = ranged_contexts f env r ran })
 
-pub function_finished : (id : FunctionId) (f : HirFunction) (a : Analysis) (s : HirFunction × Analysis) → function_analysed id f a ≡ Ok s → Finished id f a s.0 s.1
+pub function_finished : (id : FunctionId) (f : HirFunction) (a : Analysis) (s : HirFunction × Analysis)
+    → function_analysed id f a ≡ Ok s → Finished id f a s.0 s.1
 function_finished id f a s h =
     let w = went (effects_analysed id f a) (completed_with id) s h in
     let p : HirFunction × Analysis = w.0 in
     let first : Finished id f a p.0 p.1 = effects_finished id f a p w.1 in
-    let v = went (completed id p.0 p.1.env) (λ (c : HirFunction × Environment). Ok (c.0, analysis c.1 p.1.functions)) s w.2 in
+    let v = went (completed id p.0 p.1.env) (λ (c : HirFunction × Environment). Ok (c.0, analysis c.1 p.1.functions)) s
+    w.2 in
     let c : HirFunction × Environment = v.0 in
     let after : Completed p.0 p.1.env c.0 c.1 = ranges_completed id p.0 p.1.env c v.1 in
     let is : ◌≡◌ {A = HirFunction × Analysis} (c.0, analysis c.1 p.1.functions) s = cc in
-    subst (λ (q : HirFunction × Analysis). Finished id f a q.0 q.1) is (record { functions = first.functions; creates = after.creates ∙ first.creates; contexts = after.contexts ∙ first.contexts })
+    subst (λ (q : HirFunction × Analysis). Finished id f a q.0 q.1) is
+    (record {
+      functions = first.functions;
+      creates = after.creates ∙ first.creates;
+      contexts = after.contexts ∙ first.contexts;
+    })
 
 -- ---- a function is taken out of its slot, and put back
 
@@ -162,10 +185,12 @@ module _ (fs : List HirFunction) (n : ℕ) where
         omega arith
 
     itself_once : times (numbers (ids_of id)) id.0 ≡ times (numbers (ids_below id)) id.0 + 1
-    itself_once = let same : (id.0 == id.0) ≡ true = grind (arith, nat_tests) in own_times id.0 ∙ ap (λ (b : Bool). times (numbers (ids_below id)) id.0 + cond b 1 0) same
+    itself_once = let same : (id.0 == id.0) ≡ true = grind (arith, nat_tests) in own_times id.0
+        ∙ ap (λ (b : Bool). times (numbers (ids_below id)) id.0 + cond b 1 0) same
 
     not_out : is_among out id.0 ≡ false
-    not_out = absent (is_among out id.0) (λ i. let a : 1 ≤ times out id.0 = counted out id.0 i in let b = itself_once in let c = apart.once id.0 in absurd (omega arith))
+    not_out = absent (is_among out id.0) (λ i. let a : 1 ≤ times out id.0 = counted out id.0 i in let b = itself_once in
+        let c = apart.once id.0 in absurd (omega arith))
 
     in_slot : id.0 < length fs
     in_slot = apart.there id.0 (let b = itself_once in omega arith)
@@ -180,7 +205,8 @@ module _ (fs : List HirFunction) (n : ℕ) where
       there = λ j h. apart.there j (let t = own_times j in omega arith);
     }
 
-  taken_stands : (id : FunctionId) (out : List ℕ) (env : Environment) (g : HirFunction) → Stands fs out env → Stands fs (id.0 ∷ out) (with_function id g env)
+  taken_stands : (id : FunctionId) (out : List ℕ) (env : Environment) (g : HirFunction) → Stands fs out env
+      → Stands fs (id.0 ∷ out) (with_function id g env)
   taken_stands id out env g s = record {
     count = length_set env.functions id.0 g ∙ s.count;
     slots = λ k h.
@@ -189,13 +215,20 @@ module _ (fs : List HirFunction) (n : ℕ) where
         ap created_by_slot (set_other env.functions id.0 k g other) ∙ s.slots k n.1;
   }
 
-  back_stands : (id : FunctionId) (out : List ℕ) (env : Environment) (g : HirFunction) → id.0 < length fs → created_functions g ≡ created_by_slot (slice_get fs id.0) → Stands fs (id.0 ∷ out) env → Stands fs out (with_function id g env)
+  back_stands : (id : FunctionId) (out : List ℕ) (env : Environment) (g : HirFunction) → id.0 < length fs
+      → created_functions g ≡ created_by_slot (slice_get fs id.0) → Stands fs (id.0 ∷ out) env
+      → Stands fs out (with_function id g env)
   back_stands id out env g there creates s = record {
     count = length_set env.functions id.0 g ∙ s.count;
     slots = λ k h.
-        elim (nat_eq k id.0) as (λ b. nat_eq k id.0 ≡ b → created_by_slot (slice_get (slice_set env.functions id.0 g) k) ≡ created_by_slot (slice_get fs k)) [
-          | true ↦ λ e. let same : k ≡ id.0 = eqb-true k id.0 e in subst (λ z. created_by_slot (slice_get (slice_set env.functions id.0 g) z) ≡ created_by_slot (slice_get fs z)) (sym same) (ap created_by_slot (put env.functions id.0 (let c = s.count in omega arith)) ∙ creates)
-          | false ↦ λ e. ap created_by_slot (set_other env.functions id.0 k g (λ same. differs k id.0 e same)) ∙ s.slots k (both_false (nat_eq k id.0) (is_among out k) e h)
+        elim (nat_eq k id.0) as (λ b. nat_eq k id.0 ≡ b → created_by_slot (slice_get (slice_set env.functions id.0 g) k)
+        ≡ created_by_slot (slice_get fs k)) [
+          | true ↦ λ e. let same : k ≡ id.0 = eqb-true k id.0 e in
+              subst (λ z. created_by_slot (slice_get (slice_set env.functions id.0 g) z)
+              ≡ created_by_slot (slice_get fs z)) (sym same)
+              (ap created_by_slot (put env.functions id.0 (let c = s.count in omega arith)) ∙ creates)
+          | false ↦ λ e. ap created_by_slot (set_other env.functions id.0 k g (λ same. differs k id.0 e same))
+              ∙ s.slots k (both_false (nat_eq k id.0) (is_among out k) e h)
         ] refl;
   }
     where
@@ -207,11 +240,15 @@ module _ (fs : List HirFunction) (n : ℕ) where
 -- ---- the order
 
 -- an analysis of what is below goes over the functions in an order
-abbrev pub GoesOver : List HirFunction → (HirFunction → Analysis → Result Analysis InferError) → (List FunctionId → List FunctionId) → Type 0
-GoesOver fs below ordered = (f : HirFunction) (out : List ℕ) (a b : Analysis) → Stands fs out a.env → Apart fs out (ordered (created_functions f)) → below f a ≡ Ok b → Done fs out a b (ordered (created_functions f))
+abbrev pub GoesOver : List HirFunction → (HirFunction → Analysis → Result Analysis InferError)
+    → (List FunctionId → List FunctionId) → Type 0
+GoesOver fs below ordered = (f : HirFunction) (out : List ℕ) (a b : Analysis) → Stands fs out a.env
+    → Apart fs out (ordered (created_functions f)) → below f a ≡ Ok b → Done fs out a b (ordered (created_functions f))
 
 module _ (fs : List HirFunction) (n : ℕ) (below_goes : GoesOver fs (analysed n) (innermost_first n fs)) where
-  found_done : (id : FunctionId) (out : List ℕ) (a b : Analysis) (o : Option HirFunction) → Stands fs out a.env → Apart fs out (ids_of fs n id) → slice_get a.env.functions id.0 ≡ o → found_analysed (analysed n) id a o ≡ Ok b → Done fs out a b (ids_of fs n id)
+  found_done : (id : FunctionId) (out : List ℕ) (a b : Analysis) (o : Option HirFunction) → Stands fs out a.env
+      → Apart fs out (ids_of fs n id) → slice_get a.env.functions id.0 ≡ o → found_analysed (analysed n) id a o ≡ Ok b
+      → Done fs out a b (ids_of fs n id)
   found_done id out a b None st apart h g =
       let c = st.count in
       let below : id.0 < length fs = in_slot fs n id out apart in
@@ -223,32 +260,44 @@ module _ (fs : List HirFunction) (n : ℕ) (below_goes : GoesOver fs (analysed n
       let is : put_back id s ≡ b = cc in
       let v = went (analysed n f a0) (function_analysed id f) s w.1 in
       let a1 : Analysis = v.0 in
-      let same : created_functions f ≡ created_by_slot (slice_get fs id.0) = sym (ap created_by_slot h) ∙ st.slots id.0 (not_out fs n id out apart) in
+      let same : created_functions f ≡ created_by_slot (slice_get fs id.0) = sym (ap created_by_slot h)
+      ∙ st.slots id.0 (not_out fs n id out apart) in
       let first : Done fs (id.0 ∷ out) a0 a1 (innermost_first n fs (created_functions f))
-      = below_goes f (id.0 ∷ out) a0 a1 (taken_stands fs n id out a.env (emptied f.returns) st) (subst (λ ids. Apart fs (id.0 ∷ out) (innermost_first n fs ids)) (sym same) (apart_below fs n id out apart)) v.1 in
+      = below_goes f (id.0 ∷ out) a0 a1 (taken_stands fs n id out a.env (emptied f.returns) st)
+      (subst (λ ids. Apart fs (id.0 ∷ out) (innermost_first n fs ids)) (sym same) (apart_below fs n id out apart))
+      v.1 in
       let after : Finished id f a1 s.0 s.1 = function_finished id f a1 s v.2 in
       let names : done s.1 ≡ done a ++ map Some (ids_of fs n id)
-      = after.functions ∙ ap (λ xs. xs ++ Some id ∷ []) (first.functions ∙ ap (λ ids. done a ++ map Some (innermost_first n fs ids)) same)
+      = after.functions ∙ ap (λ xs. xs ++ Some id ∷ [])
+      (first.functions ∙ ap (λ ids. done a ++ map Some (innermost_first n fs ids)) same)
       ∙ append_assoc (done a) (map Some (ids_below fs n id)) (Some id ∷ [])
       ∙ ap (λ xs. done a ++ xs) (sym (map-append (λ (id : FunctionId). Some id) (ids_below fs n id) (id ∷ []))) in
       let stands : Stands fs out (with_function id s.0 s.1.env)
-      = back_stands fs n id out s.1.env s.0 (in_slot fs n id out apart) (after.creates ∙ same) (stands_alike fs (id.0 ∷ out) a1.env s.1.env after.contexts first.stands) in
+      = back_stands fs n id out s.1.env s.0 (in_slot fs n id out apart) (after.creates ∙ same)
+      (stands_alike fs (id.0 ∷ out) a1.env s.1.env after.contexts first.stands) in
       subst (λ (z : Analysis). Done fs out a z (ids_of fs n id)) is (record { functions = names; stands = stands })
 
-  each_done : (ids : List FunctionId) (out : List ℕ) (a b : Analysis) → Stands fs out a.env → Apart fs out (flat_map (ids_of fs n) ids) → each (slot_analysed (analysed n)) ids a ≡ Ok b → Done fs out a b (flat_map (ids_of fs n) ids)
+  each_done : (ids : List FunctionId) (out : List ℕ) (a b : Analysis) → Stands fs out a.env
+      → Apart fs out (flat_map (ids_of fs n) ids) → each (slot_analysed (analysed n)) ids a ≡ Ok b
+      → Done fs out a b (flat_map (ids_of fs n) ids)
   each_done [] out a b st apart h =
       let is : a ≡ b = cc in
       subst (λ (z : Analysis). Done fs out a z []) is (record { functions = sym (append-nil (done a)); stands = st })
   each_done (id ∷ ids) out a b st apart h =
       let w = went (slot_analysed (analysed n) id a) (each (slot_analysed (analysed n)) ids) b h in
       let a1 : Analysis = w.0 in
-      let first : Done fs out a a1 (ids_of fs n id) = found_done id out a a1 (slice_get a.env.functions id.0) st (apart_first fs out (ids_of fs n id) (flat_map (ids_of fs n) ids) apart) refl w.1 in
-      let rest : Done fs out a1 b (flat_map (ids_of fs n) ids) = each_done ids out a1 b first.stands (apart_rest fs out (ids_of fs n id) (flat_map (ids_of fs n) ids) apart) w.2 in
+      let first : Done fs out a a1 (ids_of fs n id) =
+      found_done id out a a1 (slice_get a.env.functions id.0) st
+      (apart_first fs out (ids_of fs n id) (flat_map (ids_of fs n) ids) apart) refl w.1 in
+      let rest : Done fs out a1 b (flat_map (ids_of fs n) ids) =
+      each_done ids out a1 b first.stands (apart_rest fs out (ids_of fs n id) (flat_map (ids_of fs n) ids) apart)
+      w.2 in
       record {
         functions =
             rest.functions ∙ ap (λ xs. xs ++ map Some (flat_map (ids_of fs n) ids)) first.functions
             ∙ append_assoc (done a) (map Some (ids_of fs n id)) (map Some (flat_map (ids_of fs n) ids))
-            ∙ ap (λ xs. done a ++ xs) (sym (map-append (λ (id : FunctionId). Some id) (ids_of fs n id) (flat_map (ids_of fs n) ids)));
+            ∙ ap (λ xs. done a ++ xs) (sym (map-append (λ (id : FunctionId). Some id) (ids_of fs n id)
+            (flat_map (ids_of fs n) ids)));
         stands = rest.stands;
       }
 

@@ -38,7 +38,8 @@ InstructionsLackApply f = AllByRecursion (λ (i : Instruction). has_apply i.effe
 
 -- nor does a terminal of it
 abbrev pub TerminalsLackApply : HirFunction → Type 0
-TerminalsLackApply f = AllByRecursion (λ (b : BlockId × BasicBlock). has_apply (terminal_effects b.1.terminal) ≡ false) f.body.blocks
+TerminalsLackApply f = AllByRecursion (λ (b : BlockId × BasicBlock). has_apply (terminal_effects b.1.terminal) ≡ false)
+    f.body.blocks
 
 -- no instruction of a nested function carries Apply
 abbrev pub NestedLackApply : Environment → Type 0

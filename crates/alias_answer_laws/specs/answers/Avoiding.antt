@@ -48,21 +48,25 @@ module _ (is : InferError → Bool) where
   Avoids P (Ok x) = P x
   Avoids P (Err e) = is e ≡ false
 
-  pub avoids_then : {A B : Type 0} (P : A → Type 0) (Q : B → Type 0) (r : Result A InferError) (g : A → Result B InferError) → Avoids P r → ((x : A) → P x → Avoids Q (g x)) → Avoids Q (r >>= g)
+  pub avoids_then : {A B : Type 0} (P : A → Type 0) (Q : B → Type 0) (r : Result A InferError)
+      (g : A → Result B InferError) → Avoids P r → ((x : A) → P x → Avoids Q (g x)) → Avoids Q (r >>= g)
   avoids_then P Q (Ok x) g h k = k x h
   avoids_then P Q (Err e) g h k = h
 
-  pub avoids_on : {A : Type 0} (P Q : A → Type 0) (r : Result A InferError) → ((x : A) → P x → Q x) → Avoids P r → Avoids Q r
+  pub avoids_on : {A : Type 0} (P Q : A → Type 0) (r : Result A InferError) → ((x : A) → P x → Q x) → Avoids P r
+      → Avoids Q r
   avoids_on P Q (Ok x) f h = f x h
   avoids_on P Q (Err e) f h = h
 
-  pub avoids_and_then : {S : Type 0} (f : S → Result (S × WalkOutcome) InferError) (s : S) (o : WalkOutcome) → Avoids (Answered {A = S × WalkOutcome}) (f s)
+  pub avoids_and_then : {S : Type 0} (f : S → Result (S × WalkOutcome) InferError) (s : S) (o : WalkOutcome)
+      → Avoids (Answered {A = S × WalkOutcome}) (f s)
       → Avoids (Answered {A = S × WalkOutcome}) (and_then f s o)
   avoids_and_then f s Continue h = h
   avoids_and_then f s (End p) h = tt
 
   -- a reason that stays when the function is named
-  pub avoids_naming : {A : Type 0} (P : A → Type 0) (id : FunctionId) (r : Result A InferError) → ((e : InferError) → is (named id e) ≡ is e) → Avoids P r → Avoids P (naming id r)
+  pub avoids_naming : {A : Type 0} (P : A → Type 0) (id : FunctionId) (r : Result A InferError)
+      → ((e : InferError) → is (named id e) ≡ is e) → Avoids P r → Avoids P (naming id r)
   avoids_naming P id (Ok x) same h = h
   avoids_naming P id (Err e) same h = subst (λ (b : Bool). b ≡ false) (sym (same e)) h
 
@@ -73,7 +77,8 @@ AvoidsBoth {A} r = Avoids is_unreplaced (Answered {A = A}) r × Avoids is_not_in
 -- ---- refusals for neither reason
 
 -- a refusal that names its function is for the same reason
-pub named_alike : (id : FunctionId) (e : InferError) → (is_unreplaced (named id e) ≡ is_unreplaced e) × (is_not_inferred (named id e) ≡ is_not_inferred e)
+pub named_alike : (id : FunctionId) (e : InferError) → (is_unreplaced (named id e) ≡ is_unreplaced e)
+    × (is_not_inferred (named id e) ≡ is_not_inferred e)
 named_alike id (error.NotSettled f visits report) = (refl, refl)
 named_alike id (error.Uninitialized f block identifier span report) = (refl, refl)
 named_alike id (error.Reinitialized f instruction identifier) = (refl, refl)
@@ -82,14 +87,16 @@ named_alike id (error.IncompatibleLibrary f instruction report) = (refl, refl)
 named_alike id (error.SpreadArgument f instruction span report) = (refl, refl)
 named_alike id e = (refl, refl)
 
-instruction_refused : (i : InstructionId) (c : Refusal) → (is_unreplaced (instruction_refusal i c) ≡ false) × (is_not_inferred (instruction_refusal i c) ≡ false)
+instruction_refused : (i : InstructionId) (c : Refusal) → (is_unreplaced (instruction_refusal i c) ≡ false)
+    × (is_not_inferred (instruction_refusal i c) ≡ false)
 instruction_refused i (refused.Reinitialized x) = (refl, refl)
 instruction_refused i (refused.AliasBeforeCreate x) = (refl, refl)
 instruction_refused i (refused.IncompatibleLibrary report) = (refl, refl)
 instruction_refused i (refused.SpreadArgument span report) = (refl, refl)
 instruction_refused i (refused.TooMany which) = (refl, refl)
 
-pub block_refused : (env : Environment) (b : BlockId) (c : BlockRefusal) → (is_unreplaced (refusal env b c) ≡ false) × (is_not_inferred (refusal env b c) ≡ false)
+pub block_refused : (env : Environment) (b : BlockId) (c : BlockRefusal) → (is_unreplaced (refusal env b c) ≡ false)
+    × (is_not_inferred (refusal env b c) ≡ false)
 block_refused env b (block.Instruction i c) = instruction_refused i c
 block_refused env b (block.Uninitialized m) = (refl, refl)
 
@@ -98,6 +105,7 @@ listing_avoids (Ok l) = (tt, tt)
 listing_avoids (Err (hir.TooMany which)) = (refl, refl)
 listing_avoids (Err (hir.Memory e)) = (refl, refl)
 
-pub room_avoids : (b : Bool) → (let r : Result ⊤ InferError = if b then Ok tt else Err (TooMany GraphPositions) in AvoidsBoth r)
+pub room_avoids : (b : Bool) → (let r : Result ⊤ InferError = if b then Ok tt else Err (TooMany GraphPositions) in
+    AvoidsBoth r)
 room_avoids true = (tt, tt)
 room_avoids false = (refl, refl)

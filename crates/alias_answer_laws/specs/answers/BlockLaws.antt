@@ -24,9 +24,11 @@ later_false true c d h f = cc
 later_false false c d h f = f h
 
 -- one more effect that isn't Apply
-pub none_more : (e : AliasingEffect) → is_apply e ≡ false → (es : List AliasingEffect) → NoneIsApply es → NoneIsApply (es ++ e ∷ [])
+pub none_more : (e : AliasingEffect) → is_apply e ≡ false → (es : List AliasingEffect) → NoneIsApply es
+    → NoneIsApply (es ++ e ∷ [])
 none_more e other [] h = one_false (is_apply e) other
-none_more e other (x ∷ es) h = later_false (is_apply x) (list_any is_apply es) (list_any is_apply (es ++ e ∷ [])) h (none_more e other es)
+none_more e other (x ∷ es) h = later_false (is_apply x) (list_any is_apply es) (list_any is_apply (es ++ e ∷ [])) h
+    (none_more e other es)
 
 abbrev plain_blocks : (env : Environment) → ProgressBlockLaw env
 plain_blocks env = record {

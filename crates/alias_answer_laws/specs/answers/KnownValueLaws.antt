@@ -1,5 +1,6 @@
 -- After the range pass has set the effects of an instruction's places, none of its operands has Unknown.
-use Rattle.std.specs.Prelude.{◌≡◌, Bool, true, false, cond, if◌then◌else◌, List, [], ◌∷◌, ◌++◌, Option, Some, None, map, refl}
+use Rattle.std.specs.Prelude.{◌≡◌, Bool, true, false, cond, if◌then◌else◌, List, [], ◌∷◌, ◌++◌, Option, Some, None, map}
+use Rattle.std.specs.Prelude.{refl}
 use Rattle.std.specs.List.{AllByRecursion, flat_map}
 use Rattle.std.specs.Map.{lookup}
 use Rattle.std.specs.Option.{option_map_or}
@@ -21,7 +22,18 @@ use Rattle.alias_hir.specs.declared.place.PlaceOrSpread.TheVariants as arg
 use Rattle.alias_hir.specs.declared.value.ArrayElement.{ArrayElement}
 use Rattle.alias_hir.specs.declared.value.ArrayElement.TheVariants as element
 use Rattle.alias_hir.specs.declared.value.InstructionValue.{InstructionValue}
-use Rattle.alias_hir.specs.declared.value.InstructionValue.TheVariants.{ArrayExpression, ObjectExpression, Await, NewExpression, CallExpression, MethodCall, PropertyDelete, ComputedDelete, PropertyLoad, ComputedLoad, PropertyStore, ComputedStore, FunctionExpression, GetIterator, IteratorNext, NextPropertyOf, JsxExpression, JsxFragment, Destructure, LoadContext, StoreContext, LoadLocal, StoreLocal, PostfixUpdate, PrefixUpdate, StoreGlobal, TypeCastExpression, StartMemoize, FinishMemoize, TaggedTemplateExpression, BinaryExpression, TemplateLiteral, UnaryExpression}
+use Rattle.alias_hir.specs.declared.value.InstructionValue.TheVariants.{ArrayExpression, ObjectExpression, Await}
+use Rattle.alias_hir.specs.declared.value.InstructionValue.TheVariants.{NewExpression, CallExpression, MethodCall}
+use Rattle.alias_hir.specs.declared.value.InstructionValue.TheVariants.{PropertyDelete, ComputedDelete, PropertyLoad}
+use Rattle.alias_hir.specs.declared.value.InstructionValue.TheVariants.{ComputedLoad, PropertyStore, ComputedStore}
+use Rattle.alias_hir.specs.declared.value.InstructionValue.TheVariants.{FunctionExpression, GetIterator, IteratorNext}
+use Rattle.alias_hir.specs.declared.value.InstructionValue.TheVariants.{NextPropertyOf, JsxExpression, JsxFragment}
+use Rattle.alias_hir.specs.declared.value.InstructionValue.TheVariants.{Destructure, LoadContext, StoreContext}
+use Rattle.alias_hir.specs.declared.value.InstructionValue.TheVariants.{LoadLocal, StoreLocal, PostfixUpdate}
+use Rattle.alias_hir.specs.declared.value.InstructionValue.TheVariants.{PrefixUpdate, StoreGlobal, TypeCastExpression}
+use Rattle.alias_hir.specs.declared.value.InstructionValue.TheVariants.{StartMemoize, FinishMemoize}
+use Rattle.alias_hir.specs.declared.value.InstructionValue.TheVariants.{TaggedTemplateExpression, BinaryExpression}
+use Rattle.alias_hir.specs.declared.value.InstructionValue.TheVariants.{TemplateLiteral, UnaryExpression}
 use Rattle.alias_hir.specs.declared.value.JsxAttribute.{JsxAttribute}
 use Rattle.alias_hir.specs.declared.value.JsxAttribute.TheVariants as attribute
 use Rattle.alias_hir.specs.declared.value.JsxTag.{JsxTag}
@@ -31,10 +43,12 @@ use Rattle.alias_hir.specs.declared.value.ObjectPropertyOrSpread.TheVariants as 
 use Rattle.alias_graph.specs.Nodes.{same_id}
 use Rattle.alias_range_pass.specs.places.Instructions.{value_placed}
 use Rattle.alias_range_pass.specs.places.Mapped.{map_operands, map_lvalues}
-use Rattle.alias_range_pass.specs.places.Tables.{Table, effect_of, ends_past, source_effect, flow_tabled, effect_tabled, effects_tabled, recorded, table_of, with_table}
+use Rattle.alias_range_pass.specs.places.Tables.{Table, effect_of, ends_past, source_effect, flow_tabled, effect_tabled}
+use Rattle.alias_range_pass.specs.places.Tables.{effects_tabled, recorded, table_of, with_table}
 use Rattle.alias_validate.specs.Marking.{is_unknown}
 use Rattle.alias_visit.specs.Operands.{owned_operands}
-use Rattle.alias_visit.specs.Rebuilt.{with_places, with_args, with_elements, with_properties, with_attributes, after_attributes}
+use Rattle.alias_visit.specs.Rebuilt.{with_places, with_args, with_elements, with_properties, with_attributes}
+use Rattle.alias_visit.specs.Rebuilt.{after_attributes}
 
 -- the place has an effect
 abbrev pub IsKnown : Place → Type 0
@@ -49,21 +63,25 @@ module _ (f : Place → Place) (known : (p : Place) → IsKnown (f p)) where
   places_known [] = tt
   places_known (x ∷ xs) = (known x, places_known xs)
 
-  args_known : (xs : List PlaceOrSpread) → AllByRecursion IsKnown (flat_map arg_places (with_args xs (map f (flat_map arg_places xs))))
+  args_known : (xs : List PlaceOrSpread) → AllByRecursion IsKnown
+      (flat_map arg_places (with_args xs (map f (flat_map arg_places xs))))
   args_known [] = tt
   args_known (arg.Place p ∷ xs) = (known p, args_known xs)
   args_known (arg.Spread s ∷ xs) = (known s.place, args_known xs)
 
-  elements_known : (xs : List ArrayElement) → AllByRecursion IsKnown (flat_map element_places (with_elements xs (map f (flat_map element_places xs))))
+  elements_known : (xs : List ArrayElement)
+      → AllByRecursion IsKnown (flat_map element_places (with_elements xs (map f (flat_map element_places xs))))
   elements_known [] = tt
   elements_known (element.Place p ∷ xs) = (known p, elements_known xs)
   elements_known (element.Spread s ∷ xs) = (known s.place, elements_known xs)
   elements_known (element.Hole ∷ xs) = elements_known xs
 
   abbrev PropertiesKnown : List ObjectPropertyOrSpread → Type 0
-  PropertiesKnown xs = AllByRecursion IsKnown (flat_map property_places (with_properties xs (map f (flat_map property_places xs))))
+  PropertiesKnown xs = AllByRecursion IsKnown
+      (flat_map property_places (with_properties xs (map f (flat_map property_places xs))))
 
-  key_known : (c : Option Place) (q : Place) (xs : List ObjectPropertyOrSpread) → PropertiesKnown xs → PropertiesKnown (property.Property (record { computed = c; place = q }) ∷ xs)
+  key_known : (c : Option Place) (q : Place) (xs : List ObjectPropertyOrSpread) → PropertiesKnown xs
+      → PropertiesKnown (property.Property (record { computed = c; place = q }) ∷ xs)
   key_known None q xs h = (known q, h)
   key_known (Some k) q xs h = (known k, (known q, h))
 
@@ -73,14 +91,17 @@ module _ (f : Place → Place) (known : (p : Place) → IsKnown (f p)) where
   properties_known (property.Spread s ∷ xs) = (known s.place, properties_known xs)
 
   abbrev AttributesKnown : List JsxAttribute → List Place → List Place → Type 0
-  AttributesKnown xs cs qs = AllByRecursion IsKnown (flat_map attribute_places (with_attributes xs qs) ++ with_places cs (after_attributes xs qs))
+  AttributesKnown xs cs qs = AllByRecursion IsKnown
+      (flat_map attribute_places (with_attributes xs qs) ++ with_places cs (after_attributes xs qs))
 
-  attributes_known : (xs : List JsxAttribute) (cs : List Place) → AttributesKnown xs cs (map f (flat_map attribute_places xs ++ cs))
+  attributes_known : (xs : List JsxAttribute) (cs : List Place)
+      → AttributesKnown xs cs (map f (flat_map attribute_places xs ++ cs))
   attributes_known [] cs = places_known cs
   attributes_known (attribute.Attribute p ∷ xs) cs = (known p, attributes_known xs cs)
   attributes_known (attribute.Spread p ∷ xs) cs = (known p, attributes_known xs cs)
 
-  jsx_known : (t : JsxTag) (xs : List JsxAttribute) (cs : List Place) → OperandsKnown (map_operands f (JsxExpression t xs cs))
+  jsx_known : (t : JsxTag) (xs : List JsxAttribute) (cs : List Place)
+      → OperandsKnown (map_operands f (JsxExpression t xs cs))
   jsx_known (tag.Place p) xs cs = (known p, attributes_known xs cs)
   jsx_known tag.Builtin xs cs = attributes_known xs cs
 
@@ -132,20 +153,24 @@ known_if : (b : Bool) (x y : Table) → TableKnown x → TableKnown y → TableK
 known_if true x y h k = h
 known_if false x y h k = k
 
-known_set : (table : Table) (id : IdentifierId) (e : Effect) → is_unknown e ≡ false → TableKnown table → TableKnown (insert_entry same_id table id e)
+known_set : (table : Table) (id : IdentifierId) (e : Effect) → is_unknown e ≡ false → TableKnown table
+    → TableKnown (insert_entry same_id table id e)
 known_set [] id e k h = (k, tt)
-known_set (x ∷ xs) id e k h = known_if (same_id id x.0) ((x.0, e) ∷ xs) (x ∷ insert_entry same_id xs id e) (k, h.1) (h.0, known_set xs id e k h.1)
+known_set (x ∷ xs) id e k h = known_if (same_id id x.0) ((x.0, e) ∷ xs) (x ∷ insert_entry same_id xs id e) (k, h.1)
+    (h.0, known_set xs id e k h.1)
 
 source_known : (b : Bool) → is_unknown (if b then Capture else Read) ≡ false
 source_known true = refl
 source_known false = refl
 
-flow_known : (ids : List Identifier) (t : EvaluationOrder) (a x : Place) (table : Table) → TableKnown table → TableKnown (flow_tabled ids t a x table)
+flow_known : (ids : List Identifier) (t : EvaluationOrder) (a x : Place) (table : Table) → TableKnown table
+    → TableKnown (flow_tabled ids t a x table)
 flow_known ids t a x table h =
     known_set (insert_entry same_id table a.identifier (source_effect ids t x.identifier)) x.identifier Store refl
     (known_set table a.identifier (source_effect ids t x.identifier) (source_known (ends_past ids t x.identifier)) h)
 
-effect_known : (ids : List Identifier) (t : EvaluationOrder) (e : AliasingEffect) (table : Table) → TableKnown table → TableKnown (effect_tabled ids t e table)
+effect_known : (ids : List Identifier) (t : EvaluationOrder) (e : AliasingEffect) (table : Table) → TableKnown table
+    → TableKnown (effect_tabled ids t e table)
 effect_known ids t (effect.CreateFrom a x) table h = flow_known ids t a x table h
 effect_known ids t (effect.Assign a x) table h = flow_known ids t a x table h
 effect_known ids t (effect.Alias a x) table h = flow_known ids t a x table h
@@ -155,28 +180,35 @@ effect_known ids t (effect.Freeze x reason) table h = known_set table x.identifi
 effect_known ids t (effect.Mutate x reason) table h = known_set table x.identifier Store refl h
 effect_known ids t (effect.MutateConditionally x) table h = known_set table x.identifier ConditionallyMutate refl h
 effect_known ids t (effect.MutateTransitive x) table h = known_set table x.identifier ConditionallyMutate refl h
-effect_known ids t (effect.MutateTransitiveConditionally x) table h = known_set table x.identifier ConditionallyMutate refl h
+effect_known ids t (effect.MutateTransitiveConditionally x) table h =
+    known_set table x.identifier ConditionallyMutate refl h
 effect_known ids t e table h = h
 
-effects_known : (ids : List Identifier) (t : EvaluationOrder) (es : List AliasingEffect) (table : Table) → TableKnown table → TableKnown (effects_tabled ids t es table)
+effects_known : (ids : List Identifier) (t : EvaluationOrder) (es : List AliasingEffect) (table : Table)
+    → TableKnown table → TableKnown (effects_tabled ids t es table)
 effects_known ids t [] table h = h
-effects_known ids t (e ∷ es) table h = effects_known ids t es (effect_tabled ids t e table) (effect_known ids t e table h)
+effects_known ids t (e ∷ es) table h = effects_known ids t es (effect_tabled ids t e table)
+    (effect_known ids t e table h)
 
 -- what the effects of an instruction set
 pub table_known : (ids : List Identifier) (i : Instruction) → TableKnown (table_of ids i)
 table_known ids i = effects_known ids i.id (recorded i.effects) [] tt
 
-found_known : (b : Bool) (e : Effect) (o : Option Effect) → is_unknown e ≡ false → is_unknown (option_map_or (λ x. x) o Read) ≡ false → is_unknown (option_map_or (λ x. x) (cond b (Some e) o) Read) ≡ false
+found_known : (b : Bool) (e : Effect) (o : Option Effect) → is_unknown e ≡ false
+    → is_unknown (option_map_or (λ x. x) o Read) ≡ false → is_unknown (option_map_or (λ x. x) (cond b (Some e) o) Read)
+    ≡ false
 found_known true e o h k = h
 found_known false e o h k = k
 
 looked_up_known : (table : Table) (id : IdentifierId) → TableKnown table → is_unknown (effect_of table Read id) ≡ false
 looked_up_known [] id h = refl
-looked_up_known (x ∷ xs) id h = found_known (same_id id x.0) x.1 (lookup (same_id id) xs) h.0 (looked_up_known xs id h.1)
+looked_up_known (x ∷ xs) id h = found_known (same_id id x.0) x.1 (lookup (same_id id) xs) h.0
+    (looked_up_known xs id h.1)
 
 -- an instruction's value with the effects of the table, and Read for other operands
 pub value_known : (table : Table) → TableKnown table → (v : InstructionValue) → OperandsKnown (value_placed table v)
-value_known table h v = operands_known (with_table table Read) (λ p. looked_up_known table p.identifier h) (map_lvalues (with_table table ConditionallyMutate) v)
+value_known table h v = operands_known (with_table table Read) (λ p. looked_up_known table p.identifier h)
+    (map_lvalues (with_table table ConditionallyMutate) v)
 
 -- ---- what a value creates
 
@@ -190,4 +222,5 @@ created_still f (FunctionExpression lowered) = refl
 created_still f v = refl
 
 pub creates_same : (table : Table) (v : InstructionValue) → created (value_placed table v) ≡ created v
-creates_same table v = created_stays (with_table table Read) (map_lvalues (with_table table ConditionallyMutate) v) ∙ created_still (with_table table ConditionallyMutate) v
+creates_same table v = created_stays (with_table table Read) (map_lvalues (with_table table ConditionallyMutate) v)
+    ∙ created_still (with_table table ConditionallyMutate) v

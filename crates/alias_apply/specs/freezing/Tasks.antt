@@ -50,4 +50,5 @@ module _ (context : FunctionId → List Place) where
     -- the next place that freezes, and the stack below it; or nothing is left to do
     abbrev pub NextIs : List Task → State → Option IdentifierId → List Task → Type 0
     NextIs old s None new = finish old s ≡ s
-    NextIs old s (Some p) new = (does_freeze s p ≡ true) × (finish old s ≡ finish new (at_place (frozen_transitively r context) r p s))
+    NextIs old s (Some p) new = (does_freeze s p ≡ true)
+        × (finish old s ≡ finish new (at_place (frozen_transitively r context) r p s))

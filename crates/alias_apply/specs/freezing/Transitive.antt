@@ -55,7 +55,8 @@ module _ (r : ValueReason) (context : FunctionId → List Place) where
   levels_frozen zero k s = s
   levels_frozen (suc n) k s = at_site (levels_frozen n) r context k s
 
-  -- Freezing transitively from a site. Each level but the first is below a place that froze, and that leaves fewer sites that aren't Frozen: so
+  -- Freezing transitively from a site. Each level but the first is below a place that froze, and that leaves fewer
+  -- sites that aren't Frozen: so
   -- these are all levels that there can be, and a law says that it is the recursion.
   abbrev pub frozen_transitively : Site → State → State
   frozen_transitively k s = levels_frozen (suc (live s.values)) k s

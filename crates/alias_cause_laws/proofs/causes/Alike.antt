@@ -1,5 +1,6 @@
 -- Functions that differ in effects of places and in their summaries alone.
-use Rattle.std.specs.Prelude.{◌≡◌, ℕ, ◌+◌, ◌==◌, ◌&&◌, ◌||◌, Bool, true, false, if◌then◌else◌, List, [], ◌∷◌, Option, Some, None, Result, Ok, map, option_map, slice_get, refl}
+use Rattle.std.specs.Prelude.{◌≡◌, ℕ, ◌+◌, ◌==◌, ◌&&◌, ◌||◌, Bool, true, false, if◌then◌else◌, List, [], ◌∷◌, Option}
+use Rattle.std.specs.Prelude.{Some, None, Result, Ok, map, option_map, slice_get, refl}
 use Rattle.std.specs.List.{list_any}
 use Rattle.std.specs.Option.{option_map_or}
 use Rattle.std.proofs.Common.{ap, sym, ◌∙◌, subst}
@@ -13,7 +14,8 @@ use Rattle.alias_fitting_laws.specs.bare.BareParts.{terminal_records}
 use Rattle.alias_graph.specs.recorded.BlockListings.{listed}
 use Rattle.alias_graph.specs.recorded.Recording.{graph_listed}
 use Rattle.alias_graph.specs.declared.recorded.listing.Listing.{Listing}
-use Rattle.alias_explain.specs.Causes.{writes, ends_range, defines, first_cause, or_else, first_defining, first_defining_of, defined_by, defined_or, mutated_or_not, cause_of}
+use Rattle.alias_explain.specs.Causes.{writes, ends_range, defines, first_cause, or_else, first_defining}
+use Rattle.alias_explain.specs.Causes.{first_defining_of, defined_by, defined_or, mutated_or_not, cause_of}
 use Rattle.alias_explain.specs.Standing.{has_place, is_named, instructions_name, terminals_name}
 use Rattle.alias_explain.specs.declared.cause.Cause.{Cause}
 use Rattle.alias_explain.specs.declared.cause.Cause.TheVariants.{Unset}
@@ -45,14 +47,17 @@ has_numbers : (id : IdentifierId) (ps : List Place) → has_place id ps ≡ list
 has_numbers id [] = refl
 has_numbers id (p ∷ ps) = ap (λ b. (p.identifier.0 == id.0) || b) (has_numbers id ps)
 
-same_places : (id : IdentifierId) (ps qs : List Place) → numbers_of qs ≡ numbers_of ps → has_place id qs ≡ has_place id ps
+same_places : (id : IdentifierId) (ps qs : List Place) → numbers_of qs ≡ numbers_of ps → has_place id qs
+    ≡ has_place id ps
 same_places id ps qs e = has_numbers id qs ∙ ap (λ ks. list_any (λ k. k == id.0) ks) e ∙ sym (has_numbers id ps)
 
 pub has_among : (id : IdentifierId) (ps : List Place) → has_place id ps ≡ true → is_among (numbers_of ps) id.0 ≡ true
 has_among id [] h = cc
 has_among id (p ∷ ps) h =
-    elim (p.identifier.0 == id.0) as (λ b. (p.identifier.0 == id.0) ≡ b → (b || has_place id ps) ≡ true → is_among (numbers_of (p ∷ ps)) id.0 ≡ true) [
-      | true ↦ λ e g. subst (λ z. is_among (z ∷ numbers_of ps) id.0 ≡ true) (sym (eqb-true p.identifier.0 id.0 e)) (first_among id.0 (numbers_of ps))
+    elim (p.identifier.0 == id.0) as (λ b. (p.identifier.0 == id.0) ≡ b → (b || has_place id ps) ≡ true
+    → is_among (numbers_of (p ∷ ps)) id.0 ≡ true) [
+      | true ↦ λ e g. subst (λ z. is_among (z ∷ numbers_of ps) id.0 ≡ true) (sym (eqb-true p.identifier.0 id.0 e))
+          (first_among id.0 (numbers_of ps))
       | false ↦ λ e g. later_among p.identifier.0 (numbers_of ps) id.0 (has_among id ps g)
     ] refl h
 
@@ -70,7 +75,8 @@ numbers_but [] = refl
 numbers_but (p ∷ ps) = ap (λ z. p.identifier.0 ∷ z) (numbers_but ps)
 
 lvalues_but : (v : InstructionValue) → numbers_of (lvalues_of (but_value v)) ≡ numbers_of (lvalues_of v)
-lvalues_but (value.Destructure lvalue x) = ap numbers_of (pattern_back but_effect lvalue.pattern) ∙ numbers_but (pattern_places lvalue.pattern)
+lvalues_but (value.Destructure lvalue x) = ap numbers_of (pattern_back but_effect lvalue.pattern)
+    ∙ numbers_but (pattern_places lvalue.pattern)
 lvalues_but v = refl
 
 stored_but : (v : InstructionValue) → numbers_of (stored_places (but_value v)) ≡ numbers_of (stored_places v)
@@ -79,35 +85,45 @@ stored_but v = refl
 
 writes_but : (id : IdentifierId) (i : Instruction) → writes id (but_instruction i) ≡ writes id i
 writes_but id i =
-    ap (λ b. (i.lvalue.identifier.0 == id.0) || (b || has_place id (stored_places (but_value i.value)))) (same_places id (lvalues_of i.value) (lvalues_of (but_value i.value)) (lvalues_but i.value))
-    ∙ ap (λ b. (i.lvalue.identifier.0 == id.0) || (has_place id (lvalues_of i.value) || b)) (same_places id (stored_places i.value) (stored_places (but_value i.value)) (stored_but i.value))
+    ap (λ b. (i.lvalue.identifier.0 == id.0) || (b || has_place id (stored_places (but_value i.value))))
+    (same_places id (lvalues_of i.value) (lvalues_of (but_value i.value)) (lvalues_but i.value))
+    ∙ ap (λ b. (i.lvalue.identifier.0 == id.0) || (has_place id (lvalues_of i.value) || b))
+    (same_places id (stored_places i.value) (stored_places (but_value i.value)) (stored_but i.value))
 
-ends_but : (id : IdentifierId) (end : ℕ) (o : Option Instruction) → option_map_or (ends_range id end) (option_map but_instruction o) false ≡ option_map_or (ends_range id end) o false
+ends_but : (id : IdentifierId) (end : ℕ) (o : Option Instruction)
+    → option_map_or (ends_range id end) (option_map but_instruction o) false ≡ option_map_or (ends_range id end) o false
 ends_but id end None = refl
 ends_but id end (Some i) = ap (λ b. (i.id.0 + 1 == end) && b) (writes_but id i)
 
-defines_but : (is : List Instruction) (id : IdentifierId) (end : ℕ) (i : InstructionId) → defines (map but_instruction is) id end i ≡ defines is id end i
-defines_but is id end i = ap (λ o. option_map_or (ends_range id end) o false) (slice_get-map but_instruction is i.0) ∙ ends_but id end (slice_get is i.0)
+defines_but : (is : List Instruction) (id : IdentifierId) (end : ℕ) (i : InstructionId)
+    → defines (map but_instruction is) id end i ≡ defines is id end i
+defines_but is id end i = ap (λ o. option_map_or (ends_range id end) o false) (slice_get-map but_instruction is i.0)
+    ∙ ends_but id end (slice_get is i.0)
 
-first_but : (is : List Instruction) (id : IdentifierId) (end : ℕ) (ids : List InstructionId) → first_defining (map but_instruction is) id end ids ≡ first_defining is id end ids
+first_but : (is : List Instruction) (id : IdentifierId) (end : ℕ) (ids : List InstructionId)
+    → first_defining (map but_instruction is) id end ids ≡ first_defining is id end ids
 first_but is id end [] = refl
 first_but is id end (i ∷ ids) =
     ap (λ b. if b then Some i else first_defining (map but_instruction is) id end ids) (defines_but is id end i)
     ∙ ap (λ o. if defines is id end i then Some i else o) (first_but is id end ids)
 
-all_but : (is : List Instruction) (id : IdentifierId) (end : ℕ) (bs : List (BlockId × BasicBlock)) → first_defining_of (map but_instruction is) id end (map but_entry bs) ≡ first_defining_of is id end bs
+all_but : (is : List Instruction) (id : IdentifierId) (end : ℕ) (bs : List (BlockId × BasicBlock))
+    → first_defining_of (map but_instruction is) id end (map but_entry bs) ≡ first_defining_of is id end bs
 all_but is id end [] = refl
 all_but is id end (b ∷ bs) =
-    ap (λ o. or_else o (first_defining_of (map but_instruction is) id end (map but_entry bs))) (first_but is id end b.1.instructions)
+    ap (λ o. or_else o (first_defining_of (map but_instruction is) id end (map but_entry bs)))
+    (first_but is id end b.1.instructions)
     ∙ ap (λ o. or_else (first_defining is id end b.1.instructions) o) (all_but is id end bs)
 
 -- ---- what effects name
 
-instructions_but : (id : IdentifierId) (is : List Instruction) → instructions_name id (map but_instruction is) ≡ instructions_name id is
+instructions_but : (id : IdentifierId) (is : List Instruction) → instructions_name id (map but_instruction is)
+    ≡ instructions_name id is
 instructions_but id [] = refl
 instructions_but id (i ∷ is) = ap (λ b. is_named id i.effects || b) (instructions_but id is)
 
-terminals_but : (id : IdentifierId) (bs : List (BlockId × BasicBlock)) → terminals_name id (map but_entry bs) ≡ terminals_name id bs
+terminals_but : (id : IdentifierId) (bs : List (BlockId × BasicBlock)) → terminals_name id (map but_entry bs)
+    ≡ terminals_name id bs
 terminals_but id [] = refl
 terminals_but id (b ∷ bs) =
     ap (λ es. is_named id es || terminals_name id (map but_entry bs)) (terminal_records b.1.terminal)
@@ -126,7 +142,8 @@ effects_name id f = instructions_name id f.instructions || terminals_name id f.b
 module _ (f g : HirFunction) (alike : AreAlike f g) where
   alike_defined : (id : IdentifierId) (end : ℕ) → defined_by g id end ≡ defined_by f id end
   alike_defined id end =
-      sym (all_but g.instructions id end g.body.blocks) ∙ ap (λ (h : HirFunction). defined_by h id end) alike ∙ all_but f.instructions id end f.body.blocks
+      sym (all_but g.instructions id end g.body.blocks) ∙ ap (λ (h : HirFunction). defined_by h id end) alike
+      ∙ all_but f.instructions id end f.body.blocks
 
   pub alike_listed : listed g ≡ listed f
   alike_listed = listed_alike (without_summary f) (without_summary g) alike
@@ -134,7 +151,8 @@ module _ (f g : HirFunction) (alike : AreAlike f g) where
   -- a range ends for the same reason
   pub alike_cause : (id : IdentifierId) (end : ℕ) → cause_of g id end ≡ cause_of f id end
   alike_cause id end =
-      let mutated : Result Listing HirError → Result Cause HirError = λ r. r >>= (λ (k : Listing). Ok (first_cause (graph_listed k) id end k.mutations)) in
+      let mutated : Result Listing HirError → Result Cause HirError = λ r. r
+      >>= (λ (k : Listing). Ok (first_cause (graph_listed k) id end k.mutations)) in
       ap (λ o. if end == 0 then Ok Unset else defined_or o (mutated_or_not g id end)) (alike_defined id end)
       ∙ ap (λ r. if end == 0 then Ok Unset else defined_or (defined_by f id end) (mutated r)) alike_listed
 
@@ -142,6 +160,8 @@ module _ (f g : HirFunction) (alike : AreAlike f g) where
   pub alike_names : (id : IdentifierId) → effects_name id g ≡ effects_name id f
   alike_names id =
       let both : HirFunction → Bool = λ h. effects_name id h in
-      sym (ap (λ b. b || terminals_name id (map but_entry g.body.blocks)) (instructions_but id g.instructions) ∙ ap (λ b. instructions_name id g.instructions || b) (terminals_but id g.body.blocks))
+      sym (ap (λ b. b || terminals_name id (map but_entry g.body.blocks)) (instructions_but id g.instructions)
+      ∙ ap (λ b. instructions_name id g.instructions || b) (terminals_but id g.body.blocks))
       ∙ ap both alike
-      ∙ ap (λ b. b || terminals_name id (map but_entry f.body.blocks)) (instructions_but id f.instructions) ∙ ap (λ b. instructions_name id f.instructions || b) (terminals_but id f.body.blocks)
+      ∙ ap (λ b. b || terminals_name id (map but_entry f.body.blocks)) (instructions_but id f.instructions)
+      ∙ ap (λ b. instructions_name id f.instructions || b) (terminals_but id f.body.blocks)

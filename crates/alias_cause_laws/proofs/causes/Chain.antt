@@ -22,20 +22,26 @@ use Rattle.alias_graph.specs.Walks.{IsOneOf}
 use Rattle.alias_rules.specs.Sharing.{identifiers_of, identifiers_at, context_of, context_at}
 use Rattle.alias_cause_laws.proofs.causes.Below.{context_named}
 use Rattle.alias_cause_laws.proofs.causes.Ends.{reset_stays, reset_unset, reset_length}
-use Rattle.alias_cause_laws.proofs.causes.Passes.{begun, after, bare_same, effects_kept, ends_stay, ranged_length, more_length}
+use Rattle.alias_cause_laws.proofs.causes.Passes.{begun, after, bare_same, effects_kept, ends_stay, ranged_length}
+use Rattle.alias_cause_laws.proofs.causes.Passes.{more_length}
 use Rattle.alias_cause_laws.proofs.causes.Walking.{Link, Chained, range_kept}
 
-all_at : (fs : List HirFunction) (k : ℕ) (g : HirFunction) → list_all function_is_uninferred fs ≡ true → slice_get fs k ≡ Some g → function_is_uninferred g ≡ true
+all_at : (fs : List HirFunction) (k : ℕ) (g : HirFunction) → list_all function_is_uninferred fs ≡ true → slice_get fs k
+    ≡ Some g → function_is_uninferred g ≡ true
 all_at [] k g h e = cc
-all_at (f ∷ fs) zero g h e = let same : f ≡ g = cc in subst (λ z. function_is_uninferred z ≡ true) same (both_true (function_is_uninferred f) (list_all function_is_uninferred fs) h).0
-all_at (f ∷ fs) (suc k) g h e = all_at fs k g (both_true (function_is_uninferred f) (list_all function_is_uninferred fs) h).1 e
+all_at (f ∷ fs) zero g h e = let same : f ≡ g = cc in
+    subst (λ z. function_is_uninferred z ≡ true) same
+    (both_true (function_is_uninferred f) (list_all function_is_uninferred fs) h).0
+all_at (f ∷ fs) (suc k) g h e = all_at fs k g
+    (both_true (function_is_uninferred f) (list_all function_is_uninferred fs) h).1 e
 
 module _ (u : Environment) (uninferred : environment_is_uninferred u ≡ true) where
   -- ---- one function
 
   module _ (id : FunctionId) (x : Analysed) (new : List Identifier) (l : Link u id x new) where
     pub link_uninferred : function_is_uninferred l.func ≡ true
-    link_uninferred = all_at u.functions id.0 l.func (both_true _ (list_all function_is_uninferred u.functions) uninferred).1 l.slot
+    link_uninferred = all_at u.functions id.0 l.func
+        (both_true _ (list_all function_is_uninferred u.functions) uninferred).1 l.slot
 
     -- the function once its summary is known
     abbrev last : HirFunction
@@ -44,13 +50,17 @@ module _ (u : Environment) (uninferred : environment_is_uninferred u ≡ true) w
     pub link_context : numbers_of last.context ≡ context_at u id.0
     link_context =
         let r : Ranged = l.ran.ranged in
-        let kept = range_kept (begun u l.func link_uninferred true x.env x.func l.ran) (after u l.func link_uninferred true x.env x.func l.ran) r (effects_kept u l.func link_uninferred true x.env x.func l.ran).fits l.ran.ran in
-        let bare_last = kept.still ∙ (effects_kept u l.func link_uninferred true x.env x.func l.ran).still ∙ bare_same u l.func link_uninferred true x.env x.func l.ran in
+        let kept = range_kept (begun u l.func link_uninferred true x.env x.func l.ran)
+        (after u l.func link_uninferred true x.env x.func l.ran) r
+        (effects_kept u l.func link_uninferred true x.env x.func l.ran).fits l.ran.ran in
+        let bare_last = kept.still ∙ (effects_kept u l.func link_uninferred true x.env x.func l.ran).still
+        ∙ bare_same u l.func link_uninferred true x.env x.func l.ran in
         context_of_bare l.func last (sym bare_last) ∙ sym (ap context_of l.slot)
 
     pub link_named : (n : ℕ) → is_among (context_at u id.0) n ≡ true → is_among (identifiers_at u id.0) n ≡ true
     link_named n h =
-        subst (λ xs. is_among xs n ≡ true) (sym (ap (identifiers_of u) l.slot)) (context_named u l.func n (subst (λ xs. is_among xs n ≡ true) (ap context_of l.slot) h))
+        subst (λ xs. is_among xs n ≡ true) (sym (ap (identifiers_of u) l.slot))
+        (context_named u l.func n (subst (λ xs. is_among xs n ≡ true) (ap context_of l.slot) h))
 
     -- no identifier goes
     pub link_length : length x.env.identifiers ≤ length new
@@ -63,32 +73,42 @@ module _ (u : Environment) (uninferred : environment_is_uninferred u ≡ true) w
     -- it is those of when the range pass began
     pub link_after : length new ≡ length (env_after x.env l.ran.end).identifiers
     link_after =
-        sym (ap length l.left) ∙ reset_length last.context l.ran.ranged.after.1.identifiers ∙ ranged_length u l.func link_uninferred true x.env x.func l.ran
+        sym (ap length l.left) ∙ reset_length last.context l.ran.ranged.after.1.identifiers
+        ∙ ranged_length u l.func link_uninferred true x.env x.func l.ran
 
     -- but for context places ends are those that the range pass left
-    pub link_left : (n : ℕ) → is_among (context_at u id.0) n ≡ false → end_at new n ≡ end_at l.ran.ranged.after.1.identifiers n
+    pub link_left : (n : ℕ) → is_among (context_at u id.0) n ≡ false → end_at new n
+        ≡ end_at l.ran.ranged.after.1.identifiers n
     link_left n h =
-        ap (λ is. end_at is n) (sym l.left) ∙ reset_stays last.context l.ran.ranged.after.1.identifiers n (subst (λ xs. is_among xs n ≡ false) (sym link_context) h)
+        ap (λ is. end_at is n) (sym l.left) ∙ reset_stays last.context l.ran.ranged.after.1.identifiers n
+        (subst (λ xs. is_among xs n ≡ false) (sym link_context) h)
 
     -- what doesn't stand in the function keeps its end
-    pub link_stays : (n : ℕ) → (is_among (identifiers_at u id.0) n ≡ true → ⊥) → n < length x.env.identifiers → end_at new n ≡ end_at x.env.identifiers n
+    pub link_stays : (n : ℕ) → (is_among (identifiers_at u id.0) n ≡ true → ⊥) → n < length x.env.identifiers
+        → end_at new n ≡ end_at x.env.identifiers n
     link_stays n off below =
-        let free : is_among (context_at u id.0) n ≡ false = absent (is_among (context_at u id.0) n) (λ c. off (link_named n c)) in
+        let free : is_among (context_at u id.0) n ≡ false =
+        absent (is_among (context_at u id.0) n) (λ c. off (link_named n c)) in
         link_left n free
         ∙ ends_stay u l.func link_uninferred true x.env x.func l.ran n
-        (λ named. ⊎_elim (λ there. off (subst (λ xs. is_among xs n ≡ true) (sym (ap (identifiers_of u) l.slot)) there)) (λ new. absurd (omega arith)) named)
+        (λ named. ⊎_elim (λ there. off (subst (λ xs. is_among xs n ≡ true) (sym (ap (identifiers_of u) l.slot)) there))
+        (λ new. absurd (omega arith)) named)
 
     -- what stands in its context alone is unset, where it was
-    pub link_unset : (n : ℕ) → (is_among (identifiers_at u id.0) n ≡ true → is_among (context_at u id.0) n ≡ true) → n < length x.env.identifiers → end_at x.env.identifiers n ≡ 0 → end_at new n ≡ 0
+    pub link_unset : (n : ℕ) → (is_among (identifiers_at u id.0) n ≡ true → is_among (context_at u id.0) n ≡ true) → n
+        < length x.env.identifiers → end_at x.env.identifiers n ≡ 0 → end_at new n ≡ 0
     link_unset n only below unset =
         elim (is_among (context_at u id.0) n) as (λ b. is_among (context_at u id.0) n ≡ b → end_at new n ≡ 0) [
-          | true ↦ λ e. ap (λ is. end_at is n) (sym l.left) ∙ reset_unset last.context l.ran.ranged.after.1.identifiers n (subst (λ xs. is_among xs n ≡ true) (sym link_context) e)
+          | true ↦ λ e. ap (λ is. end_at is n) (sym l.left)
+              ∙ reset_unset last.context l.ran.ranged.after.1.identifiers n
+              (subst (λ xs. is_among xs n ≡ true) (sym link_context) e)
           | false ↦ λ e. link_stays n (λ there. not_both (is_among (context_at u id.0) n) (only there) e) below ∙ unset
         ] refl
 
   -- ---- all of them
 
-  pub chain_length : (old new : List Identifier) (ids : List FunctionId) (xs : List Analysed) → Chained u old ids xs new → length old ≤ length new
+  pub chain_length : (old new : List Identifier) (ids : List FunctionId) (xs : List Analysed) → Chained u old ids xs new
+      → length old ≤ length new
   chain_length old new [] [] c = let e : length old ≡ length new = ap length c in omega arith
   chain_length old new [] (x ∷ xs) c = absurd c
   chain_length old new (id ∷ ids) [] c = absurd c
@@ -99,7 +119,9 @@ module _ (u : Environment) (uninferred : environment_is_uninferred u ≡ true) w
       omega arith
 
   -- what stands in none of them keeps its end
-  pub chain_stays : (old new : List Identifier) (ids : List FunctionId) (xs : List Analysed) → Chained u old ids xs new → (n : ℕ) → ((id : FunctionId) → IsOneOf id ids → is_among (identifiers_at u id.0) n ≡ true → ⊥) → n < length old → end_at new n ≡ end_at old n
+  pub chain_stays : (old new : List Identifier) (ids : List FunctionId) (xs : List Analysed) → Chained u old ids xs new
+      → (n : ℕ) → ((id : FunctionId) → IsOneOf id ids → is_among (identifiers_at u id.0) n ≡ true → ⊥) → n < length old
+      → end_at new n ≡ end_at old n
   chain_stays old new [] [] c n off below = ap (λ is. end_at is n) (sym c)
   chain_stays old new [] (x ∷ xs) c n off below = absurd c
   chain_stays old new (id ∷ ids) [] c n off below = absurd c
@@ -107,10 +129,13 @@ module _ (u : Environment) (uninferred : environment_is_uninferred u ≡ true) w
       let e : length x.env.identifiers ≡ length old = ap length c.0 in
       let there : n < length x.env.identifiers = omega arith in
       let a = link_length id x c.1 c.2 in
-      chain_stays c.1 new ids xs c.3 n (λ j i. off j (inr i)) (omega arith) ∙ link_stays id x c.1 c.2 n (off id (inl refl)) there ∙ ap (λ is. end_at is n) c.0
+      chain_stays c.1 new ids xs c.3 n (λ j i. off j (inr i)) (omega arith)
+      ∙ link_stays id x c.1 c.2 n (off id (inl refl)) there ∙ ap (λ is. end_at is n) c.0
 
   -- what stands in contexts alone is unset, where it was
-  pub chain_unset : (old new : List Identifier) (ids : List FunctionId) (xs : List Analysed) → Chained u old ids xs new → (n : ℕ) → ((id : FunctionId) → IsOneOf id ids → is_among (identifiers_at u id.0) n ≡ true → is_among (context_at u id.0) n ≡ true)
+  pub chain_unset : (old new : List Identifier) (ids : List FunctionId) (xs : List Analysed) → Chained u old ids xs new
+      → (n : ℕ) → ((id : FunctionId) → IsOneOf id ids → is_among (identifiers_at u id.0) n ≡ true
+      → is_among (context_at u id.0) n ≡ true)
       → n < length old → end_at old n ≡ 0 → end_at new n ≡ 0
   chain_unset old new [] [] c n only below unset = ap (λ is. end_at is n) (sym c) ∙ unset
   chain_unset old new [] (x ∷ xs) c n only below unset = absurd c
@@ -119,12 +144,14 @@ module _ (u : Environment) (uninferred : environment_is_uninferred u ≡ true) w
       let e : length x.env.identifiers ≡ length old = ap length c.0 in
       let there : n < length x.env.identifiers = omega arith in
       let a = link_length id x c.1 c.2 in
-      chain_unset c.1 new ids xs c.3 n (λ j i. only j (inr i)) (omega arith) (link_unset id x c.1 c.2 n (only id (inl refl)) there (ap (λ is. end_at is n) c.0 ∙ unset))
+      chain_unset c.1 new ids xs c.3 n (λ j i. only j (inr i)) (omega arith)
+      (link_unset id x c.1 c.2 n (only id (inl refl)) there (ap (λ is. end_at is n) c.0 ∙ unset))
 
 -- ---- one among them
 
 -- what was analysed before one of them and after it
-pub record Around (u : Environment) (old : List Identifier) (ids : List FunctionId) (new : List Identifier) (x : Analysed) : Type 0 where
+pub record Around (u : Environment) (old : List Identifier) (ids : List FunctionId) (new : List Identifier)
+    (x : Analysed) : Type 0 where
   pub before : List FunctionId
   pub id : FunctionId
   pub behind : List FunctionId
@@ -136,7 +163,8 @@ pub record Around (u : Environment) (old : List Identifier) (ids : List Function
   pub link : Link u id x left
   pub rest : Chained u left behind later new
 
-pub around : (u : Environment) (old new : List Identifier) (ids : List FunctionId) (xs : List Analysed) (x : Analysed) → Chained u old ids xs new → IsOneOf x xs → Around u old ids new x
+pub around : (u : Environment) (old new : List Identifier) (ids : List FunctionId) (xs : List Analysed) (x : Analysed)
+    → Chained u old ids xs new → IsOneOf x xs → Around u old ids new x
 around u old new [] [] x c i = absurd i
 around u old new [] (y ∷ xs) x c i = absurd c
 around u old new (id ∷ ids) [] x c i = absurd c
@@ -178,10 +206,18 @@ pub record Analyses (u : Environment) (k : ℕ) (xs : List Analysed) : Type 0 wh
   pub number : id.0 ≡ k
   pub solved : one.solved.function ≡ Some id
 
-pub chain_has : (u : Environment) (old new : List Identifier) (ids : List FunctionId) (xs : List Analysed) (k : ℕ) → Chained u old ids xs new → is_among (numbers ids) k ≡ true → Analyses u k xs
+pub chain_has : (u : Environment) (old new : List Identifier) (ids : List FunctionId) (xs : List Analysed) (k : ℕ)
+    → Chained u old ids xs new → is_among (numbers ids) k ≡ true → Analyses u k xs
 chain_has u old new [] xs k c h = cc
 chain_has u old new (id ∷ ids) [] k c h = absurd c
 chain_has u old new (id ∷ ids) (x ∷ xs) k c h =
     among_cases id.0 (numbers ids) k (Analyses u k (x ∷ xs)) h
-    (λ same. record { one = x; there = inl refl; id = id; number = sym same; solved = ap (λ (z : Solved). z.function) c.2.solved })
-    (λ later. let r : Analyses u k xs = chain_has u c.1 new ids xs k c.3 later in record { one = r.one; there = inr r.there; id = r.id; number = r.number; solved = r.solved })
+    (λ same. record {
+      one = x;
+      there = inl refl;
+      id = id;
+      number = sym same;
+      solved = ap (λ (z : Solved). z.function) c.2.solved;
+    })
+    (λ later. let r : Analyses u k xs = chain_has u c.1 new ids xs k c.3 later in
+    record { one = r.one; there = inr r.there; id = r.id; number = r.number; solved = r.solved })

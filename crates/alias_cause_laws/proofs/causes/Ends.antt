@@ -1,5 +1,6 @@
 -- How range ends change as a function's effects pass ends, and as the ranges of its context are reset.
-use Rattle.std.specs.Prelude.{◌≡◌, ℕ, ◌≤◌, ◌&&◌, ◌==◌, nat_eq, true, false, is_none, List, [], ◌∷◌, ◌++◌, Option, Some, None, length, slice_get, slice_set, refl}
+use Rattle.std.specs.Prelude.{◌≡◌, ℕ, ◌≤◌, ◌&&◌, ◌==◌, nat_eq, true, false, is_none, List, [], ◌∷◌, ◌++◌, Option, Some}
+use Rattle.std.specs.Prelude.{None, length, slice_get, slice_set, refl}
 use Rattle.std.specs.List.{list_all}
 use Rattle.std.proofs.Common.{zero, suc, ap, ◌∙◌, length-append, arith}
 use Rattle.std.proofs.lemmas.Bool.{eqb-true}
@@ -7,7 +8,8 @@ use Rattle.alias_base.specs.AnswerLaws.{both_true}
 use Rattle.alias_fitting_laws.specs.bare.Bare.{without_range}
 use Rattle.alias_effects.specs.Inference.{end_tables, env_after}
 use Rattle.alias_effects.specs.declared.output.PassEnd.{PassEnd}
-use Rattle.alias_rules.specs.function_rules.Rules.{is_among, identifier_is_uninferred, environment_is_uninferred, function_is_uninferred}
+use Rattle.alias_rules.specs.function_rules.Rules.{is_among, identifier_is_uninferred, environment_is_uninferred}
+use Rattle.alias_rules.specs.function_rules.Rules.{function_is_uninferred}
 use Rattle.alias_hir.specs.Tables.{fresh_identifier, with_identifier}
 use Rattle.alias_hir.specs.declared.env.Environment.{Environment}
 use Rattle.alias_hir.specs.declared.env.Identifier.{Identifier}
@@ -25,24 +27,30 @@ use Rattle.alias_tables.specs.write_back.WriteBack.{with_identifiers}
 -- ---- the effects pass
 
 -- an identifier that is added has no end
-added_end : (is : List Identifier) (span : Option Span) (number ty n : ℕ) → end_at (is ++ fresh_identifier span number ty ∷ []) n ≡ end_at is n
+added_end : (is : List Identifier) (span : Option Span) (number ty n : ℕ)
+    → end_at (is ++ fresh_identifier span number ty ∷ []) n ≡ end_at is n
 added_end [] span number ty zero = refl
 added_end [] span number ty (suc n) = refl
 added_end (i ∷ is) span number ty zero = refl
 added_end (i ∷ is) span number ty (suc n) = added_end is span number ty n
 
-identified_ends : (ts : List Temporary) (env : Environment) (n : ℕ) → end_at (with_identifiers ts env).identifiers n ≡ end_at env.identifiers n
+identified_ends : (ts : List Temporary) (env : Environment) (n : ℕ) → end_at (with_identifiers ts env).identifiers n
+    ≡ end_at env.identifiers n
 identified_ends [] env n = refl
-identified_ends (t ∷ ts) env n = identified_ends ts (with_identifier t.place.span env) n ∙ added_end env.identifiers t.place.span (length env.identifiers) (length env.types) n
+identified_ends (t ∷ ts) env n = identified_ends ts (with_identifier t.place.span env) n
+    ∙ added_end env.identifiers t.place.span (length env.identifiers) (length env.types) n
 
 -- the effects pass ends no range
-pub passed_ends : (env : Environment) (e : PassEnd) (n : ℕ) → end_at (env_after env e).identifiers n ≡ end_at env.identifiers n
+pub passed_ends : (env : Environment) (e : PassEnd) (n : ℕ) → end_at (env_after env e).identifiers n
+    ≡ end_at env.identifiers n
 passed_ends env e n = identified_ends (end_tables e).temporaries env n
 
-identified_length : (ts : List Temporary) (env : Environment) → length env.identifiers ≤ length (with_identifiers ts env).identifiers
+identified_length : (ts : List Temporary) (env : Environment) → length env.identifiers
+    ≤ length (with_identifiers ts env).identifiers
 identified_length [] env = omega arith
 identified_length (t ∷ ts) env =
-    let one = length-append env.identifiers (fresh_identifier t.place.span (length env.identifiers) (length env.types) ∷ []) in
+    let one = length-append env.identifiers
+    (fresh_identifier t.place.span (length env.identifiers) (length env.types) ∷ []) in
     let rest = identified_length ts (with_identifier t.place.span env) in
     omega (arith, one, rest)
 
@@ -74,19 +82,23 @@ set_apart (i ∷ is) zero (suc n) x h = refl
 set_apart (i ∷ is) (suc k) zero x h = refl
 set_apart (i ∷ is) (suc k) (suc n) x h = set_apart is k n x (λ e. h (ap suc e))
 
-end_apart : (is : List Identifier) (k n : ℕ) (o : Option Identifier) → (n ≡ k → ⊥) → end_at (reset_at is k o) n ≡ end_at is n
+end_apart : (is : List Identifier) (k n : ℕ) (o : Option Identifier) → (n ≡ k → ⊥) → end_at (reset_at is k o) n
+    ≡ end_at is n
 end_apart is k n None h = refl
 end_apart is k n (Some x) h = set_apart is k n (without_range x) h
 
 -- where the identifier is none of the places', its end stays
-pub reset_stays : (ps : List Place) (is : List Identifier) (n : ℕ) → is_among (numbers_of ps) n ≡ false → end_at (reset ps is) n ≡ end_at is n
+pub reset_stays : (ps : List Place) (is : List Identifier) (n : ℕ) → is_among (numbers_of ps) n ≡ false
+    → end_at (reset ps is) n ≡ end_at is n
 reset_stays [] is n h = refl
 reset_stays (p ∷ ps) is n h =
     let b = neither (nat_eq n p.identifier.0) (is_among (numbers_of ps) n) h in
-    reset_stays ps (reset_at is p.identifier.0 (slice_get is p.identifier.0)) n b.1 ∙ end_apart is p.identifier.0 n (slice_get is p.identifier.0) (differs n p.identifier.0 b.0)
+    reset_stays ps (reset_at is p.identifier.0 (slice_get is p.identifier.0)) n b.1
+    ∙ end_apart is p.identifier.0 n (slice_get is p.identifier.0) (differs n p.identifier.0 b.0)
 
 -- an unset end stays unset
-still_unset : (is : List Identifier) (k n : ℕ) (o : Option Identifier) → slice_get is k ≡ o → end_at is n ≡ 0 → end_at (reset_at is k o) n ≡ 0
+still_unset : (is : List Identifier) (k n : ℕ) (o : Option Identifier) → slice_get is k ≡ o → end_at is n ≡ 0
+    → end_at (reset_at is k o) n ≡ 0
 still_unset is k n o e h =
     elim (nat_eq n k) as (λ b. nat_eq n k ≡ b → end_at (reset_at is k o) n ≡ 0) [
       | true ↦ λ same. ap (λ z. end_at (reset_at is k o) z) (eqb-true n k same) ∙ end_there is k o e
@@ -95,10 +107,12 @@ still_unset is k n o e h =
 
 unset_stays : (ps : List Place) (is : List Identifier) (n : ℕ) → end_at is n ≡ 0 → end_at (reset ps is) n ≡ 0
 unset_stays [] is n h = h
-unset_stays (p ∷ ps) is n h = unset_stays ps (reset_at is p.identifier.0 (slice_get is p.identifier.0)) n (still_unset is p.identifier.0 n (slice_get is p.identifier.0) refl h)
+unset_stays (p ∷ ps) is n h = unset_stays ps (reset_at is p.identifier.0 (slice_get is p.identifier.0)) n
+    (still_unset is p.identifier.0 n (slice_get is p.identifier.0) refl h)
 
 -- where it is that of one of the places, it is unset
-pub reset_unset : (ps : List Place) (is : List Identifier) (n : ℕ) → is_among (numbers_of ps) n ≡ true → end_at (reset ps is) n ≡ 0
+pub reset_unset : (ps : List Place) (is : List Identifier) (n : ℕ) → is_among (numbers_of ps) n ≡ true
+    → end_at (reset ps is) n ≡ 0
 reset_unset [] is n h = cc
 reset_unset (p ∷ ps) is n h =
     let k : ℕ = p.identifier.0 in
@@ -113,7 +127,8 @@ reset_at_length is n (Some i) = length_set is n (without_range i)
 
 pub reset_length : (ps : List Place) (is : List Identifier) → length (reset ps is) ≡ length is
 reset_length [] is = refl
-reset_length (p ∷ ps) is = reset_length ps (reset_at is p.identifier.0 (slice_get is p.identifier.0)) ∙ reset_at_length is p.identifier.0 (slice_get is p.identifier.0)
+reset_length (p ∷ ps) is = reset_length ps (reset_at is p.identifier.0 (slice_get is p.identifier.0))
+    ∙ reset_at_length is p.identifier.0 (slice_get is p.identifier.0)
 
 -- ---- nothing is inferred yet
 
@@ -123,9 +138,12 @@ uninferred_ends (i ∷ is) zero h =
     let b = both_true (identifier_is_uninferred i) (list_all identifier_is_uninferred is) h in
     let c = both_true ((i.mutable_range.start.0 == 0) && (i.mutable_range.end.0 == 0)) (is_none i.scope) b.0 in
     eqb-true i.mutable_range.end.0 0 (both_true (i.mutable_range.start.0 == 0) (i.mutable_range.end.0 == 0) c.0).1
-uninferred_ends (i ∷ is) (suc n) h = uninferred_ends is n (both_true (identifier_is_uninferred i) (list_all identifier_is_uninferred is) h).1
+uninferred_ends (i ∷ is) (suc n) h = uninferred_ends is n
+    (both_true (identifier_is_uninferred i) (list_all identifier_is_uninferred is) h).1
 
 pub begun_unset : (env : Environment) (n : ℕ) → environment_is_uninferred env ≡ true → end_at env.identifiers n ≡ 0
 begun_unset env n h =
-    let a = both_true ((length env.errors == 0) && (length env.interned == 0) && list_all identifier_is_uninferred env.identifiers) (list_all function_is_uninferred env.functions) h in
-    uninferred_ends env.identifiers n (both_true ((length env.errors == 0) && (length env.interned == 0)) (list_all identifier_is_uninferred env.identifiers) a.0).1
+    let a = both_true ((length env.errors == 0) && (length env.interned == 0)
+    && list_all identifier_is_uninferred env.identifiers) (list_all function_is_uninferred env.functions) h in
+    uninferred_ends env.identifiers n (both_true ((length env.errors == 0) && (length env.interned == 0))
+    (list_all identifier_is_uninferred env.identifiers) a.0).1

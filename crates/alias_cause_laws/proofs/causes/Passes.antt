@@ -30,13 +30,16 @@ use Rattle.alias_cause_laws.specs.ends.Making.{FunctionMakes, ends_named, legal_
 use Rattle.alias_cause_laws.specs.ends.Owned.{AllOwned, all_there, by_numbers, numbers_owned, owned_across, makes_owned}
 use Rattle.alias_cause_laws.proofs.causes.Alike.{AreAlike, effects_name}
 use Rattle.alias_cause_laws.proofs.causes.Ends.{passed_ends, passed_length}
-use Rattle.alias_cause_laws.proofs.causes.Recorded.{EffectsOwned, InstructionsOwned, TerminalsOwned, IsBelow, named_owned, instructions_make, recorded_all, uninferred_owned, fitting_below}
+use Rattle.alias_cause_laws.proofs.causes.Recorded.{EffectsOwned, InstructionsOwned, TerminalsOwned, IsBelow}
+use Rattle.alias_cause_laws.proofs.causes.Recorded.{named_owned, instructions_make, recorded_all, uninferred_owned}
+use Rattle.alias_cause_laws.proofs.causes.Recorded.{fitting_below}
 
 -- contexts name at most what they named in the unit
 abbrev pub NamesLess : Environment → Environment → Type 0
 NamesLess u env = (k x : ℕ) → is_among (context_at env k) x ≡ true → is_among (context_at u k) x ≡ true
 
--- Both passes ran on a function that the inference takes. It is that of the unit, but for the effects of its context places, and contexts name at most what they
+-- Both passes ran on a function that the inference takes. It is that of the unit, but for the effects of its context
+-- places, and contexts name at most what they
 -- named in the unit.
 pub record PassesRan (u : Environment) (g : HirFunction) (b : Bool) (env : Environment) (f : HirFunction) : Type 0 where
   pub fits : function_fits f env ≡ true
@@ -47,7 +50,8 @@ pub record PassesRan (u : Environment) (g : HirFunction) (b : Bool) (env : Envir
   pub ranged : Ranged
   pub ran : range_pass b (with_effects_of end.solved f) (env_after env end) ≡ Ok ranged
 
-module _ (u : Environment) (g : HirFunction) (uninferred : function_is_uninferred g ≡ true) (b : Bool) (env : Environment) (f : HirFunction) (p : PassesRan u g b env f) where
+module _ (u : Environment) (g : HirFunction) (uninferred : function_is_uninferred g ≡ true) (b : Bool)
+    (env : Environment) (f : HirFunction) (p : PassesRan u g b env f) where
   -- the function as its range pass begins, and the environment
   abbrev pub begun : HirFunction
   begun = with_effects_of p.end.solved f
@@ -62,17 +66,20 @@ module _ (u : Environment) (g : HirFunction) (uninferred : function_is_uninferre
   effects_kept = effects_keep f env b p.end p.fits p.ended
 
   -- what stands in the function of the unit, or is new
-  abbrev Named : ℕ → Type 0
+  abbrev pub Named : ℕ → Type 0
   Named n = (is_among (identifiers_in u g) n ≡ true) ⊎ (length env.identifiers ≤ n)
 
   pub bare_same : bare f ≡ bare g
   bare_same = sym (bare_of_context f) ∙ ap bare p.same ∙ bare_of_context g
 
-  -- what holds of what stands in the function of the unit holds of the places of a function that is the same but for what is inferred
-  own_places : (P : ℕ → Type 0) (h : HirFunction) → ((x : ℕ) → is_among (identifiers_in u g) x ≡ true → P x) → bare h ≡ bare g → AllOwned P (places_in env h)
+  -- what holds of what stands in the function of the unit holds of the places of a function that is the same but for
+  -- what is inferred
+  pub own_places : (P : ℕ → Type 0) (h : HirFunction) → ((x : ℕ) → is_among (identifiers_in u g) x ≡ true → P x) → bare h
+      ≡ bare g → AllOwned P (places_in env h)
   own_places P h there e =
       let unit : AllOwned P (places_in u g) = by_numbers P (places_in u g) (all_there P (identifiers_in u g) there) in
-      let own : AllByRecursion P (identifiers_in env g) = numbers_owned P (places_in env g) (owned_across P u env p.less g unit) in
+      let own : AllByRecursion P (identifiers_in env g) =
+      numbers_owned P (places_in env g) (owned_across P u env p.less g unit) in
       by_numbers P (places_in env h) (subst (AllByRecursion P) (sym (identifiers_of_bare env g h (sym e))) own)
 
   solved_names : SolvedNames env Named p.end.solved
@@ -82,29 +89,33 @@ module _ (u : Environment) (g : HirFunction) (uninferred : function_is_uninferre
   carried =
       let h : EffectsOwned Named g = uninferred_owned Named g uninferred in
       record {
-        instructions = subst (InstructionsOwned Named) (sym (ap (λ (z : HirFunction). z.instructions) p.same)) h.instructions;
+        instructions = subst (InstructionsOwned Named) (sym (ap (λ (z : HirFunction). z.instructions) p.same))
+            h.instructions;
         terminals = subst (TerminalsOwned Named) (sym (ap (λ (z : HirFunction). z.body.blocks) p.same)) h.terminals;
       }
 
   begun_effects : EffectsOwned Named begun
   begun_effects = recorded_all Named env p.end.solved f solved_names carried
 
-  begun_bare : bare begun ≡ bare g
+  pub begun_bare : bare begun ≡ bare g
   begun_bare = effects_kept.still ∙ bare_same
 
   begun_makes : FunctionMakes Named begun
-  begun_makes = makes_owned Named env begun (own_places Named begun (λ x m. inl m) begun_bare) (instructions_make Named begun.instructions begun_effects.instructions)
+  begun_makes = makes_owned Named env begun (own_places Named begun (λ x m. inl m) begun_bare)
+      (instructions_make Named begun.instructions begun_effects.instructions)
 
   -- what the function doesn't name keeps its end
   pub ends_stay : (n : ℕ) → (Named n → ⊥) → end_at p.ranged.after.1.identifiers n ≡ end_at env.identifiers n
   ends_stay n off =
       ⊎_elim (λ same. same ∙ passed_ends env p.end n) (λ on. absurd (off on))
-      (ends_named Named begun leaves.listing after.identifiers p.ranged.after.1.identifiers begun_makes leaves.lists leaves.causes n)
+      (ends_named Named begun leaves.listing after.identifiers p.ranged.after.1.identifiers begun_makes leaves.lists
+      leaves.causes n)
 
   -- no identifier goes
   pub ranged_length : length p.ranged.after.1.identifiers ≡ length after.identifiers
   ranged_length =
-      sym (length-map p.ranged.after.1.identifiers but_range) ∙ ap (λ (e : Environment). length e.identifiers) leaves.kept.rest ∙ length-map after.identifiers but_range
+      sym (length-map p.ranged.after.1.identifiers but_range)
+      ∙ ap (λ (e : Environment). length e.identifiers) leaves.kept.rest ∙ length-map after.identifiers but_range
 
   pub more_length : length env.identifiers ≤ length p.ranged.after.1.identifiers
   more_length = let a = passed_length env p.end in let c = ranged_length in omega arith
@@ -114,16 +125,26 @@ module _ (u : Environment) (g : HirFunction) (uninferred : function_is_uninferre
   begun_below = fitting_below after begun (fitted begun after effects_kept.fits).effects
 
   -- what its effects name stands in the function of the unit, or the pass added it
-  pub effects_named : (id : IdentifierId) → effects_name id begun ≡ true → (is_among (identifiers_in u g) id.0 ≡ true) ⊎ ((length env.identifiers ≤ id.0) × (id.0 < length after.identifiers))
-  effects_named id e = ⊎_elim (λ there. inl there) (λ new. inr (new, named_owned (IsBelow after) id begun begun_below e)) (named_owned Named id begun begun_effects e)
+  pub effects_named : (id : IdentifierId) → effects_name id begun ≡ true → (is_among (identifiers_in u g) id.0 ≡ true)
+      ⊎ ((length env.identifiers ≤ id.0) × (id.0 < length after.identifiers))
+  effects_named id e = ⊎_elim (λ there. inl there)
+      (λ new. inr (new, named_owned (IsBelow after) id begun begun_below e))
+      (named_owned Named id begun begun_effects e)
 
   -- so does what a legal path leads to
-  pub path_named : (index : ℕ) (start e : Entry) → ((x : ℕ) → is_among (identifiers_in u g) x ≡ true → x < length after.identifiers) → Legal (graph_listed leaves.listing) index start e
-      → (is_among (identifiers_in u g) e.id.0 ≡ true) ⊎ ((length env.identifiers ≤ e.id.0) × (e.id.0 < length after.identifiers))
+  pub path_named : (index : ℕ) (start e : Entry)
+      → ((x : ℕ) → is_among (identifiers_in u g) x ≡ true → x < length after.identifiers)
+      → Legal (graph_listed leaves.listing) index start e
+      → (is_among (identifiers_in u g) e.id.0 ≡ true)
+      ⊎ ((length env.identifiers ≤ e.id.0) × (e.id.0 < length after.identifiers))
   path_named index start e there legal =
-      let makes : FunctionMakes (IsBelow after) begun = makes_owned (IsBelow after) env begun (own_places (IsBelow after) begun there begun_bare) (instructions_make (IsBelow after) begun.instructions begun_below.instructions) in
-      let below : e.id.0 < length after.identifiers = legal_named (IsBelow after) begun leaves.listing index start e makes leaves.lists legal in
-      ⊎_elim (λ named. inl named) (λ new. inr (new, below)) (legal_named Named begun leaves.listing index start e begun_makes leaves.lists legal)
+      let makes : FunctionMakes (IsBelow after) begun =
+      makes_owned (IsBelow after) env begun (own_places (IsBelow after) begun there begun_bare)
+      (instructions_make (IsBelow after) begun.instructions begun_below.instructions) in
+      let below : e.id.0 < length after.identifiers =
+      legal_named (IsBelow after) begun leaves.listing index start e makes leaves.lists legal in
+      ⊎_elim (λ named. inl named) (λ new. inr (new, below))
+      (legal_named Named begun leaves.listing index start e begun_makes leaves.lists legal)
 
   -- after the range pass the function is the same but for effects of places
   pub ranged_alike : AreAlike begun p.ranged.after.0

@@ -1,5 +1,6 @@
 -- The ranges and the summaries of the nested functions of a unit that was inferred.
-use Rattle.std.specs.Prelude.{◌≡◌, ℕ, ◌<◌, ◌≤◌, ◌⊎◌, true, false, List, Option, Some, None, Result, Ok, IsSomeAnd, length, slice_get, refl}
+use Rattle.std.specs.Prelude.{◌≡◌, ℕ, ◌<◌, ◌≤◌, ◌⊎◌, true, false, List, Option, Some, None, Result, Ok, IsSomeAnd}
+use Rattle.std.specs.Prelude.{length, slice_get, refl}
 use Rattle.std.proofs.Common.{inl, inr, ⊎_elim, ap, sym, ◌∙◌, subst, arith}
 use Rattle.alias_fitting_laws.specs.bare.Bare.{bare}
 use Rattle.alias_fitting_laws.specs.bare.BareLaws.{context_of_bare}
@@ -42,21 +43,26 @@ use Rattle.alias_cause_laws.proofs.causes.Alike.{effects_name, has_among, among_
 use Rattle.alias_cause_laws.proofs.causes.Caused.{places_same, slots_same}
 use Rattle.alias_cause_laws.proofs.causes.Chain.{Around, around, link_uninferred, link_after, chain_length}
 use Rattle.alias_cause_laws.proofs.causes.Ends.{passed_length}
-use Rattle.alias_cause_laws.proofs.causes.Passes.{begun, after, leaves, bare_same, effects_kept, effects_named, path_named, ranged_length, more_length}
-use Rattle.alias_cause_laws.proofs.causes.Ranges.{order, parts, root, root_ran, walked, at_below, grown, IsOwn, own_unset, own_stays}
+use Rattle.alias_cause_laws.proofs.causes.Passes.{begun, after, leaves, bare_same, effects_kept, effects_named}
+use Rattle.alias_cause_laws.proofs.causes.Passes.{path_named, ranged_length, more_length}
+use Rattle.alias_cause_laws.proofs.causes.Ranges.{order, parts, root, root_ran, walked, at_below, grown, IsOwn}
+use Rattle.alias_cause_laws.proofs.causes.Ranges.{own_unset, own_stays}
 use Rattle.alias_cause_laws.proofs.causes.Recorded.{either_true}
 use Rattle.alias_cause_laws.proofs.causes.Walking.{Stored, stored_still}
-use Rattle.alias_cause_laws.proofs.nested.Leaving.{of_recorded}
+use Rattle.alias_cause_laws.proofs.nested.Leaving.{of_recorded, marked_definite}
 use Rattle.alias_cause_laws.proofs.nested.Mixing.{mixed, mixed_apart, mixed_there}
-use Rattle.alias_cause_laws.specs.nested.Nested.{IsNoContext, CoversOwn, CausesOwn, CoversOwnHeap, NestedRanged, NestedAreRanged}
+use Rattle.alias_cause_laws.specs.nested.Nested.{IsNoContext, CoversOwn, CausesOwn, CoversOwnHeap, NestedRanged}
+use Rattle.alias_cause_laws.specs.nested.Nested.{NestedAreRanged}
 
 same_listing : (k l : Listing) → ◌≡◌ {A = Result Listing InferError} (Ok k) (Ok l) → k ≡ l
 same_listing k l h = cc
 
 -- the summary in the slot ends with the flows
-stored_flows : (x : Analysed) (slot : Option HirFunction) → Stored x slot → IsSomeAnd slot (λ g. IsSomeAnd g.aliasing_effects (ListsFlows (with_effects x)))
+stored_flows : (x : Analysed) (slot : Option HirFunction) → Stored x slot
+    → IsSomeAnd slot (λ g. IsSomeAnd g.aliasing_effects (ListsFlows (with_effects x)))
 stored_flows x slot s =
-    subst (λ (o : Option HirFunction). IsSomeAnd o (λ (g : HirFunction). IsSomeAnd g.aliasing_effects (ListsFlows (with_effects x)))) (sym s.in_slot)
+    subst (λ (o : Option HirFunction). IsSomeAnd o
+    (λ (g : HirFunction). IsSomeAnd g.aliasing_effects (ListsFlows (with_effects x)))) (sym s.in_slot)
     (subst (λ (o : Option (List AliasingEffect)). IsSomeAnd o (ListsFlows (with_effects x))) (sym s.stores) s.flows)
 
 module _ (u : HirUnit) (a : UnitAnalysis) (rules : rules_hold u ≡ Ok tt) (is : unit_analysed u ≡ Ok a) where
@@ -85,7 +91,8 @@ module _ (u : HirUnit) (a : UnitAnalysis) (rules : rules_hold u ≡ Ok tt) (is :
     graph = graph_listed left.listing
 
     first_bare : bare first ≡ bare r.link.func
-    first_bare = (effects_kept u.env r.link.func fresh true x.env x.func r.link.ran).still ∙ bare_same u.env r.link.func fresh true x.env x.func r.link.ran
+    first_bare = (effects_kept u.env r.link.func fresh true x.env x.func r.link.ran).still
+        ∙ bare_same u.env r.link.func fresh true x.env x.func r.link.ran
 
     unit_names : identifiers_in u.env r.link.func ≡ identifiers_at u.env r.id.0
     unit_names = sym (ap (identifiers_of u.env) r.link.slot)
@@ -99,12 +106,18 @@ module _ (u : HirUnit) (a : UnitAnalysis) (rules : rules_hold u ≡ Ok tt) (is :
 
     not_context : (id : IdentifierId) → IsNoContext first id → is_among (context_at u.env r.id.0) id.0 ≡ false
     not_context id free =
-        let context : numbers_of first.context ≡ context_at u.env r.id.0 = context_of_bare r.link.func first (sym first_bare) ∙ sym (ap context_of r.link.slot) in
-        absent (is_among (context_at u.env r.id.0) id.0) (λ c. not_both (has_place id first.context) (among_has id first.context (subst (λ xs. is_among xs id.0 ≡ true) (sym context) c)) free)
+        let context : numbers_of first.context ≡ context_at u.env r.id.0 =
+        context_of_bare r.link.func first (sym first_bare) ∙ sym (ap context_of r.link.slot) in
+        absent (is_among (context_at u.env r.id.0) id.0)
+        (λ c. not_both (has_place id first.context)
+        (among_has id first.context (subst (λ xs. is_among xs id.0 ≡ true) (sym context) c)) free)
 
     -- what is named and no context place is the function's own
-    own : (id : IdentifierId) → (is_among (identifiers_in u.env r.link.func) id.0 ≡ true) ⊎ ((length x.env.identifiers ≤ id.0) × (id.0 < length first_env.identifiers)) → IsNoContext first id → IsOwn u a rules is x r id.0
-    own id named free = ⊎_elim (λ there. inl (subst (λ xs. is_among xs id.0 ≡ true) unit_names there, not_context id free)) (λ new. inr new) named
+    own : (id : IdentifierId) → (is_among (identifiers_in u.env r.link.func) id.0 ≡ true)
+        ⊎ ((length x.env.identifiers ≤ id.0) × (id.0 < length first_env.identifiers)) → IsNoContext first id
+        → IsOwn u a rules is x r id.0
+    own id named free = ⊎_elim (λ there. inl
+        (subst (λ xs. is_among xs id.0 ≡ true) unit_names there, not_context id free)) (λ new. inr new) named
 
     -- the identifiers as the function's range pass left them
     abbrev ranged_ids : List Identifier
@@ -112,23 +125,29 @@ module _ (u : HirUnit) (a : UnitAnalysis) (rules : rules_hold u ≡ Ok tt) (is :
 
     left_covers : Covers graph left.listing.mutations ranged_ids
     left_covers =
-        let c = ranged_covers true first first_env r.link.ran.ranged (effects_kept u.env r.link.func fresh true x.env x.func r.link.ran).fits r.link.ran.ran in
+        let c = ranged_covers true first first_env r.link.ran.ranged
+        (effects_kept u.env r.link.func fresh true x.env x.func r.link.ran).fits r.link.ran.ran in
         let same : c.0 ≡ left.listing = same_listing c.0 left.listing (sym c.1 ∙ left.recorded) in
         subst (λ (l : Listing). Covers (graph_listed l) l.mutations ranged_ids) same c.2
 
     covers : CoversOwn first graph left.listing.mutations env.identifiers
     covers = λ m i e legal free.
-        let named = path_named u.env r.link.func fresh true x.env x.func r.link.ran m.index (mutation_entry m) e unit_below legal in
-        subst (λ n. m.order.0 < n) (sym (own_stays u a rules is x r e.id.0 (own e.id named free))) (left_covers m i e legal)
+        let named = path_named u.env r.link.func fresh true x.env x.func r.link.ran m.index (mutation_entry m) e
+        unit_below legal in
+        subst (λ n. m.order.0 < n) (sym (own_stays u a rules is x r e.id.0 (own e.id named free)))
+        (left_covers m i e legal)
 
     -- no identifier goes afterwards
     ids_stay : length ranged_ids ≤ length env.identifiers
     ids_stay =
         let one = ranged_length u.env r.link.func fresh true x.env x.func r.link.ran in
         let two = link_after u.env (parts u a rules is).environment r.id x r.left r.link in
-        let three = chain_length u.env (parts u a rules is).environment r.left nested_env.identifiers r.behind r.later r.rest in
-        let four = more_length u.env u.function (parts u a rules is).function false nested_env u.function (root_ran u a rules is) in
-        let five : length env.identifiers ≡ length (root u a rules is).ranged.after.1.identifiers = ap length (root u a rules is).identifiers in
+        let three = chain_length u.env (parts u a rules is).environment r.left nested_env.identifiers r.behind r.later
+        r.rest in
+        let four = more_length u.env u.function (parts u a rules is).function false nested_env u.function
+        (root_ran u a rules is) in
+        let five : length env.identifiers ≡ length (root u a rules is).ranged.after.1.identifiers =
+        ap length (root u a rules is).identifiers in
         omega arith
 
     abbrev context_ids : List ℕ
@@ -140,26 +159,34 @@ module _ (u : HirUnit) (a : UnitAnalysis) (rules : rules_hold u ≡ Ok tt) (is :
 
     own_ends : (id : IdentifierId) → IsNoContext first id → end_at own_ids id.0 ≡ end_at env.identifiers id.0
     own_ends id free =
-        let off : is_among context_ids id.0 ≡ false = absent (is_among context_ids id.0) (λ there. not_both (has_place id first.context) (among_has id first.context there) free) in
+        let off : is_among context_ids id.0 ≡ false =
+        absent (is_among context_ids id.0) (λ there.
+        not_both (has_place id first.context) (among_has id first.context there) free) in
         mixed_apart context_ids 0 id.0 id.0 ranged_ids env.identifiers (omega arith) off
 
     own_covers : Covers graph left.listing.mutations own_ids
     own_covers = λ m i e legal.
-        elim (has_place e.id first.context) as (λ b. has_place e.id first.context ≡ b → m.order.0 < end_at own_ids e.id.0) [
+        elim (has_place e.id first.context) as
+        (λ b. has_place e.id first.context ≡ b → m.order.0 < end_at own_ids e.id.0) [
           | true ↦ λ there.
               let low = left_covers m i e legal in
-              let up = mixed_there context_ids 0 e.id.0 e.id.0 ranged_ids env.identifiers (omega arith) (has_among e.id first.context there) ids_stay in
+              let up = mixed_there context_ids 0 e.id.0 e.id.0 ranged_ids env.identifiers (omega arith)
+              (has_among e.id first.context there) ids_stay in
               omega arith
           | false ↦ λ free. subst (λ n. m.order.0 < n) (sym (own_ends e.id free)) (covers m i e legal free)
         ] refl
 
     covers_heap : CoversOwnHeap first env.identifiers
     covers_heap = λ forward once m o writes y reaches free.
-        subst (λ n. m.order.0 < n) (own_ends y free) (heap_is_covered first own_ids left.listing left.recorded own_covers forward once m o writes y reaches)
+        subst (λ n. m.order.0 < n) (own_ends y free)
+        (heap_is_covered first own_ids left.listing left.recorded own_covers forward once m o writes y reaches)
 
-    names : (id : IdentifierId) → stands_in env first id ≡ true → (is_among (identifiers_in u.env r.link.func) id.0 ≡ true) ⊎ ((length x.env.identifiers ≤ id.0) × (id.0 < length first_env.identifiers))
+    names : (id : IdentifierId) → stands_in env first id ≡ true
+        → (is_among (identifiers_in u.env r.link.func) id.0 ≡ true)
+        ⊎ ((length x.env.identifiers ≤ id.0) × (id.0 < length first_env.identifiers))
     names id stands =
-        ⊎_elim (λ place. inl (subst (λ xs. is_among xs id.0 ≡ true) (places_same u a rules is r.link.func first first_bare) (has_among id (places_in env first) place)))
+        ⊎_elim (λ place. inl (subst (λ xs. is_among xs id.0 ≡ true)
+        (places_same u a rules is r.link.func first first_bare) (has_among id (places_in env first) place)))
         (λ effect. effects_named u.env r.link.func fresh true x.env x.func r.link.ran id effect)
         (either_true (has_place id (places_in env first)) (effects_name id first) stands)
 
@@ -168,7 +195,8 @@ module _ (u : HirUnit) (a : UnitAnalysis) (rules : rules_hold u ≡ Ok tt) (is :
         let mine : IsOwn u a rules is x r id.0 = own id (names id stands) free in
         let stays = own_stays u a rules is x r id.0 mine in
         ⊎_elim (λ same. inl (stays ∙ same ∙ own_unset u a rules is x r id.0 mine))
-        (λ cause. inr (subst (λ n. MutationCause graph left.listing.mutations id.0 n ⊎ InstructionCause first.instructions id.0 n) (sym stays) cause))
+        (λ cause. inr (subst (λ n. MutationCause graph left.listing.mutations id.0 n
+        ⊎ InstructionCause first.instructions id.0 n) (sym stays) cause))
         (left.causes id.0)
 
     around_ranged : (slot : Option HirFunction) → Stored x slot → NestedRanged (with_effects x) env slot
@@ -176,22 +204,29 @@ module _ (u : HirUnit) (a : UnitAnalysis) (rules : rules_hold u ≡ Ok tt) (is :
         let same : first ≡ with_effects x = sym (ap (λ z. with_effects_of z x.func) r.link.solved) in
         subst (λ (f : HirFunction). NestedRanged f env slot) same
         (record {
-          cover = of_recorded first left.listing (λ l. CoversOwn first (graph_listed l) l.mutations env.identifiers) left.recorded covers;
+          cover = of_recorded first left.listing (λ l. CoversOwn first (graph_listed l) l.mutations env.identifiers)
+              left.recorded covers;
+          definite = marked_definite true first env left.listing left.recorded;
           heap = covers_heap;
-          cause = of_recorded first left.listing (λ l. CausesOwn first (graph_listed l) l.mutations env) left.recorded causes;
-          flows = subst (λ (f : HirFunction). IsSomeAnd slot (λ (g : HirFunction). IsSomeAnd g.aliasing_effects (ListsFlows f))) (sym same) (stored_flows x slot s);
+          cause = of_recorded first left.listing (λ l. CausesOwn first (graph_listed l) l.mutations env) left.recorded
+              causes;
+          flows = subst (λ (f : HirFunction). IsSomeAnd slot
+              (λ (g : HirFunction). IsSomeAnd g.aliasing_effects (ListsFlows f))) (sym same) (stored_flows x slot s);
         })
 
   abbrev last : Analysed
   last = root_entry u (root u a rules is).nested (root u a rules is).end
 
-  nested_ranged : (x : Analysed) (id : FunctionId) → IsOneOf x (root u a rules is).nested.functions → x.solved.function ≡ Some id → NestedRanged (with_effects x) env (slice_get env.functions id.0)
+  nested_ranged : (x : Analysed) (id : FunctionId) → IsOneOf x (root u a rules is).nested.functions → x.solved.function
+      ≡ Some id → NestedRanged (with_effects x) env (slice_get env.functions id.0)
   nested_ranged x id i number =
       let w = walked u a rules is in
       let there : IsOneOf x w.taken = subst (IsOneOf x) w.functions i in
-      let r : Around u.env u.env.identifiers (order u a rules is) nested_env.identifiers x = around u.env u.env.identifiers nested_env.identifiers (order u a rules is) w.taken x w.chain there in
+      let r : Around u.env u.env.identifiers (order u a rules is) nested_env.identifiers x =
+      around u.env u.env.identifiers nested_env.identifiers (order u a rules is) w.taken x w.chain there in
       around_ranged x r (slice_get env.functions id.0)
-      (stored_still x (slice_get nested_env.functions id.0) (slice_get env.functions id.0) (slots_stay nested_env env (slots_same u a rules is) id.0) (w.stored x there id number).1)
+      (stored_still x (slice_get nested_env.functions id.0) (slice_get env.functions id.0)
+      (slots_stay nested_env env (slots_same u a rules is) id.0) (w.stored x there id number).1)
 
   -- of each nested function
   pub nested_are_ranged : NestedAreRanged a
@@ -199,7 +234,9 @@ module _ (u : HirUnit) (a : UnitAnalysis) (rules : rules_hold u ≡ Ok tt) (is :
       ⊎_elim (λ there. nested_ranged x id there number)
       (λ (same : x ≡ last).
       let r = root u a rules is in
-      let nameless : last.solved.function ≡ None = end_names_none r.nested.env u.function (visits_end (block_context r.nested.env u.function false)) r.end r.ended in
+      let nameless : last.solved.function ≡ None =
+      end_names_none r.nested.env u.function (visits_end (block_context r.nested.env u.function false)) r.end
+      r.ended in
       let no : None ≡ Some id = sym nameless ∙ ap (λ (z : Analysed). z.solved.function) (sym same) ∙ number in
       absurd (cc))
       (in_longer (root u a rules is).nested.functions last x (subst (IsOneOf x) (root u a rules is).all i))

@@ -9,4 +9,5 @@ use Rattle.alias_nested.specs.declared.infer.Inferred.{Inferred}
 
 -- no explanation says that a range ends without a cause
 abbrev pub EachHasCause : Inferred → Type 0
-EachHasCause i = (function : Option FunctionId) (id : IdentifierId) (e : Explanation) → explained i.unit function id ≡ Ok e → e.cause ≡ NoCause → ⊥
+EachHasCause i = (function : Option FunctionId) (id : IdentifierId) (e : Explanation) → explained i.unit function id
+    ≡ Ok e → e.cause ≡ NoCause → ⊥

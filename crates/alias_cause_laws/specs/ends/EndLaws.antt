@@ -21,7 +21,9 @@ pub record Tested (has : ℕ → Bool) (env : Environment) (f : HirFunction) : T
   pub effects : AllOf (λ (i : Instruction). EffectsMake (λ n. has n ≡ true) i.effects) f.instructions
 
 -- where it holds not, the end stays
-pub ends_stay : (has : ℕ → Bool) (env : Environment) (f : HirFunction) (l : Listing) (old new : List Identifier) (k : ℕ) → Tested has env f → listed f ≡ Ok l → Causes (graph_listed l) l.mutations f.instructions old new → has k ≡ false → end_at new k ≡ end_at old k
+pub ends_stay : (has : ℕ → Bool) (env : Environment) (f : HirFunction) (l : Listing) (old new : List Identifier) (k : ℕ)
+    → Tested has env f → listed f ≡ Ok l → Causes (graph_listed l) l.mutations f.instructions old new → has k ≡ false
+    → end_at new k ≡ end_at old k
 ends_stay has env f l old new k t is causes off =
     ⊎_elim (λ same. same) (λ on. let no : true ≡ false = sym on ∙ off in absurd (cc))
     (ends_named (λ n. has n ≡ true) f l old new (makes_owned (λ n. has n ≡ true) env f t.places t.effects) is causes k)

@@ -5,7 +5,8 @@ use Rattle.std.specs.Option.{option_map_or}
 use Rattle.std.proofs.Common.{⊎_elim, sym, subst}
 use Rattle.alias_base.specs.declared.ids.BlockId.{BlockId}
 use Rattle.alias_base.specs.declared.ids.FunctionId.{FunctionId}
-use Rattle.alias_hir.specs.Parts.{param_place, optional_place, property_places, target_places, pattern_places, places_in_pattern}
+use Rattle.alias_hir.specs.Parts.{param_place, optional_place, property_places, target_places, pattern_places}
+use Rattle.alias_hir.specs.Parts.{places_in_pattern}
 use Rattle.alias_hir.specs.Terminals.{terminal_places}
 use Rattle.alias_hir.specs.Values.{places_of, created}
 use Rattle.alias_hir.specs.declared.env.Environment.{Environment}
@@ -71,41 +72,55 @@ module _ (P : ℕ → Type 0) where
 
   -- ---- other contexts
 
-  module _ (env more : Environment) (less : (k x : ℕ) → is_among (context_at more k) x ≡ true → is_among (context_at env k) x ≡ true) where
-    context_places : (o : Option HirFunction) → map (λ (p : Place). p.identifier.0) (option_map_or (λ (g : HirFunction). g.context) o []) ≡ context_of o
+  module _ (env more : Environment) (less : (k x : ℕ) → is_among (context_at more k) x ≡ true
+      → is_among (context_at env k) x ≡ true) where
+    context_places : (o : Option HirFunction)
+        → map (λ (p : Place). p.identifier.0) (option_map_or (λ (g : HirFunction). g.context) o []) ≡ context_of o
     context_places None = refl
     context_places (Some g) = refl
 
     created_owned : (o : Option FunctionId) → AllOwned (created_places env o) → AllOwned (created_places more o)
     created_owned None h = tt
     created_owned (Some f) h =
-        let there : AllByRecursion P (context_at env f.0) = subst (AllByRecursion P) (context_places (slice_get env.functions f.0)) (numbers_owned (created_places env (Some f)) h) in
+        let there : AllByRecursion P (context_at env f.0) =
+        subst (AllByRecursion P) (context_places (slice_get env.functions f.0))
+        (numbers_owned (created_places env (Some f)) h) in
         by_numbers (created_places more (Some f))
-        (subst (AllByRecursion P) (sym (context_places (slice_get more.functions f.0))) (all_there P (context_at more f.0) (λ x m. one_there P (context_at env f.0) x there (less f.0 x m))))
+        (subst (AllByRecursion P) (sym (context_places (slice_get more.functions f.0)))
+        (all_there P (context_at more f.0) (λ x m. one_there P (context_at env f.0) x there (less f.0 x m))))
 
     instruction_owned : (i : Instruction) → AllOwned (instruction_places env i) → AllOwned (instruction_places more i)
     instruction_owned i h =
         let b = parts_of Owned (i.lvalue ∷ created_places env (created i.value)) (places_of i.value) h in
-        all_appended Owned (i.lvalue ∷ created_places more (created i.value)) (places_of i.value) (b.0.0, created_owned (created i.value) b.0.1) b.1
+        all_appended Owned (i.lvalue ∷ created_places more (created i.value)) (places_of i.value)
+        (b.0.0, created_owned (created i.value) b.0.1) b.1
 
-    instructions_owned : (is : List Instruction) → AllOwned (flat_map (instruction_places env) is) → AllOwned (flat_map (instruction_places more) is)
+    instructions_owned : (is : List Instruction) → AllOwned (flat_map (instruction_places env) is)
+        → AllOwned (flat_map (instruction_places more) is)
     instructions_owned [] h = tt
     instructions_owned (i ∷ is) h =
         let b = parts_of Owned (instruction_places env i) (flat_map (instruction_places env) is) h in
-        all_appended Owned (instruction_places more i) (flat_map (instruction_places more) is) (instruction_owned i b.0) (instructions_owned is b.1)
+        all_appended Owned (instruction_places more i) (flat_map (instruction_places more) is) (instruction_owned i b.0)
+        (instructions_owned is b.1)
 
     -- over an environment whose contexts name less
     pub owned_across : (f : HirFunction) → AllOwned (places_in env f) → AllOwned (places_in more f)
     owned_across f h =
         let blocks = flat_map (λ (e : BlockId × BasicBlock). block_places e.1) f.body.blocks in
-        let b = parts_of Owned (map param_place f.params ++ f.context ++ f.returns ∷ flat_map (instruction_places env) f.instructions) blocks h in
-        let d = parts_of Owned (map param_place f.params ++ f.context) (f.returns ∷ flat_map (instruction_places env) f.instructions) b.0 in
-        all_appended Owned (map param_place f.params ++ f.context ++ f.returns ∷ flat_map (instruction_places more) f.instructions) blocks
-        (all_appended Owned (map param_place f.params ++ f.context) (f.returns ∷ flat_map (instruction_places more) f.instructions) d.0 (d.1.0, instructions_owned f.instructions d.1.1)) b.1
+        let b = parts_of Owned (map param_place f.params ++ f.context ++ f.returns
+        ∷ flat_map (instruction_places env) f.instructions) blocks h in
+        let d = parts_of Owned (map param_place f.params ++ f.context)
+        (f.returns ∷ flat_map (instruction_places env) f.instructions) b.0 in
+        all_appended Owned (map param_place f.params ++ f.context ++ f.returns
+        ∷ flat_map (instruction_places more) f.instructions) blocks
+        (all_appended Owned (map param_place f.params ++ f.context)
+        (f.returns ∷ flat_map (instruction_places more) f.instructions) d.0
+        (d.1.0, instructions_owned f.instructions d.1.1)) b.1
 
   -- ---- what instructions assign and store
 
-  targets_owned : (ps : List ObjectPropertyOrSpread) → AllOwned (flat_map property_places ps) → AllOwned (flat_map target_places ps)
+  targets_owned : (ps : List ObjectPropertyOrSpread) → AllOwned (flat_map property_places ps)
+      → AllOwned (flat_map target_places ps)
   targets_owned [] h = tt
   targets_owned (property.Property p ∷ ps) h =
       let b = parts_of Owned (optional_place p.computed ++ p.place ∷ []) (flat_map property_places ps) h in
@@ -117,9 +132,10 @@ module _ (P : ℕ → Type 0) where
   pattern_owned (pattern.Array p) h = h
   pattern_owned (pattern.Object p) h = targets_owned p.properties h
 
-  lvalues_owned : (v : InstructionValue) → AllOwned (places_of v) → AllOwned (lvalues_of v)
+  pub lvalues_owned : (v : InstructionValue) → AllOwned (places_of v) → AllOwned (lvalues_of v)
   lvalues_owned (value.DeclareLocal lvalue) h = h
-  lvalues_owned (value.Destructure lvalue x) h = pattern_owned lvalue.pattern (parts_of Owned (places_in_pattern lvalue.pattern) (x ∷ []) h).0
+  lvalues_owned (value.Destructure lvalue x) h =
+      pattern_owned lvalue.pattern (parts_of Owned (places_in_pattern lvalue.pattern) (x ∷ []) h).0
   lvalues_owned (value.DeclareContext lvalue) h = h
   lvalues_owned (value.StoreContext lvalue x) h = (h.0, tt)
   lvalues_owned (value.StoreLocal lvalue x) h = (h.0, tt)
@@ -131,16 +147,20 @@ module _ (P : ℕ → Type 0) where
   stored_owned (value.StoreContext lvalue x) h = (h.1.0, tt)
   stored_owned v h = tt
 
-  written_owned : (i : Instruction) (k : ℕ) → P i.lvalue.identifier.0 → AllOwned (places_of i.value) → IsOneOf k (written i) → P k
+  written_owned : (i : Instruction) (k : ℕ) → P i.lvalue.identifier.0 → AllOwned (places_of i.value)
+      → IsOneOf k (written i) → P k
   written_owned i k l h w =
       ⊎_elim
-      (λ a. one_of_all P (numbers_of (i.lvalue ∷ lvalues_of i.value)) k (l, numbers_owned (lvalues_of i.value) (lvalues_owned i.value h)) a)
-      (λ b. one_of_all P (numbers_of (stored_places i.value)) k (numbers_owned (stored_places i.value) (stored_owned i.value h)) b)
+      (λ a. one_of_all P (numbers_of (i.lvalue ∷ lvalues_of i.value)) k
+      (l, numbers_owned (lvalues_of i.value) (lvalues_owned i.value h)) a)
+      (λ b. one_of_all P (numbers_of (stored_places i.value)) k
+      (numbers_owned (stored_places i.value) (stored_owned i.value h)) b)
       (in_either (numbers_of (i.lvalue ∷ lvalues_of i.value)) (numbers_of (stored_places i.value)) k w)
 
   -- ---- what the range pass makes nodes of
 
-  params_owned : (ps : List ParamPattern) → AllOwned (map param_place ps) → AllOf (λ p. P (param_place p).identifier.0) ps
+  params_owned : (ps : List ParamPattern) → AllOwned (map param_place ps)
+      → AllOf (λ p. P (param_place p).identifier.0) ps
   params_owned [] h = tt
   params_owned (p ∷ ps) h = (h.0, params_owned ps h.1)
 
@@ -148,25 +168,33 @@ module _ (P : ℕ → Type 0) where
   phis_owned [] h = tt
   phis_owned (p ∷ ps) h = let b = parts_of Owned (phi_places p) (flat_map phi_places ps) h in (b.0.0, phis_owned ps b.1)
 
-  blocks_owned : (bs : List (BlockId × BasicBlock)) → AllOwned (flat_map (λ (e : BlockId × BasicBlock). block_places e.1) bs) → AllOf (λ (b : BlockId × BasicBlock). AllOf (PhiMakes P) b.1.phis) bs
+  blocks_owned : (bs : List (BlockId × BasicBlock))
+      → AllOwned (flat_map (λ (e : BlockId × BasicBlock). block_places e.1) bs)
+      → AllOf (λ (b : BlockId × BasicBlock). AllOf (PhiMakes P) b.1.phis) bs
   blocks_owned [] h = tt
   blocks_owned (b ∷ bs) h =
-      let d = parts_of Owned (block_places b.1) (flat_map (λ (e : BlockId × BasicBlock). block_places e.1) bs) h in
-      (phis_owned b.1.phis (parts_of Owned (flat_map phi_places b.1.phis) (terminal_places b.1.terminal) d.0).0, blocks_owned bs d.1)
+      let d = parts_of Owned (block_places b.1) (flat_map (λ (e : BlockId × BasicBlock). block_places e.1) bs) h in (
+        phis_owned b.1.phis (parts_of Owned (flat_map phi_places b.1.phis) (terminal_places b.1.terminal) d.0).0,
+        blocks_owned bs d.1,
+      )
 
   -- the instruction's places, but for those of a function that it creates
   abbrev InstructionOwned : Instruction → Type 0
   InstructionOwned i = P i.lvalue.identifier.0 × AllOwned (places_of i.value)
 
-  pub makes_owned : (env : Environment) (f : HirFunction) → AllOwned (places_in env f) → AllOf (λ (i : Instruction). EffectsMake P i.effects) f.instructions → FunctionMakes P f
+  pub makes_owned : (env : Environment) (f : HirFunction) → AllOwned (places_in env f)
+      → AllOf (λ (i : Instruction). EffectsMake P i.effects) f.instructions → FunctionMakes P f
   makes_owned env f h effects =
       let blocks = flat_map (λ (e : BlockId × BasicBlock). block_places e.1) f.body.blocks in
-      let b = parts_of Owned (map param_place f.params ++ f.context ++ f.returns ∷ flat_map (instruction_places env) f.instructions) blocks h in
-      let d = parts_of Owned (map param_place f.params ++ f.context) (f.returns ∷ flat_map (instruction_places env) f.instructions) b.0 in
+      let b = parts_of Owned (map param_place f.params ++ f.context ++ f.returns
+      ∷ flat_map (instruction_places env) f.instructions) blocks h in
+      let d = parts_of Owned (map param_place f.params ++ f.context)
+      (f.returns ∷ flat_map (instruction_places env) f.instructions) b.0 in
       let e = parts_of Owned (map param_place f.params) f.context d.0 in
       let is : AllByRecursion InstructionOwned f.instructions
       = all_on (λ (i : Instruction). AllOwned (instruction_places env i)) InstructionOwned
-      (λ i a. let c = parts_of Owned (i.lvalue ∷ created_places env (created i.value)) (places_of i.value) a in (c.0.0, c.1)) f.instructions
+      (λ i a. let c = parts_of Owned (i.lvalue ∷ created_places env (created i.value)) (places_of i.value) a in
+      (c.0.0, c.1)) f.instructions
       (each_of Owned (instruction_places env) f.instructions d.1.1) in
       record {
         params = params_owned f.params e.0;
@@ -174,5 +202,6 @@ module _ (P : ℕ → Type 0) where
         returns = d.1.0;
         phis = blocks_owned f.body.blocks b.1;
         effects = effects;
-        written = λ i there k w. let own = one_of_all InstructionOwned f.instructions i is there in written_owned i k own.0 own.1 w;
+        written = λ i there k w. let own = one_of_all InstructionOwned f.instructions i is there in
+            written_owned i k own.0 own.1 w;
       }

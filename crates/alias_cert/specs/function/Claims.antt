@@ -1,5 +1,6 @@
 -- How the step of a block differs from what a certificate says of it.
-use Rattle.std.specs.Prelude.{ℕ, nat_lt, Bool, true, false, if◌then◌else◌, List, length, Option, Some, None, option_and_then, slice_get, slice_index_or}
+use Rattle.std.specs.Prelude.{ℕ, nat_lt, Bool, true, false, if◌then◌else◌, List, length, Option, Some, None}
+use Rattle.std.specs.Prelude.{option_and_then, slice_get, slice_index_or}
 use Rattle.std.specs.Option.{option_map_or}
 use Rattle.alias_step.specs.declared.block.recorded.BlockEffects.{BlockEffects}
 use Rattle.alias_tables.specs.Tables.{TableLists}

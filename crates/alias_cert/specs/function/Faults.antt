@@ -22,7 +22,8 @@ abbrev pub is_memory : CheckFault → Bool
 is_memory (fault.Memory e) = true
 is_memory e = false
 
--- what is made is what is stated, or the fault is the one stated. Out of memory is free: it can come in the place of any answer
+-- what is made is what is stated, or the fault is the one stated. Out of memory is free: it can come in the place of
+-- any answer
 abbrev pub StatesInto : {A : Type 0} → Result A CheckFault → Result ⊤ CheckFault → A → Type 0
 StatesInto stated (Ok u) t = stated ≡ Ok t
 StatesInto stated (Err e) t = is_memory e ≡ false → stated ≡ Err e
@@ -47,11 +48,13 @@ abbrev pub unsolved_fault : Option FunctionId → Environment → Blocks → Uns
 unsolved_fault function env blocks unsolved.Initial = fault.Initial function
 unsolved_fault function env blocks (unsolved.Step b c) = step_fault function env (block_at blocks b) c
 unsolved_fault function env blocks (unsolved.Differs b d) = difference_fault function (block_at blocks b) d
-unsolved_fault function env blocks (unsolved.NotBelow b e) = fault.NotBelow function (block_at blocks b) (block_at blocks e)
+unsolved_fault function env blocks (unsolved.NotBelow b e) =
+    fault.NotBelow function (block_at blocks b) (block_at blocks e)
 unsolved_fault function env blocks (unsolved.NotJoin b) = fault.NotJoin function (block_at blocks b)
 unsolved_fault function env blocks (unsolved.Memory e) = fault.Memory e
 
 -- the answer, or what was found as a fault of the function
-abbrev pub faulted : {A : Type 0} → Option FunctionId → Environment → Blocks → Result A (Unsolved BlockRefusal Difference) → Result A CheckFault
+abbrev pub faulted : {A : Type 0} → Option FunctionId → Environment → Blocks
+    → Result A (Unsolved BlockRefusal Difference) → Result A CheckFault
 faulted function env blocks (Ok x) = Ok x
 faulted function env blocks (Err e) = Err (unsolved_fault function env blocks e)

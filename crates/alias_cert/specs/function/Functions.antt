@@ -1,5 +1,6 @@
 -- What a certificate says of a function, checked: the first fault, or what is handed out of the function.
-use Rattle.std.specs.Prelude.{ℕ, ◌+◌, Bool, true, false, if◌then◌else◌, List, [], ◌∷◌, length, replicate, Option, None, Result, Ok, Err, ⊤}
+use Rattle.std.specs.Prelude.{ℕ, ◌+◌, Bool, true, false, if◌then◌else◌, List, [], ◌∷◌, length, replicate, Option, None}
+use Rattle.std.specs.Prelude.{Result, Ok, Err, ⊤}
 use Rattle.alias_base.specs.Answer.{◌>>=◌}
 use Rattle.alias_hir.specs.declared.env.Environment.{Environment}
 use Rattle.alias_hir.specs.declared.hir.HirFunction.{HirFunction}
@@ -49,16 +50,24 @@ module _ (c : CertFunction) (env : Environment) (f : HirFunction) (is_function_e
 
   -- the entry states that are said; identifiers are those of the environment and the temporaries that are said
   abbrev pub entries_checked : Result (List (Option State)) CheckFault
-  entries_checked = entries_stated c.function (length env.identifiers + length c.temporaries) (created_functions f) c.blocks [] numbers
+  entries_checked = entries_stated c.function (length env.identifiers + length c.temporaries) (created_functions f)
+      c.blocks [] numbers
 
   -- from these entry states and tables, with nothing recorded yet: each block steps once, in stored order
-  abbrev pub steps_checked : List (Option State) → TableLists → Result (Arriving State TableLists BlockEffects) CheckFault
+  abbrev pub steps_checked : List (Option State) → TableLists
+      → Result (Arriving State TableLists BlockEffects) CheckFault
   steps_checked entries tables =
-      faulted c.function env f.body.blocks (solution_checked state_join state_below flow_rules (differs c.blocks numbers (length c.temporaries)) entries tables (replicate (length f.body.blocks) None))
+      faulted c.function env f.body.blocks (solution_checked state_join state_below flow_rules
+      (differs c.blocks numbers (length c.temporaries)) entries tables (replicate (length f.body.blocks) None))
 
-  -- what is handed out: these entry states, with what the check comes to; the visits are the reached blocks in stored order
+  -- what is handed out: these entry states, with what the check comes to; the visits are the reached blocks in stored
+  -- order
   abbrev pub checked_end : List (Option State) → Arriving State TableLists BlockEffects → PassEnd
-  checked_end entries w = end_of f (record { progress = record { visits = marked_positions 0 marks; joined_input = entries; last_input = [] }; tables = w.tables; recorded = w.recorded })
+  checked_end entries w = end_of f (record {
+    progress = record { visits = marked_positions 0 marks; joined_input = entries; last_input = [] };
+    tables = w.tables;
+    recorded = w.recorded;
+  })
 
   abbrev pub function_solved : Result PassEnd CheckFault
   function_solved = do

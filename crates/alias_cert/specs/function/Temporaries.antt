@@ -1,5 +1,6 @@
 -- The temporaries that a certificate says of a function.
-use Rattle.std.specs.Prelude.{ℕ, ◌+◌, nat_lt, Bool, ◌&&◌, ◌==◌, if◌then◌else◌, List, [], ◌∷◌, length, Option, None, Result, Ok, Err}
+use Rattle.std.specs.Prelude.{ℕ, ◌+◌, nat_lt, Bool, ◌&&◌, ◌==◌, if◌then◌else◌, List, [], ◌∷◌, length, Option, None}
+use Rattle.std.specs.Prelude.{Result, Ok, Err}
 use Rattle.alias_base.specs.Answer.{◌>>=◌}
 use Rattle.alias_base.specs.declared.ids.FunctionId.{FunctionId}
 use Rattle.alias_hir.specs.declared.env.Environment.{Environment}

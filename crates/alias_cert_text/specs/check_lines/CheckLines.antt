@@ -7,7 +7,9 @@ use Rattle.alias_hir.specs.declared.error.Counter.{Counter}
 use Rattle.alias_text.specs.Lines.{spaced}
 use Rattle.alias_text.specs.Refusals.{counter_word, last_word, spaced_function}
 use Rattle.alias_certificate.specs.declared.fault.CheckFault.{CheckFault}
-use Rattle.alias_certificate.specs.declared.fault.CheckFault.TheVariants.{Functions, Blocks, State, Temporaries, Initial, Step, MissingTemporary, Effects, NotBelow, NotJoin, Summary, TooMany, Memory}
+use Rattle.alias_certificate.specs.declared.fault.CheckFault.TheVariants.{Functions, Blocks, State, Temporaries}
+use Rattle.alias_certificate.specs.declared.fault.CheckFault.TheVariants.{Initial, Step, MissingTemporary, Effects}
+use Rattle.alias_certificate.specs.declared.fault.CheckFault.TheVariants.{NotBelow, NotJoin, Summary, TooMany, Memory}
 
 -- the number of the fault, and then the function and the block where it is
 abbrev pub head_text : ℕ → List ℕ
@@ -35,7 +37,8 @@ at_position_text n k = head_text n ++ spaced k ++ codes "\n"
 abbrev pub at_counter_text : ℕ → Counter → List ℕ
 at_counter_text n which = head_text n ++ last_word (counter_word which)
 
--- the number of the fault, and where it is, in the order of its fields; of a refused step the cause is left out, and out of memory has no line
+-- the number of the fault, and where it is, in the order of its fields; of a refused step the cause is left out, and
+-- out of memory has no line
 abbrev pub rejected_text : CheckFault → List ℕ
 rejected_text (Functions position) = at_position_text 1 position
 rejected_text (Blocks f) = in_function_text 2 f

@@ -11,7 +11,9 @@ use Rattle.alias_apply.specs.freezing.Contexts.{context_of, context_in}
 use Rattle.alias_visit.specs.Operands.{context_at}
 use Rattle.alias_apply.specs.Apply.{is_error, has_error}
 use Rattle.alias_apply.specs.Contexts.{StepContext, summary_of, summary_in}
-use Rattle.alias_certificate_laws.specs.accepting.Alike.{none, more, Maybe, nothing, just, Alike, impure, mutate_frozen, mutate_global, AlikeEffects, AlikeFunction, seen, Elsewhere, elsewhere}
+use Rattle.alias_certificate_laws.specs.accepting.Alike.{none, more, Maybe, nothing, just, Alike, impure, mutate_frozen}
+use Rattle.alias_certificate_laws.specs.accepting.Alike.{mutate_global, AlikeEffects, AlikeFunction, seen, Elsewhere}
+use Rattle.alias_certificate_laws.specs.accepting.Alike.{elsewhere}
 use Rattle.alias_certificate_laws.proofs.accepting.Likeness.{paired_get}
 
 -- the same context over the environment elsewhere
@@ -34,18 +36,21 @@ same_error e f a = refl
 
 same_errors : (es fs : List AliasingEffect) → AlikeEffects es fs → list_any is_error es ≡ list_any is_error fs
 same_errors es fs none = refl
-same_errors es fs (more {a = e} {b = f} {xs = xs} {ys = ys} q rest) = ap (λ b. b || list_any is_error xs) (same_error e f q) ∙ ap (λ b. is_error f || b) (same_errors xs ys rest)
+same_errors es fs (more {a = e} {b = f} {xs = xs} {ys = ys} q rest) =
+    ap (λ b. b || list_any is_error xs) (same_error e f q) ∙ ap (λ b. is_error f || b) (same_errors xs ys rest)
 
 pub same_has_error : (o p : Option (List AliasingEffect)) → Maybe AlikeEffects o p → has_error o ≡ has_error p
 same_has_error o p nothing = refl
 same_has_error o p (just a) = same_errors _ _ a
 
-context_at_same : (f g : Option HirFunction) → Maybe AlikeFunction f g → option_map_or (λ (h : HirFunction). h.context) f [] ≡ option_map_or (λ (h : HirFunction). h.context) g []
+context_at_same : (f g : Option HirFunction) → Maybe AlikeFunction f g
+    → option_map_or (λ (h : HirFunction). h.context) f [] ≡ option_map_or (λ (h : HirFunction). h.context) g []
 context_at_same f g nothing = refl
 context_at_same f g (just (seen h k a)) = refl
 
 module _ (env : Environment) (o : Elsewhere env) where
-  pub function_elsewhere : (f : FunctionId) → Maybe AlikeFunction (slice_get env.functions f.0) (slice_get o.functions f.0)
+  pub function_elsewhere : (f : FunctionId)
+      → Maybe AlikeFunction (slice_get env.functions f.0) (slice_get o.functions f.0)
   function_elsewhere f = paired_get f.0 env.functions o.functions o.alike
 
   pub summary_elsewhere : (f : FunctionId) → Maybe AlikeEffects (summary_of env f) (summary_of (elsewhere env o) f)
@@ -58,4 +63,5 @@ module _ (env : Environment) (o : Elsewhere env) where
   contexts_elsewhere = λ i f. context_elsewhere f i
 
   pub context_at_elsewhere : (f : FunctionId) → context_at env f ≡ context_at (elsewhere env o) f
-  context_at_elsewhere f = context_at_same (slice_get env.functions f.0) (slice_get o.functions f.0) (function_elsewhere f)
+  context_at_elsewhere f = context_at_same (slice_get env.functions f.0) (slice_get o.functions f.0)
+      (function_elsewhere f)

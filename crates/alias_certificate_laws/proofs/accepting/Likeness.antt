@@ -8,7 +8,14 @@ use Rattle.alias_hir.specs.declared.place.PlaceOrSpreadOrHole.TheVariants as arg
 use Rattle.alias_lattice.specs.declared.lookup.MissingLookup.{MissingLookup}
 use Rattle.alias_apply.specs.declared.progress.StepProgress.{StepProgress}
 use Rattle.std.specs.Prelude.{ℕ, slice_get, zero, suc}
-use Rattle.alias_certificate_laws.specs.accepting.Alike.{Paired, none, more, Maybe, nothing, just, moved, AlikePlace, at, AlikeArgument, plain, spread, hole, Alike, apply, create_from, immutable_capture, assign, alias, capture, maybe_alias, create, freeze, impure, mutate_frozen, mutate_global, render, mutate, mutate_conditionally, mutate_transitive, mutate_transitive_conditionally, create_function, AlikeLookup, there, missing, AlikeProgress, like}
+use Rattle.alias_certificate_laws.specs.accepting.Alike.{Paired, none, more, Maybe, nothing, just, moved, AlikePlace}
+use Rattle.alias_certificate_laws.specs.accepting.Alike.{at, AlikeArgument, plain, spread, hole, Alike, apply}
+use Rattle.alias_certificate_laws.specs.accepting.Alike.{create_from, immutable_capture, assign, alias, capture}
+use Rattle.alias_certificate_laws.specs.accepting.Alike.{maybe_alias, create, freeze, impure, mutate_frozen}
+use Rattle.alias_certificate_laws.specs.accepting.Alike.{mutate_global, render, mutate, mutate_conditionally}
+use Rattle.alias_certificate_laws.specs.accepting.Alike.{mutate_transitive, mutate_transitive_conditionally}
+use Rattle.alias_certificate_laws.specs.accepting.Alike.{create_function, AlikeLookup, there, missing, AlikeProgress}
+use Rattle.alias_certificate_laws.specs.accepting.Alike.{like}
 
 -- ---- lists
 
@@ -16,23 +23,29 @@ pub paired_self : {A : Type 0} (Q : A → A → Type 0) → ((x : A) → Q x x) 
 paired_self Q self [] = none
 paired_self Q self (x ∷ xs) = more (self x) (paired_self Q self xs)
 
-pub paired_sym : {A : Type 0} (Q : A → A → Type 0) → ((x y : A) → Q x y → Q y x) → {xs ys : List A} → Paired Q xs ys → Paired Q ys xs
+pub paired_sym : {A : Type 0} (Q : A → A → Type 0) → ((x y : A) → Q x y → Q y x) → {xs ys : List A} → Paired Q xs ys
+    → Paired Q ys xs
 paired_sym Q back none = none
 paired_sym Q back (more q qs) = more (back _ _ q) (paired_sym Q back qs)
 
-pub paired_trans : {A : Type 0} (Q : A → A → Type 0) → ((x y z : A) → Q x y → Q y z → Q x z) → {xs ys zs : List A} → Paired Q xs ys → Paired Q ys zs → Paired Q xs zs
+pub paired_trans : {A : Type 0} (Q : A → A → Type 0) → ((x y z : A) → Q x y → Q y z → Q x z) → {xs ys zs : List A}
+    → Paired Q xs ys → Paired Q ys zs → Paired Q xs zs
 paired_trans Q through none none = none
 paired_trans Q through (more q qs) (more r rs) = more (through _ _ _ q r) (paired_trans Q through qs rs)
 
-pub paired_append : {A B : Type 0} {Q : A → B → Type 0} {xs us : List A} {ys vs : List B} → Paired Q xs ys → Paired Q us vs → Paired Q (xs ++ us) (ys ++ vs)
+pub paired_append : {A B : Type 0} {Q : A → B → Type 0} {xs us : List A} {ys vs : List B} → Paired Q xs ys
+    → Paired Q us vs → Paired Q (xs ++ us) (ys ++ vs)
 paired_append none r = r
 paired_append (more q qs) r = more q (paired_append qs r)
 
-pub paired_map : {A B C D : Type 0} {Q : A → B → Type 0} (R : C → D → Type 0) (f : A → C) (g : B → D) → ((x : A) (y : B) → Q x y → R (f x) (g y)) → {xs : List A} {ys : List B} → Paired Q xs ys → Paired R (map f xs) (map g ys)
+pub paired_map : {A B C D : Type 0} {Q : A → B → Type 0} (R : C → D → Type 0) (f : A → C) (g : B → D)
+    → ((x : A) (y : B) → Q x y → R (f x) (g y)) → {xs : List A} {ys : List B} → Paired Q xs ys
+    → Paired R (map f xs) (map g ys)
 paired_map R f g h none = none
 paired_map R f g h (more q qs) = more (h _ _ q) (paired_map R f g h qs)
 
-pub paired_get : {A : Type 0} {Q : A → A → Type 0} (n : ℕ) (xs ys : List A) → Paired Q xs ys → Maybe Q (slice_get xs n) (slice_get ys n)
+pub paired_get : {A : Type 0} {Q : A → A → Type 0} (n : ℕ) (xs ys : List A) → Paired Q xs ys
+    → Maybe Q (slice_get xs n) (slice_get ys n)
 paired_get n xs ys none = nothing
 paired_get zero xs ys (more q qs) = just q
 paired_get (suc n) xs ys (more {xs = us} {ys = vs} q qs) = paired_get n us vs qs
@@ -66,7 +79,8 @@ argument_trans a b c hole hole = hole
 -- ---- effects
 
 pub alike_self : (e : AliasingEffect) → Alike e e
-alike_self (effect.Apply r f mutates args x signature span) = apply r r f f x x mutates args args signature span span (paired_self AlikeArgument argument_self args)
+alike_self (effect.Apply r f mutates args x signature span) =
+    apply r r f f x x mutates args args signature span span (paired_self AlikeArgument argument_self args)
 alike_self (effect.CreateFrom a x) = create_from a a x x
 alike_self (effect.ImmutableCapture a x) = immutable_capture a a x x
 alike_self (effect.Assign a x) = assign a a x x
@@ -87,7 +101,8 @@ alike_self (effect.CreateFunction x f ps) = create_function x x f ps ps (paired_
 
 pub alike_sym : (e f : AliasingEffect) → Alike e f → Alike f e
 alike_sym e f (apply r s g h x y mutates args others signature span other a) =
-    apply (moved r s) r (moved g h) g (moved x y) x mutates others args signature other span (paired_sym AlikeArgument argument_sym a)
+    apply (moved r s) r (moved g h) g (moved x y) x mutates others args signature other span
+    (paired_sym AlikeArgument argument_sym a)
 alike_sym e f (create_from a b x y) = create_from (moved a b) a (moved x y) x
 alike_sym e f (immutable_capture a b x y) = immutable_capture (moved a b) a (moved x y) x
 alike_sym e f (assign a b x y) = assign (moved a b) a (moved x y) x
@@ -104,7 +119,8 @@ alike_sym e f (mutate v w r s) = mutate (moved v w) v s r
 alike_sym e f (mutate_conditionally v w) = mutate_conditionally (moved v w) v
 alike_sym e f (mutate_transitive v w) = mutate_transitive (moved v w) v
 alike_sym e f (mutate_transitive_conditionally v w) = mutate_transitive_conditionally (moved v w) v
-alike_sym e f (create_function x y g ps qs a) = create_function (moved x y) x g qs ps (paired_sym AlikePlace place_sym a)
+alike_sym e f (create_function x y g ps qs a) =
+    create_function (moved x y) x g qs ps (paired_sym AlikePlace place_sym a)
 
 pub alike_trans : (e f g : AliasingEffect) → Alike e f → Alike f g → Alike e g
 alike_trans e f g (apply r _ h _ x _ mutates args _ signature span _ a) (apply _ s _ i _ y _ _ others _ _ other b) =
@@ -124,8 +140,10 @@ alike_trans e f g (render p _) (render _ q) = render p q
 alike_trans e f g (mutate v _ r _) (mutate _ w _ s) = mutate v w r s
 alike_trans e f g (mutate_conditionally v _) (mutate_conditionally _ w) = mutate_conditionally v w
 alike_trans e f g (mutate_transitive v _) (mutate_transitive _ w) = mutate_transitive v w
-alike_trans e f g (mutate_transitive_conditionally v _) (mutate_transitive_conditionally _ w) = mutate_transitive_conditionally v w
-alike_trans e f g (create_function x _ h ps _ a) (create_function _ y _ _ qs b) = create_function x y h ps qs (paired_trans AlikePlace place_trans a b)
+alike_trans e f g (mutate_transitive_conditionally v _) (mutate_transitive_conditionally _ w) =
+    mutate_transitive_conditionally v w
+alike_trans e f g (create_function x _ h ps _ a) (create_function _ y _ _ qs b) =
+    create_function x y h ps qs (paired_trans AlikePlace place_trans a b)
 
 -- ---- steps
 

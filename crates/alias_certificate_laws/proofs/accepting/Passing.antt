@@ -28,12 +28,16 @@ use Rattle.alias_certificate_laws.specs.accepting.Certifying.{NamesItsOwn, IsAcc
 use Rattle.alias_certificate_laws.proofs.accepting.Certifying.{accepted_as_said}
 use Rattle.alias_effects_laws.proofs.entries.Keeping.{at_holds, solution_keeps}
 
-module _ (env : Environment) (func : HirFunction) (e : Bool) (entered : is_some (value_at func.body.blocks func.body.entry) ≡ true) (w : SolverState (VisitLog State) TableLists BlockEffects)
+module _ (env : Environment) (func : HirFunction) (e : Bool)
+    (entered : is_some (value_at func.body.blocks func.body.entry) ≡ true)
+    (w : SolverState (VisitLog State) TableLists BlockEffects)
     (ends : visits_end (context_of env func e) ≡ Solved w) where
   pub laws : FlowLaws StateProper Extends (numbered (context_of env func e)) (replicate (length func.body.blocks) None)
-  laws = pass_laws (context_of env func e) entered (replicate (length func.body.blocks) None) (length-replicate (length func.body.blocks) None)
+  laws = pass_laws (context_of env func e) entered (replicate (length func.body.blocks) None)
+      (length-replicate (length func.body.blocks) None)
 
-  by_work_list : work_list_solution state_join state_below (numbered (context_of env func e)) (tables_of env) (replicate (length func.body.blocks) None) ≡ Solved (as_work_list_state state_below w)
+  by_work_list : work_list_solution state_join state_below (numbered (context_of env func e)) (tables_of env)
+      (replicate (length func.body.blocks) None) ≡ Solved (as_work_list_state state_below w)
   by_work_list = solution_work_list state_laws laws (tables_of env) ∙ ap (as_work_list_end state_below) ends
 
   pub solves : Solves state_laws laws (tables_of env) (as_work_list_state state_below w)
@@ -42,10 +46,12 @@ module _ (env : Environment) (func : HirFunction) (e : Bool) (entered : is_some 
   -- each entry state is proper, and so many blocks have a record
   pub kept : Unit {0} × AllHold StateProper w.progress.joined_input × (length w.recorded ≡ length func.body.blocks)
   kept =
-      solution_keeps state_join state_below (numbered (context_of env func e)) (λ t. Unit {0}) (λ t x. StateProper x) (length func.body.blocks) (λ t x y p q. state_laws.closed x y p q)
+      solution_keeps state_join state_below (numbered (context_of env func e)) (λ t. Unit {0}) (λ t x. StateProper x)
+      (length func.body.blocks) (λ t x y p q. state_laws.closed x y p q)
       (λ b. Unit {0}) tt (λ b c r one. tt)
       (λ t b x y u k r i p step. record { tables = tt; state = laws.step_proper t b x y u k p step; still = λ z q. q })
-      (tables_of env) (replicate (length func.body.blocks) None) w tt laws.initial_proper (length-replicate (length func.body.blocks) None) ends
+      (tables_of env) (replicate (length func.body.blocks) None) w tt laws.initial_proper
+      (length-replicate (length func.body.blocks) None) ends
 
   proper_at : (b : ℕ) (s : State) → entry_at w.progress.joined_input b ≡ Some s → StateProper s
   proper_at b s is = subst (HoldsOf StateProper) is (at_holds StateProper w.progress.joined_input b kept.1)
@@ -55,9 +61,12 @@ module _ (env : Environment) (func : HirFunction) (e : Bool) (entered : is_some 
     count = solves.length;
     proper = proper_at;
     solves = solves.solves;
-    joins = λ forward. forward_joins state_laws laws forward (tables_of env) (as_work_list_state state_below w) by_work_list w.progress.joined_input refl;
+    joins = λ forward. forward_joins state_laws laws forward (tables_of env) (as_work_list_state state_below w)
+        by_work_list w.progress.joined_input refl;
   }
 
-  pub pass_accepted : NamesItsOwn env func e w.tables w.progress.joined_input → IsAcceptedAsSaid env func e w.tables w.progress.joined_input w.recorded
+  pub pass_accepted : NamesItsOwn env func e w.tables w.progress.joined_input
+      → IsAcceptedAsSaid env func e w.tables w.progress.joined_input w.recorded
   pass_accepted names =
-      accepted_as_said env func e entered w.tables w.progress.joined_input w.recorded (record { solved = pass_solves; records = solves.keeps; count = kept.2; names = names })
+      accepted_as_said env func e entered w.tables w.progress.joined_input w.recorded
+      (record { solved = pass_solves; records = solves.keeps; count = kept.2; names = names })

@@ -1,5 +1,6 @@
 -- Numbers, words, sites and keys read back as what was printed.
-use Rattle.std.proofs.Common.{◌≡◌, ℕ, true, List, [], ◌∷◌, ◌++◌, Some, None, option_map, refl, ap, ◌∙◌, arith, append_assoc}
+use Rattle.std.proofs.Common.{◌≡◌, ℕ, true, List, [], ◌∷◌, ◌++◌, Some, None, option_map, refl, ap, ◌∙◌, arith}
+use Rattle.std.proofs.Common.{append_assoc}
 use Rattle.std.specs.Prelude.{codes, decimal}
 use Rattle.std.proofs.lemmas.Cmp.{nat_list_eq_equiv}
 use Rattle.json.specs.Print.{quoted}
@@ -10,7 +11,8 @@ use Rattle.alias_hir.specs.declared.effect.ValueKind.TheVariants as kind
 use Rattle.alias_hir.specs.declared.effect.ValueReason.{ValueReason}
 use Rattle.alias_hir.specs.declared.effect.ValueReason.TheVariants as reason
 use Rattle.alias_lattice.specs.declared.site.Site.{Site}
-use Rattle.alias_lattice.specs.declared.site.Site.TheVariants.{Parameter, Context, Created, CreatedFrom, Function, AssignFrozen, AssignCopy, Default}
+use Rattle.alias_lattice.specs.declared.site.Site.TheVariants.{Parameter, Context, Created, CreatedFrom, Function}
+use Rattle.alias_lattice.specs.declared.site.Site.TheVariants.{AssignFrozen, AssignCopy, Default}
 use Rattle.alias_tables.specs.declared.temp_key.TempKey.{TempKey}
 use Rattle.alias_tables.specs.declared.temp_key.TempKey.TheVariants.{Named, Rest}
 use Rattle.alias_text.specs.Lines.{kind_word, reason_word}
@@ -82,7 +84,8 @@ reason_high reason.Other = refl
 -- ---- sites
 
 -- a text with this form, and these names in the parentheses
-site_by : (form names text : List ℕ) (s : Site) → cut 40 text ≡ Some (form, names ++ 41 ∷ []) → site_named form names (cut 44 names) ≡ Some s → site_of text ≡ Some s
+site_by : (form names text : List ℕ) (s : Site) → cut 40 text ≡ Some (form, names ++ 41 ∷ [])
+    → site_named form names (cut 44 names) ≡ Some s → site_of text ≡ Some s
 site_by form names text s opened named = rw opened (rw (before_end_there 41 names) named)
 
 no_comma : (n : ℕ) → cut 44 (decimal n) ≡ None
@@ -102,41 +105,60 @@ kind_cut kind.Mutable rest = refl
 kind_cut kind.Context rest = refl
 kind_cut kind.MaybeFrozen rest = refl
 
-one_identifier : (form : List ℕ) (make : IdentifierId → Site) (x : IdentifierId) → Small x.0 → ((name : List ℕ) → site_of_one form name ≡ option_map make (identifier_of name)) → site_named form (decimal x.0) (cut 44 (decimal x.0)) ≡ Some (make x)
+one_identifier : (form : List ℕ) (make : IdentifierId → Site) (x : IdentifierId) → Small x.0
+    → ((name : List ℕ) → site_of_one form name ≡ option_map make (identifier_of name))
+    → site_named form (decimal x.0) (cut 44 (decimal x.0)) ≡ Some (make x)
 one_identifier form make x h is = rw (no_comma x.0) (is (decimal x.0) ∙ ap (option_map make) (identifier_back x h))
 
-two_identifiers : (form : List ℕ) (from into : IdentifierId) (s : Site) → Small from.0 → Small into.0 → site_of_two form from into ≡ Some s → site_named form (two_ids from into) (cut 44 (two_ids from into)) ≡ Some s
+two_identifiers : (form : List ℕ) (from into : IdentifierId) (s : Site) → Small from.0 → Small into.0
+    → site_of_two form from into ≡ Some s → site_named form (two_ids from into) (cut 44 (two_ids from into)) ≡ Some s
 two_identifiers form from into s h g is =
     rw (number_comma from.0 (decimal into.0))
     (rw (no_comma into.0) (rw (identifier_back from h) (rw (identifier_back into g) is)))
 
 new_site : (into : IdentifierId) (k : ValueKind) (r : ValueReason) → Small into.0
-    → site_named (codes "Created") (both_text (decimal into.0) (both_text (kind_word k) (reason_word r))) (cut 44 (both_text (decimal into.0) (both_text (kind_word k) (reason_word r)))) ≡ Some (Created into k r)
+    → site_named (codes "Created") (both_text (decimal into.0) (both_text (kind_word k) (reason_word r)))
+    (cut 44 (both_text (decimal into.0) (both_text (kind_word k) (reason_word r)))) ≡ Some (Created into k r)
 new_site into k r h =
     rw (number_comma into.0 (both_text (kind_word k) (reason_word r)))
     (rw (kind_cut k (reason_word r)) (rw (identifier_back into h) (rw (kind_back k) (rw (reason_back r) refl))))
 
 pub site_back : (s : Site) → SmallSite s → site_of (site_text s) ≡ Some s
-site_back (Parameter x) h = site_by (codes "Parameter") (decimal x.0) (site_text (Parameter x)) (Parameter x) refl (one_identifier (codes "Parameter") Parameter x h (λ name. refl))
-site_back (Context x) h = site_by (codes "Context") (decimal x.0) (site_text (Context x)) (Context x) refl (one_identifier (codes "Context") Context x h (λ name. refl))
-site_back (Created into k r) h = site_by (codes "Created") (both_text (decimal into.0) (both_text (kind_word k) (reason_word r))) (site_text (Created into k r)) (Created into k r) refl (new_site into k r h)
-site_back (CreatedFrom from into) h = site_by (codes "CreatedFrom") (two_ids from into) (site_text (CreatedFrom from into)) (CreatedFrom from into) refl (two_identifiers (codes "CreatedFrom") from into (CreatedFrom from into) h.0 h.1 refl)
-site_back (Function f) h = site_by (codes "Function") (decimal f.0) (site_text (Function f)) (Function f) refl (rw (no_comma f.0) (ap (option_map Function) (function_back f h)))
-site_back (AssignFrozen from into) h = site_by (codes "AssignFrozen") (two_ids from into) (site_text (AssignFrozen from into)) (AssignFrozen from into) refl (two_identifiers (codes "AssignFrozen") from into (AssignFrozen from into) h.0 h.1 refl)
-site_back (AssignCopy from into) h = site_by (codes "AssignCopy") (two_ids from into) (site_text (AssignCopy from into)) (AssignCopy from into) refl (two_identifiers (codes "AssignCopy") from into (AssignCopy from into) h.0 h.1 refl)
-site_back (Default x) h = site_by (codes "Default") (decimal x.0) (site_text (Default x)) (Default x) refl (one_identifier (codes "Default") Default x h (λ name. refl))
+site_back (Parameter x) h = site_by (codes "Parameter") (decimal x.0) (site_text (Parameter x)) (Parameter x) refl
+    (one_identifier (codes "Parameter") Parameter x h (λ name. refl))
+site_back (Context x) h = site_by (codes "Context") (decimal x.0) (site_text (Context x)) (Context x) refl
+    (one_identifier (codes "Context") Context x h (λ name. refl))
+site_back (Created into k r) h = site_by (codes "Created")
+    (both_text (decimal into.0) (both_text (kind_word k) (reason_word r))) (site_text (Created into k r))
+    (Created into k r) refl (new_site into k r h)
+site_back (CreatedFrom from into) h = site_by (codes "CreatedFrom") (two_ids from into)
+    (site_text (CreatedFrom from into)) (CreatedFrom from into) refl
+    (two_identifiers (codes "CreatedFrom") from into (CreatedFrom from into) h.0 h.1 refl)
+site_back (Function f) h = site_by (codes "Function") (decimal f.0) (site_text (Function f)) (Function f) refl
+    (rw (no_comma f.0) (ap (option_map Function) (function_back f h)))
+site_back (AssignFrozen from into) h = site_by (codes "AssignFrozen") (two_ids from into)
+    (site_text (AssignFrozen from into)) (AssignFrozen from into) refl
+    (two_identifiers (codes "AssignFrozen") from into (AssignFrozen from into) h.0 h.1 refl)
+site_back (AssignCopy from into) h = site_by (codes "AssignCopy") (two_ids from into) (site_text (AssignCopy from into))
+    (AssignCopy from into) refl (two_identifiers (codes "AssignCopy") from into (AssignCopy from into) h.0 h.1 refl)
+site_back (Default x) h = site_by (codes "Default") (decimal x.0) (site_text (Default x)) (Default x) refl
+    (one_identifier (codes "Default") Default x h (λ name. refl))
 
 -- ---- keys
 
 pub name_back : (name : List ℕ) → unquoted (quoted name) ≡ Some name
 name_back name = rw (read-quoted name) (rw (nat_list_eq_equiv.refl (quoted name)) refl)
 
-key_by : (form names text : List ℕ) (k : TempKey) → cut 40 text ≡ Some (form, names ++ 41 ∷ []) → key_of_form form names ≡ Some k → key_of text ≡ Some k
+key_by : (form names text : List ℕ) (k : TempKey) → cut 40 text ≡ Some (form, names ++ 41 ∷ []) → key_of_form form names
+    ≡ Some k → key_of text ≡ Some k
 key_by form names text k opened named = rw opened (rw (before_end_there 41 names) named)
 
-named_back : (into : IdentifierId) (name : List ℕ) → Small into.0 → named_of (both_text (decimal into.0) (quoted name)) ≡ Some (Named into (record { text = name }))
+named_back : (into : IdentifierId) (name : List ℕ) → Small into.0 → named_of (both_text (decimal into.0) (quoted name))
+    ≡ Some (Named into (record { text = name }))
 named_back into name h = rw (number_comma into.0 (quoted name)) (rw (identifier_back into h) (rw (name_back name) refl))
 
 pub key_back : (k : TempKey) → SmallKey k → key_of (key_text k) ≡ Some k
-key_back (Named into name) h = key_by (codes "Named") (both_text (decimal into.0) (quoted name.text)) (key_text (Named into name)) (Named into name) refl (named_back into name.text h)
-key_back (Rest f) h = key_by (codes "Rest") (decimal f.0) (key_text (Rest f)) (Rest f) refl (ap (option_map Rest) (function_back f h))
+key_back (Named into name) h = key_by (codes "Named") (both_text (decimal into.0) (quoted name.text))
+    (key_text (Named into name)) (Named into name) refl (named_back into name.text h)
+key_back (Rest f) h = key_by (codes "Rest") (decimal f.0) (key_text (Rest f)) (Rest f) refl
+    (ap (option_map Rest) (function_back f h))

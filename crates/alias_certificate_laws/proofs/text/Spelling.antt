@@ -1,5 +1,6 @@
 -- AllByRecursion line that is printed reads back.
-use Rattle.std.proofs.Common.{◌≡◌, ℕ, ◌<◌, ◌≤◌, true, false, List, [], ◌∷◌, ◌++◌, Option, Some, None, option_map, refl, ap, ◌∙◌, subst, arith, append_assoc}
+use Rattle.std.proofs.Common.{◌≡◌, ℕ, ◌<◌, ◌≤◌, true, false, List, [], ◌∷◌, ◌++◌, Option, Some, None, option_map, refl}
+use Rattle.std.proofs.Common.{ap, ◌∙◌, subst, arith, append_assoc}
 use Rattle.std.specs.Prelude.{codes, decimal}
 use Rattle.std.specs.Char.{digit_value}
 use Rattle.std.specs.List.{AllByRecursion, flat_map}
@@ -10,7 +11,11 @@ use Rattle.alias_base.specs.declared.ids.BlockId.{BlockId}
 use Rattle.alias_base.specs.declared.ids.FunctionId.{FunctionId}
 use Rattle.alias_base.specs.declared.ids.IdentifierId.{IdentifierId}
 use Rattle.alias_hir.specs.declared.effect.AliasingEffect.{AliasingEffect}
-use Rattle.alias_hir.specs.declared.effect.AliasingEffect.TheVariants.{Apply, CreateFrom, ImmutableCapture, Assign, Alias, Capture, MaybeAlias, Create, Freeze, Impure, MutateFrozen, MutateGlobal, Render, Mutate, MutateConditionally, MutateTransitive, MutateTransitiveConditionally, CreateFunction}
+use Rattle.alias_hir.specs.declared.effect.AliasingEffect.TheVariants.{Apply, CreateFrom, ImmutableCapture, Assign}
+use Rattle.alias_hir.specs.declared.effect.AliasingEffect.TheVariants.{Alias, Capture, MaybeAlias, Create, Freeze}
+use Rattle.alias_hir.specs.declared.effect.AliasingEffect.TheVariants.{Impure, MutateFrozen, MutateGlobal, Render}
+use Rattle.alias_hir.specs.declared.effect.AliasingEffect.TheVariants.{Mutate, MutateConditionally, MutateTransitive}
+use Rattle.alias_hir.specs.declared.effect.AliasingEffect.TheVariants.{MutateTransitiveConditionally, CreateFunction}
 use Rattle.alias_hir.specs.declared.effect.MutationReason.{MutationReason}
 use Rattle.alias_hir.specs.declared.effect.MutationReason.TheVariants.{AssignCurrentProperty}
 use Rattle.alias_hir.specs.declared.effect.ValueKind.{ValueKind}
@@ -31,8 +36,11 @@ use Rattle.alias_lattice.specs.declared.value.AbstractValue.{AbstractValue}
 use Rattle.alias_tables.specs.declared.temp_key.TempKey.{TempKey}
 use Rattle.alias_tables.specs.declared.temp_key.TempKey.TheVariants.{Named, Rest}
 use Rattle.alias_tables.specs.declared.temporaries.Temporary.{Temporary}
-use Rattle.alias_text.specs.Lines.{kind_word, reason_word, spaced, effect_text, one_text, arg_text, mutation_text, effect_line as printed_effect, end_line, block_head, function_head}
-use Rattle.alias_text.specs.Certificates.{site_text, reasons_text, value_line as printed_value, spaced_site, sites_text, variable_line as printed_variable, spaced_block, visits_line, first_line, key_text, both_text, temporary_line as printed_temporary}
+use Rattle.alias_text.specs.Lines.{kind_word, reason_word, spaced, effect_text, one_text, arg_text, mutation_text}
+use Rattle.alias_text.specs.Lines.{effect_line as printed_effect, end_line, block_head, function_head}
+use Rattle.alias_text.specs.Certificates.{site_text, reasons_text, value_line as printed_value, spaced_site, sites_text}
+use Rattle.alias_text.specs.Certificates.{variable_line as printed_variable, spaced_block, visits_line, first_line}
+use Rattle.alias_text.specs.Certificates.{key_text, both_text, temporary_line as printed_temporary}
 use Rattle.alias_text.specs.Ranges.{range_line}
 use Rattle.alias_text.specs.Reports.{category_word, optional_text, span_text, label_text, report_text, report_line}
 use Rattle.alias_text.specs.Summaries.{summary_line}
@@ -46,9 +54,11 @@ use Rattle.alias_cert_text.proofs.Digits.{all_digits, decimal_lacks}
 use Rattle.alias_cert_text.proofs.Quoting.{lacks_append, quoted_lacks}
 use Rattle.alias_certificate_laws.specs.text.Certifying.{cert_value, cert_variable, cert_effect, cert_temporary}
 use Rattle.alias_text.specs.Fitting.{Small, SmallName, FittingValue, FittingVariable, SmallTemporary}
-use Rattle.alias_certificate_laws.proofs.text.Bytes.{AtLeast, at_least, at_least_is, at_least_append, at_least_flat, lower, lacks_below, decimal_high}
+use Rattle.alias_certificate_laws.proofs.text.Bytes.{AtLeast, at_least, at_least_is, at_least_append, at_least_flat}
+use Rattle.alias_certificate_laws.proofs.text.Bytes.{lower, lacks_below, decimal_high}
 use Rattle.alias_certificate_laws.proofs.text.Lists.{reasons_back, reasons_high, site_high, site_lacks, sites_back}
-use Rattle.alias_certificate_laws.proofs.text.Pieces.{number_back, identifier_back, function_back, kind_back, kind_high, reason_high, site_back, key_back}
+use Rattle.alias_certificate_laws.proofs.text.Pieces.{number_back, identifier_back, function_back, kind_back, kind_high}
+use Rattle.alias_certificate_laws.proofs.text.Pieces.{reason_high, site_back, key_back}
 
 -- what is printed is a line, and what it says
 pub record Spells (printed : List ℕ) (said : Line) : Type 0 where
@@ -97,8 +107,10 @@ word_after xs word h g = at_least_append 32 (xs ++ codes " ") word (at_least_app
 
 pub effect_high : (e : AliasingEffect) → AtLeast 32 (effect_text e)
 effect_high (Apply receiver function mutates_function args into signature span) =
-    at_least_append 32 ((one_text (codes "Apply") receiver ++ spaced function.identifier.0) ++ flat_map arg_text args) (spaced into.identifier.0)
-    (at_least_append 32 (one_text (codes "Apply") receiver ++ spaced function.identifier.0) (flat_map arg_text args) (two_high (codes "Apply") receiver function.identifier.0 refl) (at_least_flat 32 arg_text args arg_high))
+    at_least_append 32 ((one_text (codes "Apply") receiver ++ spaced function.identifier.0) ++ flat_map arg_text args)
+    (spaced into.identifier.0)
+    (at_least_append 32 (one_text (codes "Apply") receiver ++ spaced function.identifier.0) (flat_map arg_text args)
+    (two_high (codes "Apply") receiver function.identifier.0 refl) (at_least_flat 32 arg_text args arg_high))
     (spaced_high into.identifier.0)
 effect_high (CreateFrom from into) = two_high (codes "CreateFrom") from into.identifier.0 refl
 effect_high (ImmutableCapture from into) = two_high (codes "ImmutableCapture") from into.identifier.0 refl
@@ -108,25 +120,31 @@ effect_high (Capture from into) = two_high (codes "Capture") from into.identifie
 effect_high (MaybeAlias from into) = two_high (codes "MaybeAlias") from into.identifier.0 refl
 effect_high (Create into value reason) =
     word_after (one_text (codes "Create") into ++ codes " " ++ kind_word value) (reason_word reason)
-    (word_after (one_text (codes "Create") into) (kind_word value) (one_high (codes "Create") into refl) (kind_in value)) (reason_in reason)
-effect_high (Freeze value reason) = word_after (one_text (codes "Freeze") value) (reason_word reason) (one_high (codes "Freeze") value refl) (reason_in reason)
+    (word_after (one_text (codes "Create") into) (kind_word value) (one_high (codes "Create") into refl)
+    (kind_in value)) (reason_in reason)
+effect_high (Freeze value reason) = word_after (one_text (codes "Freeze") value) (reason_word reason)
+    (one_high (codes "Freeze") value refl) (reason_in reason)
 effect_high (Impure place error) = two_high (codes "Impure") place error.instance refl
 effect_high (MutateFrozen place error) = two_high (codes "MutateFrozen") place error.instance refl
 effect_high (MutateGlobal place error) = two_high (codes "MutateGlobal") place error.instance refl
 effect_high (Render place) = one_high (codes "Render") place refl
-effect_high (Mutate value reason) = at_least_append 32 (one_text (codes "Mutate") value) (mutation_text reason) (one_high (codes "Mutate") value refl) (mutation_high reason)
+effect_high (Mutate value reason) = at_least_append 32 (one_text (codes "Mutate") value) (mutation_text reason)
+    (one_high (codes "Mutate") value refl) (mutation_high reason)
 effect_high (MutateConditionally value) = one_high (codes "MutateConditionally") value refl
 effect_high (MutateTransitive value) = one_high (codes "MutateTransitive") value refl
 effect_high (MutateTransitiveConditionally value) = one_high (codes "MutateTransitiveConditionally") value refl
 effect_high (CreateFunction into function_id captures) =
-    at_least_append 32 (one_text (codes "CreateFunction") into ++ spaced function_id.0) (flat_map (λ (p : Place). spaced p.identifier.0) captures)
-    (two_high (codes "CreateFunction") into function_id.0 refl) (at_least_flat 32 (λ (p : Place). spaced p.identifier.0) captures (λ p. spaced_high p.identifier.0))
+    at_least_append 32 (one_text (codes "CreateFunction") into ++ spaced function_id.0)
+    (flat_map (λ (p : Place). spaced p.identifier.0) captures)
+    (two_high (codes "CreateFunction") into function_id.0 refl)
+    (at_least_flat 32 (λ (p : Place). spaced p.identifier.0) captures (λ p. spaced_high p.identifier.0))
 
 -- ---- digits are no word
 
 digits_other : (ds : List ℕ) (c : ℕ) (cs : List ℕ) → AllDigits 10 ds → 10 ≤ digit_value c → text_is ds (c ∷ cs) ≡ false
 digits_other [] c cs all h = refl
-digits_other (d ∷ ds) c cs all h = rw (ne_eqb d c (λ e. let low : digit_value c < 10 = subst (λ (x : ℕ). digit_value x < 10) e all.0 in omega (arith, low, h))) refl
+digits_other (d ∷ ds) c cs all h = rw (ne_eqb d c
+    (λ e. let low : digit_value c < 10 = subst (λ (x : ℕ). digit_value x < 10) e all.0 in omega (arith, low, h))) refl
 
 number_other : (n c : ℕ) (cs : List ℕ) → 10 ≤ digit_value c → text_is (decimal n) (c ∷ cs) ≡ false
 number_other n c cs h = digits_other (decimal n) c cs (all_digits n) h
@@ -149,40 +167,74 @@ number_first n text =
 -- ---- lines of functions
 
 pub function_spelled : (f : Option FunctionId) → SmallName f → Spells (function_head f) (line.Function f)
-function_spelled None h = record { text = codes "function root"; ended = refl; whole = in_line (codes "function root") (at_least_is 32 (codes "function root") refl); reads = refl }
+function_spelled None h = record {
+  text = codes "function root";
+  ended = refl;
+  whole = in_line (codes "function root") (at_least_is 32 (codes "function root") refl);
+  reads = refl;
+}
 function_spelled (Some f) h =
     record {
       text = codes "function " ++ decimal f.0;
       ended = refl;
-      whole = in_line (codes "function " ++ decimal f.0) (at_least_append 32 (codes "function ") (decimal f.0) (at_least_is 32 (codes "function ") refl) (number_high f.0));
-      reads = rw (number_other f.0 114 (codes "oot") (omega arith)) (ap (option_map (λ g. line.Function (Some g))) (function_back f h));
+      whole = in_line (codes "function " ++ decimal f.0)
+          (at_least_append 32 (codes "function ") (decimal f.0) (at_least_is 32 (codes "function ") refl)
+          (number_high f.0));
+      reads = rw (number_other f.0 114 (codes "oot") (omega arith))
+          (ap (option_map (λ g. line.Function (Some g))) (function_back f h));
     }
 
 visits_high : (visits : List BlockId) → AtLeast 32 (codes "visits" ++ flat_map spaced_block visits)
-visits_high visits = at_least_append 32 (codes "visits") (flat_map spaced_block visits) (at_least_is 32 (codes "visits") refl) (at_least_flat 32 spaced_block visits (λ b. spaced_high b.0))
+visits_high visits = at_least_append 32 (codes "visits") (flat_map spaced_block visits)
+    (at_least_is 32 (codes "visits") refl) (at_least_flat 32 spaced_block visits (λ b. spaced_high b.0))
 
 pub visits_spelled : (visits : List BlockId) → Spells (visits_line visits) line.Visits
-visits_spelled [] = record { text = codes "visits" ++ flat_map spaced_block []; ended = refl; whole = in_line (codes "visits" ++ flat_map spaced_block []) (visits_high []); reads = refl }
-visits_spelled (b ∷ bs) = record { text = codes "visits" ++ flat_map spaced_block (b ∷ bs); ended = refl; whole = in_line (codes "visits" ++ flat_map spaced_block (b ∷ bs)) (visits_high (b ∷ bs)); reads = refl }
+visits_spelled [] = record {
+  text = codes "visits" ++ flat_map spaced_block [];
+  ended = refl;
+  whole = in_line (codes "visits" ++ flat_map spaced_block []) (visits_high []);
+  reads = refl;
+}
+visits_spelled (b ∷ bs) = record {
+  text = codes "visits" ++ flat_map spaced_block (b ∷ bs);
+  ended = refl;
+  whole = in_line (codes "visits" ++ flat_map spaced_block (b ∷ bs)) (visits_high (b ∷ bs));
+  reads = refl;
+}
 
 taken_high : (word text : List ℕ) → at_least 32 word ≡ true → AtLeast 32 text → Lacks 10 (word ++ text)
 taken_high word text h g = in_line (word ++ text) (at_least_append 32 word text (at_least_is 32 word h) g)
 
 pub first_spelled : (e : AliasingEffect) → Spells (first_line e) line.First
-first_spelled e = record { text = codes "first " ++ effect_text e; ended = refl; whole = taken_high (codes "first ") (effect_text e) refl (effect_high e); reads = refl }
+first_spelled e = record {
+  text = codes "first " ++ effect_text e;
+  ended = refl;
+  whole = taken_high (codes "first ") (effect_text e) refl (effect_high e);
+  reads = refl;
+}
 
 pub summary_spelled : (e : AliasingEffect) → Spells (summary_line e) (line.Summary (effect_text e))
-summary_spelled e = record { text = codes "summary " ++ effect_text e; ended = refl; whole = taken_high (codes "summary ") (effect_text e) refl (effect_high e); reads = refl }
+summary_spelled e = record {
+  text = codes "summary " ++ effect_text e;
+  ended = refl;
+  whole = taken_high (codes "summary ") (effect_text e) refl (effect_high e);
+  reads = refl;
+}
 
 key_lacks : (k : TempKey) → Lacks 10 (key_text k)
 key_lacks (Named into name) =
     lacks_append 10 ((codes "Named" ++ codes "(") ++ both_text (decimal into.0) (quoted name.text)) (codes ")")
-    (lacks_append 10 (codes "Named" ++ codes "(") (both_text (decimal into.0) (quoted name.text)) (in_line (codes "Named" ++ codes "(") (at_least_is 32 (codes "Named(") refl))
-    (lacks_append 10 (decimal into.0 ++ codes ",") (quoted name.text) (lacks_append 10 (decimal into.0) (codes ",") (in_line (decimal into.0) (number_high into.0)) (refl, tt)) (quoted_lacks name.text)))
+    (lacks_append 10 (codes "Named" ++ codes "(") (both_text (decimal into.0) (quoted name.text))
+    (in_line (codes "Named" ++ codes "(") (at_least_is 32 (codes "Named(") refl))
+    (lacks_append 10 (decimal into.0 ++ codes ",") (quoted name.text)
+    (lacks_append 10 (decimal into.0) (codes ",") (in_line (decimal into.0) (number_high into.0)) (refl, tt))
+    (quoted_lacks name.text)))
     (refl, tt)
 key_lacks (Rest f) =
     in_line (key_text (Rest f))
-    (at_least_append 32 ((codes "Rest" ++ codes "(") ++ decimal f.0) (codes ")") (at_least_append 32 (codes "Rest" ++ codes "(") (decimal f.0) (at_least_is 32 (codes "Rest(") refl) (number_high f.0)) (omega arith, tt))
+    (at_least_append 32 ((codes "Rest" ++ codes "(") ++ decimal f.0) (codes ")")
+    (at_least_append 32 (codes "Rest" ++ codes "(") (decimal f.0) (at_least_is 32 (codes "Rest(") refl)
+    (number_high f.0)) (omega arith, tt))
 
 blank_cut : (a rest : List ℕ) → Lacks 32 a → cut 32 ((a ++ 32 ∷ []) ++ rest) ≡ Some (a, rest)
 blank_cut a rest h = ap (cut 32) (append_assoc a (32 ∷ []) rest) ∙ cut_there 32 a rest h
@@ -190,16 +242,20 @@ blank_cut a rest h = ap (cut 32) (append_assoc a (32 ∷ []) rest) ∙ cut_there
 number_blank : (n : ℕ) (rest : List ℕ) → cut 32 ((decimal n ++ 32 ∷ []) ++ rest) ≡ Some (decimal n, rest)
 number_blank n rest = blank_cut (decimal n) rest (decimal_lacks 32 n (omega arith))
 
-pub temporary_spelled : (t : Temporary) → SmallTemporary t → Spells (printed_temporary t) (line.Temporary (cert_temporary t))
+pub temporary_spelled : (t : Temporary) → SmallTemporary t
+    → Spells (printed_temporary t) (line.Temporary (cert_temporary t))
 temporary_spelled t h =
     record {
       text = codes "temporary" ++ spaced t.place.identifier.0 ++ codes " " ++ key_text t.key;
       ended = refl;
       whole =
           lacks_append 10 (codes "temporary" ++ spaced t.place.identifier.0 ++ codes " ") (key_text t.key)
-          (lacks_append 10 (codes "temporary" ++ spaced t.place.identifier.0) (codes " ") (taken_high (codes "temporary") (spaced t.place.identifier.0) refl (spaced_high t.place.identifier.0)) (refl, tt))
+          (lacks_append 10 (codes "temporary" ++ spaced t.place.identifier.0) (codes " ")
+          (taken_high (codes "temporary") (spaced t.place.identifier.0) refl (spaced_high t.place.identifier.0))
+          (refl, tt))
           (key_lacks t.key);
-      reads = rw (number_blank t.place.identifier.0 (key_text t.key)) (rw (identifier_back t.place.identifier h.0) (rw (key_back t.key h.1) refl));
+      reads = rw (number_blank t.place.identifier.0 (key_text t.key))
+          (rw (identifier_back t.place.identifier h.0) (rw (key_back t.key h.1) refl));
     }
 
 -- ---- lines of blocks
@@ -222,10 +278,14 @@ kind_blank kind.Context rest = refl
 kind_blank kind.MaybeFrozen rest = refl
 
 pub three_parts : (a b c : List ℕ) → (((a ++ 32 ∷ []) ++ b) ++ 32 ∷ []) ++ c ≡ (a ++ 32 ∷ []) ++ ((b ++ 32 ∷ []) ++ c)
-three_parts a b c = ap (λ x. x ++ c) (append_assoc (a ++ 32 ∷ []) b (32 ∷ [])) ∙ append_assoc (a ++ 32 ∷ []) (b ++ 32 ∷ []) c
+three_parts a b c = ap (λ x. x ++ c) (append_assoc (a ++ 32 ∷ []) b (32 ∷ []))
+    ∙ append_assoc (a ++ 32 ∷ []) (b ++ 32 ∷ []) c
 
-site_blank : (s : Site) (k : ValueKind) (rest : List ℕ) → cut 32 ((((site_text s ++ 32 ∷ []) ++ kind_word k) ++ 32 ∷ []) ++ rest) ≡ Some (site_text s, (kind_word k ++ 32 ∷ []) ++ rest)
-site_blank s k rest = ap (cut 32) (three_parts (site_text s) (kind_word k) rest) ∙ blank_cut (site_text s) ((kind_word k ++ 32 ∷ []) ++ rest) (site_lacks s)
+site_blank : (s : Site) (k : ValueKind) (rest : List ℕ)
+    → cut 32 ((((site_text s ++ 32 ∷ []) ++ kind_word k) ++ 32 ∷ []) ++ rest)
+    ≡ Some (site_text s, (kind_word k ++ 32 ∷ []) ++ rest)
+site_blank s k rest = ap (cut 32) (three_parts (site_text s) (kind_word k) rest)
+    ∙ blank_cut (site_text s) ((kind_word k ++ 32 ∷ []) ++ rest) (site_lacks s)
 
 pub value_spelled : (e : Site × AbstractValue) → FittingValue e → Spells (printed_value e) (line.Value (cert_value e))
 value_spelled e h =
@@ -238,7 +298,8 @@ value_spelled e h =
       whole =
           in_line (codes "value " ++ s ++ codes " " ++ k ++ codes " " ++ r)
           (word_after (codes "value " ++ s ++ codes " " ++ k) r
-          (word_after (codes "value " ++ s) k (at_least_append 32 (codes "value ") s (at_least_is 32 (codes "value ") refl) (lower 33 32 s (omega arith) (site_high e.0))) (kind_in e.1.kind))
+          (word_after (codes "value " ++ s) k (at_least_append 32 (codes "value ") s
+          (at_least_is 32 (codes "value ") refl) (lower 33 32 s (omega arith) (site_high e.0))) (kind_in e.1.kind))
           (lower 33 32 r (omega arith) (reasons_high e.1.reason)));
       reads =
           rw (site_blank e.0 e.1.kind r)
@@ -248,14 +309,18 @@ value_spelled e h =
 
 sites_in_line : (t : Sites) → AtLeast 32 (sites_text t)
 sites_in_line [] = tt
-sites_in_line (e ∷ t) = at_least_append 32 (spaced_site e.0) (sites_text t) (omega arith, lower 33 32 (site_text e.0) (omega arith) (site_high e.0)) (sites_in_line t)
+sites_in_line (e ∷ t) = at_least_append 32 (spaced_site e.0) (sites_text t)
+    (omega arith, lower 33 32 (site_text e.0) (omega arith) (site_high e.0)) (sites_in_line t)
 
 variable_in_line : (x : IdentifierId) (t : Sites) → Lacks 10 (codes "variable" ++ spaced x.0 ++ sites_text t)
 variable_in_line x t =
     in_line (codes "variable" ++ spaced x.0 ++ sites_text t)
-    (at_least_append 32 (codes "variable" ++ spaced x.0) (sites_text t) (at_least_append 32 (codes "variable") (spaced x.0) (at_least_is 32 (codes "variable") refl) (spaced_high x.0)) (sites_in_line t))
+    (at_least_append 32 (codes "variable" ++ spaced x.0) (sites_text t)
+    (at_least_append 32 (codes "variable") (spaced x.0) (at_least_is 32 (codes "variable") refl) (spaced_high x.0))
+    (sites_in_line t))
 
-variable_with : (x : IdentifierId) (t : Sites) → FittingVariable (x, t) → Spells (printed_variable (x, t)) (line.Variable (cert_variable (x, t)))
+variable_with : (x : IdentifierId) (t : Sites) → FittingVariable (x, t)
+    → Spells (printed_variable (x, t)) (line.Variable (cert_variable (x, t)))
 variable_with x [] h = let no : false ≡ true = h.1 in cc
 variable_with x (e ∷ t) h =
     record {
@@ -267,22 +332,31 @@ variable_with x (e ∷ t) h =
           (rw (identifier_back x h.0.0) (rw (sites_back e t h.0.1) refl));
     }
 
-pub variable_spelled : (e : IdentifierId × Sites) → FittingVariable e → Spells (printed_variable e) (line.Variable (cert_variable e))
+pub variable_spelled : (e : IdentifierId × Sites) → FittingVariable e
+    → Spells (printed_variable e) (line.Variable (cert_variable e))
 variable_spelled e h = variable_with e.0 e.1 h
 
-pub effect_spelled : (n : ℕ) (e : AliasingEffect) → Small n → Spells (printed_effect n e) (line.Effect (cert_effect n e))
+pub effect_spelled : (n : ℕ) (e : AliasingEffect) → Small n
+    → Spells (printed_effect n e) (line.Effect (cert_effect n e))
 effect_spelled n e h =
     record {
       text = decimal n ++ codes " " ++ effect_text e;
       ended = refl;
-      whole = in_line (decimal n ++ codes " " ++ effect_text e) (word_after (decimal n) (effect_text e) (number_high n) (effect_high e));
+      whole = in_line (decimal n ++ codes " " ++ effect_text e)
+          (word_after (decimal n) (effect_text e) (number_high n) (effect_high e));
       reads =
           rw (number_blank n (effect_text e))
-          (number_first n (effect_text e) ∙ ap (option_map (λ m. line.Effect (record { instruction = m; text = effect_text e }))) (number_back n h));
+          (number_first n (effect_text e) ∙ ap
+          (option_map (λ m. line.Effect (record { instruction = m; text = effect_text e }))) (number_back n h));
     }
 
 pub end_spelled : (e : AliasingEffect) → Spells (end_line e) (line.End (effect_text e))
-end_spelled e = record { text = codes "end " ++ effect_text e; ended = refl; whole = taken_high (codes "end ") (effect_text e) refl (effect_high e); reads = refl }
+end_spelled e = record {
+  text = codes "end " ++ effect_text e;
+  ended = refl;
+  whole = taken_high (codes "end ") (effect_text e) refl (effect_high e);
+  reads = refl;
+}
 
 -- ---- lines of the whole
 
@@ -294,13 +368,20 @@ range_spelled n r =
       whole =
           in_line (codes "range" ++ spaced n ++ spaced r.start.0 ++ spaced r.end.0)
           (at_least_append 32 (codes "range" ++ spaced n ++ spaced r.start.0) (spaced r.end.0)
-          (at_least_append 32 (codes "range" ++ spaced n) (spaced r.start.0) (at_least_append 32 (codes "range") (spaced n) (at_least_is 32 (codes "range") refl) (spaced_high n)) (spaced_high r.start.0))
+          (at_least_append 32 (codes "range" ++ spaced n) (spaced r.start.0)
+          (at_least_append 32 (codes "range") (spaced n) (at_least_is 32 (codes "range") refl) (spaced_high n))
+          (spaced_high r.start.0))
           (spaced_high r.end.0));
       reads = refl;
     }
 
 pub reports_spelled : (n : ℕ) → Spells (codes "reports " ++ decimal n ++ codes "\n") line.Reports
-reports_spelled n = record { text = codes "reports " ++ decimal n; ended = refl; whole = taken_high (codes "reports ") (decimal n) refl (number_high n); reads = refl }
+reports_spelled n = record {
+  text = codes "reports " ++ decimal n;
+  ended = refl;
+  whole = taken_high (codes "reports ") (decimal n) refl (number_high n);
+  reads = refl;
+}
 
 optional_lacks : (t : Option (List ℕ)) → Lacks 10 (optional_text t)
 optional_lacks None = (refl, tt)
@@ -320,7 +401,12 @@ word_later xs word h g = lacks_append 10 (xs ++ codes " ") word (lacks_append 10
 label_lacks : (l : Label) → Lacks 10 (label_text l)
 label_lacks l =
     word_later (codes " " ++ span_text l.span) (optional_text l.text)
-    (in_line (codes " " ++ span_text l.span) (omega arith, at_least_append 32 (decimal l.span.start ++ codes "..") (decimal l.span.end) (at_least_append 32 (decimal l.span.start) (codes "..") (number_high l.span.start) (at_least_is 32 (codes "..") refl)) (number_high l.span.end)))
+    (in_line (codes " " ++ span_text l.span) (
+      omega arith,
+      at_least_append 32 (decimal l.span.start ++ codes "..") (decimal l.span.end)
+          (at_least_append 32 (decimal l.span.start) (codes "..") (number_high l.span.start)
+          (at_least_is 32 (codes "..") refl)) (number_high l.span.end),
+    ))
     (optional_lacks l.text)
 
 labels_lack : (ls : List Label) → Lacks 10 (flat_map label_text ls)
@@ -329,9 +415,11 @@ labels_lack (l ∷ ls) = lacks_append 10 (label_text l) (flat_map label_text ls)
 
 report_lacks : (r : Report) → Lacks 10 (report_text r)
 report_lacks r =
-    lacks_append 10 (category_word r.category ++ codes " " ++ quoted r.message ++ codes " " ++ optional_text r.help) (flat_map label_text r.labels)
+    lacks_append 10 (category_word r.category ++ codes " " ++ quoted r.message ++ codes " " ++ optional_text r.help)
+    (flat_map label_text r.labels)
     (word_later (category_word r.category ++ codes " " ++ quoted r.message) (optional_text r.help)
-    (word_later (category_word r.category) (quoted r.message) (in_line (category_word r.category) (category_lacks r.category)) (quoted_lacks r.message))
+    (word_later (category_word r.category) (quoted r.message)
+    (in_line (category_word r.category) (category_lacks r.category)) (quoted_lacks r.message))
     (optional_lacks r.help))
     (labels_lack r.labels)
 
@@ -340,6 +428,7 @@ report_spelled r =
     record {
       text = codes "report " ++ report_text r;
       ended = refl;
-      whole = lacks_append 10 (codes "report ") (report_text r) (in_line (codes "report ") (at_least_is 32 (codes "report ") refl)) (report_lacks r);
+      whole = lacks_append 10 (codes "report ") (report_text r)
+          (in_line (codes "report ") (at_least_is 32 (codes "report ") refl)) (report_lacks r);
       reads = refl;
     }

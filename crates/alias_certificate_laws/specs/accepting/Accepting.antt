@@ -38,27 +38,42 @@ module _ (env : Environment) (func : HirFunction) (is_function_expression : Bool
 
   -- what is claimed of the steps is so: under these tables each records what is said of it
   abbrev pub AreClaimed : TableLists → List (Option State) → (TableLists → ℕ → BlockEffects → Option ⊤) → Type 0
-  AreClaimed tables entries differs = (b : ℕ) (s y : State) (k : BlockEffects) → entry_at entries b ≡ Some s → rules.flow.step tables b s ≡ Stepped y tables k → differs tables b k ≡ None
+  AreClaimed tables entries differs = (b : ℕ) (s y : State) (k : BlockEffects) → entry_at entries b ≡ Some s
+      → rules.flow.step tables b s ≡ Stepped y tables k → differs tables b k ≡ None
 
-  -- the check that begins with these tables finds no fault in the entry states, nor in claims that are so, and its steps leave the tables
+  -- the check that begins with these tables finds no fault in the entry states, nor in claims that are so, and its
+  -- steps leave the tables
   abbrev pub IsAccepted : TableLists → List (Option State) → Type 0
   IsAccepted tables entries =
       (differs : TableLists → ℕ → BlockEffects → Option ⊤) → AreClaimed tables entries differs
-      → (w : Arriving State TableLists BlockEffects) × (solution_checked state_join state_below rules differs entries tables (replicate (length func.body.blocks) None) ≡ Ok w) × (w.tables ≡ tables)
+      → (w : Arriving State TableLists BlockEffects)
+      × (solution_checked state_join state_below rules differs entries tables
+      (replicate (length func.body.blocks) None) ≡ Ok w) × (w.tables ≡ tables)
 
-  -- what is claimed of the steps is so of all that is alike: of what each records but for spans and the numbers of reports, under tables with such temporaries
-  abbrev pub AreClaimedAlike : {D : Type 0} → TableLists → List (Option State) → (TableLists → ℕ → BlockEffects → Option D) → Type 0
+  -- what is claimed of the steps is so of all that is alike: of what each records but for spans and the numbers of
+  -- reports, under tables with such temporaries
+  abbrev pub AreClaimedAlike : {D : Type 0} → TableLists → List (Option State)
+      → (TableLists → ℕ → BlockEffects → Option D) → Type 0
   AreClaimedAlike tables entries differs =
-      (b : ℕ) (s y : State) (k : BlockEffects) → entry_at entries b ≡ Some s → rules.flow.step tables b s ≡ Stepped y tables k
-      → (t : TableLists) (q : BlockEffects) → AlikeTemporaries tables.temporaries t.temporaries → AlikeRecorded k q → differs t b q ≡ None
+      (b : ℕ) (s y : State) (k : BlockEffects) → entry_at entries b ≡ Some s → rules.flow.step tables b s
+      ≡ Stepped y tables k
+      → (t : TableLists) (q : BlockEffects) → AlikeTemporaries tables.temporaries t.temporaries → AlikeRecorded k q
+      → differs t b q ≡ None
 
   -- the check finds no fault, and ends with such temporaries; or no number is left for a report of a step
-  pub data IsAcceptedOrFull {D : Type 0} (tables : TableLists) (r : Result (Arriving State TableLists BlockEffects) (Unsolved BlockRefusal D)) : Type 0 where
-    accepted : (w : Arriving State TableLists BlockEffects) → r ≡ Ok w → AlikeTemporaries tables.temporaries w.tables.temporaries → IsAcceptedOrFull tables r
-    full : (b : ℕ) (i : InstructionId) → r ≡ Err (fault.Step b (Instruction i (TooMany Diagnostics))) → IsAcceptedOrFull tables r
+  pub data IsAcceptedOrFull {D : Type 0} (tables : TableLists)
+      (r : Result (Arriving State TableLists BlockEffects) (Unsolved BlockRefusal D)) : Type 0 where
+    accepted : (w : Arriving State TableLists BlockEffects) → r ≡ Ok w
+        → AlikeTemporaries tables.temporaries w.tables.temporaries → IsAcceptedOrFull tables r
+    full : (b : ℕ) (i : InstructionId) → r ≡ Err (fault.Step b (Instruction i (TooMany Diagnostics)))
+        → IsAcceptedOrFull tables r
 
-  -- the check accepts the entry states elsewhere, whatever tables it begins with, where these have temporaries of the same keys and identifiers
+  -- the check accepts the entry states elsewhere, whatever tables it begins with, where these have temporaries of the
+  -- same keys and identifiers
   abbrev pub IsAcceptedAnyway : TableLists → List (Option State) → Type 0
   IsAcceptedAnyway tables entries =
-      (away : Elsewhere env) (begun : TableLists) → AlikeTemporaries tables.temporaries begun.temporaries → (differs : TableLists → ℕ → BlockEffects → Option ⊤) → AreClaimedAlike tables entries differs
-      → IsAcceptedOrFull tables (solution_checked state_join state_below (rules_of (elsewhere env away) func is_function_expression) differs entries begun (replicate (length func.body.blocks) None))
+      (away : Elsewhere env) (begun : TableLists) → AlikeTemporaries tables.temporaries begun.temporaries
+      → (differs : TableLists → ℕ → BlockEffects → Option ⊤) → AreClaimedAlike tables entries differs
+      → IsAcceptedOrFull tables (solution_checked state_join state_below
+      (rules_of (elsewhere env away) func is_function_expression) differs entries begun
+      (replicate (length func.body.blocks) None))

@@ -1,4 +1,5 @@
--- Effects, temporaries and steps that are alike: they differ in spans, in what places are said to be used for, and in the numbers of reports alone.
+-- Effects, temporaries and steps that are alike: they differ in spans, in what places are said to be used for, and in
+-- the numbers of reports alone.
 use Rattle.std.specs.Prelude.{◌≡◌, Bool, List, [], ◌∷◌, Option, Some, None, Result, Ok, Err}
 use Rattle.alias_base.specs.declared.ids.FunctionId.{FunctionId}
 use Rattle.alias_base.specs.declared.ids.TypeId.{TypeId}
@@ -54,10 +55,13 @@ abbrev pub AlikeArguments : List PlaceOrSpreadOrHole → List PlaceOrSpreadOrHol
 AlikeArguments = Paired AlikeArgument
 
 pub data Alike : AliasingEffect → AliasingEffect → Type 0 where
-  apply : (r s f g x y : Place) (mutates : Bool) (args others : List PlaceOrSpreadOrHole) (signature : Option TypeId) (span other : Option Span) → AlikeArguments args others
-      → Alike (effect.Apply r f mutates args x signature span) (effect.Apply (moved r s) (moved f g) mutates others (moved x y) signature other)
+  apply : (r s f g x y : Place) (mutates : Bool) (args others : List PlaceOrSpreadOrHole) (signature : Option TypeId)
+      (span other : Option Span) → AlikeArguments args others
+      → Alike (effect.Apply r f mutates args x signature span)
+      (effect.Apply (moved r s) (moved f g) mutates others (moved x y) signature other)
   create_from : (a b x y : Place) → Alike (effect.CreateFrom a x) (effect.CreateFrom (moved a b) (moved x y))
-  immutable_capture : (a b x y : Place) → Alike (effect.ImmutableCapture a x) (effect.ImmutableCapture (moved a b) (moved x y))
+  immutable_capture : (a b x y : Place) → Alike (effect.ImmutableCapture a x)
+      (effect.ImmutableCapture (moved a b) (moved x y))
   assign : (a b x y : Place) → Alike (effect.Assign a x) (effect.Assign (moved a b) (moved x y))
   alias : (a b x y : Place) → Alike (effect.Alias a x) (effect.Alias (moved a b) (moved x y))
   capture : (a b x y : Place) → Alike (effect.Capture a x) (effect.Capture (moved a b) (moved x y))
@@ -71,8 +75,10 @@ pub data Alike : AliasingEffect → AliasingEffect → Type 0 where
   mutate : (v w : Place) (r s : Option MutationReason) → Alike (effect.Mutate v r) (effect.Mutate (moved v w) s)
   mutate_conditionally : (v w : Place) → Alike (effect.MutateConditionally v) (effect.MutateConditionally (moved v w))
   mutate_transitive : (v w : Place) → Alike (effect.MutateTransitive v) (effect.MutateTransitive (moved v w))
-  mutate_transitive_conditionally : (v w : Place) → Alike (effect.MutateTransitiveConditionally v) (effect.MutateTransitiveConditionally (moved v w))
-  create_function : (x y : Place) (f : FunctionId) (ps qs : List Place) → AlikePlaces ps qs → Alike (effect.CreateFunction x f ps) (effect.CreateFunction (moved x y) f qs)
+  mutate_transitive_conditionally : (v w : Place)
+      → Alike (effect.MutateTransitiveConditionally v) (effect.MutateTransitiveConditionally (moved v w))
+  create_function : (x y : Place) (f : FunctionId) (ps qs : List Place) → AlikePlaces ps qs
+      → Alike (effect.CreateFunction x f ps) (effect.CreateFunction (moved x y) f qs)
 
 abbrev pub AlikeEffects : List AliasingEffect → List AliasingEffect → Type 0
 AlikeEffects = Paired Alike
@@ -86,7 +92,9 @@ pub data AlikeLookup : Option MissingLookup → Option MissingLookup → Type 0 
 
 -- the state is the same, and so is what was made; what is recorded is alike
 pub data AlikeProgress : StepProgress → StepProgress → Type 0 where
-  like : (s : StepProgress) (recorded : List AliasingEffect) (lookup : Option MissingLookup) → AlikeEffects s.recorded recorded → AlikeLookup s.missing lookup → AlikeProgress s (record s { recorded = recorded; missing = lookup })
+  like : (s : StepProgress) (recorded : List AliasingEffect) (lookup : Option MissingLookup)
+      → AlikeEffects s.recorded recorded → AlikeLookup s.missing lookup
+      → AlikeProgress s (record s { recorded = recorded; missing = lookup })
 
 -- ---- tables
 
@@ -95,7 +103,8 @@ abbrev pub IsFull : Refusal → Type 0
 IsFull c = c ≡ TooMany Diagnostics
 
 pub data AlikeTemporary : Temporary → Temporary → Type 0 where
-  of_key : (key : TempKey) (p q : Place) → AlikeTemporary (record { key = key; place = p }) (record { key = key; place = moved p q })
+  of_key : (key : TempKey) (p q : Place) → AlikeTemporary (record { key = key; place = p })
+      (record { key = key; place = moved p q })
 
 abbrev pub AlikeTemporaries : List Temporary → List Temporary → Type 0
 AlikeTemporaries = Paired AlikeTemporary
@@ -106,11 +115,13 @@ module _ {C : Type 0} (is_excused : C → Type 0) (whole : List Temporary) where
     given : (y : A) (v : TableLists) → r ≡ Ok (y, v) → R x y → AlikeTemporaries whole v.temporaries → Gives R x r
     excused : (c : C) → r ≡ Err c → is_excused c → Gives R x r
 
-  -- What the first step gives, where the temporaries that it leaves are the first of the whole, the second gives under any tables whose temporaries are
+  -- What the first step gives, where the temporaries that it leaves are the first of the whole, the second gives under
+  -- any tables whose temporaries are
   -- alike to the whole: it gives what is alike, or is refused for an excused cause.
   pub record Repeats {A : Type 0} (R : A → A → Type 0) (f g : TableLists → Result (A × TableLists) C) : Type 0 where
     pub grows : (t u : TableLists) (x : A) → f t ≡ Ok (x, u) → Grows t.temporaries u.temporaries
-    pub again : (t u v : TableLists) (x : A) → f t ≡ Ok (x, u) → Grows u.temporaries whole → AlikeTemporaries whole v.temporaries → Gives R x (g v)
+    pub again : (t u v : TableLists) (x : A) → f t ≡ Ok (x, u) → Grows u.temporaries whole
+        → AlikeTemporaries whole v.temporaries → Gives R x (g v)
 
 -- ---- calls
 
@@ -124,17 +135,20 @@ AlikeList = Maybe AlikeEffects
 
 -- where a call is made, at places of the same identifiers
 pub data AlikeSite : CallSite → CallSite → Type 0 where
-  called : (s t : CallSite) → AlikeSite s (record { receiver = moved s.receiver t.receiver; into = moved s.into t.into; span = t.span })
+  called : (s t : CallSite) → AlikeSite s
+      (record { receiver = moved s.receiver t.receiver; into = moved s.into t.into; span = t.span })
 
 -- the effects are alike, and the lookup is the same
 pub data AlikeLegacy : Legacy → Legacy → Type 0 where
-  listed : (es fs : List AliasingEffect) (lookup : Option MissingLookup) → AlikeEffects es fs → AlikeLegacy (record { effects = es; missing = lookup }) (record { effects = fs; missing = lookup })
+  listed : (es fs : List AliasingEffect) (lookup : Option MissingLookup) → AlikeEffects es fs
+      → AlikeLegacy (record { effects = es; missing = lookup }) (record { effects = fs; missing = lookup })
 
 -- ---- environments
 
 -- functions that others see alike: of the same parameters, context places and result, with summaries that are alike
 pub data AlikeFunction : HirFunction → HirFunction → Type 0 where
-  seen : (f g : HirFunction) → Maybe AlikeEffects f.aliasing_effects g.aliasing_effects → AlikeFunction f (record g { params = f.params; context = f.context; returns = f.returns })
+  seen : (f g : HirFunction) → Maybe AlikeEffects f.aliasing_effects g.aliasing_effects
+      → AlikeFunction f (record g { params = f.params; context = f.context; returns = f.returns })
 
 -- what an environment may have elsewhere: functions that are seen alike, and other reports
 pub record Elsewhere (env : Environment) : Type 0 where

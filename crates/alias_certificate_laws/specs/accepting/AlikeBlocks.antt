@@ -14,10 +14,12 @@ use Rattle.alias_step.specs.declared.block.recorded.TerminalEffects.{TerminalEff
 use Rattle.alias_certificate_laws.specs.accepting.Alike.{Paired, AlikeEffects, AlikeLookup, IsFull}
 
 pub data AlikeInstruction : InstructionEffects → InstructionEffects → Type 0 where
-  of_instruction : (i : InstructionId) (es fs : List AliasingEffect) → AlikeEffects es fs → AlikeInstruction (record { instruction = i; effects = es }) (record { instruction = i; effects = fs })
+  of_instruction : (i : InstructionId) (es fs : List AliasingEffect) → AlikeEffects es fs
+      → AlikeInstruction (record { instruction = i; effects = es }) (record { instruction = i; effects = fs })
 
 pub data AlikeTerminal : TerminalEffects → TerminalEffects → Type 0 where
-  of_terminal : (b : BlockId) (es fs : List AliasingEffect) → AlikeEffects es fs → AlikeTerminal (record { block = b; effects = es }) (record { block = b; effects = fs })
+  of_terminal : (b : BlockId) (es fs : List AliasingEffect) → AlikeEffects es fs
+      → AlikeTerminal (record { block = b; effects = es }) (record { block = b; effects = fs })
 
 -- the effects of the same instructions and of the terminal are alike
 pub record AlikeRecorded (r q : BlockEffects) : Type 0 where
@@ -26,7 +28,9 @@ pub record AlikeRecorded (r q : BlockEffects) : Type 0 where
 
 -- the state is the same, and what is recorded so far is alike
 pub data AlikeSoFar : BlockProgress → BlockProgress → Type 0 where
-  so_far : (s : BlockProgress) (effects : BlockEffects) (lookup : Option MissingLookup) → AlikeRecorded s.effects effects → AlikeLookup s.missing lookup → AlikeSoFar s (record s { effects = effects; missing = lookup })
+  so_far : (s : BlockProgress) (effects : BlockEffects) (lookup : Option MissingLookup)
+      → AlikeRecorded s.effects effects → AlikeLookup s.missing lookup
+      → AlikeSoFar s (record s { effects = effects; missing = lookup })
 
 -- what the step of a block gives
 pub data AlikeOut : State × BlockEffects → State × BlockEffects → Type 0 where

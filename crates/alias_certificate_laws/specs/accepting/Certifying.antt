@@ -20,11 +20,13 @@ use Rattle.alias_certificate_laws.specs.accepting.Saying.{said_function, NamesTh
 module _ (env : Environment) (func : HirFunction) (is_function_expression : Bool) where
   -- the entry states name only what is there, and the temporaries are counted on from the identifiers
   pub record NamesItsOwn (tables : TableLists) (entries : List (Option State)) : Type 0 where
-    pub states : (b : ℕ) (s : State) → entry_at entries b ≡ Some s → NamesThere (length env.identifiers + length tables.temporaries) (created_functions func) s
+    pub states : (b : ℕ) (s : State) → entry_at entries b ≡ Some s
+        → NamesThere (length env.identifiers + length tables.temporaries) (created_functions func) s
     pub temporaries : AreCounted env [] tables.temporaries
 
   -- a solution of the function's flow under these tables, with what its blocks record
-  pub record IsSolution (tables : TableLists) (entries : List (Option State)) (recorded : List (Option BlockEffects)) : Type 0 where
+  pub record IsSolution (tables : TableLists) (entries : List (Option State)) (recorded : List (Option BlockEffects)) :
+      Type 0 where
     pub solved : SolvesUnder env func is_function_expression tables entries
     pub records : RecordsSteps (rules env func is_function_expression).flow tables (entry_at entries) recorded
     pub count : length recorded ≡ length func.body.blocks
@@ -37,4 +39,6 @@ module _ (env : Environment) (func : HirFunction) (is_function_expression : Bool
 
   abbrev pub IsAcceptedAsSaid : TableLists → List (Option State) → List (Option BlockEffects) → Type 0
   IsAcceptedAsSaid tables entries recorded =
-      (away : Elsewhere env) (id : Option FunctionId) (summary : List (List ℕ)) → IsCertified (function_solved (said_function id func entries recorded tables.temporaries summary) (elsewhere env away) func is_function_expression)
+      (away : Elsewhere env) (id : Option FunctionId) (summary : List (List ℕ))
+      → IsCertified (function_solved (said_function id func entries recorded tables.temporaries summary)
+      (elsewhere env away) func is_function_expression)

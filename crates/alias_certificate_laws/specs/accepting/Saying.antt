@@ -79,7 +79,8 @@ abbrev pub said_temporary : Temporary → CertTemporary
 said_temporary t = record { identifier = t.place.identifier; key = t.key }
 
 -- of a function, with these entry states, what its blocks record, its temporaries, and the texts of its summary
-abbrev pub said_function : Option FunctionId → HirFunction → List (Option State) → List (Option BlockEffects) → List Temporary → List (List ℕ) → CertFunction
+abbrev pub said_function : Option FunctionId → HirFunction → List (Option State) → List (Option BlockEffects)
+    → List Temporary → List (List ℕ) → CertFunction
 said_function id f entries recorded temporaries summary = record {
   function = id;
   blocks = those_there (said_each f.body.blocks entries recorded);
@@ -87,14 +88,17 @@ said_function id f entries recorded temporaries summary = record {
   summary = summary;
 }
 
--- what the state names is there: its sites name identifiers below the number and functions of the list, and its variables are identifiers below the number
+-- what the state names is there: its sites name identifiers below the number and functions of the list, and its
+-- variables are identifiers below the number
 pub record NamesThere (identifiers : ℕ) (created : List FunctionId) (s : State) : Type 0 where
   pub values : list_all (λ (e : Site × AbstractValue). is_site_there identifiers created e.0) s.values ≡ true
   pub variables : AllByRecursion (λ (e : IdentifierId × Sites). e.0.0 < identifiers) s.variables
 
--- behind those that are done, the temporaries are counted on from the identifiers, none has the key of an earlier one, and what their keys name is there
+-- behind those that are done, the temporaries are counted on from the identifiers, none has the key of an earlier one,
+-- and what their keys name is there
 abbrev pub AreCounted : Environment → List Temporary → List Temporary → Type 0
 AreCounted env done [] = Unit {0}
 AreCounted env done (x ∷ rest) =
-    (x.place.identifier.0 ≡ length env.identifiers + length done) × (temp_like x.key done ≡ None) × (is_key_there (length env.identifiers + length done) (length env.functions) x.key ≡ true)
+    (x.place.identifier.0 ≡ length env.identifiers + length done) × (temp_like x.key done ≡ None)
+    × (is_key_there (length env.identifiers + length done) (length env.functions) x.key ≡ true)
     × (has_room (length env.identifiers) (length env.types) (length done) ≡ true) × AreCounted env (done ++ x ∷ []) rest

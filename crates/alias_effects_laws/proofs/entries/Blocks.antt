@@ -27,7 +27,8 @@ use Rattle.alias_tables.specs.Tables.{TableLists}
 use Rattle.alias_step.specs.block.Actions.{handler_binding}
 use Rattle.alias_step.specs.block.Blocks.{infer_phis, infer_block}
 use Rattle.alias_step.specs.block.Contexts.{BlockContext}
-use Rattle.alias_step.specs.block.Initial.{context_value, with_context_place, with_context_from, with_context, param_value, with_param, with_param_at, with_params, initial_state}
+use Rattle.alias_step.specs.block.Initial.{context_value, with_context_place, with_context_from, with_context}
+use Rattle.alias_step.specs.block.Initial.{param_value, with_param, with_param_at, with_params, initial_state}
 use Rattle.alias_step.specs.declared.block.recorded.BlockEffects.{BlockEffects}
 use Rattle.alias_walks.specs.Blocking.{BlockLaw, IfKnown, AreKnown, Placed, Returned, block_inferred}
 use Rattle.alias_effects_laws.proofs.entries.Counting.{Counted}
@@ -44,23 +45,30 @@ module _ (N : ℕ → Type 0) (F : FunctionId → Type 0) where
   abbrev OfParam : ParamPattern → Type 0
   OfParam p = N (param_place p).identifier.0
 
-  named_context : (values : List ContextValue) (index : ℕ) (ps : List Place) (s : State) → AllByRecursion Of ps → Stating N F s → Stating N F (with_context_from values index ps s)
+  named_context : (values : List ContextValue) (index : ℕ) (ps : List Place) (s : State) → AllByRecursion Of ps
+      → Stating N F s → Stating N F (with_context_from values index ps s)
   named_context values index [] s n h = h
   named_context values index (p ∷ ps) s n h =
-      named_context values (index + 1) ps (with_context_place (slice_get values index) p s) n.1 (named_given N F p.identifier (site.Context p.identifier) (context_value (slice_get values index)) s n.0 n.0 h)
+      named_context values (index + 1) ps (with_context_place (slice_get values index) p s) n.1
+      (named_given N F p.identifier (site.Context p.identifier) (context_value (slice_get values index)) s n.0 n.0
+      h)
 
-  named_param : (v : AbstractValue) (s : State) (p : ParamPattern) → OfParam p → Stating N F s → Stating N F (with_param v s p)
-  named_param v s p n h = named_given N F (param_place p).identifier (site.Parameter (param_place p).identifier) v s n n h
+  named_param : (v : AbstractValue) (s : State) (p : ParamPattern) → OfParam p → Stating N F s
+      → Stating N F (with_param v s p)
+  named_param v s p n h = named_given N F (param_place p).identifier (site.Parameter (param_place p).identifier) v s n n
+      h
 
   abbrev IfParam : Option ParamPattern → Type 0
   IfParam None = Unit {0}
   IfParam (Some p) = OfParam p
 
-  named_param_at : (v : AbstractValue) (o : Option ParamPattern) (s : State) → IfParam o → Stating N F s → Stating N F (with_param_at v o s)
+  named_param_at : (v : AbstractValue) (o : Option ParamPattern) (s : State) → IfParam o → Stating N F s
+      → Stating N F (with_param_at v o s)
   named_param_at v None s n h = h
   named_param_at v (Some p) s n h = named_param v s p n h
 
-  named_all_params : (v : AbstractValue) (ps : List ParamPattern) (s : State) → AllByRecursion OfParam ps → Stating N F s → Stating N F (fold (with_param v) s ps)
+  named_all_params : (v : AbstractValue) (ps : List ParamPattern) (s : State) → AllByRecursion OfParam ps
+      → Stating N F s → Stating N F (fold (with_param v) s ps)
   named_all_params v [] s n h = h
   named_all_params v (p ∷ ps) s n h = named_all_params v ps (with_param v s p) n.1 (named_param v s p n.0 h)
 
@@ -69,14 +77,18 @@ module _ (N : ℕ → Type 0) (F : FunctionId → Type 0) where
   param_in (p ∷ ps) zero h = h.0
   param_in (p ∷ ps) (suc n) h = param_in ps n h.1
 
-  named_params : (t : FunctionType) (v : AbstractValue) (ps : List ParamPattern) (s : State) → AllByRecursion OfParam ps → Stating N F s → Stating N F (with_params t v ps s)
+  named_params : (t : FunctionType) (v : AbstractValue) (ps : List ParamPattern) (s : State) → AllByRecursion OfParam ps
+      → Stating N F s → Stating N F (with_params t v ps s)
   named_params func_is.Component v ps s n h =
-      named_param_at mutable_other (slice_get ps 1) (with_param_at v (slice_get ps 0) s) (param_in ps 1 n) (named_param_at v (slice_get ps 0) s (param_in ps 0 n) h)
+      named_param_at mutable_other (slice_get ps 1) (with_param_at v (slice_get ps 0) s) (param_in ps 1 n)
+      (named_param_at v (slice_get ps 0) s (param_in ps 0 n) h)
   named_params t v ps s n h = named_all_params v ps s n h
 
-  pub named_initial_state : (c : BlockContext) → AllByRecursion Of c.func.context → AllByRecursion OfParam c.func.params → Stating N F (initial_state c)
+  pub named_initial_state : (c : BlockContext) → AllByRecursion Of c.func.context → AllByRecursion OfParam c.func.params
+      → Stating N F (initial_state c)
   named_initial_state c n m =
-      named_params c.func.fn_type (param_value c.is_function_expression) c.func.params (with_context c.func.context_values c.func.context empty_state) m
+      named_params c.func.fn_type (param_value c.is_function_expression) c.func.params
+      (with_context c.func.context_values c.func.context empty_state) m
       (named_context c.func.context_values 0 c.func.context empty_state n (named_empty N F))
 
   abbrev pub PhisNamed : List Phi → Type 0
@@ -84,7 +96,8 @@ module _ (N : ℕ → Type 0) (F : FunctionId → Type 0) where
 
   named_phis : (ps : List Phi) (x : State) → PhisNamed ps → Stating N F x → Stating N F (infer_phis ps x)
   named_phis [] x n h = h
-  named_phis (p ∷ ps) x n h = named_phis ps (phied p.place.identifier p.operands x) n.1 (named_phied N F p.place.identifier p.operands x n.0 h)
+  named_phis (p ∷ ps) x n h = named_phis ps (phied p.place.identifier p.operands x) n.1
+      (named_phied N F p.place.identifier p.operands x n.0 h)
 
 -- ---- a block
 
@@ -140,8 +153,11 @@ module _ (c : BlockContext) (N : TableLists → ℕ → Type 0) (F : FunctionId 
   are_known (i ∷ is) h = (if_known (slice_get c.func.instructions i.0) h.0, are_known is h.1)
 
   -- the step of a block whose phis, instructions and terminal name what is there
-  pub block_named : (b : BlockId) (block : BasicBlock) (x : State) (t u : TableLists) (y : State) (k : BlockEffects) → PhisNamed (N t) F block.phis → AreNamed c.env F c.func block.instructions → ReturnNamed c.env block.terminal
-      → Counted c.env F t → Stating (N t) F x → infer_block c b block x t ≡ Ok ((y, k), u) → Counted c.env F u × Stating (N u) F y
+  pub block_named : (b : BlockId) (block : BasicBlock) (x : State) (t u : TableLists) (y : State) (k : BlockEffects)
+      → PhisNamed (N t) F block.phis → AreNamed c.env F c.func block.instructions → ReturnNamed c.env block.terminal
+      → Counted c.env F t → Stating (N t) F x → infer_block c b block x t ≡ Ok ((y, k), u) → Counted c.env F u
+      × Stating (N u) F y
   block_named b block x t u y k phis is end h g e =
-      let r = (block_inferred c law bound_named b block x t h (are_known block.instructions is) (returned block.terminal end) (named_phis (N t) F block.phis x phis g)).leads u (y, k) e in
+      let r = (block_inferred c law bound_named b block x t h (are_known block.instructions is)
+      (returned block.terminal end) (named_phis (N t) F block.phis x phis g)).leads u (y, k) e in
       (r.kept, r.value.0)

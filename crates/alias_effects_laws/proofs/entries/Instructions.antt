@@ -47,14 +47,29 @@ module _ (env : Environment) (F : FunctionId → Type 0) where
   abbrev EffectKnown : TableLists → AliasingEffect → Type 0
   EffectKnown t e = Names (PlaceWithin env t) (Any {X = Option ReportId}) (CreatesHas F) (Any {X = Option TypeId}) e
 
-  effects_known : (t : TableLists) (es : List AliasingEffect) → AllByRecursion (Speaks (InTable env) (λ (o : Option ReportId). Unit {0}) NamedHas) es → AllByRecursion (EffectKnown t) es
+  effects_known : (t : TableLists) (es : List AliasingEffect)
+      → AllByRecursion (Speaks (InTable env) (λ (o : Option ReportId). Unit {0}) NamedHas) es
+      → AllByRecursion (EffectKnown t) es
   effects_known t [] h = tt
-  effects_known t (e ∷ es) h = ((all_mapped (InTable env) (PlaceWithin env t) (in_table_within env t) _ h.0.0, (tt, (h.0.1.1, tt))), effects_known t es h.1)
+  effects_known t (e ∷ es) h = (
+    (
+      all_mapped (InTable env) (PlaceWithin env t) (in_table_within env t) _ h.0.0,
+      (tt, (h.0.1.1, tt)),
+    ),
+    effects_known t es h.1,
+  )
 
-  signature_known : (facts : FunctionFacts) (i : Instruction) (error : Option ReportId) (t : TableLists) → InstructionNamed env F i → AllByRecursion (EffectKnown t) (signature_of (known env facts error) i)
+  signature_known : (facts : FunctionFacts) (i : Instruction) (error : Option ReportId) (t : TableLists)
+      → InstructionNamed env F i → AllByRecursion (EffectKnown t) (signature_of (known env facts error) i)
   signature_known facts i error t h =
       effects_known t (signature_of (known env facts error) i)
-      (signature_speaks (InTable env) (λ (o : Option ReportId). Unit {0}) tt NamedHas tt (known env facts error) i.lvalue i.span i.value h.lvalue h.places h.context tt (names_there i.value h.created))
+      (signature_speaks (InTable env) (λ (o : Option ReportId). Unit {0}) tt NamedHas tt (known env facts error)
+      i.lvalue i.span i.value h.lvalue h.places h.context tt (names_there i.value h.created))
 
-  pub instruction_known : (N : TableLists → ℕ → Type 0) (names : Naming env N F) (facts : FunctionFacts) (i : Instruction) → InstructionNamed env F i → InstructionKnown (naming env N F names) facts i
-  instruction_known N names facts i h = record { lvalue = λ t k. in_table_within env t i.lvalue h.lvalue; creation = h.created; effects = λ error t k e. signature_known facts i error t h }
+  pub instruction_known : (N : TableLists → ℕ → Type 0) (names : Naming env N F) (facts : FunctionFacts)
+      (i : Instruction) → InstructionNamed env F i → InstructionKnown (naming env N F names) facts i
+  instruction_known N names facts i h = record {
+    lvalue = λ t k. in_table_within env t i.lvalue h.lvalue;
+    creation = h.created;
+    effects = λ error t k e. signature_known facts i error t h;
+  }

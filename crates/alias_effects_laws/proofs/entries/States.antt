@@ -1,5 +1,6 @@
 -- What is done to a state leaves it named so: it names no more than what is put into it.
-use Rattle.std.proofs.Common.{◌≡◌, ℕ, zero, suc, Bool, true, false, cond, List, [], ◌∷◌, Option, Some, None, refl, subst}
+use Rattle.std.proofs.Common.{◌≡◌, ℕ, zero, suc, Bool, true, false, cond, List, [], ◌∷◌, Option, Some, None, refl}
+use Rattle.std.proofs.Common.{subst}
 use Rattle.std.proofs.Math.Dec.{T}
 use Rattle.std.specs.Cmp.{IsTotalOrder}
 use Rattle.std.specs.FinMap.{find, put, is_sorted, entries_sorted}
@@ -21,14 +22,18 @@ use Rattle.alias_lattice.specs.Maps.{join_option, join_value, map_join}
 use Rattle.alias_lattice.specs.ProperStates.{StateProper}
 use Rattle.alias_lattice.specs.SiteOrder.{site_cmp}
 use Rattle.alias_lattice.specs.SiteOrderLaws.{sites_total}
-use Rattle.alias_lattice.specs.States.{State, Sites, sites_of, empty_state, one_site, initialized, defined_as, defined_at, defaulted, defaulted_at, value_at, given, assigned, assigned_at, appended, both_sites, sites_join, phied, operand_ids, union_over, state_join, frozen, frozen_at, frozen_for, all_set, does_freeze, mutable_other}
+use Rattle.alias_lattice.specs.States.{State, Sites, sites_of, empty_state, one_site, initialized, defined_as}
+use Rattle.alias_lattice.specs.States.{defined_at, defaulted, defaulted_at, value_at, given, assigned, assigned_at}
+use Rattle.alias_lattice.specs.States.{appended, both_sites, sites_join, phied, operand_ids, union_over, state_join}
+use Rattle.alias_lattice.specs.States.{frozen, frozen_at, frozen_for, all_set, does_freeze, mutable_other}
 use Rattle.alias_lattice.specs.Units.{unit_join}
 use Rattle.alias_lattice.specs.declared.site.Site.{Site}
 use Rattle.alias_lattice.specs.declared.site.Site.TheVariants as site
 use Rattle.alias_lattice.specs.declared.site.Site.TheVariants.{Function, Default}
 use Rattle.alias_lattice.specs.declared.value.AbstractValue.{AbstractValue}
 use Rattle.alias_lattice.proofs.Belows.{joined_is}
-use Rattle.alias_apply.specs.freezing.Transitive.{at_sites, where_frozen, at_place, at_places, at_site, live, levels_frozen, frozen_transitively, place_frozen_transitively}
+use Rattle.alias_apply.specs.freezing.Transitive.{at_sites, where_frozen, at_place, at_places, at_site, live}
+use Rattle.alias_apply.specs.freezing.Transitive.{levels_frozen, frozen_transitively, place_frozen_transitively}
 use Rattle.alias_apply.specs.freezing.Sites.{sites_at}
 use Rattle.alias_effects_laws.specs.entries.Named.{SiteNamed, SitesNamed, StateNamed}
 use Rattle.alias_walks.specs.Words.{all_mapped as all_on}
@@ -36,7 +41,8 @@ use Rattle.alias_walks.specs.Words.{all_mapped as all_on}
 -- ---- lists of entries
 
 -- E of a key and a value, where it is of the key and of the value by itself
-module _ {K X : Type 0} (R : K → K → Ordering) (E : K × X → Type 0) (mix : (x y : K) (v w : X) → E (x, v) → E (y, w) → E (x, w)) where
+module _ {K X : Type 0} (R : K → K → Ordering) (E : K × X → Type 0)
+    (mix : (x y : K) (v w : X) → E (x, v) → E (y, w) → E (x, w)) where
   -- an entry that is put in: at a key that ties the key stays
   all_put : (k : K) (v : X) (es : List (K × X)) → E (k, v) → AllByRecursion E es → AllByRecursion E (put R k v es)
   all_put k v [] here h = (here, tt)
@@ -57,18 +63,23 @@ module _ {K X : Type 0} (R : K → K → Ordering) (E : K × X → Type 0) (mix 
       ] e
 
   module _ (o : IsTotalOrder R) (j : X → X → X) (joins : (x : K) (v w : X) → E (x, v) → E (x, w) → E (x, j v w)) where
-    joined_value : (k : K) (v : X) (old : Option X) → ((w : X) → old ≡ Some w → (x : K) × E (x, w)) → E (k, v) → E (k, join_value j old v)
+    joined_value : (k : K) (v : X) (old : Option X) → ((w : X) → old ≡ Some w → (x : K) × E (x, w)) → E (k, v)
+        → E (k, join_value j old v)
     joined_value k v None f h = h
     joined_value k v (Some w) f h = let g = f w refl in joins k w v (mix k g.0 v w h g.1) h
 
-    each_joined : (xs es : List (K × X)) → AllByRecursion E xs → AllByRecursion E es → AllByRecursion E (joined_list R j xs es)
+    each_joined : (xs es : List (K × X)) → AllByRecursion E xs → AllByRecursion E es
+        → AllByRecursion E (joined_list R j xs es)
     each_joined xs [] h g = h
     each_joined xs (e ∷ es) h g =
-        let now : E (e.0, join_value j (find R e.0 xs) e.1) = joined_value e.0 e.1 (find R e.0 xs) (λ w f. found_in e.0 xs w f h) g.0 in
-        each_joined (put R e.0 (join_value j (find R e.0 xs) e.1) xs) es (all_put e.0 (join_value j (find R e.0 xs) e.1) xs now h) g.1
+        let now : E (e.0, join_value j (find R e.0 xs) e.1) =
+        joined_value e.0 e.1 (find R e.0 xs) (λ w f. found_in e.0 xs w f h) g.0 in
+        each_joined (put R e.0 (join_value j (find R e.0 xs) e.1) xs) es
+        (all_put e.0 (join_value j (find R e.0 xs) e.1) xs now h) g.1
 
     -- lists that ascend, joined
-    all_joined : (xs es : List (K × X)) → T (is_sorted R xs) → T (is_sorted R es) → AllByRecursion E xs → AllByRecursion E es → AllByRecursion E (list_join R j xs es)
+    all_joined : (xs es : List (K × X)) → T (is_sorted R xs) → T (is_sorted R es) → AllByRecursion E xs
+        → AllByRecursion E es → AllByRecursion E (list_join R j xs es)
     all_joined xs es s t h g = subst (AllByRecursion E) (joined_is R o j xs es s t) (each_joined xs es h g)
 
 module _ (N : ℕ → Type 0) (F : FunctionId → Type 0) where
@@ -90,7 +101,8 @@ module _ (N : ℕ → Type 0) (F : FunctionId → Type 0) where
 
   set_join : (t u : Sites) → SetNamed t → SetNamed u → SetNamed (sites_join t u)
   set_join t u h g = (
-    all_joined site_cmp (OfSite {X = Unit {0}}) (λ x y v w p q. p) sites_total unit_join (λ x v w p q. p) t u h.1 g.1 h.0 g.0,
+    all_joined site_cmp (OfSite {X = Unit {0}}) (λ x y v w p q. p) sites_total unit_join (λ x v w p q. p) t u h.1 g.1
+        h.0 g.0,
     entries_sorted (map_join site_cmp unit_join (list_map site_cmp t) (list_map site_cmp u)),
   )
 
@@ -117,7 +129,8 @@ module _ (N : ℕ → Type 0) (F : FunctionId → Type 0) where
   pub state_named : (s : State) → Stating s → StateNamed N F s
   state_named s h = record {
     values = h.values;
-    variables = all_on OfVariable (λ (e : IdentifierId × Sites). N e.0.0 × SitesNamed N F e.1) (λ e i. (i.0, i.1.0)) s.variables h.variables;
+    variables = all_on OfVariable (λ (e : IdentifierId × Sites). N e.0.0 × SitesNamed N F e.1) (λ e i. (i.0, i.1.0))
+        s.variables h.variables;
   }
 
   mixed : (x y : IdentifierId) (v w : Sites) → OfVariable (x, v) → OfVariable (y, w) → OfVariable (x, w)
@@ -126,16 +139,28 @@ module _ (N : ℕ → Type 0) (F : FunctionId → Type 0) where
   pub named_empty : Stating empty_state
   named_empty = record { values = tt; variables = tt }
 
-  named_defined_as : (x : IdentifierId) (t : Sites) (s : State) → N x.0 → SetNamed t → Stating s → Stating (defined_as x t s)
-  named_defined_as x t s n g h = record { values = h.values; variables = all_put id_cmp OfVariable mixed x t s.variables (n, g) h.variables }
+  named_defined_as : (x : IdentifierId) (t : Sites) (s : State) → N x.0 → SetNamed t → Stating s
+      → Stating (defined_as x t s)
+  named_defined_as x t s n g h = record {
+    values = h.values;
+    variables = all_put id_cmp OfVariable mixed x t s.variables (n, g) h.variables;
+  }
 
-  named_initialized : (k : Site) (v : AbstractValue) (s : State) → SiteNamed N F k → Stating s → Stating (initialized k v s)
-  named_initialized k v s n h = record { values = all_put site_cmp (OfSite {X = AbstractValue}) (λ x y v w p q. p) k v s.values n h.values; variables = h.variables }
+  named_initialized : (k : Site) (v : AbstractValue) (s : State) → SiteNamed N F k → Stating s
+      → Stating (initialized k v s)
+  named_initialized k v s n h = record {
+    values =
+        all_put site_cmp (OfSite {X = AbstractValue}) (λ x y v w p q. p) k v s.values n h.values;
+    variables = h.variables;
+  }
 
-  pub named_given : (x : IdentifierId) (k : Site) (v : AbstractValue) (s : State) → N x.0 → SiteNamed N F k → Stating s → Stating (given x k v s)
-  named_given x k v s n g h = named_defined_as x (one_site k) (initialized k v s) n (set_one k g) (named_initialized k v s g h)
+  pub named_given : (x : IdentifierId) (k : Site) (v : AbstractValue) (s : State) → N x.0 → SiteNamed N F k → Stating s
+      → Stating (given x k v s)
+  named_given x k v s n g h = named_defined_as x (one_site k) (initialized k v s) n (set_one k g)
+      (named_initialized k v s g h)
 
-  named_defaulted_at : (o : Option AbstractValue) (k : Site) (s : State) → SiteNamed N F k → Stating s → Stating (defaulted_at o k s)
+  named_defaulted_at : (o : Option AbstractValue) (k : Site) (s : State) → SiteNamed N F k → Stating s
+      → Stating (defaulted_at o k s)
   named_defaulted_at None k s n h = named_initialized k mutable_other s n h
   named_defaulted_at (Some v) k s n h = h
 
@@ -144,36 +169,49 @@ module _ (N : ℕ → Type 0) (F : FunctionId → Type 0) where
   set_found s x None e h = tt
   set_found s x (Some t) e h = (found_in id_cmp OfVariable mixed x s.variables t e h.variables).1.1
 
-  named_assigned_at : (o : Option Sites) (into from : IdentifierId) (s : State) → IfNamed o → N into.0 → N from.0 → Stating s → Stating (assigned_at o into from s)
+  named_assigned_at : (o : Option Sites) (into from : IdentifierId) (s : State) → IfNamed o → N into.0 → N from.0
+      → Stating s → Stating (assigned_at o into from s)
   named_assigned_at None into from s g n m h =
-      named_defined_as into (one_site (Default from)) (defaulted (Default from) s) n (set_one (Default from) m) (named_defaulted_at (value_at s (Default from)) (Default from) s m h)
+      named_defined_as into (one_site (Default from)) (defaulted (Default from) s) n (set_one (Default from) m)
+      (named_defaulted_at (value_at s (Default from)) (Default from) s m h)
   named_assigned_at (Some t) into from s g n m h = named_defined_as into t s n g h
 
-  pub named_assigned : (into from : IdentifierId) (s : State) → N into.0 → N from.0 → Stating s → Stating (assigned into from s)
-  named_assigned into from s n m h = named_assigned_at (sites_of s from) into from s (set_found s from (sites_of s from) refl h) n m h
+  pub named_assigned : (into from : IdentifierId) (s : State) → N into.0 → N from.0 → Stating s
+      → Stating (assigned into from s)
+  named_assigned into from s n m h = named_assigned_at (sites_of s from) into from s
+      (set_found s from (sites_of s from) refl h) n m h
 
-  named_defined_at : (o : Option Sites) (x : IdentifierId) (s : State) → IfNamed o → N x.0 → Stating s → Stating (defined_at o x s)
+  named_defined_at : (o : Option Sites) (x : IdentifierId) (s : State) → IfNamed o → N x.0 → Stating s
+      → Stating (defined_at o x s)
   named_defined_at None x s g n h = h
   named_defined_at (Some t) x s g n h = named_defined_as x t s n g h
 
   pub named_appended : (x v : IdentifierId) (s : State) → N x.0 → Stating s → Stating (appended x v s)
   named_appended x v s n h =
-      named_defined_at (both_sites (sites_of s x) (sites_of s v)) x s (both_named (sites_of s x) (sites_of s v) (set_found s x (sites_of s x) refl h) (set_found s v (sites_of s v) refl h)) n h
+      named_defined_at (both_sites (sites_of s x) (sites_of s v)) x s
+      (both_named (sites_of s x) (sites_of s v) (set_found s x (sites_of s x) refl h)
+      (set_found s v (sites_of s v) refl h)) n h
 
-  union_named : (s : State) (xs : List IdentifierId) (o : Option Sites) → Stating s → IfNamed o → IfNamed (union_over s.variables xs o)
+  union_named : (s : State) (xs : List IdentifierId) (o : Option Sites) → Stating s → IfNamed o
+      → IfNamed (union_over s.variables xs o)
   union_named s [] o h g = g
   union_named s (x ∷ xs) o h g =
-      union_named s xs (join_option sites_join o (find id_cmp x s.variables)) h (join_named o (find id_cmp x s.variables) g (set_found s x (find id_cmp x s.variables) refl h))
+      union_named s xs (join_option sites_join o (find id_cmp x s.variables)) h
+      (join_named o (find id_cmp x s.variables) g (set_found s x (find id_cmp x s.variables) refl h))
 
-  pub named_phied : (phi : IdentifierId) (operands : List (BlockId × Place)) (s : State) → N phi.0 → Stating s → Stating (phied phi operands s)
-  named_phied phi operands s n h = named_defined_at (union_over s.variables (operand_ids operands) None) phi s (union_named s (operand_ids operands) None h tt) n h
+  pub named_phied : (phi : IdentifierId) (operands : List (BlockId × Place)) (s : State) → N phi.0 → Stating s
+      → Stating (phied phi operands s)
+  named_phied phi operands s n h = named_defined_at (union_over s.variables (operand_ids operands) None) phi s
+      (union_named s (operand_ids operands) None h tt) n h
 
   -- the join of two states whose lists ascend
   pub named_join : (a b : State) → StateProper a → StateProper b → Stating a → Stating b → Stating (state_join a b)
   named_join a b p q h g = record {
-    values = all_joined site_cmp (OfSite {X = AbstractValue}) (λ x y v w i k. i) sites_total abstract_join (λ x v w i k. i) a.values b.values p.values.0 q.values.0 h.values g.values;
+    values = all_joined site_cmp (OfSite {X = AbstractValue}) (λ x y v w i k. i) sites_total abstract_join
+        (λ x v w i k. i) a.values b.values p.values.0 q.values.0 h.values g.values;
     variables =
-        all_joined id_cmp OfVariable mixed ids_total sites_join (λ x v w i k. (i.0, set_join v w i.1 k.1)) a.variables b.variables p.variables.0 q.variables.0 h.variables g.variables;
+        all_joined id_cmp OfVariable mixed ids_total sites_join (λ x v w i k. (i.0, set_join v w i.1 k.1)) a.variables
+        b.variables p.variables.0 q.variables.0 h.variables g.variables;
   }
 
   -- ---- freezing
@@ -181,17 +219,25 @@ module _ (N : ℕ → Type 0) (F : FunctionId → Type 0) where
   abbrev Values : List (Site × AbstractValue) → Type 0
   Values m = AllByRecursion (λ (e : Site × AbstractValue). SiteNamed N F e.0) m
 
-  all_set_named : (v : AbstractValue) (t : Sites) (m : List (Site × AbstractValue)) → SitesNamed N F t → Values m → Values (all_set v t m)
+  all_set_named : (v : AbstractValue) (t : Sites) (m : List (Site × AbstractValue)) → SitesNamed N F t → Values m
+      → Values (all_set v t m)
   all_set_named v [] m g h = h
-  all_set_named v (e ∷ es) m g h = all_set_named v es (put site_cmp e.0 v m) g.1 (all_put site_cmp (OfSite {X = AbstractValue}) (λ x y v w i k. i) e.0 v m g.0 h)
+  all_set_named v (e ∷ es) m g h = all_set_named v es (put site_cmp e.0 v m) g.1
+      (all_put site_cmp (OfSite {X = AbstractValue}) (λ x y v w i k. i) e.0 v m g.0 h)
 
-  frozen_values : (v : AbstractValue) (b : Bool) (o : Option Sites) (m : List (Site × AbstractValue)) → IfNamed o → Values m → Values (frozen_at v b o m)
+  frozen_values : (v : AbstractValue) (b : Bool) (o : Option Sites) (m : List (Site × AbstractValue)) → IfNamed o
+      → Values m → Values (frozen_at v b o m)
   frozen_values v true (Some t) m g h = all_set_named v t m g.0 h
   frozen_values v true None m g h = h
   frozen_values v false o m g h = h
 
   pub named_frozen : (x : IdentifierId) (r : ValueReason) (s : State) → Stating s → Stating (frozen x r s)
-  named_frozen x r s h = record { values = frozen_values (frozen_for r) (does_freeze s x) (sites_of s x) s.values (set_found s x (sites_of s x) refl h) h.values; variables = h.variables }
+  named_frozen x r s h = record {
+    values =
+        frozen_values (frozen_for r) (does_freeze s x) (sites_of s x) s.values (set_found s x (sites_of s x) refl h)
+        h.values;
+    variables = h.variables;
+  }
 
   module _ (going : Site → State → State) (kept : (k : Site) (s : State) → Stating s → Stating (going k s)) where
     named_at_sites : (ks : List Site) (s : State) → Stating s → Stating (at_sites going ks s)
@@ -205,9 +251,11 @@ module _ (N : ℕ → Type 0) (F : FunctionId → Type 0) where
 
       named_at_places : (ps : List Place) (s : State) → Stating s → Stating (at_places going r ps s)
       named_at_places [] s h = h
-      named_at_places (p ∷ ps) s h = named_at_places ps (at_place going r p.identifier s) (named_where_frozen (does_freeze s p.identifier) p.identifier s h)
+      named_at_places (p ∷ ps) s h = named_at_places ps (at_place going r p.identifier s)
+          (named_where_frozen (does_freeze s p.identifier) p.identifier s h)
 
-      named_at_site : (context : FunctionId → List Place) (k : Site) (s : State) → Stating s → Stating (at_site going r context k s)
+      named_at_site : (context : FunctionId → List Place) (k : Site) (s : State) → Stating s
+          → Stating (at_site going r context k s)
       named_at_site context (Function f) s h = named_at_places (context f) s h
       named_at_site context k s h = h
 
@@ -216,12 +264,16 @@ module _ (N : ℕ → Type 0) (F : FunctionId → Type 0) where
     named_levels zero k s h = h
     named_levels (suc n) k s h = named_at_site (levels_frozen r context n) (named_levels n) r context k s h
 
-    pub named_place_frozen_transitively : (p : IdentifierId) (s : State) → Stating s → Stating (place_frozen_transitively r context p s)
-    named_place_frozen_transitively p s h = named_at_sites (frozen_transitively r context) (λ k u i. named_levels (suc (live u.values)) k u i) (sites_at s p) s h
+    pub named_place_frozen_transitively : (p : IdentifierId) (s : State) → Stating s
+        → Stating (place_frozen_transitively r context p s)
+    named_place_frozen_transitively p s h =
+        named_at_sites (frozen_transitively r context) (λ k u i. named_levels (suc (live u.values)) k u i)
+        (sites_at s p) s h
 
 -- ---- other names
 
-module _ (N M : ℕ → Type 0) (F G : FunctionId → Type 0) (on : (n : ℕ) → N n → M n) (functions_on : (f : FunctionId) → F f → G f) where
+module _ (N M : ℕ → Type 0) (F G : FunctionId → Type 0) (on : (n : ℕ) → N n → M n)
+    (functions_on : (f : FunctionId) → F f → G f) where
   site_on : (k : Site) → SiteNamed N F k → SiteNamed M G k
   site_on (site.Parameter x) h = on x.0 h
   site_on (site.Context x) h = on x.0 h
@@ -234,8 +286,17 @@ module _ (N M : ℕ → Type 0) (F G : FunctionId → Type 0) (on : (n : ℕ) �
 
   pub stating_on : (s : State) → Stating N F s → Stating M G s
   stating_on s h = record {
-    values = all_on (λ (e : Site × AbstractValue). SiteNamed N F e.0) (λ (e : Site × AbstractValue). SiteNamed M G e.0) (λ e. site_on e.0) s.values h.values;
+    values = all_on (λ (e : Site × AbstractValue). SiteNamed N F e.0) (λ (e : Site × AbstractValue). SiteNamed M G e.0)
+        (λ e. site_on e.0) s.values h.values;
     variables =
-        all_on (λ (e : IdentifierId × Sites). N e.0.0 × SetNamed N F e.1) (λ (e : IdentifierId × Sites). M e.0.0 × SetNamed M G e.1)
-        (λ e i. (on e.0.0 i.0, (all_on (λ (k : Site × Unit {0}). SiteNamed N F k.0) (λ (k : Site × Unit {0}). SiteNamed M G k.0) (λ k. site_on k.0) e.1 i.1.0, i.1.1))) s.variables h.variables;
+        all_on (λ (e : IdentifierId × Sites). N e.0.0 × SetNamed N F e.1)
+        (λ (e : IdentifierId × Sites). M e.0.0 × SetNamed M G e.1)
+        (λ e i. (
+          on e.0.0 i.0,
+          (
+            all_on (λ (k : Site × Unit {0}). SiteNamed N F k.0)
+                (λ (k : Site × Unit {0}). SiteNamed M G k.0) (λ k. site_on k.0) e.1 i.1.0,
+            i.1.1,
+          ),
+        )) s.variables h.variables;
   }

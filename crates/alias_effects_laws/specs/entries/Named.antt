@@ -1,4 +1,5 @@
--- States that name identifiers with N and functions with F alone, and temporaries that are counted on from the identifiers.
+-- States that name identifiers with N and functions with F alone, and temporaries that are counted on from the
+-- identifiers.
 use Rattle.std.specs.Prelude.{◌≡◌, true, ℕ, ◌+◌, ◌<◌, List, [], ◌∷◌, ◌++◌, length, Option, None, Some, slice_get}
 use Rattle.std.specs.List.{AllByRecursion}
 use Rattle.alias_base.specs.declared.ids.BlockId.{BlockId}
@@ -48,10 +49,12 @@ abbrev pub KeyNamed : ℕ → ℕ → TempKey → Type 0
 KeyNamed identifiers functions (key.Named x name) = x.0 < identifiers
 KeyNamed identifiers functions (key.Rest f) = f.0 < functions
 
--- behind those that are done: the temporary has the next number, of which there is one left, and a key that none of them has and that names what is there
+-- behind those that are done: the temporary has the next number, of which there is one left, and a key that none of
+-- them has and that names what is there
 abbrev pub IsNext : Environment → List Temporary → Temporary → Type 0
 IsNext env done x =
-    (x.place.identifier.0 ≡ length env.identifiers + length done) × (temp_like x.key done ≡ None) × KeyNamed (length env.identifiers + length done) (length env.functions) x.key
+    (x.place.identifier.0 ≡ length env.identifiers + length done) × (temp_like x.key done ≡ None)
+    × KeyNamed (length env.identifiers + length done) (length env.functions) x.key
     × (has_room (length env.identifiers) (length env.types) (length done) ≡ true)
 
 -- behind those that are done, each temporary is the next
@@ -73,9 +76,14 @@ CreatesAt F (Some x) = CreatesHas F (created x.value)
 
 -- each function that an instruction of a block creates has F
 abbrev pub BlocksCreate : (FunctionId → Type 0) → HirFunction → Type 0
-BlocksCreate F func = AllByRecursion (λ (b : BlockId × BasicBlock). AllByRecursion (λ (i : InstructionId). CreatesAt F (slice_get func.instructions i.0)) b.1.instructions) func.body.blocks
+BlocksCreate F func = AllByRecursion (λ (b : BlockId × BasicBlock).
+    AllByRecursion (λ (i : InstructionId). CreatesAt F (slice_get func.instructions i.0)) b.1.instructions)
+    func.body.blocks
 
--- the entry states at the end of the visits name identifiers of the table and of the temporaries, and functions with F; and the temporaries are counted on
-pub record EntriesNamed (env : Environment) (F : FunctionId → Type 0) (w : SolverState (VisitLog State) TableLists BlockEffects) : Type 0 where
-  pub states : AllHold (StateNamed (λ n. n < length env.identifiers + length w.tables.temporaries) F) w.progress.joined_input
+-- the entry states at the end of the visits name identifiers of the table and of the temporaries, and functions with F;
+-- and the temporaries are counted on
+pub record EntriesNamed (env : Environment) (F : FunctionId → Type 0)
+    (w : SolverState (VisitLog State) TableLists BlockEffects) : Type 0 where
+  pub states : AllHold (StateNamed (λ n. n < length env.identifiers + length w.tables.temporaries) F)
+      w.progress.joined_input
   pub temporaries : AreNumbered env [] w.tables.temporaries

@@ -1,4 +1,5 @@
--- Effects, tables and steps that name owned identifiers alone: those of which P holds. The context of a function that an effect creates is owned too.
+-- Effects, tables and steps that name owned identifiers alone: those of which P holds. The context of a function that
+-- an effect creates is owned too.
 use Rattle.std.specs.Prelude.{◌≡◌, ℕ, List, Option, Some, None, Result, Ok}
 use Rattle.std.specs.List.{AllByRecursion}
 use Rattle.alias_base.specs.declared.ids.FunctionId.{FunctionId}
@@ -43,5 +44,6 @@ module _ (env : Environment) (P : ℕ → Type 0) where
   ProgressOwns s = EffectsOwn s.recorded × StateHas OwnsContext s.state
 
 -- from tables that own, the step leads to such, and to a value with Q
-pub record Leads {A C : Type 0} (env : Environment) (P : ℕ → Type 0) (Q : A → Type 0) (f : TableLists → Result (A × TableLists) C) : Type 0 where
+pub record Leads {A C : Type 0} (env : Environment) (P : ℕ → Type 0) (Q : A → Type 0)
+    (f : TableLists → Result (A × TableLists) C) : Type 0 where
   pub leads : (t u : TableLists) (x : A) → TablesOwn env P t → f t ≡ Ok (x, u) → TablesOwn env P u × Q x

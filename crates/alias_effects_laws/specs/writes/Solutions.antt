@@ -1,5 +1,6 @@
 -- In what a solution hands out, each forbidden write of a reached block stands as an error.
-use Rattle.std.specs.Prelude.{◌≡◌, ℕ, Bool, true, false, cond, List, [], ◌∷◌, ◌++◌, Option, None, Some, Result, Ok, Err, refl}
+use Rattle.std.specs.Prelude.{◌≡◌, ℕ, Bool, true, false, cond, List, [], ◌∷◌, ◌++◌, Option, None, Some, Result, Ok, Err}
+use Rattle.std.specs.Prelude.{refl}
 use Rattle.std.specs.List.{AllByRecursion, flat_map, list_any}
 use Rattle.std.proofs.Common.{ap, sym, ◌∙◌, subst, eqb-true}
 use Rattle.alias_base.specs.Find.{same_block, value_at}
@@ -33,12 +34,14 @@ module _ (env : Environment) (func : HirFunction) (is_function_expression : Bool
   abbrev context : BlockContext
   context = context_of env func is_function_expression
 
-  -- What the instructions of a reached block write for certain, from its entry state and under the tables of the solution, stands as
+  -- What the instructions of a reached block write for certain, from its entry state and under the tables of the
+  -- solution, stands as
   -- an error of its instruction where it is frozen, may be frozen or is a global, and no ref.
   abbrev pub TellsWrites : Solved → Type 0
   TellsWrites s =
       (b : BlockId) (x : State) → entry_state s.entries b ≡ Some x
-      → AllByRecursion (ReportedIn context s.effects) (writes_of_block context (value_at func.body.blocks b) x (tables env func is_function_expression))
+      → AllByRecursion (ReportedIn context s.effects)
+      (writes_of_block context (value_at func.body.blocks b) x (tables env func is_function_expression))
 
 any_later : {X : Type 0} (p : X → Bool) (xs ys : List X) → list_any p ys ≡ true → list_any p (xs ++ ys) ≡ true
 any_later p [] ys h = h
@@ -54,7 +57,8 @@ abbrev entry_of : BlockId → State → BlockEntry
 entry_of b x = record { block = b; state = x }
 
 -- the outcome of a step that is Stepped is what the step gives
-stepped_is : (r : Result ((State × BlockEffects) × TableLists) BlockRefusal) (y : State) (t : TableLists) (k : BlockEffects) → outcome_of r ≡ Stepped y t k → r ≡ Ok ((y, k), t)
+stepped_is : (r : Result ((State × BlockEffects) × TableLists) BlockRefusal) (y : State) (t : TableLists)
+    (k : BlockEffects) → outcome_of r ≡ Stepped y t k → r ≡ Ok ((y, k), t)
 stepped_is (Ok p) y t k h =
     let state : p.0.0 ≡ y = cc in
     let effects : p.0.1 ≡ k = cc in
@@ -66,34 +70,48 @@ module _ (env : Environment) (func : HirFunction) (is_function_expression : Bool
   abbrev recorded : BlockEntry → List InstructionEffects
   recorded e = (recorded_from env func is_function_expression e).instructions
 
-  reported_after : (w : InstructionId × Write) (b : BlockId) (x : State) (e : BlockEntry) (es : List BlockEntry) (k : Bool) → same_block b e.block ≡ k
-      → is_reported (recorded (entry_of b x)) w ≡ true → (entry_state es b ≡ Some x → is_reported (flat_map recorded es) w ≡ true)
+  reported_after : (w : InstructionId × Write) (b : BlockId) (x : State) (e : BlockEntry) (es : List BlockEntry)
+      (k : Bool) → same_block b e.block ≡ k
+      → is_reported (recorded (entry_of b x)) w ≡ true
+      → (entry_state es b ≡ Some x → is_reported (flat_map recorded es) w ≡ true)
       → cond k (Some e.state) (entry_state es b) ≡ Some x → is_reported (recorded e ++ flat_map recorded es) w ≡ true
   reported_after w b x e es true same h later i =
       let is : e.state ≡ x = cc in
       let entry = ap (λ (c : BlockId). entry_of c x) (block_is b e.block same) ∙ ap (entry_of e.block) (sym is) in
-      any_more (is_reported_by w) (recorded e) (flat_map recorded es) (subst (λ (z : BlockEntry). is_reported (recorded z) w ≡ true) entry h)
-  reported_after w b x e es false same h later i = any_later (is_reported_by w) (recorded e) (flat_map recorded es) (later i)
+      any_more (is_reported_by w) (recorded e) (flat_map recorded es)
+      (subst (λ (z : BlockEntry). is_reported (recorded z) w ≡ true) entry h)
+  reported_after w b x e es false same h later i =
+      any_later (is_reported_by w) (recorded e) (flat_map recorded es) (later i)
 
-  reported_in_all : (w : InstructionId × Write) (b : BlockId) (x : State) (es : List BlockEntry) → is_reported (recorded (entry_of b x)) w ≡ true → entry_state es b ≡ Some x → is_reported (flat_map recorded es) w ≡ true
+  reported_in_all : (w : InstructionId × Write) (b : BlockId) (x : State) (es : List BlockEntry)
+      → is_reported (recorded (entry_of b x)) w ≡ true → entry_state es b ≡ Some x
+      → is_reported (flat_map recorded es) w ≡ true
   reported_in_all w b x [] h i = cc
-  reported_in_all w b x (e ∷ es) h i = reported_after w b x e es (same_block b e.block) refl h (reported_in_all w b x es h) i
+  reported_in_all w b x (e ∷ es) h i = reported_after w b x e es (same_block b e.block) refl h
+      (reported_in_all w b x es h) i
 
-  all_in_all : (ws : List (InstructionId × Write)) (b : BlockId) (x : State) (es : List BlockEntry) (effects : List InstructionEffects) → effects ≡ flat_map recorded es → entry_state es b ≡ Some x
-      → AllByRecursion (ReportedIn (context env func is_function_expression) (recorded (entry_of b x))) ws → AllByRecursion (ReportedIn (context env func is_function_expression) effects) ws
+  all_in_all : (ws : List (InstructionId × Write)) (b : BlockId) (x : State) (es : List BlockEntry)
+      (effects : List InstructionEffects) → effects ≡ flat_map recorded es → entry_state es b ≡ Some x
+      → AllByRecursion (ReportedIn (context env func is_function_expression) (recorded (entry_of b x))) ws
+      → AllByRecursion (ReportedIn (context env func is_function_expression) effects) ws
   all_in_all [] b x es effects is h k = tt
-  all_in_all (w ∷ ws) b x es effects is h k =
-      ((λ f. subst (λ z. is_reported z w ≡ true) (sym is) (reported_in_all w b x es (k.0 f) h)), all_in_all ws b x es effects is h k.1)
+  all_in_all (w ∷ ws) b x es effects is h k = (
+    (λ f. subst (λ z. is_reported z w ≡ true) (sym is) (reported_in_all w b x es (k.0 f) h)),
+    all_in_all ws b x es effects is h k.1,
+  )
 
-  block_reported : (b : BlockId) (o : Option BasicBlock) (x y : State) (t : TableLists) (k : BlockEffects) → outcome_at (context env func is_function_expression) b o t x ≡ Stepped y t k
-      → AllByRecursion (ReportedIn (context env func is_function_expression) k.instructions) (writes_of_block (context env func is_function_expression) o x t)
+  block_reported : (b : BlockId) (o : Option BasicBlock) (x y : State) (t : TableLists) (k : BlockEffects)
+      → outcome_at (context env func is_function_expression) b o t x ≡ Stepped y t k
+      → AllByRecursion (ReportedIn (context env func is_function_expression) k.instructions)
+      (writes_of_block (context env func is_function_expression) o x t)
   block_reported b None x y t k h = tt
   block_reported b (Some block) x y t k h =
       let c = context env func is_function_expression in
       block_tells c b block x t t (y, k) (stepped_is (infer_block c b block x t) y t k h)
 
   -- a solution tells the writes
-  pub solutions_tell : (s : Solved) → IsSolved env func is_function_expression s → TellsWrites env func is_function_expression s
+  pub solutions_tell : (s : Solved) → IsSolved env func is_function_expression s
+      → TellsWrites env func is_function_expression s
   solutions_tell s solved b x e =
       let c = context env func is_function_expression in
       let t = tables env func is_function_expression in
@@ -101,4 +119,5 @@ module _ (env : Environment) (func : HirFunction) (is_function_expression : Bool
       let k = out.1 in
       let recorded_is : recorded (entry_of b x) ≡ k.instructions = ap (λ o. (effects_recorded o).instructions) out.2 in
       all_in_all (writes_of_block c (value_at func.body.blocks b) x t) b x s.entries s.effects solved.effects e
-      (subst (λ es. AllByRecursion (ReportedIn c es) (writes_of_block c (value_at func.body.blocks b) x t)) (sym recorded_is) (block_reported b (value_at func.body.blocks b) x out.0 t k out.2))
+      (subst (λ es. AllByRecursion (ReportedIn c es) (writes_of_block c (value_at func.body.blocks b) x t))
+      (sym recorded_is) (block_reported b (value_at func.body.blocks b) x out.0 t k out.2))

@@ -1,5 +1,6 @@
 -- The definite writes that a step comes to, each with the state in which it comes to it.
-use Rattle.std.specs.Prelude.{Bool, true, false, ◌&&◌, not, ◌==◌, ℕ, List, [], ◌∷◌, ◌++◌, map, Option, Some, None, Result, Ok, Err, slice_get}
+use Rattle.std.specs.Prelude.{Bool, true, false, ◌&&◌, not, ◌==◌, ℕ, List, [], ◌∷◌, ◌++◌, map, Option, Some, None}
+use Rattle.std.specs.Prelude.{Result, Ok, Err, slice_get}
 use Rattle.std.specs.List.{list_any}
 use Rattle.alias_base.specs.declared.ids.FunctionId.{FunctionId}
 use Rattle.alias_base.specs.declared.ids.IdentifierId.{IdentifierId}
@@ -54,7 +55,8 @@ module _ {T C : Type 0} where
   after step next t = after_answer (step t) next
 
   -- what a step for each of a list comes to, in order
-  abbrev pub over_each : {X A W : Type 0} → (X → A → T → Result (A × T) C) → (X → A → T → List W) → List X → A → T → List W
+  abbrev pub over_each : {X A W : Type 0} → (X → A → T → Result (A × T) C) → (X → A → T → List W) → List X → A → T
+      → List W
   over_each step writes [] a t = []
   over_each step writes (x ∷ xs) a t = writes x a t ++ after (step x a) (over_each step writes xs) t
 
@@ -74,7 +76,8 @@ module _ (c : StepContext) where
   list_writes = over_each (intern_and_apply_plain c) plain_writes
 
   abbrev pub summary_writes : Call → List AliasingEffect → StepProgress → TableLists → List Write
-  summary_writes call list s = after (intern_and_apply_simple c (effect.MutateTransitiveConditionally call.function) s) (list_writes list)
+  summary_writes call list s = after (intern_and_apply_simple c (effect.MutateTransitiveConditionally call.function) s)
+      (list_writes list)
 
   -- ---- a call in the list of an aliasing part; by default nothing is written for certain
 
@@ -83,17 +86,20 @@ module _ (c : StepContext) where
   inner_call_writes_by None call s t = []
 
   abbrev pub inner_call_writes : Call → StepProgress → TableLists → List Write
-  inner_call_writes call s = after (expansion_of_called c.env call (called_function s.state call.function)) (λ list. inner_call_writes_by list call s)
+  inner_call_writes call s = after (expansion_of_called c.env call (called_function s.state call.function))
+      (λ list. inner_call_writes_by list call s)
 
   abbrev pub inner_writes : AliasingEffect → StepProgress → TableLists → List Write
-  inner_writes (effect.Apply receiver function mutates args into signature span) s = inner_call_writes (call_of receiver function mutates args into span) s
+  inner_writes (effect.Apply receiver function mutates args into signature span) s =
+      inner_call_writes (call_of receiver function mutates args into span) s
   inner_writes e s = plain_writes e s
 
   -- ---- a call by a signature
 
   abbrev pub legacy_writes : FunctionSignature → Call → StepProgress → TableLists → List Write
   legacy_writes signature call s =
-      after (legacy_expansion c.env signature call.site call.args s.state) (λ legacy. list_writes legacy.effects (with_missing legacy.missing s))
+      after (legacy_expansion c.env signature call.site call.args s.state)
+      (λ legacy. list_writes legacy.effects (with_missing legacy.missing s))
 
   abbrev pub config_writes : Collected → FunctionSignature → Call → StepProgress → TableLists → List Write
   config_writes (Some list) signature call s = over_each (apply_inner_effect c) inner_writes list s
@@ -101,7 +107,8 @@ module _ (c : StepContext) where
 
   abbrev pub compatible_writes : Option (List ℕ) → FunctionSignature → Call → StepProgress → TableLists → List Write
   compatible_writes (Some text) signature call s t = []
-  compatible_writes None signature call s t = after (expansion_of_config c.env call signature.aliasing) (λ list. config_writes list signature call s) t
+  compatible_writes None signature call s t =
+      after (expansion_of_config c.env call signature.aliasing) (λ list. config_writes list signature call s) t
 
   abbrev pub signature_writes : Option FunctionSignature → Call → StepProgress → TableLists → List Write
   signature_writes (Some signature) call s t = compatible_writes (incompatible c signature) signature call s t
@@ -114,10 +121,12 @@ module _ (c : StepContext) where
   call_writes_by None signature call s = signature_writes (signature_of_type c.env signature) call s
 
   abbrev pub call_writes : Option TypeId → Call → StepProgress → TableLists → List Write
-  call_writes signature call s = after (expansion_of_called c.env call (called_function s.state call.function)) (λ list. call_writes_by list signature call s)
+  call_writes signature call s = after (expansion_of_called c.env call (called_function s.state call.function))
+      (λ list. call_writes_by list signature call s)
 
   abbrev pub effect_writes : AliasingEffect → StepProgress → TableLists → List Write
-  effect_writes (effect.Apply receiver function mutates args into signature span) s = call_writes signature (call_of receiver function mutates args into span) s
+  effect_writes (effect.Apply receiver function mutates args into signature span) s =
+      call_writes signature (call_of receiver function mutates args into span) s
   effect_writes e s = plain_writes e s
 
   -- of an instruction that creates this function and has these effects
@@ -126,11 +135,14 @@ module _ (c : StepContext) where
 
 -- ---- instructions
 
-abbrev pub writes_with : Environment → FunctionFacts → Instruction → Option ReportId → StepProgress → TableLists → List Write
-writes_with env facts i error s = writes_of_effects (context_with env facts) (created i.value) (signature_of (known env facts error) i) s
+abbrev pub writes_with : Environment → FunctionFacts → Instruction → Option ReportId → StepProgress → TableLists
+    → List Write
+writes_with env facts i error s = writes_of_effects (context_with env facts) (created i.value)
+    (signature_of (known env facts error) i) s
 
 abbrev pub instruction_writes : Environment → FunctionFacts → Instruction → StepProgress → TableLists → List Write
-instruction_writes env facts i s = after (intern_reported (instruction_report i.value i.span)) (λ error. writes_with env facts i error s)
+instruction_writes env facts i s = after (intern_reported (instruction_report i.value i.span))
+    (λ error. writes_with env facts i error s)
 
 -- ---- blocks
 
@@ -138,13 +150,15 @@ instruction_writes env facts i s = after (intern_reported (instruction_report i.
 abbrev pub by_instruction : InstructionId → List Write → List (InstructionId × Write)
 by_instruction i = map (λ w. (i, w))
 
-abbrev pub writes_at : BlockContext → InstructionId → Option Instruction → BlockProgress → TableLists → List (InstructionId × Write)
+abbrev pub writes_at : BlockContext → InstructionId → Option Instruction → BlockProgress → TableLists
+    → List (InstructionId × Write)
 writes_at c i None s t = []
 writes_at c i (Some x) s t = by_instruction i (instruction_writes c.env c.facts x (step_start s) t)
 
 abbrev pub writes_of_all : BlockContext → List InstructionId → BlockProgress → TableLists → List (InstructionId × Write)
 writes_of_all c =
-    over_each (λ i. infer_instruction_at c i (slice_get c.func.instructions i.0)) (λ i. writes_at c i (slice_get c.func.instructions i.0))
+    over_each (λ i. infer_instruction_at c i (slice_get c.func.instructions i.0))
+    (λ i. writes_at c i (slice_get c.func.instructions i.0))
 
 -- what the instructions of a block write for certain, from a state
 abbrev pub block_writes : BlockContext → BasicBlock → State → TableLists → List (InstructionId × Write)

@@ -1,5 +1,7 @@
 -- A cause is found.
-use Rattle.std.proofs.Common.{◌≡◌, ℕ, ◌+◌, ◌<◌, ◌≤◌, ◌⊎◌, ◌==◌, ◌&&◌, ◌||◌, inl, inr, ⊎_elim, Bool, true, false, not, if◌then◌else◌, nat_eq, List, [], ◌∷◌, Option, Some, None, length, map, slice_get, refl, ap, sym, ◌∙◌, arith, suc, zero}
+use Rattle.std.proofs.Common.{◌≡◌, ℕ, ◌+◌, ◌<◌, ◌≤◌, ◌⊎◌, ◌==◌, ◌&&◌, ◌||◌, inl, inr, ⊎_elim, Bool, true, false, not}
+use Rattle.std.proofs.Common.{if◌then◌else◌, nat_eq, List, [], ◌∷◌, Option, Some, None, length, map, slice_get, refl}
+use Rattle.std.proofs.Common.{ap, sym, ◌∙◌, arith, suc, zero}
 use Rattle.std.specs.Prelude.{Result, Ok}
 use Rattle.std.specs.List.{flat_map, range_with_len}
 use Rattle.std.specs.Option.{option_map_or}
@@ -8,7 +10,8 @@ use Rattle.alias_base.specs.declared.ids.BlockId.{BlockId}
 use Rattle.alias_base.specs.declared.ids.FunctionId.{FunctionId}
 use Rattle.alias_base.specs.declared.ids.IdentifierId.{IdentifierId}
 use Rattle.alias_base.specs.declared.ids.InstructionId.{InstructionId}
-use Rattle.alias_rules.specs.function_rules.Rules.{is_among, first_missing, missing, listed_instructions, instructions_listed}
+use Rattle.alias_rules.specs.function_rules.Rules.{is_among, first_missing, missing, listed_instructions}
+use Rattle.alias_rules.specs.function_rules.Rules.{instructions_listed}
 use Rattle.alias_hir.specs.declared.env.Identifier.{Identifier}
 use Rattle.alias_hir.specs.declared.error.HirError.{HirError}
 use Rattle.alias_hir.specs.declared.hir.BasicBlock.{BasicBlock}
@@ -28,7 +31,8 @@ use Rattle.alias_range_pass.specs.places.Causes.{numbers_of, stored_places, writ
 use Rattle.alias_visit.specs.Operands.{lvalues_of}
 use Rattle.alias_explain.specs.declared.cause.Cause.{Cause}
 use Rattle.alias_explain.specs.declared.cause.Cause.TheVariants.{Unset, NoCause}
-use Rattle.alias_explain.specs.Causes.{writes, ends_range, defines, or_else, first_defining, first_defining_of, defined_by, defined_or, mutated_or_not, cause_of}
+use Rattle.alias_explain.specs.Causes.{writes, ends_range, defines, or_else, first_defining, first_defining_of}
+use Rattle.alias_explain.specs.Causes.{defined_by, defined_or, mutated_or_not, cause_of}
 use Rattle.alias_explain.specs.Standing.{has_place}
 use Rattle.alias_explain.proofs.Explaining.{cause_nothing}
 use Rattle.alias_explain.proofs.Lists.{find_none}
@@ -37,10 +41,12 @@ use Rattle.alias_explain.proofs.Lists.{find_none}
 
 in_range : (a n k : ℕ) → a ≤ k → k < a + n → IsOneOf k (range_with_len a n)
 in_range a zero k low high = absurd (omega arith)
-in_range a (suc n) k low high = ⊎_elim (λ same. inl same) (λ more. inr (in_range (a + 1) n k more (omega arith))) (first_or_later a k low)
+in_range a (suc n) k low high = ⊎_elim (λ same. inl same) (λ more. inr (in_range (a + 1) n k more (omega arith)))
+    (first_or_later a k low)
   where
     first_or_later : (x y : ℕ) → x ≤ y → (y ≡ x) ⊎ (x + 1 ≤ y)
-    first_or_later x y h = elim (x == y) as (λ b. (x == y) ≡ b → (y ≡ x) ⊎ (x + 1 ≤ y)) [ true ↦ λ e. inl (sym (eqb-true x y e)) | false ↦ λ e. inr (grind arith) ] refl
+    first_or_later x y h = elim (x == y) as (λ b. (x == y) ≡ b → (y ≡ x) ⊎ (x + 1 ≤ y))
+        [ true ↦ λ e. inl (sym (eqb-true x y e)) | false ↦ λ e. inr (grind arith) ] refl
 
 among_in : (xs : List ℕ) (k : ℕ) → is_among xs k ≡ true → IsOneOf k xs
 among_in [] k h = cc
@@ -55,13 +61,15 @@ none_missing f None h = refl
 none_missing f (Some k) h = cc
 
 -- each instruction's number is one of those that blocks list
-all_listed : (f : HirFunction) → instructions_listed None f ≡ Ok tt → (k : ℕ) → k < length f.instructions → IsOneOf k (listed_instructions f)
+all_listed : (f : HirFunction) → instructions_listed None f ≡ Ok tt → (k : ℕ) → k < length f.instructions
+    → IsOneOf k (listed_instructions f)
 all_listed f h k lt =
     let xs = listed_instructions f in
     let none = none_missing None (first_missing (length f.instructions) xs) h in
     elim (is_among xs k) as (λ b. is_among xs k ≡ b → IsOneOf k xs) [
       | true ↦ λ e. among_in xs k e
-      | false ↦ λ e. absurd (find_none (λ j. not (is_among xs j)) (range_with_len 0 (length f.instructions)) k none (in_range 0 (length f.instructions) k (omega arith) (omega arith)) (ap not e))
+      | false ↦ λ e. absurd (find_none (λ j. not (is_among xs j)) (range_with_len 0 (length f.instructions)) k none
+          (in_range 0 (length f.instructions) k (omega arith) (omega arith)) (ap not e))
     ] refl
 
 -- ---- by an instruction
@@ -78,7 +86,8 @@ either_one false b (inr h) = h
 
 has_number : (id : IdentifierId) (ps : List Place) → IsOneOf id.0 (numbers_of ps) → has_place id ps ≡ true
 has_number id [] i = absurd i
-has_number id (p ∷ ps) (inl same) = either_one (p.identifier.0 == id.0) (has_place id ps) (inl (ap (λ n. n == id.0) (sym same) ∙ eqb_itself id.0))
+has_number id (p ∷ ps) (inl same) = either_one (p.identifier.0 == id.0) (has_place id ps)
+    (inl (ap (λ n. n == id.0) (sym same) ∙ eqb_itself id.0))
 has_number id (p ∷ ps) (inr i) = either_one (p.identifier.0 == id.0) (has_place id ps) (inr (has_number id ps i))
 
 -- what an instruction writes, it writes
@@ -99,11 +108,14 @@ both_one : (a b : Bool) → a ≡ true → b ≡ true → (a && b) ≡ true
 both_one true b p q = q
 both_one false b p q = cc
 
-module _ (is : List Instruction) (id : IdentifierId) (end : ℕ) (k : ℕ) (found : (i : InstructionId) → i.0 ≡ k → defines is id end i ≡ true) where
-  in_block : (ids : List InstructionId) → IsOneOf k (map (λ (i : InstructionId). i.0) ids) → first_defining is id end ids ≡ None → ⊥
+module _ (is : List Instruction) (id : IdentifierId) (end : ℕ) (k : ℕ)
+    (found : (i : InstructionId) → i.0 ≡ k → defines is id end i ≡ true) where
+  in_block : (ids : List InstructionId) → IsOneOf k (map (λ (i : InstructionId). i.0) ids)
+      → first_defining is id end ids ≡ None → ⊥
   in_block [] i h = i
   in_block (x ∷ ids) i h =
-      elim (defines is id end x) as (λ b. defines is id end x ≡ b → (if b then Some x else first_defining is id end ids) ≡ None → ⊥) [
+      elim (defines is id end x) as (λ b. defines is id end x ≡ b → (if b then Some x else first_defining is id end ids)
+      ≡ None → ⊥) [
         | true ↦ λ e none. cc
         | false ↦ λ e none. ⊎_elim (λ same. let t = found x (sym same) in cc) (λ later. in_block ids later none) i
       ] refl h
@@ -112,19 +124,26 @@ module _ (is : List Instruction) (id : IdentifierId) (end : ℕ) (k : ℕ) (foun
   neither None b h = (refl, h)
   neither (Some x) b h = cc
 
-  in_blocks : (bs : List (BlockId × BasicBlock)) → IsOneOf k (flat_map (λ (e : BlockId × BasicBlock). map (λ (i : InstructionId). i.0) e.1.instructions) bs) → first_defining_of is id end bs ≡ None → ⊥
+  in_blocks : (bs : List (BlockId × BasicBlock))
+      → IsOneOf k (flat_map (λ (e : BlockId × BasicBlock). map (λ (i : InstructionId). i.0) e.1.instructions) bs)
+      → first_defining_of is id end bs ≡ None → ⊥
   in_blocks [] i h = i
   in_blocks (b ∷ bs) i h =
       let n = neither (first_defining is id end b.1.instructions) (first_defining_of is id end bs) h in
       ⊎_elim (λ here. in_block b.1.instructions here n.0) (λ later. in_blocks bs later n.1)
-      (in_either (map (λ (j : InstructionId). j.0) b.1.instructions) (flat_map (λ (e : BlockId × BasicBlock). map (λ (j : InstructionId). j.0) e.1.instructions) bs) k i)
+      (in_either (map (λ (j : InstructionId). j.0) b.1.instructions)
+      (flat_map (λ (e : BlockId × BasicBlock). map (λ (j : InstructionId). j.0) e.1.instructions) bs) k i)
 
-instruction_found : (f : HirFunction) (id : IdentifierId) (end : ℕ) → instructions_listed None f ≡ Ok tt → InstructionCause f.instructions id.0 end → defined_by f id end ≡ None → ⊥
+instruction_found : (f : HirFunction) (id : IdentifierId) (end : ℕ) → instructions_listed None f ≡ Ok tt
+    → InstructionCause f.instructions id.0 end → defined_by f id end ≡ None → ⊥
 instruction_found f id end all c none =
     let at = index_of f.instructions c.0 c.1 in
-    let ends : ends_range id end c.0 ≡ true = both_one (c.0.id.0 + 1 == end) (writes id c.0) (ap (λ n. n == end) (sym c.3) ∙ eqb_itself end) (written_writes id c.0 c.2) in
+    let ends : ends_range id end c.0 ≡ true =
+    both_one (c.0.id.0 + 1 == end) (writes id c.0) (ap (λ n. n == end) (sym c.3) ∙ eqb_itself end)
+    (written_writes id c.0 c.2) in
     let found : (i : InstructionId) → i.0 ≡ at.0 → defines f.instructions id end i ≡ true =
-    λ i same. ap (λ n. option_map_or (ends_range id end) (slice_get f.instructions n) false) same ∙ ap (λ o. option_map_or (ends_range id end) o false) at.2 ∙ ends in
+    λ i same. ap (λ n. option_map_or (ends_range id end) (slice_get f.instructions n) false) same
+    ∙ ap (λ o. option_map_or (ends_range id end) o false) at.2 ∙ ends in
     in_blocks f.instructions id end at.0 found f.body.blocks (all_listed f all at.0 at.1) none
 
 -- ---- no cause
@@ -133,11 +152,15 @@ none_defined : (o : Option InstructionId) (r : Result Cause HirError) → define
 none_defined None r h = refl
 none_defined (Some i) r h = cc
 
-not_defined : (f : HirFunction) (id : IdentifierId) (end : ℕ) (b : Bool) → (if b then Ok Unset else defined_or (defined_by f id end) (mutated_or_not f id end)) ≡ Ok NoCause → (b ≡ false) × (defined_by f id end ≡ None)
+not_defined : (f : HirFunction) (id : IdentifierId) (end : ℕ) (b : Bool)
+    → (if b then Ok Unset else defined_or (defined_by f id end) (mutated_or_not f id end)) ≡ Ok NoCause → (b ≡ false)
+    × (defined_by f id end ≡ None)
 not_defined f id end true h = cc
 not_defined f id end false h = (refl, none_defined (defined_by f id end) (mutated_or_not f id end) h)
 
-pub never_none : (f : HirFunction) (id : IdentifierId) → instructions_listed None f ≡ Ok tt → (l : Listing) (old new : List Identifier) → listed f ≡ Ok l → Causes (graph_listed l) l.mutations f.instructions old new
+pub never_none : (f : HirFunction) (id : IdentifierId) → instructions_listed None f ≡ Ok tt
+    → (l : Listing) (old new : List Identifier) → listed f ≡ Ok l
+    → Causes (graph_listed l) l.mutations f.instructions old new
     → end_at old id.0 ≡ 0 → cause_of f id (end_at new id.0) ≡ Ok NoCause → ⊥
 never_none f id all l old new is causes unset h =
     let end = end_at new id.0 in

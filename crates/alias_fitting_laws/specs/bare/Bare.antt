@@ -22,9 +22,11 @@ but_param_effect (param.Spread s) = param.Spread (record s { place = but_effect 
 
 -- all of a function but the effects of its places
 abbrev pub but_place_effects : HirFunction → HirFunction
-but_place_effects f = record (but_effects f) { params = map but_param_effect f.params; context = map but_effect f.context }
+but_place_effects f = record (but_effects f)
+    { params = map but_param_effect f.params; context = map but_effect f.context }
 
--- all of a function but what is inferred of it: the effects of its places, what its instructions and terminals record, and its summary
+-- all of a function but what is inferred of it: the effects of its places, what its instructions and terminals record,
+-- and its summary
 abbrev pub bare : HirFunction → HirFunction
 bare f = but_place_effects (without_effects f)
 
@@ -36,7 +38,8 @@ without_range i = record i { mutable_range = record { start = record { 0 = 0 }; 
 
 -- all of the environment but ranges, scopes and the effects of context places
 abbrev pub but_ranges_and_contexts : Environment → Environment
-but_ranges_and_contexts env = record env { identifiers = map without_range env.identifiers; functions = map but_context env.functions }
+but_ranges_and_contexts env = record env
+    { identifiers = map without_range env.identifiers; functions = map but_context env.functions }
 
 -- the tables keep their rules, and no report says that an invariant was broken
 pub record TablesFit (env : Environment) : Type 0 where

@@ -1,5 +1,7 @@
--- What analysing nested functions changes of an environment breaks no rule: a function that the inference takes is taken again.
-use Rattle.std.specs.Prelude.{◌≡◌, ℕ, ◌+◌, ◌-◌, ◌≤◌, true, false, ◌&&◌, List, [], ◌∷◌, ◌++◌, length, slice_get, Option, Some, None, option_map, Ok, is_ok, is_none, refl, if◌then◌else◌}
+-- What analysing nested functions changes of an environment breaks no rule: a function that the inference takes is
+-- taken again.
+use Rattle.std.specs.Prelude.{◌≡◌, ℕ, ◌+◌, ◌-◌, ◌≤◌, true, false, ◌&&◌, List, [], ◌∷◌, ◌++◌, length, slice_get, Option}
+use Rattle.std.specs.Prelude.{Some, None, option_map, Ok, is_ok, is_none, refl, if◌then◌else◌}
 use Rattle.std.specs.List.{list_all}
 use Rattle.std.specs.Option.{option_map_or}
 use Rattle.std.proofs.Common.{zero, suc, ap, sym, ◌∙◌, subst, length-append, arith}
@@ -10,11 +12,14 @@ use Rattle.alias_hir.specs.Tables.{fresh_identifier, with_identifier}
 use Rattle.alias_hir.specs.declared.env.Environment.{Environment}
 use Rattle.alias_hir.specs.declared.hir.HirFunction.{HirFunction}
 use Rattle.alias_rules.specs.function_rules.Rules.{first_again, tables_fit, types_fit, signatures_fit}
-use Rattle.alias_rules.specs.Fitting.{effects_fit, effects_fit_at, reports_no_invariant, family_rules, function_rules, function_fits_with, function_fits}
-use Rattle.alias_rules.specs.Functions.{rule_holds, of_function, at_function, each_function, FamilyRule, Tables, Types, Signatures, Apart, Each, family_holds}
+use Rattle.alias_rules.specs.Fitting.{effects_fit, effects_fit_at, reports_no_invariant, family_rules, function_rules}
+use Rattle.alias_rules.specs.Fitting.{function_fits_with, function_fits}
+use Rattle.alias_rules.specs.Functions.{rule_holds, of_function, at_function, each_function, FamilyRule, Tables, Types}
+use Rattle.alias_rules.specs.Functions.{Signatures, Apart, Each, family_holds}
 use Rattle.alias_rules.specs.Nesting.{created_in, created_of, created_at, next_level, tree_from, tree_below}
 use Rattle.alias_rules.specs.RuleLaws.{fitting_tree, fitting_rules}
-use Rattle.alias_rules.specs.Sharing.{identifiers_of, identifiers_at, context_of, context_at, inside, outside, first_shared, in_two, nested_is_apart, identifiers_apart}
+use Rattle.alias_rules.specs.Sharing.{identifiers_of, identifiers_at, context_of, context_at, inside, outside}
+use Rattle.alias_rules.specs.Sharing.{first_shared, in_two, nested_is_apart, identifiers_apart}
 use Rattle.alias_rules.specs.declared.rules.Rule.{Rule}
 use Rattle.alias_rules.specs.declared.rules.Rule.TheVariants.{Numbers}
 use Rattle.alias_nesting_laws.specs.FittingLaws.{together}
@@ -28,7 +33,8 @@ use Rattle.alias_fitting_laws.specs.bare.Bare.{bare}
 use Rattle.alias_fitting_laws.specs.bare.BareIdentifiers.{flat_same, identifiers_across}
 use Rattle.alias_fitting_laws.specs.bare.BareLaws.{created_of_bare, identifiers_of_bare, context_of_bare, rule_of_bare}
 
--- what analysing nested functions changes of the environment, as the rules see it: tables grow, each slot holds a function that is the same
+-- what analysing nested functions changes of the environment, as the rules see it: tables grow, each slot holds a
+-- function that is the same
 -- but for what is inferred, and effects that fit still do
 pub record Evolves (env more : Environment) : Type 0 where
   pub identifiers : length env.identifiers ≤ length more.identifiers
@@ -40,7 +46,14 @@ pub record Evolves (env more : Environment) : Type 0 where
 
 -- nothing need change
 pub evolves_self : (env : Environment) → Evolves env env
-evolves_self env = record { identifiers = omega arith; types = omega arith; count = refl; slots = λ k. refl; effects = λ g h. h; effects_at = λ k h. h }
+evolves_self env = record {
+  identifiers = omega arith;
+  types = omega arith;
+  count = refl;
+  slots = λ k. refl;
+  effects = λ g h. h;
+  effects_at = λ k h. h;
+}
 
 -- one change and then another
 pub evolves_through : (a b c : Environment) → Evolves a b → Evolves b c → Evolves a c
@@ -63,11 +76,13 @@ module _ (env more : Environment) (creates : (k : ℕ) → created_at more k ≡
   tree_across zero found level = refl
   tree_across (suc n) found level =
       ap (λ r. if is_none (first_again [] (found ++ level)) then r else None)
-      (tree_across n (found ++ level) (next_level more level) ∙ ap (tree_from n env (found ++ level)) (flat_same (created_at more) (created_at env) creates level))
+      (tree_across n (found ++ level) (next_level more level)
+      ∙ ap (tree_from n env (found ++ level)) (flat_same (created_at more) (created_at env) creates level))
 
 -- ---- slots
 
-same_slot : {X : Type 0} (r : Option HirFunction → X) → ((f g : HirFunction) → bare f ≡ bare g → r (Some g) ≡ r (Some f))
+same_slot : {X : Type 0} (r : Option HirFunction → X)
+    → ((f g : HirFunction) → bare f ≡ bare g → r (Some g) ≡ r (Some f))
     → (o p : Option HirFunction) → option_map bare p ≡ option_map bare o → r p ≡ r o
 same_slot r h None None e = refl
 same_slot r h None (Some g) e = cc
@@ -76,9 +91,12 @@ same_slot r h (Some f) (Some g) e = h f g (let b : bare f ≡ bare g = cc in b)
 
 -- ---- an environment with as many identifiers, whose slots hold functions that are the same but for what is inferred
 
-module _ (env more : Environment) (as_many : length more.identifiers ≡ length env.identifiers) (count : length more.functions ≡ length env.functions)
+module _ (env more : Environment) (as_many : length more.identifiers ≡ length env.identifiers)
+    (count : length more.functions ≡ length env.functions)
     (slots : (k : ℕ) → option_map bare (slice_get more.functions k) ≡ option_map bare (slice_get env.functions k)) where
-  at_slot : {X : Type 0} (r : Option HirFunction → X) → ((f g : HirFunction) → bare f ≡ bare g → r (Some g) ≡ r (Some f)) → (k : ℕ) → r (slice_get more.functions k) ≡ r (slice_get env.functions k)
+  at_slot : {X : Type 0} (r : Option HirFunction → X)
+      → ((f g : HirFunction) → bare f ≡ bare g → r (Some g) ≡ r (Some f)) → (k : ℕ) → r (slice_get more.functions k)
+      ≡ r (slice_get env.functions k)
   at_slot r h k = same_slot r h (slice_get env.functions k) (slice_get more.functions k) (slots k)
 
   created_same : (k : ℕ) → created_at more k ≡ created_at env k
@@ -92,20 +110,27 @@ module _ (env more : Environment) (as_many : length more.identifiers ≡ length 
   identifiers_among (Some g) = identifiers_across env more contexts_same g
 
   identifiers_same : (k : ℕ) → identifiers_at more k ≡ identifiers_at env k
-  identifiers_same k = identifiers_among (slice_get more.functions k) ∙ at_slot (identifiers_of env) (identifiers_of_bare env) k
+  identifiers_same k = identifiers_among (slice_get more.functions k)
+      ∙ at_slot (identifiers_of env) (identifiers_of_bare env) k
 
   -- more, with the types and the reports of env, at which no rule of one function looks
   abbrev beside : Environment
   beside = record more { types = env.types; interned = env.interned }
 
   wider : Wider env beside
-  wider = record { identifiers = (let e = as_many in omega arith); types = omega arith; functions = (let e = count in omega arith); interned = grows_self env.interned }
+  wider = record {
+    identifiers = (let e = as_many in omega arith);
+    types = omega arith;
+    functions = (let e = count in omega arith);
+    interned = grows_self env.interned;
+  }
 
   rule_beside : (r : Rule) (o : Option FunctionId) (g : HirFunction) → rule_holds r beside o g ≡ rule_holds r more o g
   rule_beside Numbers o g = refl
   rule_beside r o g = refl
 
-  own_rule : (r : Rule) (o : Option FunctionId) (g : HirFunction) → rule_holds r env o g ≡ Ok tt → rule_holds r more o g ≡ Ok tt
+  own_rule : (r : Rule) (o : Option FunctionId) (g : HirFunction) → rule_holds r env o g ≡ Ok tt → rule_holds r more o g
+      ≡ Ok tt
   own_rule r o g h = sym (rule_beside r o g) ∙ rule_kept env beside wider r o g h
 
   of_rule : (r : Rule) (k : ℕ) (o : Option HirFunction) → of_function r env k o ≡ Ok tt → of_function r more k o ≡ Ok tt
@@ -114,21 +139,27 @@ module _ (env more : Environment) (as_many : length more.identifiers ≡ length 
 
   nested_rule : (r : Rule) (k : ℕ) → at_function r env k ≡ Ok tt → at_function r more k ≡ Ok tt
   nested_rule r k h =
-      at_slot (of_function r more k) (λ f g e. rule_of_bare r more (Some (record { 0 = k })) f g e) k ∙ of_rule r k (slice_get env.functions k) h
+      at_slot (of_function r more k) (λ f g e. rule_of_bare r more (Some (record { 0 = k })) f g e) k
+      ∙ of_rule r k (slice_get env.functions k) h
 
-  each_rule : (r : Rule) (g : HirFunction) (ks : List ℕ) → each_function r env g ks ≡ Ok tt → each_function r more g ks ≡ Ok tt
+  each_rule : (r : Rule) (g : HirFunction) (ks : List ℕ) → each_function r env g ks ≡ Ok tt → each_function r more g ks
+      ≡ Ok tt
   each_rule r g ks h =
-      then_passes (rule_holds r env None g) (all_pass (at_function r env) ks) (rule_holds r more None g) (all_pass (at_function r more) ks) (own_rule r None g) (passes_on (at_function r env) (at_function r more) (nested_rule r) ks) h
+      then_passes (rule_holds r env None g) (all_pass (at_function r env) ks) (rule_holds r more None g)
+      (all_pass (at_function r more) ks) (own_rule r None g)
+      (passes_on (at_function r env) (at_function r more) (nested_rule r) ks) h
 
   nested_apart : (g : HirFunction) (ks : List ℕ) (k : ℕ) → nested_is_apart more g ks k ≡ nested_is_apart env g ks k
   nested_apart g ks k =
-      shared_same env more created_same count identifiers_same contexts_same g ks k (identifiers_across env more contexts_same g)
+      shared_same env more created_same count identifiers_same contexts_same g ks k
+      (identifiers_across env more contexts_same g)
       ∙ ap (λ n. in_two k (first_shared n (inside env k) (outside env g ks k) (context_at env k))) as_many
 
   apart_same : (g : HirFunction) (ks : List ℕ) → identifiers_apart more g ks ≡ identifiers_apart env g ks
   apart_same g ks = all_same (nested_is_apart more g ks) (nested_is_apart env g ks) (nested_apart g ks) ks
 
-  family_there : tables_fit more ≡ Ok tt → types_fit more ≡ Ok tt → signatures_fit more ≡ Ok tt → (g : HirFunction) (ks : List ℕ) (rule : FamilyRule)
+  family_there : tables_fit more ≡ Ok tt → types_fit more ≡ Ok tt → signatures_fit more ≡ Ok tt
+      → (g : HirFunction) (ks : List ℕ) (rule : FamilyRule)
       → family_holds env g ks rule ≡ Ok tt → family_holds more g ks rule ≡ Ok tt
   family_there tables types signatures g ks Tables h = tables
   family_there tables types signatures g ks Types h = types
@@ -136,8 +167,11 @@ module _ (env more : Environment) (as_many : length more.identifiers ≡ length 
   family_there tables types signatures g ks Apart h = apart_same g ks ∙ h
   family_there tables types signatures g ks (Each r) h = each_rule r g ks h
 
-  rules_there : tables_fit more ≡ Ok tt → types_fit more ≡ Ok tt → signatures_fit more ≡ Ok tt → (g : HirFunction) (ks : List ℕ) → function_rules env g ks ≡ Ok tt → function_rules more g ks ≡ Ok tt
-  rules_there tables types signatures g ks = passes_on (family_holds env g ks) (family_holds more g ks) (family_there tables types signatures g ks) family_rules
+  rules_there : tables_fit more ≡ Ok tt → types_fit more ≡ Ok tt → signatures_fit more ≡ Ok tt
+      → (g : HirFunction) (ks : List ℕ) → function_rules env g ks ≡ Ok tt → function_rules more g ks ≡ Ok tt
+  rules_there tables types signatures g ks =
+      passes_on (family_holds env g ks) (family_holds more g ks) (family_there tables types signatures g ks)
+      family_rules
 
 -- ---- further identifiers
 
@@ -157,16 +191,20 @@ grown_length (suc n) env =
     let rest = grown_length n (with_identifier None env) in
     omega arith
 
-pub grown_fits : (n : ℕ) (env : Environment) (g : HirFunction) → function_fits g env ≡ true → function_fits g (grown n env) ≡ true
+pub grown_fits : (n : ℕ) (env : Environment) (g : HirFunction) → function_fits g env ≡ true
+    → function_fits g (grown n env) ≡ true
 grown_fits zero env g h = h
-grown_fits (suc n) env g h = grown_fits n (with_identifier None env) g (fits_kept env (with_identifier None env) (keeps_identifier None env) g h)
+grown_fits (suc n) env g h = grown_fits n (with_identifier None env) g
+    (fits_kept env (with_identifier None env) (keeps_identifier None env) g h)
 
 -- ---- what the inference takes
 
 some_is : (ks js : List ℕ) → ◌≡◌ {A = Option (List ℕ)} (Some ks) (Some js) → ks ≡ js
 some_is ks js e = cc
 
-module _ (env more : Environment) (e : Evolves env more) (tables : tables_fit more ≡ Ok tt) (types : types_fit more ≡ Ok tt) (signatures : signatures_fit more ≡ Ok tt) (g : HirFunction) (fits : function_fits g env ≡ true) where
+module _ (env more : Environment) (e : Evolves env more) (tables : tables_fit more ≡ Ok tt)
+    (types : types_fit more ≡ Ok tt) (signatures : signatures_fit more ≡ Ok tt) (g : HirFunction)
+    (fits : function_fits g env ≡ true) where
   -- how many identifiers there are more
   abbrev further : ℕ
   further = length more.identifiers - length env.identifiers
@@ -186,16 +224,19 @@ module _ (env more : Environment) (e : Evolves env more) (tables : tables_fit mo
 
   -- the functions below are the same
   tree_enough : tree_below more g ≡ tree_below enough g
-  tree_enough = tree_across enough more (created_same enough more enough_identifiers enough_count enough_slots) 63 [] (created_in g)
+  tree_enough = tree_across enough more (created_same enough more enough_identifiers enough_count enough_slots) 63 []
+      (created_in g)
 
   tree_of_enough : tree_below enough g ≡ tree_below env g
-  tree_of_enough = tree_across env enough (λ k. ap (λ fs. created_of (slice_get fs k)) (grown_functions further env)) 63 [] (created_in g)
+  tree_of_enough = tree_across env enough (λ k. ap (λ fs. created_of (slice_get fs k)) (grown_functions further env)) 63
+      [] (created_in g)
 
   rules_enough : (ks : List ℕ) → tree_below enough g ≡ Some ks → function_rules more g ks ≡ Ok tt
   rules_enough ks t =
       let s = fitting_tree g enough (grown_fits further env g fits) in
       subst (λ js. function_rules more g js ≡ Ok tt) (some_is s.0 ks (sym s.1 ∙ t))
-      (rules_there enough more enough_identifiers enough_count enough_slots tables types signatures g s.0 (fitting_rules g enough s.0 s.2))
+      (rules_there enough more enough_identifiers enough_count enough_slots tables types signatures g s.0
+      (fitting_rules g enough s.0 s.2))
 
   fits_more : reports_no_invariant more ≡ true → function_fits g more ≡ true
   fits_more reports =
@@ -206,13 +247,19 @@ module _ (env more : Environment) (e : Evolves env more) (tables : tables_fit mo
       let c : (is_ok (function_rules env g ks) ≡ true) × (effects_fit env g ≡ true) = both_true _ _ b.0 in
       let tree : tree_below enough g ≡ Some ks = tree_of_enough ∙ t.1 in
       let rules : is_ok (function_rules more g ks) ≡ true = ap is_ok (rules_enough ks tree) in
-      let below : list_all (effects_fit_at more) ks ≡ true = all_weaker (effects_fit_at env) (effects_fit_at more) e.effects_at ks b.1 in
+      let below : list_all (effects_fit_at more) ks ≡ true =
+      all_weaker (effects_fit_at env) (effects_fit_at more) e.effects_at ks b.1 in
       let with_below : function_fits_with more g ks ≡ true =
-      together (is_ok (function_rules more g ks) && effects_fit more g && list_all (effects_fit_at more) ks) (reports_no_invariant more)
-      (together (is_ok (function_rules more g ks) && effects_fit more g) (list_all (effects_fit_at more) ks) (together (is_ok (function_rules more g ks)) (effects_fit more g) rules (e.effects g c.1)) below) reports in
+      together (is_ok (function_rules more g ks) && effects_fit more g && list_all (effects_fit_at more) ks)
+      (reports_no_invariant more)
+      (together (is_ok (function_rules more g ks) && effects_fit more g) (list_all (effects_fit_at more) ks)
+      (together (is_ok (function_rules more g ks)) (effects_fit more g) rules (e.effects g c.1)) below) reports in
       ap (λ (o : Option (List ℕ)). option_map_or (function_fits_with more g) o false) (tree_enough ∙ tree) ∙ with_below
 
--- a function that the inference takes is taken again over what its environment has become, where the tables keep their rules
-pub fits_evolved : (env more : Environment) → Evolves env more → tables_fit more ≡ Ok tt → types_fit more ≡ Ok tt → signatures_fit more ≡ Ok tt → reports_no_invariant more ≡ true
+-- a function that the inference takes is taken again over what its environment has become, where the tables keep their
+-- rules
+pub fits_evolved : (env more : Environment) → Evolves env more → tables_fit more ≡ Ok tt → types_fit more ≡ Ok tt
+    → signatures_fit more ≡ Ok tt → reports_no_invariant more ≡ true
     → (g : HirFunction) → function_fits g env ≡ true → function_fits g more ≡ true
-fits_evolved env more e tables types signatures reports g fits = fits_more env more e tables types signatures g fits reports
+fits_evolved env more e tables types signatures reports g fits =
+    fits_more env more e tables types signatures g fits reports

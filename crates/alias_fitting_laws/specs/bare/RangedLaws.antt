@@ -36,16 +36,22 @@ summary_slot : (o : Option HirFunction) → summary (option_map but_context o) �
 summary_slot None = refl
 summary_slot (Some f) = refl
 
-fit_slot : (env : Environment) (o : Option HirFunction) → option_map_or (effects_fit env) (option_map but_context o) true ≡ option_map_or (effects_fit env) o true
+fit_slot : (env : Environment) (o : Option HirFunction)
+    → option_map_or (effects_fit env) (option_map but_context o) true ≡ option_map_or (effects_fit env) o true
 fit_slot env None = refl
 fit_slot env (Some f) = refl
 
-module _ (env more : Environment) (w : Wider env more) (same : map but_context more.functions ≡ map but_context env.functions) where
-  slot_alike : (k : ℕ) → option_map but_context (slice_get more.functions k) ≡ option_map but_context (slice_get env.functions k)
-  slot_alike k = sym (slice_get-map but_context more.functions k) ∙ ap (λ fs. slice_get fs k) same ∙ slice_get-map but_context env.functions k
+module _ (env more : Environment) (w : Wider env more)
+    (same : map but_context more.functions ≡ map but_context env.functions) where
+  slot_alike : (k : ℕ) → option_map but_context (slice_get more.functions k)
+      ≡ option_map but_context (slice_get env.functions k)
+  slot_alike k = sym (slice_get-map but_context more.functions k) ∙ ap (λ fs. slice_get fs k) same
+      ∙ slice_get-map but_context env.functions k
 
   -- whatever doesn't look at the effects of context places is the same of what stands in a slot
-  slot_same : {X : Type 0} (g : Option HirFunction → X) → ((o : Option HirFunction) → g (option_map but_context o) ≡ g o) → (k : ℕ) → g (slice_get more.functions k) ≡ g (slice_get env.functions k)
+  slot_same : {X : Type 0} (g : Option HirFunction → X)
+      → ((o : Option HirFunction) → g (option_map but_context o) ≡ g o) → (k : ℕ) → g (slice_get more.functions k)
+      ≡ g (slice_get env.functions k)
   slot_same g h k = sym (h (slice_get more.functions k)) ∙ ap g (slot_alike k) ∙ h (slice_get env.functions k)
 
   summaries_same : (f : FunctionId) → summary (slice_get more.functions f.0) ≡ summary (slice_get env.functions f.0)
@@ -59,7 +65,8 @@ module _ (env more : Environment) (w : Wider env more) (same : map but_context m
     count = sym (length-map more.functions but_context) ∙ ap length same ∙ length-map env.functions but_context;
     slots = slot_same (option_map bare) bare_slot;
     effects = effects_kept env more w summaries_same;
-    effects_at = λ k h. slot_same (λ o. option_map_or (effects_fit more) o true) (fit_slot more) k ∙ fit_kept env more w summaries_same (slice_get env.functions k) h;
+    effects_at = λ k h. slot_same (λ o. option_map_or (effects_fit more) o true) (fit_slot more) k
+        ∙ fit_kept env more w summaries_same (slice_get env.functions k) h;
   }
 
 -- ---- tables
@@ -70,19 +77,23 @@ entry_fits n m i = do
   _ ← below Declarations n i.declaration_id.0
   below Types m i.type_.0
 
-rules_without_ranges : (n m : ℕ) (is : List Identifier) → all_pass (entry_fits n m) (map without_range is) ≡ all_pass (entry_fits n m) is
+rules_without_ranges : (n m : ℕ) (is : List Identifier) → all_pass (entry_fits n m) (map without_range is)
+    ≡ all_pass (entry_fits n m) is
 rules_without_ranges n m is = all_pass_mapped (entry_fits n m) without_range (entry_fits n m) (λ i. refl) is
 
 length_of_alike : (is js : List Identifier) → map without_range js ≡ map without_range is → length js ≡ length is
 length_of_alike is js h = sym (length-map js without_range) ∙ ap length h ∙ length-map is without_range
 
 -- tables whose identifiers differ in ranges and scopes alone keep the same rules
-tables_alike : (env more : Environment) → map without_range more.identifiers ≡ map without_range env.identifiers → more.types ≡ env.types → tables_fit env ≡ Ok tt → tables_fit more ≡ Ok tt
+tables_alike : (env more : Environment) → map without_range more.identifiers ≡ map without_range env.identifiers
+    → more.types ≡ env.types → tables_fit env ≡ Ok tt → tables_fit more ≡ Ok tt
 tables_alike env more ids types h =
     sym (rules_without_ranges (length more.identifiers) (length more.types) more.identifiers)
     ∙ ap (all_pass (entry_fits (length more.identifiers) (length more.types))) ids
-    ∙ ap (λ n. all_pass (entry_fits n (length more.types)) (map without_range env.identifiers)) (length_of_alike env.identifiers more.identifiers ids)
-    ∙ ap (λ (ts : List Ty). all_pass (entry_fits (length env.identifiers) (length ts)) (map without_range env.identifiers)) types
+    ∙ ap (λ n. all_pass (entry_fits n (length more.types)) (map without_range env.identifiers))
+    (length_of_alike env.identifiers more.identifiers ids)
+    ∙ ap (λ (ts : List Ty). all_pass (entry_fits (length env.identifiers) (length ts))
+    (map without_range env.identifiers)) types
     ∙ rules_without_ranges (length env.identifiers) (length env.types) env.identifiers
     ∙ h
 
@@ -112,10 +123,17 @@ module _ (env more : Environment) (same : but_ranges_and_contexts more ≡ but_r
 
   wider_alike : Wider env more
   wider_alike =
-      let i : length more.identifiers ≡ length env.identifiers = length_of_alike env.identifiers more.identifiers ids_same in
+      let i : length more.identifiers ≡ length env.identifiers =
+      length_of_alike env.identifiers more.identifiers ids_same in
       let t : length more.types ≡ length env.types = ap length types_same in
-      let f : length more.functions ≡ length env.functions = sym (length-map more.functions but_context) ∙ ap length contexts_same ∙ length-map env.functions but_context in
-      record { identifiers = omega arith; types = omega arith; functions = omega arith; interned = grows_equal env.interned more.interned interned_same }
+      let f : length more.functions ≡ length env.functions = sym (length-map more.functions but_context)
+      ∙ ap length contexts_same ∙ length-map env.functions but_context in
+      record {
+        identifiers = omega arith;
+        types = omega arith;
+        functions = omega arith;
+        interned = grows_equal env.interned more.interned interned_same;
+      }
 
   abbrev reported : List Report → List Interned → Environment
   reported es is = record env { errors = es; interned = is }

@@ -1,4 +1,5 @@
--- What analysing nested functions leaves of an environment, over passes that may drop instructions, as the rules see it.
+-- What analysing nested functions leaves of an environment, over passes that may drop instructions, as the rules see
+-- it.
 use Rattle.std.specs.Prelude.{◌≡◌, ℕ, ◌≤◌, true, Ok, List, map, length, slice_get}
 use Rattle.std.specs.Option.{option_map}
 use Rattle.alias_fitting_laws.specs.bare.Bare.{but_param_effect}
@@ -18,7 +19,8 @@ use Rattle.alias_rules.specs.Sharing.{identifiers_at}
 use Rattle.alias_rules.specs.declared.rules.Rule.{Rule}
 use Rattle.alias_visit.specs.Places.{identifiers_in}
 
--- what others see of a function, but for the effects of the places: its parameters, its context and what is said of it, and the place of what it returns
+-- what others see of a function, but for the effects of the places: its parameters, its context and what is said of it,
+-- and the place of what it returns
 pub record Interface : Type 0 where
   pub params : List ParamPattern
   pub context : List Place
@@ -26,13 +28,20 @@ pub record Interface : Type 0 where
   pub returns : Place
 
 abbrev pub interface : HirFunction → Interface
-interface f = record { params = map but_param_effect f.params; context = map but_effect f.context; context_values = f.context_values; returns = f.returns }
+interface f = record {
+  params = map but_param_effect f.params;
+  context = map but_effect f.context;
+  context_values = f.context_values;
+  returns = f.returns;
+}
 
 -- each slot holds its own function: one with the same interface
 abbrev pub SlotsKept : Environment → Environment → Type 0
-SlotsKept env more = (k : ℕ) → option_map interface (slice_get more.functions k) ≡ option_map interface (slice_get env.functions k)
+SlotsKept env more = (k : ℕ) → option_map interface (slice_get more.functions k)
+    ≡ option_map interface (slice_get env.functions k)
 
--- Tables grow. Each slot holds its own function, which creates no further function, holds no further identifier, keeps the rules that it kept, and has
+-- Tables grow. Each slot holds its own function, which creates no further function, holds no further identifier, keeps
+-- the rules that it kept, and has
 -- effects that fit where they did; and effects that fit still do.
 pub record Prunes (env more : Environment) : Type 0 where
   pub identifiers : length env.identifiers ≤ length more.identifiers

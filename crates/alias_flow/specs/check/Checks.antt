@@ -1,5 +1,6 @@
 -- A check of entry states against a flow over numbered blocks: the first fault, or what the steps from them record.
-use Rattle.std.specs.Prelude.{◌≡◌, ℕ, Bool, true, false, if◌then◌else◌, List, [], ◌∷◌, Option, Some, None, Result, Ok, Err, ⊤, slice_set, replicate}
+use Rattle.std.specs.Prelude.{◌≡◌, ℕ, Bool, true, false, if◌then◌else◌, List, [], ◌∷◌, Option, Some, None, Result, Ok}
+use Rattle.std.specs.Prelude.{Err, ⊤, slice_set, replicate}
 use Rattle.alias_base.specs.Answer.{◌>>=◌}
 use Rattle.alias_lattice.specs.Flows.{Outcome, Stepped, Refused}
 use Rattle.alias_flow.specs.Machine.{Rules, SolverState, up, send, send_all}
@@ -32,9 +33,11 @@ module _ {P : Type 0} (below : P → P → Bool) where
   -- the first of the blocks whose entry state isn't below what arrives
   abbrev pub first_not_joined : List (Option P) → List (Option P) → List ℕ → Option ℕ
   first_not_joined entries arriving [] = None
-  first_not_joined entries arriving (b ∷ bs) = if is_joined (entry_at entries b) (entry_at arriving b) then first_not_joined entries arriving bs else Some b
+  first_not_joined entries arriving (b ∷ bs) = if is_joined (entry_at entries b) (entry_at arriving b)
+      then first_not_joined entries arriving bs else Some b
 
-module _ {P T K C : Type 0} (join : P → P → P) (below : P → P → Bool) (rules : Rules P T K C) (entries : List (Option P)) where
+module _ {P T K C : Type 0} (join : P → P → P) (below : P → P → Bool) (rules : Rules P T K C)
+    (entries : List (Option P)) where
   -- at first the initial state arrives at the entry
   abbrev pub first_arriving : List (Option P)
   first_arriving = send join rules.flow.initial (replicate rules.blocks None) rules.flow.entry
@@ -52,21 +55,28 @@ module _ {P T K C : Type 0} (below : P → P → Bool) (rules : Rules P T K C) (
 abbrev pub Arriving : (P T K : Type 0) → Type 0
 Arriving P T K = SolverState (List (Option P)) T K
 
-module _ {P T K C D : Type 0} (join : P → P → P) (below : P → P → Bool) (rules : Rules P T K C) (differs : T → ℕ → K → Option D) (entries : List (Option P)) where
+module _ {P T K C D : Type 0} (join : P → P → P) (below : P → P → Bool) (rules : Rules P T K C)
+    (differs : T → ℕ → K → Option D) (entries : List (Option P)) where
   abbrev pub passed : ℕ → P → T → K → Arriving P T K → Option D → Option ℕ → Result (Arriving P T K) (Unsolved C D)
   passed b y tables k w (Some d) e = Err (fault.Differs b d)
   passed b y tables k w None (Some e) = Err (fault.NotBelow b e)
-  passed b y tables k w None None = Ok (record { progress = send_all join y w.progress (rules.flow.edges b); tables = tables; recorded = slice_set w.recorded b (Some k) })
+  passed b y tables k w None None = Ok (record {
+    progress = send_all join y w.progress (rules.flow.edges b);
+    tables = tables;
+    recorded = slice_set w.recorded b (Some k);
+  })
 
   abbrev pub outcome_checked : ℕ → Arriving P T K → Outcome P T K C → Result (Arriving P T K) (Unsolved C D)
   outcome_checked b w (Refused c) = Err (fault.Step b c)
-  outcome_checked b w (Stepped y tables k) = passed b y tables k w (differs tables b k) (first_not_above below entries y (rules.flow.edges b))
+  outcome_checked b w (Stepped y tables k) =
+      passed b y tables k w (differs tables b k) (first_not_above below entries y (rules.flow.edges b))
 
   abbrev pub state_checked : ℕ → Arriving P T K → Option P → Result (Arriving P T K) (Unsolved C D)
   state_checked b w None = Ok w
   state_checked b w (Some s) = outcome_checked b w (rules.flow.step w.tables b s)
 
-  -- a block steps from its entry state, if it has one: without a refusal, recording what is said, to a state below that of each successor
+  -- a block steps from its entry state, if it has one: without a refusal, recording what is said, to a state below that
+  -- of each successor
   abbrev pub block_checked : ℕ → Arriving P T K → Result (Arriving P T K) (Unsolved C D)
   block_checked b w = state_checked b w (entry_at entries b)
 
@@ -89,14 +99,16 @@ module _ {P T K C D : Type 0} (join : P → P → P) (below : P → P → Bool) 
 
   -- the check of all entry states, from these tables and what is recorded
   abbrev pub solution_checked : T → List (Option K) → Result (Arriving P T K) (Unsolved C D)
-  solution_checked tables recorded = begun_with tables recorded (begins join below rules entries) >>= (λ w. blocks_checked (up 0 rules.blocks) w >>= joins_checked)
+  solution_checked tables recorded = begun_with tables recorded (begins join below rules entries)
+      >>= (λ w. blocks_checked (up 0 rules.blocks) w >>= joins_checked)
 
 -- why the step of the block gave no state
 abbrev pub refused_at : {E D : Type 0} → ℕ → StepFault E → Unsolved E D
 refused_at b (step.Refused e) = fault.Step b e
 refused_at b (step.Memory e) = fault.Memory e
 
--- a check comes to what is stated, or finds the fault that is stated, where the cause of a refusal is what the fault stands for. Out of memory is free: it can come in the place of any answer
+-- a check comes to what is stated, or finds the fault that is stated, where the cause of a refusal is what the fault
+-- stands for. Out of memory is free: it can come in the place of any answer
 abbrev pub ChecksInto : {A B C D E : Type 0} → (E → C) → Result A (Unsolved C D) → Result B (Unsolved E D) → A → Type 0
 ChecksInto cause stated (Ok u) w = stated ≡ Ok w
 ChecksInto cause stated (Err fault.Initial) w = stated ≡ Err fault.Initial

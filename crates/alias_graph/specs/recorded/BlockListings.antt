@@ -1,5 +1,6 @@
 -- What the blocks of a function record, and the function.
-use Rattle.std.specs.Prelude.{ℕ, ◌+◌, List, [], ◌∷◌, ◌++◌, Option, Some, None, Result, Ok, if◌then◌else◌, nat_lt, map, position, replicate, length, slice_get, slice_set}
+use Rattle.std.specs.Prelude.{ℕ, ◌+◌, List, [], ◌∷◌, ◌++◌, Option, Some, None, Result, Ok, if◌then◌else◌, nat_lt, map}
+use Rattle.std.specs.Prelude.{position, replicate, length, slice_get, slice_set}
 use Rattle.std.specs.Option.{option_map_or}
 use Rattle.std.specs.Map.{keys_of}
 use Rattle.alias_base.specs.Answer.{◌>>=◌}
@@ -34,7 +35,8 @@ pending_more pending k e = option_map_or (λ es. slice_set pending k (es ++ e �
 -- an event goes in now where its block is done, of which there are k, or waits for the end of its block
 abbrev pub added_or_pending : ℕ → Option ℕ → GraphEvent → Listing → Listing
 added_or_pending k None e l = l
-added_or_pending k (Some p) e l = if nat_lt p k then with_event e l else record l { pending = pending_more l.pending p e }
+added_or_pending k (Some p) e l = if nat_lt p k then with_event e l
+    else record l { pending = pending_more l.pending p e }
 
 abbrev pub link_of : ℕ → Place → Place → GraphEvent
 link_of index a x = event.Link Alias index a.identifier x.identifier
@@ -43,7 +45,8 @@ abbrev pub slot_of_block : List (BlockId × BasicBlock) → BlockId → Option �
 slot_of_block blocks q = position (same_block q) (keys_of blocks)
 
 -- an operand that comes by the edge from a block, where k blocks are done
-abbrev pub operand_listed : List (BlockId × BasicBlock) → ℕ → Place → BlockId × Place → Listing → Result Listing HirError
+abbrev pub operand_listed : List (BlockId × BasicBlock) → ℕ → Place → BlockId × Place → Listing
+    → Result Listing HirError
 operand_listed blocks k x e l = do
   after ← position_after l.next
   Ok (added_or_pending k (slot_of_block blocks e.0) (link_of l.next e.1 x) (record l { next = after }))
@@ -131,7 +134,14 @@ abbrev pub first_events : HirFunction → List GraphEvent
 first_events f = map (λ p. object_of (param_place p)) f.params ++ map object_of f.context ++ object_of f.returns ∷ []
 
 abbrev pub first_listing : HirFunction → Listing
-first_listing f = record { next = 0; events = first_events f; mutations = []; renders = []; pending = replicate (length f.body.blocks) []; summary = [] }
+first_listing f = record {
+  next = 0;
+  events = first_events f;
+  mutations = [];
+  renders = [];
+  pending = replicate (length f.body.blocks) [];
+  summary = [];
+}
 
 -- what the function's effects record
 abbrev pub listed : HirFunction → Result Listing HirError

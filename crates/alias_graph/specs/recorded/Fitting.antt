@@ -69,7 +69,8 @@ pub record FunctionFits (n : ℕ) (f : HirFunction) : Type 0 where
   pub blocks : AllOf (BlockFits n) f.body.blocks
   pub instructions : AllOf (InstructionFits n) f.instructions
 
--- what events make is below n, those that wait too; orders have one past them, and mutations stand before the next position
+-- what events make is below n, those that wait too; orders have one past them, and mutations stand before the next
+-- position
 pub record ListingFits (n : ℕ) (l : Listing) : Type 0 where
   pub events : AllOf (EventFits n) l.events
   pub pending : AllOf (AllOf (EventFits n)) l.pending

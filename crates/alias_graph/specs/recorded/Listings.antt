@@ -1,5 +1,7 @@
--- What the effects of instructions record: the events of the alias graph, mutations and renders at their positions, and what the summary begins with.
-use Rattle.std.specs.Prelude.{◌≡◌, ℕ, ◌+◌, Bool, true, false, List, [], ◌∷◌, ◌++◌, Option, Some, None, Result, Ok, Err, ⊤, if◌then◌else◌, nat_lt, slice_get}
+-- What the effects of instructions record: the events of the alias graph, mutations and renders at their positions, and
+-- what the summary begins with.
+use Rattle.std.specs.Prelude.{◌≡◌, ℕ, ◌+◌, Bool, true, false, List, [], ◌∷◌, ◌++◌, Option, Some, None, Result, Ok, Err}
+use Rattle.std.specs.Prelude.{⊤, if◌then◌else◌, nat_lt, slice_get}
 use Rattle.alias_base.specs.Answer.{◌>>=◌}
 use Rattle.alias_base.specs.declared.ids.InstructionId.{InstructionId}
 use Rattle.alias_base.specs.declared.ids.EvaluationOrder.{EvaluationOrder}
@@ -58,10 +60,23 @@ abbrev pub created_from : Place → Place → Listing → Result Listing HirErro
 created_from a x = positioned (λ index. event.CreateFrom index a.identifier x.identifier)
 
 -- the mutation is recorded, at the next position
-abbrev pub mutated : InstructionId → EvaluationOrder → Place → Bool → MutationKind → Option MutationReason → Listing → Result Listing HirError
+abbrev pub mutated : InstructionId → EvaluationOrder → Place → Bool → MutationKind → Option MutationReason → Listing
+    → Result Listing HirError
 mutated i order x transitive kind reason l = do
   after ← position_after l.next
-  Ok (record l { next = after; mutations = l.mutations ++ record { index = l.next; instruction = i; order = order; place = x; transitive = transitive; kind = kind; reason = reason } ∷ [] })
+  Ok (record l {
+    next = after;
+    mutations = l.mutations
+        ++ record {
+          index = l.next;
+          instruction = i;
+          order = order;
+          place = x;
+          transitive = transitive;
+          kind = kind;
+          reason = reason;
+        } ∷ [];
+  })
 
 -- the effect goes into the summary
 abbrev pub summarized : AliasingEffect → Listing → Listing
@@ -71,7 +86,11 @@ summarized e l = record l { summary = l.summary ++ e ∷ [] }
 abbrev pub rendered : InstructionId → Place → Listing → Result Listing HirError
 rendered i x l = do
   after ← position_after l.next
-  Ok (record l { next = after; renders = l.renders ++ record { index = l.next; instruction = i; place = x } ∷ []; summary = l.summary ++ effect.Render x ∷ [] })
+  Ok (record l {
+    next = after;
+    renders = l.renders ++ record { index = l.next; instruction = i; place = x } ∷ [];
+    summary = l.summary ++ effect.Render x ∷ [];
+  })
 
 -- what an effect of an instruction of this order records
 abbrev pub effect_listed : InstructionId → EvaluationOrder → AliasingEffect → Listing → Result Listing HirError
@@ -96,7 +115,8 @@ effect_listed i o (effect.CreateFunction x f captures) l = Ok (made (Function f)
 
 -- ---- an instruction
 
-abbrev pub effects_in : InstructionId → EvaluationOrder → Option (List AliasingEffect) → Listing → Result Listing HirError
+abbrev pub effects_in : InstructionId → EvaluationOrder → Option (List AliasingEffect) → Listing
+    → Result Listing HirError
 effects_in i o None l = Ok l
 effects_in i o (Some es) l = each (effect_listed i o) es l
 

@@ -13,7 +13,8 @@ use Rattle.alias_graph.specs.declared.recorded.recording.RecordedGraph.{Recorded
 abbrev pub graph_listed : Listing → Nodes
 graph_listed l = graph_of (events_of l.events)
 
--- the graph has at each node exactly the links of the events that remain, and the mutations and renders are those listed
+-- the graph has at each node exactly the links of the events that remain, and the mutations and renders are those
+-- listed
 pub record IsGraphOf (l : Listing) (r : RecordedGraph) : Type 0 where
   pub graph : r.graph ≡ graph_listed l
   pub remaining : (id : IdentifierId) → node_at r.graph id ≡ remaining_at (events_of l.events) id

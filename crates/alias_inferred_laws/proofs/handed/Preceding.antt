@@ -1,5 +1,7 @@
--- While functions are analysed, one that was analysed before another stands as the effects pass on the other one found it.
-use Rattle.std.specs.Prelude.{◌≡◌, ◌⊎◌, ℕ, nat_eq, true, false, List, [], ◌∷◌, ◌++◌, Option, Some, None, Result, Ok, map, option_map, slice_get, refl}
+-- While functions are analysed, one that was analysed before another stands as the effects pass on the other one found
+-- it.
+use Rattle.std.specs.Prelude.{◌≡◌, ◌⊎◌, ℕ, nat_eq, true, false, List, [], ◌∷◌, ◌++◌, Option, Some, None, Result, Ok}
+use Rattle.std.specs.Prelude.{map, option_map, slice_get, refl}
 use Rattle.std.proofs.Common.{zero, suc, inl, inr, ⊎_elim, ap, sym, ◌∙◌, subst}
 use Rattle.std.proofs.lemmas.Bool.{eqb-true}
 use Rattle.alias_base.specs.declared.ids.FunctionId.{FunctionId}
@@ -10,7 +12,8 @@ use Rattle.alias_rules.specs.function_rules.Rules.{is_among}
 use Rattle.alias_nesting_laws.specs.SlotLaws.{set_other}
 use Rattle.alias_nesting_laws.specs.Slots.{with_function}
 use Rattle.alias_range_pass.specs.places.Keeping.{but_context}
-use Rattle.alias_nested.specs.Analysis.{numbered, Analysed, Analysis, each, function_analysed, taken_analysed, put_back, found_analysed, slot_analysed, analysed}
+use Rattle.alias_nested.specs.Analysis.{numbered, Analysed, Analysis, each, function_analysed, taken_analysed, put_back}
+use Rattle.alias_nested.specs.Analysis.{found_analysed, slot_analysed, analysed}
 use Rattle.alias_nested.specs.Created.{created_functions}
 use Rattle.alias_nested.specs.Order.{SameInSlot}
 use Rattle.alias_nested.specs.Slots.{emptied}
@@ -33,7 +36,8 @@ pub record IsNew (fs : List Analysed) (y : Analysed) (xs ys : List Analysed) (x 
   pub before : fs ≡ xs
   pub same : y ≡ x
 
-pub new_or_there : (fs xs ys : List Analysed) (x y : Analysed) → fs ++ y ∷ [] ≡ xs ++ x ∷ ys → IsNew fs y xs ys x ⊎ WasThere fs y xs ys x
+pub new_or_there : (fs xs ys : List Analysed) (x y : Analysed) → fs ++ y ∷ [] ≡ xs ++ x ∷ ys → IsNew fs y xs ys x
+    ⊎ WasThere fs y xs ys x
 new_or_there [] [] ys x y h = let same : y ≡ x = cc in inl (record { before = refl; same = same })
 new_or_there [] (z ∷ []) ys x y h = cc
 new_or_there [] (z ∷ w ∷ xs) ys x y h = cc
@@ -45,11 +49,14 @@ new_or_there (f ∷ fs) (z ∷ xs) ys x y h =
     let same : f ≡ z = cc in
     let rest : fs ++ y ∷ [] ≡ xs ++ x ∷ ys = cc in
     ⊎_elim
-    (λ (n : IsNew fs y xs ys x). inl (record { before = ap (λ zs. f ∷ zs) n.before ∙ ap (λ w. w ∷ xs) same; same = n.same }))
-    (λ (t : WasThere fs y xs ys x). inr (record { rest = t.rest; all = ap (λ zs. f ∷ zs) t.all ∙ ap (λ w. w ∷ xs ++ x ∷ t.rest) same; behind = t.behind }))
+    (λ (n : IsNew fs y xs ys x). inl (record
+    { before = ap (λ zs. f ∷ zs) n.before ∙ ap (λ w. w ∷ xs) same; same = n.same }))
+    (λ (t : WasThere fs y xs ys x). inr (record
+    { rest = t.rest; all = ap (λ zs. f ∷ zs) t.all ∙ ap (λ w. w ∷ xs ++ x ∷ t.rest) same; behind = t.behind }))
     (new_or_there fs xs ys x y rest)
 
-named_last : (id : FunctionId) (xs : List Analysed) (y : Analysed) → y.solved.function ≡ Some id → IsNamed id (xs ++ y ∷ [])
+named_last : (id : FunctionId) (xs : List Analysed) (y : Analysed) → y.solved.function ≡ Some id
+    → IsNamed id (xs ++ y ∷ [])
 named_last id [] y e = inl (sym e)
 named_last id (x ∷ xs) y e = inr (named_last id xs y e)
 
@@ -59,41 +66,54 @@ named_more id (x ∷ xs) zs i = ⊎_elim (λ here. inl here) (λ there. inr (nam
 
 -- ---- what stays
 
--- one that was analysed before another, and isn't out or analysed again, stands as the effects pass on the other one found it
+-- one that was analysed before another, and isn't out or analysed again, stands as the effects pass on the other one
+-- found it
 abbrev pub Stay : List ℕ → Analysis → Type 0
 Stay out a =
-    (xs ys : List Analysed) (x : Analysed) (id : FunctionId) → a.functions ≡ xs ++ x ∷ ys → IsNamed id xs → (IsNamed id (x ∷ ys) → ⊥) → is_among out id.0 ≡ false → SameInSlot x.env a.env id.0
+    (xs ys : List Analysed) (x : Analysed) (id : FunctionId) → a.functions ≡ xs ++ x ∷ ys → IsNamed id xs
+    → (IsNamed id (x ∷ ys) → ⊥) → is_among out id.0 ≡ false → SameInSlot x.env a.env id.0
 
 abbrev Taken : Type 0
 Taken = HirFunction × Analysis
 
-taken_out : (id : FunctionId) (out : List ℕ) (a : Analysis) (g : HirFunction) → Stay out a → Stay (id.0 ∷ out) (record a { env = with_function id g a.env })
+taken_out : (id : FunctionId) (out : List ℕ) (a : Analysis) (g : HirFunction) → Stay out a
+    → Stay (id.0 ∷ out) (record a { env = with_function id g a.env })
 taken_out id out a g stay = λ xs ys x j split named once free.
     let n = neither (nat_eq j.0 id.0) (is_among out j.0) free in
-    ap (option_map but_context) (set_other a.env.functions id.0 j.0 g (λ e. differs j.0 id.0 n.0 e)) ∙ stay xs ys x j split named once n.1
+    ap (option_map but_context) (set_other a.env.functions id.0 j.0 g (λ e. differs j.0 id.0 n.0 e))
+    ∙ stay xs ys x j split named once n.1
 
-module _ (id : FunctionId) (out : List ℕ) (a : Analysis) (s : HirFunction × Analysis) (y : Analysed) (at : y.env ≡ a.env) (entered : Entered id a s y) where
+module _ (id : FunctionId) (out : List ℕ) (a : Analysis) (s : HirFunction × Analysis) (y : Analysed)
+    (at : y.env ≡ a.env) (entered : Entered id a s y) where
   -- the function that was analysed last is among those from any one on
   named_on : (xs ys : List Analysed) (x : Analysed) → a.functions ++ y ∷ [] ≡ xs ++ x ∷ ys → IsNamed id (x ∷ ys)
   named_on xs ys x split =
       ⊎_elim
       (λ (n : IsNew a.functions y xs ys x). inl (sym entered.number ∙ ap (λ (z : Analysed). z.solved.function) n.same))
-      (λ (t : WasThere a.functions y xs ys x). inr (subst (IsNamed id) (sym t.behind) (named_last id t.rest y entered.number)))
+      (λ (t : WasThere a.functions y xs ys x).
+      inr (subst (IsNamed id) (sym t.behind) (named_last id t.rest y entered.number)))
       (new_or_there a.functions xs ys x y split)
 
   -- the others stand as before
-  others_stay : Stay (id.0 ∷ out) a → (xs ys : List Analysed) (x : Analysed) (j : FunctionId) → a.functions ++ y ∷ [] ≡ xs ++ x ∷ ys → IsNamed j xs → (IsNamed j (x ∷ ys) → ⊥) → is_among (id.0 ∷ out) j.0 ≡ false → SameInSlot x.env a.env j.0
+  others_stay : Stay (id.0 ∷ out) a → (xs ys : List Analysed) (x : Analysed) (j : FunctionId) → a.functions ++ y ∷ []
+      ≡ xs ++ x ∷ ys → IsNamed j xs → (IsNamed j (x ∷ ys) → ⊥) → is_among (id.0 ∷ out) j.0 ≡ false
+      → SameInSlot x.env a.env j.0
   others_stay stay xs ys x j split named once free =
       ⊎_elim
-      (λ (n : IsNew a.functions y xs ys x). ap (λ (e : Environment). option_map but_context (slice_get e.functions j.0)) (sym at ∙ ap (λ (z : Analysed). z.env) n.same))
-      (λ (t : WasThere a.functions y xs ys x). stay xs t.rest x j t.all named (λ again. once (subst (λ zs. IsNamed j (x ∷ zs)) (sym t.behind) (named_more j (x ∷ t.rest) (y ∷ []) again))) free)
+      (λ (n : IsNew a.functions y xs ys x). ap (λ (e : Environment). option_map but_context (slice_get e.functions j.0))
+      (sym at ∙ ap (λ (z : Analysed). z.env) n.same))
+      (λ (t : WasThere a.functions y xs ys x).
+      stay xs t.rest x j t.all named (λ again.
+      once (subst (λ zs. IsNamed j (x ∷ zs)) (sym t.behind) (named_more j (x ∷ t.rest) (y ∷ []) again))) free)
       (new_or_there a.functions xs ys x y split)
 
-  back : Stay (id.0 ∷ out) a → map but_context s.1.env.functions ≡ map but_context a.env.functions → Stay out (put_back id s)
+  back : Stay (id.0 ∷ out) a → map but_context s.1.env.functions ≡ map but_context a.env.functions
+      → Stay out (put_back id s)
   back stay contexts = λ xs ys x j whole named once free.
       let split : a.functions ++ y ∷ [] ≡ xs ++ x ∷ ys = sym entered.functions ∙ whole in
       elim (nat_eq j.0 id.0) as (λ b. nat_eq j.0 id.0 ≡ b → SameInSlot x.env (put_back id s).env j.0) [
-        | true ↦ λ e. let same : j ≡ id = ap (λ k. let z : FunctionId = record { 0 = k } in z) (eqb-true j.0 id.0 e) in absurd (once (subst (λ z. IsNamed z (x ∷ ys)) (sym same) (named_on xs ys x split)))
+        | true ↦ λ e. let same : j ≡ id = ap (λ k. let z : FunctionId = record { 0 = k } in z) (eqb-true j.0 id.0 e) in
+            absurd (once (subst (λ z. IsNamed z (x ∷ ys)) (sym same) (named_on xs ys x split)))
         | false ↦ λ e.
             ap (option_map but_context) (set_other s.1.env.functions id.0 j.0 s.0 (λ same. differs j.0 id.0 e same))
             ∙ slots_stay a.env s.1.env contexts j.0
@@ -104,7 +124,8 @@ abbrev Keeps : (HirFunction → Analysis → Result Analysis InferError) → Typ
 Keeps below = (f : HirFunction) (out : List ℕ) (a b : Analysis) → Stay out a → below f a ≡ Ok b → Stay out b
 
 module _ (below : HirFunction → Analysis → Result Analysis InferError) (keeps : Keeps below) where
-  found_stay : (id : FunctionId) (out : List ℕ) (a b : Analysis) (o : Option HirFunction) → Stay out a → found_analysed below id a o ≡ Ok b → Stay out b
+  found_stay : (id : FunctionId) (out : List ℕ) (a b : Analysis) (o : Option HirFunction) → Stay out a
+      → found_analysed below id a o ≡ Ok b → Stay out b
   found_stay id out a b None stay h = let is : a ≡ b = cc in subst (Stay out) is stay
   found_stay id out a b (Some f) stay h =
       let taken : Analysis = record a { env = with_function id (emptied f.returns) a.env } in
@@ -113,14 +134,22 @@ module _ (below : HirFunction → Analysis → Result Analysis InferError) (keep
       let v = went (below f taken) (function_analysed id f) s w.1 in
       let mid : Analysis = v.0 in
       let is : put_back id s ≡ b = cc in
-      let first : Stay (id.0 ∷ out) mid = keeps f (id.0 ∷ out) taken mid (taken_out id out a (emptied f.returns) stay) v.1 in
+      let first : Stay (id.0 ∷ out) mid = keeps f (id.0 ∷ out) taken mid (taken_out id out a (emptied f.returns) stay)
+      v.1 in
       let fin : Finished id f mid s.0 s.1 = function_finished id f mid s v.2 in
       let p : Passed id f mid s = function_passed id f mid s v.2 in
-      let y : Analysed = record { env = mid.env; func = f; is_function_expression = true; solved = numbered id p.end.solved } in
-      let entered : Entered id mid s y = record { functions = ap (λ (q : Taken). q.1.functions) (sym p.is); number = refl } in
+      let y : Analysed = record {
+        env = mid.env;
+        func = f;
+        is_function_expression = true;
+        solved = numbered id p.end.solved;
+      } in
+      let entered : Entered id mid s y = record
+      { functions = ap (λ (q : Taken). q.1.functions) (sym p.is); number = refl } in
       subst (Stay out) is (back id out mid s y refl entered first fin.contexts)
 
-  each_stay : (ids : List FunctionId) (out : List ℕ) (a b : Analysis) → Stay out a → each (slot_analysed below) ids a ≡ Ok b → Stay out b
+  each_stay : (ids : List FunctionId) (out : List ℕ) (a b : Analysis) → Stay out a → each (slot_analysed below) ids a
+      ≡ Ok b → Stay out b
   each_stay [] out a b stay h = let is : a ≡ b = cc in subst (Stay out) is stay
   each_stay (id ∷ ids) out a b stay h =
       let w = went (slot_analysed below id a) (each (slot_analysed below) ids) b h in

@@ -1,5 +1,6 @@
 -- In the unit that is handed out no explanation is refused for want of numbers.
-use Rattle.std.specs.Prelude.{◌≡◌, ℕ, ◌<◌, ◌≤◌, ◌==◌, ◌||◌, ◌&&◌, nat_eq, not, Bool, true, false, List, [], ◌∷◌, ◌++◌, Option, Some, None, Result, Ok, Err, length, map, slice_get, if◌then◌else◌, refl}
+use Rattle.std.specs.Prelude.{◌≡◌, ℕ, ◌<◌, ◌≤◌, ◌==◌, ◌||◌, ◌&&◌, nat_eq, not, Bool, true, false, List, [], ◌∷◌, ◌++◌}
+use Rattle.std.specs.Prelude.{Option, Some, None, Result, Ok, Err, length, map, slice_get, if◌then◌else◌, refl}
 use Rattle.std.proofs.Common.{zero, suc, inl, inr, ⊎_elim, ap, sym, ◌∙◌, subst, arith}
 use Rattle.std.proofs.lemmas.Bool.{eqb-true}
 use Rattle.alias_base.specs.Answer.{◌>>=◌}
@@ -45,7 +46,8 @@ use Rattle.alias_answer_laws.proofs.order.Solving.{root_apart}
 use Rattle.alias_answer_laws.proofs.order.Staying.{count_alike}
 use Rattle.alias_answer_laws.proofs.order.Unit.{order_once}
 use Rattle.alias_inferred_laws.specs.inferred.Explanations.{NeverTooMany}
-use Rattle.alias_inferred_laws.proofs.inferred.Lasting.{last_of, last_there, SlotHolds, slot_holds, analysed_holds, none_hold}
+use Rattle.alias_inferred_laws.proofs.inferred.Lasting.{last_of, last_there, SlotHolds, slot_holds, analysed_holds}
+use Rattle.alias_inferred_laws.proofs.inferred.Lasting.{none_hold}
 use Rattle.alias_inferred_laws.proofs.inferred.Listing.{IsListed, IsRecorded, still_recorded, function_recorded}
 use Rattle.alias_inferred_laws.proofs.inferred.Ranging.{PassLeaves, pass_leaves, lists_still}
 use Rattle.alias_inferred_laws.proofs.inferred.Rooting.{root_entry, root_begun, root_validated, root_ended}
@@ -90,11 +92,13 @@ or_right : (a b : Bool) → a ≡ false → (a || b) ≡ true → b ≡ true
 or_right true b e h = cc
 or_right false b e h = h
 
-named_there : (ids : List FunctionId) (id : FunctionId) → is_among (numbers ids) id.0 ≡ true → IsOneOf (Some id) (map Some ids)
+named_there : (ids : List FunctionId) (id : FunctionId) → is_among (numbers ids) id.0 ≡ true
+    → IsOneOf (Some id) (map Some ids)
 named_there [] id h = cc
 named_there (x ∷ ids) id h =
     elim (nat_eq id.0 x.0) as (λ b. nat_eq id.0 x.0 ≡ b → IsOneOf (Some id) (map Some (x ∷ ids))) [
-      | true ↦ λ e. let same : id ≡ x = ap (λ k. let z : FunctionId = record { 0 = k } in z) (eqb-true id.0 x.0 e) in inl (ap Some same)
+      | true ↦ λ e. let same : id ≡ x = ap (λ k. let z : FunctionId = record { 0 = k } in z) (eqb-true id.0 x.0 e) in
+          inl (ap Some same)
       | false ↦ λ e. inr (named_there ids id (or_right (nat_eq id.0 x.0) (is_among (numbers ids) id.0) e h))
     ] refl
 
@@ -110,24 +114,31 @@ module _ (u : HirUnit) (a : UnitAnalysis) (rules : rules_hold u ≡ Ok tt) (anal
   abbrev pub begun : HirFunction
   begun = with_effects_of root.end.solved u.function
 
-  pub over : Done u.env.functions [] (analysis u.env []) root.nested (innermost_first most_levels u.env.functions (created_functions u.function))
-  over = goes_over u.env.functions most_levels u.function [] (analysis u.env []) root.nested (record { count = refl; slots = λ k h. refl }) (root_apart u rules) root.analyses
+  pub over : Done u.env.functions [] (analysis u.env []) root.nested
+      (innermost_first most_levels u.env.functions (created_functions u.function))
+  over = goes_over u.env.functions most_levels u.function [] (analysis u.env []) root.nested
+      (record { count = refl; slots = λ k h. refl }) (root_apart u rules) root.analyses
 
   pub leaves : PassLeaves false begun (env_after root.nested.env root.end) root.ranged
   leaves = pass_leaves false begun (env_after root.nested.env root.end) root.ranged root.ran
 
   -- from when the root's effects pass began
   contexts : map but_context a.inferred.unit.env.functions ≡ map but_context root.nested.env.functions
-  contexts = ap (map but_context) root.slots ∙ ap (λ (e : Environment). e.functions) leaves.kept.rest ∙ passed_contexts root.nested.env root.end
+  contexts = ap (map but_context) root.slots ∙ ap (λ (e : Environment). e.functions) leaves.kept.rest
+      ∙ passed_contexts root.nested.env root.end
 
   -- what was recorded of the last function of a number is in its slot
-  pub slot_recorded : (id : FunctionId) → SlotHolds IsRecorded still_recorded function_recorded (last_of id root.nested.functions) (slice_get a.inferred.unit.env.functions id.0)
+  pub slot_recorded : (id : FunctionId) → SlotHolds IsRecorded still_recorded function_recorded
+      (last_of id root.nested.functions) (slice_get a.inferred.unit.env.functions id.0)
   slot_recorded id =
-      slot_holds IsRecorded still_recorded function_recorded (last_of id root.nested.functions) (slice_get root.nested.env.functions id.0) (slice_get a.inferred.unit.env.functions id.0)
+      slot_holds IsRecorded still_recorded function_recorded (last_of id root.nested.functions)
+      (slice_get root.nested.env.functions id.0) (slice_get a.inferred.unit.env.functions id.0)
       (slots_stay root.nested.env a.inferred.unit.env contexts id.0)
-      (analysed_holds IsRecorded still_recorded function_recorded most_levels u.function [] (analysis u.env []) root.nested (none_hold IsRecorded still_recorded function_recorded u.env) root.analyses id refl)
+      (analysed_holds IsRecorded still_recorded function_recorded most_levels u.function [] (analysis u.env [])
+      root.nested (none_hold IsRecorded still_recorded function_recorded u.env) root.analyses id refl)
 
-  recorded_is_listed : (l : Option Analysed) (x : Analysed) (g : HirFunction) → l ≡ Some x → SlotHolds IsRecorded still_recorded function_recorded l (Some g) → IsListed g
+  recorded_is_listed : (l : Option Analysed) (x : Analysed) (g : HirFunction) → l ≡ Some x
+      → SlotHolds IsRecorded still_recorded function_recorded l (Some g) → IsListed g
   recorded_is_listed None x g e h = cc
   recorded_is_listed (Some y) x g e h = h.listed
 
@@ -136,25 +147,35 @@ module _ (u : HirUnit) (a : UnitAnalysis) (rules : rules_hold u ≡ Ok tt) (anal
       ⊎_elim
       (λ (there : id.0 < length u.env.functions).
       let once = order_once u rules id.0 there in
-      let among : is_among (numbers (nested_innermost_first u)) id.0 ≡ true = there_among (numbers (nested_innermost_first u)) id.0 (omega arith) in
-      let is_done : IsOneOf (Some id) (done root.nested) = subst (IsOneOf (Some id)) (sym over.functions) (named_there (nested_innermost_first u) id among) in
+      let among : is_among (numbers (nested_innermost_first u)) id.0 ≡ true =
+      there_among (numbers (nested_innermost_first u)) id.0 (omega arith) in
+      let is_done : IsOneOf (Some id) (done root.nested) =
+      subst (IsOneOf (Some id)) (sym over.functions) (named_there (nested_innermost_first u) id among) in
       let last = last_there id root.nested.functions is_done in
-      recorded_is_listed (last_of id root.nested.functions) last.0 g last.1 (subst (SlotHolds IsRecorded still_recorded function_recorded (last_of id root.nested.functions)) e (slot_recorded id)))
+      recorded_is_listed (last_of id root.nested.functions) last.0 g last.1
+      (subst (SlotHolds IsRecorded still_recorded function_recorded (last_of id root.nested.functions)) e
+      (slot_recorded id)))
       (λ (past : length u.env.functions ≤ id.0).
-      let count : length a.inferred.unit.env.functions ≡ length u.env.functions = count_alike root.nested.env.functions a.inferred.unit.env.functions contexts ∙ over.stands.count in
+      let count : length a.inferred.unit.env.functions ≡ length u.env.functions =
+      count_alike root.nested.env.functions a.inferred.unit.env.functions contexts ∙ over.stands.count in
       absurd (none_past a.inferred.unit.env.functions id.0 g (omega arith) e))
       (lt_or_le id.0 (length u.env.functions))
 
   -- each function of the unit that is handed out has a listing
-  pub each_is_listed : (which : Option FunctionId) (g : HirFunction) → function_of a.inferred.unit which ≡ Some g → IsListed g
+  pub each_is_listed : (which : Option FunctionId) (g : HirFunction) → function_of a.inferred.unit which ≡ Some g
+      → IsListed g
   each_is_listed None g e =
       let same : a.inferred.unit.function ≡ g = cc in
-      subst IsListed (sym root.root ∙ same) (leaves.listing, lists_still false begun (env_after root.nested.env root.end) root.ranged leaves)
+      subst IsListed (sym root.root ∙ same) (
+        leaves.listing,
+        lists_still false begun (env_after root.nested.env root.end) root.ranged leaves,
+      )
   each_is_listed (Some id) g e = slot_listed id g e
 
 -- ---- explanations
 
-defined_there : (o : Option InstructionId) (r : Result Cause HirError) (c : Cause) → r ≡ Ok c → (d : Cause) × (defined_or o r ≡ Ok d)
+defined_there : (o : Option InstructionId) (r : Result Cause HirError) (c : Cause) → r ≡ Ok c → (d : Cause)
+    × (defined_or o r ≡ Ok d)
 defined_there None r c h = (c, h)
 defined_there (Some i) r c h = (Defined i, refl)
 
@@ -162,26 +183,37 @@ defined_there (Some i) r c h = (Defined i, refl)
 cause_there : (f : HirFunction) (id : IdentifierId) (end : ℕ) → IsListed f → (d : Cause) × (cause_of f id end ≡ Ok d)
 cause_there f id end l =
     let c : Cause = first_cause (graph_listed l.0) id end l.0.mutations in
-    let m : mutated_or_not f id end ≡ Ok c = ap (λ (r : Result Listing HirError). r >>= (λ (k : Listing). Ok (first_cause (graph_listed k) id end k.mutations))) l.1 in
+    let m : mutated_or_not f id end ≡ Ok c =
+    ap (λ (r : Result Listing HirError). r
+    >>= (λ (k : Listing). Ok (first_cause (graph_listed k) id end k.mutations))) l.1 in
     let d = defined_there (defined_by f id end) (mutated_or_not f id end) c m in
-    elim (end == 0) as (λ b. (c : Cause) × ((if b then Ok Unset else defined_or (defined_by f id end) (mutated_or_not f id end)) ≡ Ok c)) [ true ↦ (Unset, refl) | false ↦ d ]
+    elim (end == 0) as (λ b. (c : Cause) × ((if b then Ok Unset
+    else defined_or (defined_by f id end) (mutated_or_not f id end)) ≡ Ok c)) [ true ↦ (Unset, refl) | false ↦ d ]
 
 abbrev NeverRefused : Result Explanation ExplainFault → Type 0
 NeverRefused r = (which : Counter) → r ≡ Err (TooMany which) → ⊥
 
-ranged_never : (range : MutableRange) (r : Result Cause HirError) (c : Cause) → r ≡ Ok c → NeverRefused (with_range range r)
-ranged_never range r c h = λ which e. let is : with_range range r ≡ Ok (record { range = range; cause = c }) = ap (with_range range) h in cc
+ranged_never : (range : MutableRange) (r : Result Cause HirError) (c : Cause) → r ≡ Ok c
+    → NeverRefused (with_range range r)
+ranged_never range r c h = λ which e. let is : with_range range r ≡ Ok (record { range = range; cause = c }) =
+    ap (with_range range) h in cc
 
-explained_never : (env : Environment) (function : Option FunctionId) (id : IdentifierId) (o : Option HirFunction) (x : Option Identifier) → ((g : HirFunction) → o ≡ Some g → IsListed g) → NeverRefused (explained_in env function id o x)
+explained_never : (env : Environment) (function : Option FunctionId) (id : IdentifierId) (o : Option HirFunction)
+    (x : Option Identifier) → ((g : HirFunction) → o ≡ Some g → IsListed g)
+    → NeverRefused (explained_in env function id o x)
 explained_never env function id None x h = λ which e. cc
 explained_never env function id (Some f) None h = λ which e. cc
 explained_never env function id (Some f) (Some x) h =
     let c = cause_there f id x.mutable_range.end.0 (h f refl) in
-    elim (stands_in env f id && not (is_reset function f id)) as (λ b. NeverRefused (if b then with_range x.mutable_range (cause_of f id x.mutable_range.end.0) else Err NotHere)) [
+    elim (stands_in env f id && not (is_reset function f id)) as
+    (λ b. NeverRefused (if b then with_range x.mutable_range (cause_of f id x.mutable_range.end.0)
+    else Err NotHere)) [
       | true ↦ ranged_never x.mutable_range (cause_of f id x.mutable_range.end.0) c.0 c.1
       | false ↦ λ which e. cc
     ]
 
-pub never_too_many : (u : HirUnit) (a : UnitAnalysis) → rules_hold u ≡ Ok tt → unit_analysed u ≡ Ok a → NeverTooMany a.inferred
+pub never_too_many : (u : HirUnit) (a : UnitAnalysis) → rules_hold u ≡ Ok tt → unit_analysed u ≡ Ok a
+    → NeverTooMany a.inferred
 never_too_many u a rules h = λ function id.
-    explained_never a.inferred.unit.env function id (function_of a.inferred.unit function) (slice_get a.inferred.unit.env.identifiers id.0) (each_is_listed u a rules h function)
+    explained_never a.inferred.unit.env function id (function_of a.inferred.unit function)
+    (slice_get a.inferred.unit.env.identifiers id.0) (each_is_listed u a rules h function)

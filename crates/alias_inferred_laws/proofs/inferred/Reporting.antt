@@ -1,5 +1,6 @@
 -- The lints of what is inferred of a unit are there, and without their places they are its reports.
-use Rattle.std.specs.Prelude.{◌≡◌, ◌==◌, ◌&&◌, Bool, true, false, List, [], ◌∷◌, ◌++◌, Option, Some, None, Result, Ok, length, option_map, slice_get, refl}
+use Rattle.std.specs.Prelude.{◌≡◌, ◌==◌, ◌&&◌, Bool, true, false, List, [], ◌∷◌, ◌++◌, Option, Some, None, Result, Ok}
+use Rattle.std.specs.Prelude.{length, option_map, slice_get, refl}
 use Rattle.std.specs.List.{list_all}
 use Rattle.std.proofs.Common.{ap, sym, ◌∙◌, subst, arith}
 use Rattle.std.proofs.lemmas.Bool.{eqb-true}
@@ -47,17 +48,22 @@ summary_alike : (o p : Option HirFunction) → option_map but_context p ≡ opti
 summary_alike None None h = refl
 summary_alike None (Some g) h = cc
 summary_alike (Some f) None h = cc
-summary_alike (Some f) (Some g) h = let same : but_context g ≡ but_context f = cc in ap (λ (z : HirFunction). summary (Some z)) same
+summary_alike (Some f) (Some g) h = let same : but_context g ≡ but_context f = cc in
+    ap (λ (z : HirFunction). summary (Some z)) same
 
 -- after the range pass summaries have the reports that they had
-same_reports : (begun env : Environment) → PassKeeps begun env → (k : FunctionId) → summary_reports begun k ≡ summary_reports env k
+same_reports : (begun env : Environment) → PassKeeps begun env → (k : FunctionId) → summary_reports begun k
+    ≡ summary_reports env k
 same_reports begun env kept k =
     ap (λ (e : Environment). effect_reports e.interned (summary (slice_get begun.functions k.0))) (sym kept.rest)
-    ∙ ap (effect_reports env.interned) (sym (summary_alike (slice_get begun.functions k.0) (slice_get env.functions k.0) (slots_stay begun env (ap (λ (e : Environment). e.functions) kept.rest) k.0)))
+    ∙ ap (effect_reports env.interned) (sym
+    (summary_alike (slice_get begun.functions k.0) (slice_get env.functions k.0)
+    (slots_stay begun env (ap (λ (e : Environment). e.functions) kept.rest) k.0)))
 
 -- ---- the root
 
-module _ (begun : Environment) (g : HirFunction) (r : Ranged) (ran : range_pass false g begun ≡ Ok r) (rs : List Report) (reported : reassigned_reports r.after.1 r.after.0 ≡ Ok rs) (none : begun.errors ≡ []) where
+module _ (begun : Environment) (g : HirFunction) (r : Ranged) (ran : range_pass false g begun ≡ Ok r) (rs : List Report)
+    (reported : reassigned_reports r.after.1 r.after.0 ≡ Ok rs) (none : begun.errors ≡ []) where
   abbrev f : HirFunction
   f = r.after.0
 
@@ -77,16 +83,24 @@ module _ (begun : Environment) (g : HirFunction) (r : Ranged) (ran : range_pass 
 
   lints_there : (ls : List Lint) × (root_lints f env ≡ Ok ls)
   lints_there =
-      let xs = reported_all f env (reassigned_lints env f) rs (reassigned_same env f ∙ sym (reassigned_alike env r.after.1.errors f) ∙ reported) in
-      ((walk_lints env f p.listing ++ xs.0) ++ frozen_lints env f, listed_rest f env p.listing (lists_still false g begun r p) ∙ ap (λ (z : Result (List Lint) InferError). z >>= (λ ys. Ok ((walk_lints env f p.listing ++ ys) ++ frozen_lints env f))) xs.1)
+      let xs = reported_all f env (reassigned_lints env f) rs
+      (reassigned_same env f ∙ sym (reassigned_alike env r.after.1.errors f) ∙ reported) in (
+        (walk_lints env f p.listing ++ xs.0) ++ frozen_lints env f,
+        listed_rest f env p.listing (lists_still false g begun r p)
+            ∙ ap (λ (z : Result (List Lint) InferError). z
+            >>= (λ ys. Ok ((walk_lints env f p.listing ++ ys) ++ frozen_lints env f))) xs.1,
+      )
 
-  walks_there : (let c = env.config.enable_validations in (renders_done c p.listing (mutations_done c p.listing begun)).errors) ≡ r.after.1.errors
-  walks_there = ap (λ (c : Bool). (renders_done c p.listing (mutations_done c p.listing begun)).errors) (ap (λ (e : Environment). e.config.enable_validations) p.kept.rest) ∙ sym p.errors
+  walks_there : (let c = env.config.enable_validations in
+      (renders_done c p.listing (mutations_done c p.listing begun)).errors) ≡ r.after.1.errors
+  walks_there = ap (λ (c : Bool). (renders_done c p.listing (mutations_done c p.listing begun)).errors)
+      (ap (λ (e : Environment). e.config.enable_validations) p.kept.rest) ∙ sym p.errors
 
   lints_recorded : (ls : List Lint) → root_lints f env ≡ Ok ls → reports_of ls ≡ recorded
   lints_recorded ls is =
       ap (λ es. es ++ reports_of ls) (sym none)
-      ∙ sym (root_reports f env ls is p.listing begun rs r.after.1.errors (r.after.1.errors ++ rs) (lists_still false g begun r p) same (sym (ap (λ (e : Environment). e.interned) p.kept.rest)) reported)
+      ∙ sym (root_reports f env ls is p.listing begun rs r.after.1.errors (r.after.1.errors ++ rs)
+      (lists_still false g begun r p) same (sym (ap (λ (e : Environment). e.interned) p.kept.rest)) reported)
       ∙ ap (λ es. (es ++ rs) ++ frozen_reports (with_reports r.after.1 rs) f) walks_there
 
 -- ---- the unit
@@ -95,18 +109,33 @@ no_errors : (es : List Report) → (length es == 0) ≡ true → es ≡ []
 no_errors [] h = refl
 no_errors (e ∷ es) h = let zero_is : length (e ∷ es) ≡ 0 = eqb-true (length (e ∷ es)) 0 h in absurd (omega arith)
 
-finished_reports : (g : HirFunction) (begun : Environment) (fs : List Analysed) (ra : RootAnalysis) → begun.errors ≡ [] → root_finished g begun fs ≡ Ok ra → LintsAreReports (handed_out ra).inferred
+finished_reports : (g : HirFunction) (begun : Environment) (fs : List Analysed) (ra : RootAnalysis) → begun.errors ≡ []
+    → root_finished g begun fs ≡ Ok ra → LintsAreReports (handed_out ra).inferred
 finished_reports g begun fs ra none h =
     let e = root_ended g begun fs ra h in
     let ls = lints_there begun g e.ranged e.ran e.reassigned e.reported none in
-    subst (λ (z : RootAnalysis). LintsAreReports (handed_out z).inferred) e.is (record { lints = ls.0; are = ls.1; reports = lints_recorded begun g e.ranged e.ran e.reassigned e.reported none ls.0 ls.1 })
+    subst (λ (z : RootAnalysis). LintsAreReports (handed_out z).inferred) e.is
+    (record {
+      lints = ls.0;
+      are = ls.1;
+      reports =
+          lints_recorded begun g e.ranged e.ran e.reassigned e.reported none ls.0 ls.1;
+    })
 
 -- the lints of what is inferred of a unit that is well formed are there, and are its reports
-pub unit_lints : (u : HirUnit) (a : UnitAnalysis) → rules_hold u ≡ Ok tt → unit_analysed u ≡ Ok a → LintsAreReports a.inferred
+pub unit_lints : (u : HirUnit) (a : UnitAnalysis) → rules_hold u ≡ Ok tt → unit_analysed u ≡ Ok a
+    → LintsAreReports a.inferred
 unit_lints u a rules h =
     let parts = parts_of_rules u rules in
-    let uninferred = both_true ((length u.env.errors == 0) && (length u.env.interned == 0) && list_all identifier_is_uninferred u.env.identifiers) (list_all function_is_uninferred u.env.functions) parts.environment in
-    let empty : u.env.errors ≡ [] = no_errors u.env.errors (both_true (length u.env.errors == 0) (length u.env.interned == 0) (both_true _ (list_all identifier_is_uninferred u.env.identifiers) uninferred.0).0).0 in
+    let uninferred = both_true ((length u.env.errors == 0) && (length u.env.interned == 0)
+    && list_all identifier_is_uninferred u.env.identifiers) (list_all function_is_uninferred u.env.functions)
+    parts.environment in
+    let empty : u.env.errors ≡ [] = no_errors u.env.errors
+    (both_true (length u.env.errors == 0) (length u.env.interned == 0)
+    (both_true _ (list_all identifier_is_uninferred u.env.identifiers) uninferred.0).0).0 in
     let b = root_begun u a h in
-    let none : (env_after b.nested.env b.end).errors ≡ [] = effects_silent b.nested.env b.end ∙ analysed_silent most_levels u.function (analysis u.env []) b.nested b.analyses ∙ empty in
-    subst (λ (z : UnitAnalysis). LintsAreReports z.inferred) b.out (finished_reports (with_effects_of b.end.solved u.function) (env_after b.nested.env b.end) (b.nested.functions ++ root_entry u b.nested b.end ∷ []) b.root none b.finishes)
+    let none : (env_after b.nested.env b.end).errors ≡ [] = effects_silent b.nested.env b.end
+    ∙ analysed_silent most_levels u.function (analysis u.env []) b.nested b.analyses ∙ empty in
+    subst (λ (z : UnitAnalysis). LintsAreReports z.inferred) b.out
+    (finished_reports (with_effects_of b.end.solved u.function) (env_after b.nested.env b.end)
+    (b.nested.functions ++ root_entry u b.nested b.end ∷ []) b.root none b.finishes)

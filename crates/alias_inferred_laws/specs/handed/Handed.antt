@@ -19,12 +19,15 @@ names_of xs = map (λ (x : Analysed). x.solved.function) xs
 abbrev pub IsNamed : FunctionId → List Analysed → Type 0
 IsNamed id xs = IsOneOf (Some id) (names_of xs)
 
--- A function that was analysed before another stands in the unit that is handed out as the effects pass on the other one found it: all of it, its
+-- A function that was analysed before another stands in the unit that is handed out as the effects pass on the other
+-- one found it: all of it, its
 -- summary and its parameters among it, but for the effects of its context places.
 abbrev pub EarlierStay : UnitAnalysis → Type 0
-EarlierStay a = (xs ys : List Analysed) (x : Analysed) (id : FunctionId) → a.functions ≡ xs ++ x ∷ ys → IsNamed id xs → SameInSlot x.env a.inferred.unit.env id.0
+EarlierStay a = (xs ys : List Analysed) (x : Analysed) (id : FunctionId) → a.functions ≡ xs ++ x ∷ ys → IsNamed id xs
+    → SameInSlot x.env a.inferred.unit.env id.0
 
--- Each function of the unit once, innermost first, and last the root: what is handed out of each solves its flow as its effects pass began, it carries
+-- Each function of the unit once, innermost first, and last the root: what is handed out of each solves its flow as its
+-- effects pass began, it carries
 -- the effects of its solution, and those that were analysed before it stand as that pass found them.
 pub record IsSolvedInOrder (u : HirUnit) (i : Inferred) : Type 0 where
   pub functions : List Analysed

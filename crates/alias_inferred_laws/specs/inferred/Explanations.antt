@@ -9,4 +9,5 @@ use Rattle.alias_nested.specs.declared.infer.Inferred.{Inferred}
 
 -- none is refused for want of numbers
 abbrev pub NeverTooMany : Inferred → Type 0
-NeverTooMany i = (function : Option FunctionId) (id : IdentifierId) (which : Counter) → explained i.unit function id ≡ Err (TooMany which) → ⊥
+NeverTooMany i = (function : Option FunctionId) (id : IdentifierId) (which : Counter) → explained i.unit function id
+    ≡ Err (TooMany which) → ⊥

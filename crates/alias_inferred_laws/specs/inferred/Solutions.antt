@@ -12,10 +12,12 @@ use Rattle.alias_nested.specs.Units.{UnitAnalysis}
 abbrev pub but_ranged : HirFunction → HirFunction
 but_ranged f = record (but_places f) { aliasing_effects = None }
 
--- but for these it is the function as its effects pass began, with the effects of its solution on its instructions and terminals
+-- but for these it is the function as its effects pass began, with the effects of its solution on its instructions and
+-- terminals
 abbrev pub CarriesItsSolution : Analysed → HirFunction → Type 0
 CarriesItsSolution x f = but_ranged f ≡ but_ranged (with_effects x)
 
 -- each function that was analysed carries its solution in the unit that is handed out
 abbrev pub SolutionsAreCarried : UnitAnalysis → Type 0
-SolutionsAreCarried a = (x : Analysed) (f : HirFunction) → IsOneOf x a.functions → function_of a.inferred.unit x.solved.function ≡ Some f → CarriesItsSolution x f
+SolutionsAreCarried a = (x : Analysed) (f : HirFunction) → IsOneOf x a.functions
+    → function_of a.inferred.unit x.solved.function ≡ Some f → CarriesItsSolution x f

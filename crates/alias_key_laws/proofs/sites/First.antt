@@ -21,13 +21,16 @@ key_is : (o : Option EffectKey) (k : EffectKey) → is_key same_key key_of o k �
 key_is None k h = cc
 key_is (Some l) k h = ap (λ z. Some z) (same l k h)
 
-step_is : (b : Bool) (k : EffectKey) (e z : AliasingEffect) (o : Option AliasingEffect) → (b ≡ true → key_of e ≡ Some k) → (o ≡ Some z → key_of z ≡ Some k) → cond b (Some e) o ≡ Some z → key_of z ≡ Some k
+step_is : (b : Bool) (k : EffectKey) (e z : AliasingEffect) (o : Option AliasingEffect) → (b ≡ true → key_of e ≡ Some k)
+    → (o ≡ Some z → key_of z ≡ Some k) → cond b (Some e) o ≡ Some z → key_of z ≡ Some k
 step_is true k e z o f g h = let is : e ≡ z = cc in subst (λ x. key_of x ≡ Some k) is (f refl)
 step_is false k e z o f g h = g h
 
-pub first_has_it : (k : EffectKey) (es : List AliasingEffect) (z : AliasingEffect) → first_like k es ≡ Some z → key_of z ≡ Some k
+pub first_has_it : (k : EffectKey) (es : List AliasingEffect) (z : AliasingEffect) → first_like k es ≡ Some z → key_of z
+    ≡ Some k
 first_has_it k [] z h = cc
-first_has_it k (e ∷ es) z h = step_is (has_key same_key key_of k e) k e z (first_like k es) (key_is (key_of e) k) (first_has_it k es z) h
+first_has_it k (e ∷ es) z h = step_is (has_key same_key key_of k e) k e z (first_like k es) (key_is (key_of e) k)
+    (first_has_it k es z) h
 
 -- another report doesn't change what is made
 error_made : (z e : AliasingEffect) → made_site (with_error_of z e) ≡ made_site z
@@ -40,14 +43,16 @@ error_made z e = refl
 abbrev pub MakesAs : AliasingEffect → AliasingEffect → Type 0
 MakesAs e z = made_site z ≡ made_site e
 
-after_makes : (o : Option AliasingEffect) (e : AliasingEffect) → ((z : AliasingEffect) → o ≡ Some z → MakesAs e z) → Sound (MakesAs e) (intern_after o e)
+after_makes : (o : Option AliasingEffect) (e : AliasingEffect) → ((z : AliasingEffect) → o ≡ Some z → MakesAs e z)
+    → Sound (MakesAs e) (intern_after o e)
 after_makes None e h t u y i = subst (MakesAs e) (first_is e y _ u i) refl
 after_makes (Some z) e h t u y i = subst (MakesAs e) (first_is (with_error_of z e) y t u i) (error_made z e ∙ h z refl)
 
 by_makes : (o : Option EffectKey) (e : AliasingEffect) → key_of e ≡ o → Sound (MakesAs e) (intern_by o e)
 by_makes None e own t u y i = subst (MakesAs e) (first_is e y t u i) refl
 by_makes (Some k) e own t u y i =
-    after_makes (first_like k t.first) e (λ z is. named z ∙ ap named_by (first_has_it k t.first z is ∙ sym own) ∙ sym (named e)) t u y i
+    after_makes (first_like k t.first) e (λ z is. named z ∙ ap named_by (first_has_it k t.first z is ∙ sym own)
+    ∙ sym (named e)) t u y i
 
 -- what is stepped in place of the effect makes what it makes
 pub interned_makes : (e : AliasingEffect) → Sound (MakesAs e) (intern e)
@@ -62,13 +67,17 @@ is_capture e = false
 abbrev pub IsCapture : AliasingEffect → Type 0
 IsCapture e = is_capture e ≡ true
 
-key_captures : (z : AliasingEffect) (p x : Place) → key_of z ≡ Some (key.Capture p.identifier x.identifier) → IsCapture (with_error_of z (effect.Capture p x))
+key_captures : (z : AliasingEffect) (p x : Place) → key_of z ≡ Some (key.Capture p.identifier x.identifier)
+    → IsCapture (with_error_of z (effect.Capture p x))
 key_captures (effect.Capture a y) p x h = refl
 key_captures z p x h = cc
 
-after_captures : (o : Option AliasingEffect) (p x : Place) → ((z : AliasingEffect) → o ≡ Some z → key_of z ≡ Some (key.Capture p.identifier x.identifier)) → Sound IsCapture (intern_after o (effect.Capture p x))
+after_captures : (o : Option AliasingEffect) (p x : Place)
+    → ((z : AliasingEffect) → o ≡ Some z → key_of z ≡ Some (key.Capture p.identifier x.identifier))
+    → Sound IsCapture (intern_after o (effect.Capture p x))
 after_captures None p x h t u y i = subst IsCapture (first_is (effect.Capture p x) y _ u i) refl
-after_captures (Some z) p x h t u y i = subst IsCapture (first_is (with_error_of z (effect.Capture p x)) y t u i) (key_captures z p x (h z refl))
+after_captures (Some z) p x h t u y i = subst IsCapture (first_is (with_error_of z (effect.Capture p x)) y t u i)
+    (key_captures z p x (h z refl))
 
 -- what is stepped in place of a capture is one
 pub interned_captures : (p x : Place) → Sound IsCapture (intern (effect.Capture p x))

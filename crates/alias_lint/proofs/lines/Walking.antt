@@ -15,13 +15,15 @@ use Rattle.alias_lint.specs.declared.reassigned.WalkEnd.TheVariants.{Going}
 use Rattle.alias_lint.specs.declared.sites.Lint.{Lint}
 use Rattle.alias_lint.specs.Reassigned.{Reported, Noted, Below, block_steps, noted, reported_after, reassignment}
 
-module _ (env : Environment) (is_function_expression : Bool) (name : Option FunctionId) (async : Bool) (func : HirFunction) (sh : Shared) (ls : List Lint) where
+module _ (env : Environment) (is_function_expression : Bool) (name : Option FunctionId) (async : Bool)
+    (func : HirFunction) (sh : Shared) (ls : List Lint) where
   none_walked : reassignment 0 env is_function_expression name async func (sh, ls) ≡ Ok (reported_after sh ls Going)
   unfolding reassignment
   none_walked = refl
 
   -- with no levels left nothing is walked
-  pub walked_none : (n : ℕ) → n ≡ 0 → reassignment n env is_function_expression name async func (sh, ls) ≡ Ok (reported_after sh ls Going)
+  pub walked_none : (n : ℕ) → n ≡ 0 → reassignment n env is_function_expression name async func (sh, ls)
+      ≡ Ok (reported_after sh ls Going)
   walked_none n e = ap (λ (k : ℕ). reassignment k env is_function_expression name async func (sh, ls)) e ∙ none_walked
 
   abbrev below : ℕ → Below
@@ -33,15 +35,21 @@ module _ (env : Environment) (is_function_expression : Bool) (name : Option Func
   abbrev reported : Result (Noted × WalkEnd) InferError → Result (Reported × WalkEnd) InferError
   reported r = r >>= (λ x. Ok ((x.0.0.1, x.0.1), x.1))
 
-  one_walked : (m : ℕ) → reassignment (suc m) env is_function_expression name async func (sh, ls) ≡ reported (blocks m [])
+  one_walked : (m : ℕ) → reassignment (suc m) env is_function_expression name async func (sh, ls)
+      ≡ reported (blocks m [])
   unfolding reassignment
   one_walked m = refl
 
   -- one level is the walk of the blocks, whose own marks begin empty
-  walked_more : (n m : ℕ) (ms : ReassigningFunctions) → n ≡ suc m → ms ≡ [] → reassignment n env is_function_expression name async func (sh, ls) ≡ reported (blocks m ms)
-  walked_more n m ms e none = ap (λ (k : ℕ). reassignment k env is_function_expression name async func (sh, ls)) e ∙ one_walked m ∙ ap (λ (z : ReassigningFunctions). reported (blocks m z)) (sym none)
+  walked_more : (n m : ℕ) (ms : ReassigningFunctions) → n ≡ suc m → ms ≡ []
+      → reassignment n env is_function_expression name async func (sh, ls) ≡ reported (blocks m ms)
+  walked_more n m ms e none = ap (λ (k : ℕ). reassignment k env is_function_expression name async func (sh, ls)) e
+      ∙ one_walked m ∙ ap (λ (z : ReassigningFunctions). reported (blocks m z)) (sym none)
 
-  pub walked : (n m : ℕ) (ms new : ReassigningFunctions) (after : Shared) (more : List Lint) → n ≡ suc m → ms ≡ [] → (r : Result WalkEnd InferError)
-      → Gives is_memory (blocks m ms) (answered (noted new after more) r) → Gives is_memory (reassignment n env is_function_expression name async func (sh, ls)) (answered (reported_after after more) r)
+  pub walked : (n m : ℕ) (ms new : ReassigningFunctions) (after : Shared) (more : List Lint) → n ≡ suc m → ms ≡ []
+      → (r : Result WalkEnd InferError)
+      → Gives is_memory (blocks m ms) (answered (noted new after more) r)
+      → Gives is_memory (reassignment n env is_function_expression name async func (sh, ls))
+      (answered (reported_after after more) r)
   walked n m ms new after more e none (Ok end) h = walked_more n m ms e none ∙ ap reported h
   walked n m ms new after more e none (Err f) h = λ no. walked_more n m ms e none ∙ ap reported (h no)

@@ -1,5 +1,6 @@
 -- The blocks that list instructions, by the numbers of the instructions.
-use Rattle.std.specs.Prelude.{◌≡◌, ℕ, ◌==◌, ◌<◌, Bool, true, false, ◌&&◌, if◌then◌else◌, cond, List, Option, Some, None, find, length, nat_lt, option_map, slice_index_or, slice_set}
+use Rattle.std.specs.Prelude.{◌≡◌, ℕ, ◌==◌, ◌<◌, Bool, true, false, ◌&&◌, if◌then◌else◌, cond, List, Option, Some, None}
+use Rattle.std.specs.Prelude.{find, length, nat_lt, option_map, slice_index_or, slice_set}
 use Rattle.std.specs.List.{list_any}
 use Rattle.alias_base.specs.declared.ids.BlockId.{BlockId}
 use Rattle.alias_base.specs.declared.ids.InstructionId.{InstructionId}
@@ -39,4 +40,5 @@ noted_or listed b (Some a) = Some a
 -- the block is noted for each of these instructions, unless one is noted
 pub record IsNoted (b : BlockId) (ids : List InstructionId) (old new : Table) : Type 0 where
   pub size : length new ≡ length old
-  pub each : (i : ℕ) → i < length old → slice_index_or new i None ≡ noted_or (list_any (λ (j : InstructionId). j.0 == i) ids) b (slice_index_or old i None)
+  pub each : (i : ℕ) → i < length old → slice_index_or new i None
+      ≡ noted_or (list_any (λ (j : InstructionId). j.0 == i) ids) b (slice_index_or old i None)

@@ -1,5 +1,6 @@
 -- Steps that add no more than so many reports, so that no counter comes to its last value.
-use Rattle.std.specs.Prelude.{◌≡◌, ℕ, ◌+◌, ◌≤◌, ◌<◌, Bool, true, false, cond, ◌&&◌, if◌then◌else◌, nat_lt, List, [], ◌∷◌, ◌++◌, length, Option, Some, None, Result, Ok, Err, slice_get}
+use Rattle.std.specs.Prelude.{◌≡◌, ℕ, ◌+◌, ◌≤◌, ◌<◌, Bool, true, false, cond, ◌&&◌, if◌then◌else◌, nat_lt, List, []}
+use Rattle.std.specs.Prelude.{◌∷◌, ◌++◌, length, Option, Some, None, Result, Ok, Err, slice_get}
 use Rattle.std.proofs.Common.{arith}
 use Rattle.std.proofs.lemmas.Bool.Decides.{nat_tests}
 use Rattle.std.proofs.lemmas.List.{length-append}
@@ -43,24 +44,30 @@ module _ {C : Type 0} (other : C → Type 0) where
   pub adds_gives : {A : Type 0} (k : ℕ) (P : A → Type 0) (x : A) → P x → Adds k P (gives x)
   adds_gives k P x p t room = (omega arith, p)
 
-  more_at : {A : Type 0} (j k : ℕ) (P Q : A → Type 0) (t u : TableLists) (r : Result (A × TableLists) C) → length u.reports + j ≤ length t.reports + k → ((x : A) → P x → Q x) → AddsAt j P u r → AddsAt k Q t r
+  more_at : {A : Type 0} (j k : ℕ) (P Q : A → Type 0) (t u : TableLists) (r : Result (A × TableLists) C)
+      → length u.reports + j ≤ length t.reports + k → ((x : A) → P x → Q x) → AddsAt j P u r → AddsAt k Q t r
   more_at j k P Q t u (Ok p) h f a = (omega (arith, h, a.0), f p.0 a.1)
   more_at j k P Q t u (Err c) h f a = a
 
   -- what adds fewer and gives more
-  pub adds_on : {A : Type 0} (j k : ℕ) (P Q : A → Type 0) (f : TableLists → Result (A × TableLists) C) → j ≤ k → ((x : A) → P x → Q x) → Adds j P f → Adds k Q f
+  pub adds_on : {A : Type 0} (j k : ℕ) (P Q : A → Type 0) (f : TableLists → Result (A × TableLists) C) → j ≤ k
+      → ((x : A) → P x → Q x) → Adds j P f → Adds k Q f
   adds_on j k P Q f le g h t room = more_at j k P Q t t (f t) (omega (arith, le)) g (h t (omega (arith, le, room)))
 
-  bound_at : {A B : Type 0} (j k : ℕ) (P : A → Type 0) (Q : B → Type 0) (t : TableLists) (r : Result (A × TableLists) C) (g : A → TableLists → Result (B × TableLists) C) → length t.reports + (j + k) ≤ 4294967295
+  bound_at : {A B : Type 0} (j k : ℕ) (P : A → Type 0) (Q : B → Type 0) (t : TableLists) (r : Result (A × TableLists) C)
+      (g : A → TableLists → Result (B × TableLists) C) → length t.reports + (j + k) ≤ 4294967295
       → AddsAt j P t r → ((x : A) → P x → Adds k Q (g x)) → AddsAt (j + k) Q t (and_then r g)
-  bound_at j k P Q t (Ok p) g room a h = more_at k (j + k) Q Q t p.1 (g p.0 p.1) (omega (arith, a.0)) (λ x q. q) (h p.0 a.1 p.1 (omega (arith, room, a.0)))
+  bound_at j k P Q t (Ok p) g room a h = more_at k (j + k) Q Q t p.1 (g p.0 p.1) (omega (arith, a.0)) (λ x q. q)
+      (h p.0 a.1 p.1 (omega (arith, room, a.0)))
   bound_at j k P Q t (Err c) g room a h = a
 
-  pub adds_then : {A B : Type 0} (j k : ℕ) (P : A → Type 0) (Q : B → Type 0) (f : TableLists → Result (A × TableLists) C) (g : A → TableLists → Result (B × TableLists) C)
+  pub adds_then : {A B : Type 0} (j k : ℕ) (P : A → Type 0) (Q : B → Type 0)
+      (f : TableLists → Result (A × TableLists) C) (g : A → TableLists → Result (B × TableLists) C)
       → Adds j P f → ((x : A) → P x → Adds k Q (g x)) → Adds (j + k) Q (f >>= g)
   adds_then j k P Q f g h m t room = bound_at j k P Q t (f t) g room (h t (omega (arith, room))) m
 
-  pub adds_if : {A : Type 0} (k : ℕ) (P : A → Type 0) (b : Bool) (f g : TableLists → Result (A × TableLists) C) → Adds k P f → Adds k P g → Adds k P (if b then f else g)
+  pub adds_if : {A : Type 0} (k : ℕ) (P : A → Type 0) (b : Bool) (f g : TableLists → Result (A × TableLists) C)
+      → Adds k P f → Adds k P g → Adds k P (if b then f else g)
   adds_if k P true f g h m = h
   adds_if k P false f g h m = m
 
@@ -81,7 +88,8 @@ one_more : (b : Bool) (es : List Interned) (e : Interned) → length (cond b (es
 one_more true es e = omega (arith, length-append es (e ∷ []))
 one_more false es e = omega arith
 
-interned_if : (a b : Bool) (d : ReportId) (t u : TableLists) → a ≡ true → b ≡ true → length u.reports ≤ length t.reports + 1 → AddsAt IsOther 1 (λ (d : ReportId). Unit {0}) t (if a && b then Ok (d, u) else Err (TooMany Diagnostics))
+interned_if : (a b : Bool) (d : ReportId) (t u : TableLists) → a ≡ true → b ≡ true → length u.reports ≤ length t.reports
+    + 1 → AddsAt IsOther 1 (λ (d : ReportId). Unit {0}) t (if a && b then Ok (d, u) else Err (TooMany Diagnostics))
 interned_if true true d t u h g le = (le, tt)
 interned_if true false d t u h g le = cc
 interned_if false b d t u h g le = cc
@@ -102,14 +110,17 @@ module _ (env : Environment) where
   abbrev without : TableLists → TableLists
   without t = record t { temporaries = [] }
 
-  none_numbered : (n : ℕ) (x : Temporary) → slice_get {X = Temporary} [] n ≡ Some x → x.place.identifier.0 ≡ length env.identifiers + n
+  none_numbered : (n : ℕ) (x : Temporary) → slice_get {X = Temporary} [] n ≡ Some x → x.place.identifier.0
+      ≡ length env.identifiers + n
   none_numbered n x e = cc
 
-  alike_after : (o : Option AliasingEffect) (e : AliasingEffect) (t : TableLists) → LeadsAt env (IsAlike e) (intern_after o e (without t)) → AddsAt IsOther 0 (IsAlike e) t (intern_after o e t)
+  alike_after : (o : Option AliasingEffect) (e : AliasingEffect) (t : TableLists)
+      → LeadsAt env (IsAlike e) (intern_after o e (without t)) → AddsAt IsOther 0 (IsAlike e) t (intern_after o e t)
   alike_after None e t h = (omega arith, h.0)
   alike_after (Some z) e t h = (omega arith, h.0)
 
-  alike_by : (o : Option EffectKey) (e : AliasingEffect) (t : TableLists) → LeadsAt env (IsAlike e) (intern_by o e (without t)) → AddsAt IsOther 0 (IsAlike e) t (intern_by o e t)
+  alike_by : (o : Option EffectKey) (e : AliasingEffect) (t : TableLists)
+      → LeadsAt env (IsAlike e) (intern_by o e (without t)) → AddsAt IsOther 0 (IsAlike e) t (intern_by o e t)
   alike_by None e t h = (omega arith, h.0)
   alike_by (Some k) e t h = alike_after (first_like k t.first) e t h
 

@@ -1,5 +1,7 @@
--- How many positions the effects of a function take, where what its instructions and terminals carry is short: 26 for each block at most.
-use Rattle.std.specs.Prelude.{◌≡◌, ℕ, ◌+◌, ◌*◌, ◌≤◌, ◌<◌, Bool, true, false, if◌then◌else◌, List, [], ◌∷◌, length, Option, Some, None, Result, Ok, Err, ⊤, nat_lt, nat_le, slice_get, refl}
+-- How many positions the effects of a function take, where what its instructions and terminals carry is short: 26 for
+-- each block at most.
+use Rattle.std.specs.Prelude.{◌≡◌, ℕ, ◌+◌, ◌*◌, ◌≤◌, ◌<◌, Bool, true, false, if◌then◌else◌, List, [], ◌∷◌, length}
+use Rattle.std.specs.Prelude.{Option, Some, None, Result, Ok, Err, ⊤, nat_lt, nat_le, slice_get, refl}
 use Rattle.std.specs.List.{AllByRecursion}
 use Rattle.std.proofs.Common.{zero, suc, subst, arith}
 use Rattle.std.proofs.lemmas.Bool.Decides.{nat_tests}
@@ -27,10 +29,12 @@ use Rattle.alias_graph.specs.declared.types.EdgeKind.{EdgeKind}
 use Rattle.alias_graph.specs.declared.types.EdgeKind.TheVariants.{Alias, Capture, MaybeAlias}
 use Rattle.alias_graph.specs.declared.types.NodeValue.TheVariants.{Object}
 use Rattle.alias_graph.specs.declared.recorded.listing.Listing.{Listing}
-use Rattle.alias_graph.specs.recorded.BlockListings.{phi_listed, returns_listed, alias_listed, aliases_in, with_pending, end_listed, block_listed, blocks_listed, first_listing, listed}
+use Rattle.alias_graph.specs.recorded.BlockListings.{phi_listed, returns_listed, alias_listed, aliases_in, with_pending}
+use Rattle.alias_graph.specs.recorded.BlockListings.{end_listed, block_listed, blocks_listed, first_listing, listed}
 use Rattle.alias_graph.specs.recorded.Each.{each}
 use Rattle.alias_graph.specs.recorded.IdSets.{has_made}
-use Rattle.alias_graph.specs.recorded.Listings.{position_after, made, made_once, linked, effect_listed, effects_in, recorded_in, instruction_listed}
+use Rattle.alias_graph.specs.recorded.Listings.{position_after, made, made_once, linked, effect_listed, effects_in}
+use Rattle.alias_graph.specs.recorded.Listings.{recorded_in, instruction_listed}
 use Rattle.alias_range_pass.specs.Passes.{Ranged, ranged, range_pass}
 use Rattle.alias_range_pass.specs.Refusals.{unreplaced, none_unreplaced, listing_or, positions_left, recorded}
 use Rattle.alias_range_pass.specs.summary.Summaries.{tracked}
@@ -49,17 +53,20 @@ Takes k f = (l : Listing) → l.next + k ≤ 4294967295 → TakesAt k l (f l)
 
 -- ---- steps one after the other
 
-takes_more : (j k : ℕ) (l m : Listing) (r : Result Listing HirError) → m.next + j ≤ l.next + k → TakesAt j m r → TakesAt k l r
+takes_more : (j k : ℕ) (l m : Listing) (r : Result Listing HirError) → m.next + j ≤ l.next + k → TakesAt j m r
+    → TakesAt k l r
 takes_more j k l m (Ok n) h a = omega (arith, h, a)
 takes_more j k l m (Err (hir.TooMany which)) h a = a
 takes_more j k l m (Err (hir.Memory e)) h a = a
 
-takes_bound : (j k : ℕ) (l : Listing) (r : Result Listing HirError) (g : Listing → Result Listing HirError) → l.next + (j + k) ≤ 4294967295 → TakesAt j l r → Takes k g → TakesAt (j + k) l (r >>= g)
+takes_bound : (j k : ℕ) (l : Listing) (r : Result Listing HirError) (g : Listing → Result Listing HirError) → l.next
+    + (j + k) ≤ 4294967295 → TakesAt j l r → Takes k g → TakesAt (j + k) l (r >>= g)
 takes_bound j k l (Ok m) g room a h = takes_more k (j + k) l m (g m) (omega (arith, a)) (h m (omega (arith, room, a)))
 takes_bound j k l (Err (hir.TooMany which)) g room a h = a
 takes_bound j k l (Err (hir.Memory e)) g room a h = a
 
-takes_then : (j k : ℕ) (f g : Listing → Result Listing HirError) → Takes j f → Takes k g → Takes (j + k) (λ l. f l >>= g)
+takes_then : (j k : ℕ) (f g : Listing → Result Listing HirError) → Takes j f → Takes k g
+    → Takes (j + k) (λ l. f l >>= g)
 takes_then j k f g h m l room = takes_bound j k l (f l) g room (h l (omega (arith, room))) m
 
 takes_on : (j k : ℕ) (f : Listing → Result Listing HirError) → j ≤ k → Takes j f → Takes k f
@@ -69,22 +76,27 @@ takes_none : (k : ℕ) → Takes k (λ l. Ok l)
 takes_none k l room = omega arith
 
 -- one for each item of a list
-takes_each : {X : Type 0} (f : X → Listing → Result Listing HirError) → ((x : X) → Takes 1 (f x)) → (xs : List X) → Takes (length xs) (each f xs)
+takes_each : {X : Type 0} (f : X → Listing → Result Listing HirError) → ((x : X) → Takes 1 (f x)) → (xs : List X)
+    → Takes (length xs) (each f xs)
 takes_each f h [] = takes_none 0
-takes_each f h (x ∷ xs) = takes_on (1 + length xs) (length (x ∷ xs)) (each f (x ∷ xs)) (omega arith) (takes_then 1 (length xs) (f x) (each f xs) (h x) (takes_each f h xs))
+takes_each f h (x ∷ xs) = takes_on (1 + length xs) (length (x ∷ xs)) (each f (x ∷ xs)) (omega arith)
+    (takes_then 1 (length xs) (f x) (each f xs) (h x) (takes_each f h xs))
 
 -- ---- one effect
 
 less : (m n : ℕ) → m < n → nat_lt m n ≡ true
 less m n h = grind (arith, nat_tests)
 
-positioned_if : (n : ℕ) (l : Listing) (g : ℕ → Result Listing HirError) (b : Bool) → b ≡ true → TakesAt 1 l (g (n + 1)) → TakesAt 1 l ((if b then Ok (n + 1) else Err (hir.TooMany GraphPositions)) >>= g)
+positioned_if : (n : ℕ) (l : Listing) (g : ℕ → Result Listing HirError) (b : Bool) → b ≡ true → TakesAt 1 l (g (n + 1))
+    → TakesAt 1 l ((if b then Ok (n + 1) else Err (hir.TooMany GraphPositions)) >>= g)
 positioned_if n l g true h a = a
 positioned_if n l g false h a = cc
 
 -- at the next position, whatever is recorded there
-at_position : (l : Listing) (g : ℕ → Result Listing HirError) → l.next + 1 ≤ 4294967295 → TakesAt 1 l (g (l.next + 1)) → TakesAt 1 l (position_after l.next >>= g)
-at_position l g room a = positioned_if l.next l g (nat_lt l.next 4294967295) (less l.next 4294967295 (omega (arith, room))) a
+at_position : (l : Listing) (g : ℕ → Result Listing HirError) → l.next + 1 ≤ 4294967295 → TakesAt 1 l (g (l.next + 1))
+    → TakesAt 1 l (position_after l.next >>= g)
+at_position l g room a = positioned_if l.next l g (nat_lt l.next 4294967295)
+    (less l.next 4294967295 (omega (arith, room))) a
 
 linked_takes : (k : EdgeKind) (a x : Place) → Takes 1 (linked k a x)
 linked_takes k a x l room = at_position l _ room (omega arith)
@@ -99,7 +111,8 @@ once_next x l = next_if (has_made l.events x.identifier) l (made Object x l) ref
 assigned_takes : (a x : Place) → Takes 1 (λ l. linked Alias a x (made_once x l))
 assigned_takes a x l room =
     let same : (made_once x l).next ≡ l.next = once_next x l in
-    takes_more 1 1 l (made_once x l) (linked Alias a x (made_once x l)) (omega (arith, same)) (linked_takes Alias a x (made_once x l) (omega (arith, same, room)))
+    takes_more 1 1 l (made_once x l) (linked Alias a x (made_once x l)) (omega (arith, same))
+    (linked_takes Alias a x (made_once x l) (omega (arith, same, room)))
 
 effect_takes : (i : InstructionId) (o : EvaluationOrder) (e : AliasingEffect) → Takes 1 (effect_listed i o e)
 effect_takes i o (effect.CreateFrom a x) l room = at_position l _ room (omega arith)
@@ -125,9 +138,11 @@ abbrev pub Carries : ℕ → Option (List AliasingEffect) → Type 0
 Carries k None = Unit {0}
 Carries k (Some es) = length es ≤ k
 
-effects_take : (k : ℕ) (i : InstructionId) (o : EvaluationOrder) (es : Option (List AliasingEffect)) → Carries k es → Takes k (effects_in i o es)
+effects_take : (k : ℕ) (i : InstructionId) (o : EvaluationOrder) (es : Option (List AliasingEffect)) → Carries k es
+    → Takes k (effects_in i o es)
 effects_take k i o None h = takes_none k
-effects_take k i o (Some es) h = takes_on (length es) k (each (effect_listed i o) es) h (takes_each (effect_listed i o) (effect_takes i o) es)
+effects_take k i o (Some es) h = takes_on (length es) k (each (effect_listed i o) es) h
+    (takes_each (effect_listed i o) (effect_takes i o) es)
 
 aliases_take : (k : ℕ) (es : Option (List AliasingEffect)) → Carries k es → Takes k (aliases_in es)
 aliases_take k None h = takes_none k
@@ -138,7 +153,9 @@ returns_take returns (terminal.Return id value effects) l room = linked_takes Al
 returns_take returns t l room = omega arith
 
 end_takes : (returns : Place) (k : ℕ) (t : Terminal) → Carries 1 (terminal_effects t) → Takes 2 (end_listed returns k t)
-end_takes returns k t h l room = takes_bound 1 1 l (returns_listed returns t (with_pending k l)) (aliases_in (terminal_effects t)) room (returns_take returns t (with_pending k l) (omega (arith, room))) (aliases_take 1 (terminal_effects t) h)
+end_takes returns k t h l room = takes_bound 1 1 l (returns_listed returns t (with_pending k l))
+    (aliases_in (terminal_effects t)) room (returns_take returns t (with_pending k l) (omega (arith, room)))
+    (aliases_take 1 (terminal_effects t) h)
 
 -- ---- blocks
 
@@ -153,37 +170,49 @@ abbrev pub IsShortInstruction : Instruction → Type 0
 IsShortInstruction x = Carries 8 x.effects
 
 -- what holds of all of a list holds of what stands at a place
-pub all_at : {X : Type 0} (P : X → Type 0) (xs : List X) (n : ℕ) (x : X) → AllByRecursion P xs → slice_get xs n ≡ Some x → P x
+pub all_at : {X : Type 0} (P : X → Type 0) (xs : List X) (n : ℕ) (x : X) → AllByRecursion P xs → slice_get xs n ≡ Some x
+    → P x
 all_at P [] n x h e = cc
 all_at P (y ∷ ys) zero x h e = let same : y ≡ x = cc in subst P same h.0
 all_at P (y ∷ ys) (suc n) x h e = all_at P ys n x h.1 e
 
 module _ (f : HirFunction) (short : AllByRecursion IsShortInstruction f.instructions) where
-  recorded_takes : (i : InstructionId) (o : Option Instruction) → slice_get f.instructions i.0 ≡ o → Takes 8 (recorded_in i o)
+  recorded_takes : (i : InstructionId) (o : Option Instruction) → slice_get f.instructions i.0 ≡ o
+      → Takes 8 (recorded_in i o)
   recorded_takes i None e = takes_none 8
   recorded_takes i (Some n) e = effects_take 8 i n.id n.effects (all_at IsShortInstruction f.instructions i.0 n short e)
 
   instructions_take : (is : List InstructionId) → Takes (8 * length is) (each (instruction_listed f.instructions) is)
   instructions_take [] = takes_none 0
   instructions_take (i ∷ is) =
-      takes_on (8 + 8 * length is) (8 * length (i ∷ is)) (each (instruction_listed f.instructions) (i ∷ is)) (omega arith)
-      (takes_then 8 (8 * length is) (instruction_listed f.instructions i) (each (instruction_listed f.instructions) is) (recorded_takes i (slice_get f.instructions i.0) refl) (instructions_take is))
+      takes_on (8 + 8 * length is) (8 * length (i ∷ is)) (each (instruction_listed f.instructions) (i ∷ is))
+      (omega arith)
+      (takes_then 8 (8 * length is) (instruction_listed f.instructions i) (each (instruction_listed f.instructions) is)
+      (recorded_takes i (slice_get f.instructions i.0) refl) (instructions_take is))
 
-  without_phis : (k : ℕ) (b : BasicBlock) (phis : List Phi) → phis ≡ [] → length b.instructions ≤ 3 → Carries 1 (terminal_effects b.terminal)
-      → Takes 26 (λ l. each (phi_listed f.body.blocks k) phis l >>= (λ p. each (instruction_listed f.instructions) b.instructions p >>= end_listed f.returns k b.terminal))
+  without_phis : (k : ℕ) (b : BasicBlock) (phis : List Phi) → phis ≡ [] → length b.instructions ≤ 3
+      → Carries 1 (terminal_effects b.terminal)
+      → Takes 26 (λ l. each (phi_listed f.body.blocks k) phis l
+      >>= (λ p. each (instruction_listed f.instructions) b.instructions p >>= end_listed f.returns k b.terminal))
   without_phis k b [] e few ends =
-      takes_on (8 * length b.instructions + 2) 26 (λ l. each (instruction_listed f.instructions) b.instructions l >>= end_listed f.returns k b.terminal) (omega (arith, few))
-      (takes_then (8 * length b.instructions) 2 (each (instruction_listed f.instructions) b.instructions) (end_listed f.returns k b.terminal) (instructions_take b.instructions) (end_takes f.returns k b.terminal ends))
+      takes_on (8 * length b.instructions + 2) 26
+      (λ l. each (instruction_listed f.instructions) b.instructions l >>= end_listed f.returns k b.terminal)
+      (omega (arith, few))
+      (takes_then (8 * length b.instructions) 2 (each (instruction_listed f.instructions) b.instructions)
+      (end_listed f.returns k b.terminal) (instructions_take b.instructions)
+      (end_takes f.returns k b.terminal ends))
   without_phis k b (p ∷ ps) e few ends = cc
 
   block_takes : (k : ℕ) (b : BlockId × BasicBlock) → IsShortBlock b → Takes 26 (block_listed f k b.1)
   block_takes k b h = without_phis k b.1 b.1.phis h.phis h.few h.ends
 
-  blocks_take : (bs : List (BlockId × BasicBlock)) (k : ℕ) → AllByRecursion IsShortBlock bs → Takes (26 * length bs) (blocks_listed f k bs)
+  blocks_take : (bs : List (BlockId × BasicBlock)) (k : ℕ) → AllByRecursion IsShortBlock bs
+      → Takes (26 * length bs) (blocks_listed f k bs)
   blocks_take [] k h = takes_none 0
   blocks_take (b ∷ bs) k h =
       takes_on (26 + 26 * length bs) (26 * length (b ∷ bs)) (blocks_listed f k (b ∷ bs)) (omega arith)
-      (takes_then 26 (26 * length bs) (block_listed f k b.1) (blocks_listed f (k + 1) bs) (block_takes k b h.0) (blocks_take bs (k + 1) h.1))
+      (takes_then 26 (26 * length bs) (block_listed f k b.1) (blocks_listed f (k + 1) bs) (block_takes k b h.0)
+      (blocks_take bs (k + 1) h.1))
 
 -- ---- the range pass
 
@@ -197,7 +226,8 @@ pub record IsShortFunction (f : HirFunction) : Type 0 where
 abbrev Few : Listing → Type 0
 Few l = l.next ≤ 26026
 
-no_counter : (l : Listing) (r : Result Listing HirError) → l.next ≡ 0 → TakesAt 26026 l r → Avoids is_too_many Few (listing_or r)
+no_counter : (l : Listing) (r : Result Listing HirError) → l.next ≡ 0 → TakesAt 26026 l r
+    → Avoids is_too_many Few (listing_or r)
 no_counter l (Ok m) none h = omega (arith, none, h)
 no_counter l (Err (hir.TooMany which)) none h = absurd h
 no_counter l (Err (hir.Memory e)) none h = refl
@@ -206,7 +236,8 @@ left_avoids : (o : Option InstructionId) → Avoids is_too_many (Answered {A = �
 left_avoids None = tt
 left_avoids (Some i) = refl
 
-room_avoids : (b : Bool) → b ≡ true → (let r : Result ⊤ InferError = if b then Ok tt else Err (error.TooMany GraphPositions) in Avoids is_too_many (Answered {A = ⊤}) r)
+room_avoids : (b : Bool) → b ≡ true → (let r : Result ⊤ InferError = if b then Ok tt
+    else Err (error.TooMany GraphPositions) in Avoids is_too_many (Answered {A = ⊤}) r)
 room_avoids true h = tt
 room_avoids false h = cc
 
@@ -217,15 +248,22 @@ module _ (f : HirFunction) (h : IsShortFunction f) where
   listed_few : Avoids is_too_many Few (listing_or (listed f))
   listed_few =
       no_counter (first_listing f) (listed f) refl
-      (takes_on (26 * length f.body.blocks) 26026 (blocks_listed f 0 f.body.blocks) (omega (arith, h.few)) (blocks_take f h.instructions f.body.blocks 0 h.blocks) (first_listing f) (omega arith))
+      (takes_on (26 * length f.body.blocks) 26026 (blocks_listed f 0 f.body.blocks) (omega (arith, h.few))
+      (blocks_take f h.instructions f.body.blocks 0 h.blocks) (first_listing f) (omega arith))
 
   recorded_avoids : Avoids is_too_many (Answered {A = Listing}) (recorded f)
   recorded_avoids =
-      avoids_then is_too_many (Answered {A = ⊤}) (Answered {A = Listing}) (none_unreplaced (unreplaced f)) (λ q. listing_or (listed f) >>= (λ l. positions_left l.next (length (tracked f)) >>= (λ t. Ok l))) (left_avoids (unreplaced f)) (λ q t.
-      avoids_then is_too_many Few (Answered {A = Listing}) (listing_or (listed f)) (λ l. positions_left l.next (length (tracked f)) >>= (λ t. Ok l)) listed_few (λ l few.
-      avoids_then is_too_many (Answered {A = ⊤}) (Answered {A = Listing}) (positions_left l.next (length (tracked f))) (λ t. Ok l)
-      (room_avoids (nat_le (l.next + length (tracked f)) 4294967295) (within (l.next + length (tracked f)) 4294967295 (omega (arith, few, h.tracked)))) (λ t a. tt)))
+      avoids_then is_too_many (Answered {A = ⊤}) (Answered {A = Listing}) (none_unreplaced (unreplaced f))
+      (λ q. listing_or (listed f) >>= (λ l. positions_left l.next (length (tracked f)) >>= (λ t. Ok l)))
+      (left_avoids (unreplaced f)) (λ q t.
+      avoids_then is_too_many Few (Answered {A = Listing}) (listing_or (listed f))
+      (λ l. positions_left l.next (length (tracked f)) >>= (λ t. Ok l)) listed_few (λ l few.
+      avoids_then is_too_many (Answered {A = ⊤}) (Answered {A = Listing}) (positions_left l.next (length (tracked f)))
+      (λ t. Ok l)
+      (room_avoids (nat_le (l.next + length (tracked f)) 4294967295)
+      (within (l.next + length (tracked f)) 4294967295 (omega (arith, few, h.tracked)))) (λ t a. tt)))
 
   -- the range pass of such a function is refused for no counter
   pub ranges_avoid : (b : Bool) (env : Environment) → Avoids is_too_many (Answered {A = Ranged}) (range_pass b f env)
-  ranges_avoid b env = avoids_then is_too_many (Answered {A = Listing}) (Answered {A = Ranged}) (recorded f) (λ l. Ok (ranged b f env l)) recorded_avoids (λ l t. tt)
+  ranges_avoid b env = avoids_then is_too_many (Answered {A = Listing}) (Answered {A = Ranged}) (recorded f)
+      (λ l. Ok (ranged b f env l)) recorded_avoids (λ l t. tt)

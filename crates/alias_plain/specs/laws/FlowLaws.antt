@@ -1,5 +1,6 @@
 -- What isn't sure is a flow over the positions of blocks.
-use Rattle.std.specs.Prelude.{◌≡◌, ℕ, ◌<◌, ◌+◌, Bool, true, false, List, [], ◌∷◌, length, Option, Some, None, is_some, slice_get, refl, cond, if◌then◌else◌}
+use Rattle.std.specs.Prelude.{◌≡◌, ℕ, ◌<◌, ◌+◌, Bool, true, false, List, [], ◌∷◌, length, Option, Some, None, is_some}
+use Rattle.std.specs.Prelude.{slice_get, refl, cond, if◌then◌else◌}
 use Rattle.std.proofs.Common.{ap, sym, ◌∙◌, subst}
 use Rattle.std.proofs.Math.Dec.{T}
 use Rattle.std.specs.Cmp.{tied_itself}
@@ -33,27 +34,36 @@ use Rattle.alias_hir.specs.PositionLaws.{found_has_position}
 use Rattle.alias_hir.specs.Positions.{Blocks, position_in, with_position, positions_of, edges_at}
 use Rattle.alias_plain.specs.laws.Scopes.{Scope}
 use Rattle.alias_plain.specs.unsure.Ways.{UnsureState, StateProper}
-use Rattle.alias_plain.specs.laws.UnsureFlow.{with_members, without_members, sure_numbers, unsure_at_first, source_of, operand_is_unsure, with_phi, with_phis, entered_from, entered, rows_or_none, adds_in, through_at, through, through_all, out_set, step_at, unsure_flow}
+use Rattle.alias_plain.specs.laws.UnsureFlow.{with_members, without_members, sure_numbers, unsure_at_first, source_of}
+use Rattle.alias_plain.specs.laws.UnsureFlow.{operand_is_unsure, with_phi, with_phis, entered_from, entered}
+use Rattle.alias_plain.specs.laws.UnsureFlow.{rows_or_none, adds_in, through_at, through, through_all, out_set, step_at}
+use Rattle.alias_plain.specs.laws.UnsureFlow.{unsure_flow}
 
 -- ---- positions
 
 -- a position is below the number of blocks
 pub position_below : (blocks : Blocks) (b : BlockId) (n : ℕ) → position_in blocks b ≡ Some n → n < length blocks
-position_below blocks b n e = subst (λ k. n < k) (length-keys_of blocks) (position-Some (same_block b) (keys_of blocks) n b e).0
+position_below blocks b n e = subst (λ k. n < k) (length-keys_of blocks)
+    (position-Some (same_block b) (keys_of blocks) n b e).0
 
-more_below : (o : Option ℕ) (m : ℕ) (ns : List ℕ) → ((n : ℕ) → o ≡ Some n → n < m) → AllByRecursion (λ n. n < m) ns → AllByRecursion (λ n. n < m) (with_position o ns)
+more_below : (o : Option ℕ) (m : ℕ) (ns : List ℕ) → ((n : ℕ) → o ≡ Some n → n < m) → AllByRecursion (λ n. n < m) ns
+    → AllByRecursion (λ n. n < m) (with_position o ns)
 more_below None m ns h a = a
 more_below (Some n) m ns h a = (h n refl, a)
 
-positions_below : (blocks : Blocks) (bs : List BlockId) → AllByRecursion (λ n. n < length blocks) (positions_of blocks bs)
+positions_below : (blocks : Blocks) (bs : List BlockId)
+    → AllByRecursion (λ n. n < length blocks) (positions_of blocks bs)
 positions_below blocks [] = tt
-positions_below blocks (b ∷ bs) = more_below (position_in blocks b) (length blocks) (positions_of blocks bs) (position_below blocks b) (positions_below blocks bs)
+positions_below blocks (b ∷ bs) = more_below (position_in blocks b) (length blocks) (positions_of blocks bs)
+    (position_below blocks b) (positions_below blocks bs)
 
-edges_below : (blocks : Blocks) (o : Option (BlockId × BasicBlock)) → AllByRecursion (λ n. n < length blocks) (edges_at blocks o)
+edges_below : (blocks : Blocks) (o : Option (BlockId × BasicBlock))
+    → AllByRecursion (λ n. n < length blocks) (edges_at blocks o)
 edges_below blocks None = tt
 edges_below blocks (Some b) = positions_below blocks (successors b.1.terminal)
 
-entry_below : (o : Option ℕ) (m : ℕ) → is_some o ≡ true → ((n : ℕ) → o ≡ Some n → n < m) → option_map_or (λ n. n) o 0 < m
+entry_below : (o : Option ℕ) (m : ℕ) → is_some o ≡ true → ((n : ℕ) → o ≡ Some n → n < m) → option_map_or (λ n. n) o 0
+    < m
 entry_below None m h f = cc
 entry_below (Some n) m h f = f n refl
 
@@ -69,12 +79,14 @@ others_proper (x ∷ xs) s h = others_proper xs (without_member x s) (proper_wit
 
 phi_proper : (from : Option BlockId) (s : Rows) (phi : Phi) → RowsProper s → RowsProper (with_phi from s phi)
 phi_proper from s phi h =
-    elim (operand_is_unsure from phi s) as (λ b. RowsProper (if b then with_member (number phi.place) s else without_member (number phi.place) s)) [
+    elim (operand_is_unsure from phi s) as
+    (λ b. RowsProper (if b then with_member (number phi.place) s else without_member (number phi.place) s)) [
       | true ↦ proper_with (number phi.place) s h
       | false ↦ proper_without (number phi.place) s h
     ]
 
-pub phis_proper : (from : Option BlockId) (phis : List Phi) (s : Rows) → RowsProper s → RowsProper (with_phis from phis s)
+pub phis_proper : (from : Option BlockId) (phis : List Phi) (s : Rows) → RowsProper s
+    → RowsProper (with_phis from phis s)
 phis_proper from [] s h = h
 phis_proper from (phi ∷ phis) s h = phis_proper from phis (with_phi from s phi) (phi_proper from s phi h)
 
@@ -92,10 +104,12 @@ rows_proper None h = proper_none
 rows_proper (Some s) h = h
 
 -- a key that ties with the first isn't found behind it
-pub find_behind : (q k : ℕ) (es : List (ℕ × Rows)) → nat_cmp q k ≡ Equal → T (below_all nat_cmp k es) → find nat_cmp q es ≡ None
+pub find_behind : (q k : ℕ) (es : List (ℕ × Rows)) → nat_cmp q k ≡ Equal → T (below_all nat_cmp k es)
+    → find nat_cmp q es ≡ None
 find_behind q k [] t h = refl
 find_behind q k (e ∷ es) t h =
-    ap (λ r. cond (is_eq r) (Some e.1) (find nat_cmp q es)) (nat_cmp_total.congr q k e.0 t ∙ lesser _ (T-first (is_lt (nat_cmp k e.0)) (below_all nat_cmp k es) h))
+    ap (λ r. cond (is_eq r) (Some e.1) (find nat_cmp q es))
+    (nat_cmp_total.congr q k e.0 t ∙ lesser _ (T-first (is_lt (nat_cmp k e.0)) (below_all nat_cmp k es) h))
     ∙ find_behind q k es t (T-second (is_lt (nat_cmp k e.0)) (below_all nat_cmp k es) h)
 
 pub first_found : (e : ℕ × Rows) (es : List (ℕ × Rows)) → find nat_cmp e.0 (e ∷ es) ≡ Some e.1
@@ -103,11 +117,15 @@ first_found e es = ap (λ r. cond (is_eq r) (Some e.1) (find nat_cmp e.0 es)) (t
 
 -- the set of the first entry is proper, and so are the others
 pub first_proper : (e : ℕ × Rows) (es : UnsureState) → StateProper (e ∷ es) → RowsProper e.1
-first_proper e es h = subst (ProperOption RowsProper) (first_found e es) (proper_found nat_cmp RowsProper (e ∷ es) h e.0)
+first_proper e es h = subst (ProperOption RowsProper) (first_found e es)
+    (proper_found nat_cmp RowsProper (e ∷ es) h e.0)
 
-later_proper : (e : ℕ × Rows) (es : UnsureState) (q : ℕ) (t : Bool) → T (is_sorted nat_cmp (e ∷ es)) → eq_by_cmp nat_cmp q e.0 ≡ t → ProperOption RowsProper (cond t (Some e.1) (find nat_cmp q es)) → ProperOption RowsProper (find nat_cmp q es)
+later_proper : (e : ℕ × Rows) (es : UnsureState) (q : ℕ) (t : Bool) → T (is_sorted nat_cmp (e ∷ es))
+    → eq_by_cmp nat_cmp q e.0 ≡ t → ProperOption RowsProper (cond t (Some e.1) (find nat_cmp q es))
+    → ProperOption RowsProper (find nat_cmp q es)
 later_proper e es q true s g h =
-    subst (ProperOption RowsProper) (sym (find_behind q e.0 es (equal (nat_cmp q e.0) (subst T (sym g) tt)) (T-first (below_all nat_cmp e.0 es) (is_sorted nat_cmp es) s))) tt
+    subst (ProperOption RowsProper) (sym (find_behind q e.0 es (equal (nat_cmp q e.0) (subst T (sym g) tt))
+    (T-first (below_all nat_cmp e.0 es) (is_sorted nat_cmp es) s))) tt
 later_proper e es q false s g h = h
 
 pub rest_proper : (e : ℕ × Rows) (es : UnsureState) → StateProper (e ∷ es) → StateProper es
@@ -115,21 +133,26 @@ rest_proper e es h =
     proper_from nat_cmp RowsProper es (T-second (below_all nat_cmp e.0 es) (is_sorted nat_cmp es) h.0)
     (λ q. later_proper e es q (eq_by_cmp nat_cmp q e.0) h.0 refl (proper_found nat_cmp RowsProper (e ∷ es) h q))
 
-entered_from_proper : (blocks : Blocks) (phis : List Phi) (o : Option Rows) (es : UnsureState) → ProperIfThere o → StateProper es → ProperIfThere (entered_from blocks phis o es)
+entered_from_proper : (blocks : Blocks) (phis : List Phi) (o : Option Rows) (es : UnsureState) → ProperIfThere o
+    → StateProper es → ProperIfThere (entered_from blocks phis o es)
 entered_from_proper blocks phis o [] h i = h
 entered_from_proper blocks phis o (e ∷ es) h i =
     entered_from_proper blocks phis (Some (joined union o (with_phis (source_of blocks e.0) phis e.1))) es
-    (joined_proper o (with_phis (source_of blocks e.0) phis e.1) h (phis_proper (source_of blocks e.0) phis e.1 (first_proper e es i)))
+    (joined_proper o (with_phis (source_of blocks e.0) phis e.1) h
+    (phis_proper (source_of blocks e.0) phis e.1 (first_proper e es i)))
     (rest_proper e es i)
 
-pub entered_proper : (blocks : Blocks) (phis : List Phi) (x : UnsureState) → StateProper x → RowsProper (entered blocks phis x)
-entered_proper blocks phis x h = rows_proper (entered_from blocks phis None x) (entered_from_proper blocks phis None x tt h)
+pub entered_proper : (blocks : Blocks) (phis : List Phi) (x : UnsureState) → StateProper x
+    → RowsProper (entered blocks phis x)
+entered_proper blocks phis x h = rows_proper (entered_from blocks phis None x)
+    (entered_from_proper blocks phis None x tt h)
 
 pub one_proper : (key : ℕ) (s : Rows) → RowsProper s → StateProper ((key, s) ∷ [])
 one_proper key s h = proper_put nat_cmp RowsProper nat_cmp_total key s [] (proper_nil nat_cmp RowsProper) h
 
 pub unsure_at_first_proper : (c : Scope) → RowsProper (unsure_at_first c)
-unsure_at_first_proper c = others_proper (sure_numbers c.func) _ (members_proper (range_with_len 0 (length c.env.identifiers)) [] proper_none)
+unsure_at_first_proper c = others_proper (sure_numbers c.func) _
+    (members_proper (range_with_len 0 (length c.env.identifiers)) [] proper_none)
 
 module _ (c : Scope) where
   through_proper : (s : Rows) (o : Option Instruction) → RowsProper s → RowsProper (through_at c s o)
@@ -138,17 +161,22 @@ module _ (c : Scope) where
 
   pub through_all_proper : (is : List InstructionId) (s : Rows) → RowsProper s → RowsProper (through_all c is s)
   through_all_proper [] s h = h
-  through_all_proper (i ∷ is) s h = through_all_proper is (through c s i) (through_proper s (slice_get c.func.instructions i.0) h)
+  through_all_proper (i ∷ is) s h = through_all_proper is (through c s i)
+      (through_proper s (slice_get c.func.instructions i.0) h)
 
-  pub step_proper : (n : ℕ) (o : Option (BlockId × BasicBlock)) (x : UnsureState) → StateProper x → StateProper (step_at c n o x)
+  pub step_proper : (n : ℕ) (o : Option (BlockId × BasicBlock)) (x : UnsureState) → StateProper x
+      → StateProper (step_at c n o x)
   step_proper n None x h = h
-  step_proper n (Some b) x h = one_proper (n + 1) (out_set c b.1 x) (through_all_proper b.1.instructions _ (entered_proper c.func.body.blocks b.1.phis x h))
+  step_proper n (Some b) x h = one_proper (n + 1) (out_set c b.1 x)
+      (through_all_proper b.1.instructions _ (entered_proper c.func.body.blocks b.1.phis x h))
 
-pub stepped_is : (x y : UnsureState) (t u k l : Unit {0}) → ◌≡◌ {A = Outcome UnsureState (Unit {0}) (Unit {0}) (Unit {0})} (Stepped x t k) (Stepped y u l) → x ≡ y
+pub stepped_is : (x y : UnsureState) (t u k l : Unit {0})
+    → ◌≡◌ {A = Outcome UnsureState (Unit {0}) (Unit {0}) (Unit {0})} (Stepped x t k) (Stepped y u l) → x ≡ y
 stepped_is x y t u k l e = cc
 
 -- where the entry is a block, it is a flow over the positions of blocks
-pub unsure_laws : (c : Scope) → is_some (value_at c.func.body.blocks c.func.body.entry) ≡ true → (recorded : List (Option (Unit {0}))) → length recorded ≡ length c.func.body.blocks
+pub unsure_laws : (c : Scope) → is_some (value_at c.func.body.blocks c.func.body.entry) ≡ true
+    → (recorded : List (Option (Unit {0}))) → length recorded ≡ length c.func.body.blocks
     → FlowLaws StateProper (λ (t u : Unit {0}). Unit {0}) (unsure_flow c) recorded
 unsure_laws c at_index recorded long =
     let blocks = c.func.body.blocks in
@@ -156,8 +184,10 @@ unsure_laws c at_index recorded long =
     record {
       recorded_length = long;
       initial_proper = one_proper 0 (unsure_at_first c) (unsure_at_first_proper c);
-      step_proper = λ t n x y u k p e. subst StateProper (stepped_is _ y tt u tt k e) (step_proper c n (slice_get blocks n) x p);
-      entry_below = entry_below (position_in blocks entry) (length blocks) (found_has_position blocks entry at_index) (position_below blocks entry);
+      step_proper = λ t n x y u k p e. subst StateProper (stepped_is _ y tt u tt k e)
+          (step_proper c n (slice_get blocks n) x p);
+      entry_below = entry_below (position_in blocks entry) (length blocks) (found_has_position blocks entry at_index)
+          (position_below blocks entry);
       edges_below = λ n h. edges_below blocks (slice_get blocks n);
       reflexive = λ t. tt;
       transitive = λ t u v g h. tt;

@@ -40,11 +40,15 @@ module _ (func : HirFunction) (env : Environment) (distinct : NamesDiffer func) 
   pub flow_laws : FlowLaws StateProper (λ (t u : Unit {0}). Unit {0}) (unsure_flow c) none_yet
   flow_laws = unsure_laws c looks.entry none_yet (length-replicate (length func.body.blocks) None)
 
-  pub solves : (w : SolverState (VisitLog UnsureState) (Unit {0}) (Unit {0})) → unsure_end c ≡ end.Solved w → IsSolution state_below (unsure_flow c).flow tt (entry_at w.progress.joined_input)
-  solves w e = (solution_solves state_laws flow_laws tt (as_work_list_state state_below w) (solution_work_list state_laws flow_laws tt ∙ ap (as_work_list_end state_below) e)).solves
+  pub solves : (w : SolverState (VisitLog UnsureState) (Unit {0}) (Unit {0})) → unsure_end c ≡ end.Solved w
+      → IsSolution state_below (unsure_flow c).flow tt (entry_at w.progress.joined_input)
+  solves w e = (solution_solves state_laws flow_laws tt (as_work_list_state state_below w)
+      (solution_work_list state_laws flow_laws tt ∙ ap (as_work_list_end state_below) e)).solves
 
-  plain_case : (t : TableLists) (p : ⊤ × TableLists) (e : End (VisitLog UnsureState) (Unit {0}) (Unit {0}) (Unit {0})) → unsure_end c ≡ e → scan_after c e t ≡ Ok p → IsPlain func env
-  plain_case t p (end.Solved w) g h = scanned_is_plain func env distinct looks.entry w g (solves w g) looks.phis looks.needs t p h
+  plain_case : (t : TableLists) (p : ⊤ × TableLists) (e : End (VisitLog UnsureState) (Unit {0}) (Unit {0}) (Unit {0}))
+      → unsure_end c ≡ e → scan_after c e t ≡ Ok p → IsPlain func env
+  plain_case t p (end.Solved w) g h = scanned_is_plain func env distinct looks.entry w g (solves w g) looks.phis
+      looks.needs t p h
   plain_case t p (end.Fault b u) g h = cc
   plain_case t p (end.NotSettled n) g h = cc
 
@@ -52,11 +56,15 @@ module _ (func : HirFunction) (env : Environment) (distinct : NamesDiffer func) 
   pub function_is_plain : (t : TableLists) (p : ⊤ × TableLists) → scan_function c t ≡ Ok p → IsPlain func env
   function_is_plain t p h = plain_case t p (unsure_end c) refl h
 
-  breaks_case : (t : TableLists) (i : InstructionId) (rule : ℕ) (e : End (VisitLog UnsureState) (Unit {0}) (Unit {0}) (Unit {0})) → unsure_end c ≡ e → scan_after c e t ≡ Err (stop.Broken i rule) → BreaksFirst func env i rule
-  breaks_case t i rule (end.Solved w) g h = stopped_breaks_first func env distinct looks.entry w g (solves w g) looks.phis looks.needs t i rule h
+  breaks_case : (t : TableLists) (i : InstructionId) (rule : ℕ)
+      (e : End (VisitLog UnsureState) (Unit {0}) (Unit {0}) (Unit {0})) → unsure_end c ≡ e → scan_after c e t
+      ≡ Err (stop.Broken i rule) → BreaksFirst func env i rule
+  breaks_case t i rule (end.Solved w) g h =
+      stopped_breaks_first func env distinct looks.entry w g (solves w g) looks.phis looks.needs t i rule h
   breaks_case t i rule (end.Fault b u) g h = cc
   breaks_case t i rule (end.NotSettled n) g h = cc
 
   -- one that is stopped at an instruction breaks a condition there first
-  pub function_breaks_first : (t : TableLists) (i : InstructionId) (rule : ℕ) → scan_function c t ≡ Err (stop.Broken i rule) → BreaksFirst func env i rule
+  pub function_breaks_first : (t : TableLists) (i : InstructionId) (rule : ℕ) → scan_function c t
+      ≡ Err (stop.Broken i rule) → BreaksFirst func env i rule
   function_breaks_first t i rule h = breaks_case t i rule (unsure_end c) refl h

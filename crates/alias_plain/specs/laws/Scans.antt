@@ -1,5 +1,6 @@
 -- The instructions of reached blocks, gone through until one breaks a condition.
-use Rattle.std.specs.Prelude.{ℕ, ◌+◌, Bool, not, List, [], ◌∷◌, ◌++◌, Option, Some, None, Result, Ok, Err, ⊤, map, slice_get, slice_index_or}
+use Rattle.std.specs.Prelude.{ℕ, ◌+◌, Bool, not, List, [], ◌∷◌, ◌++◌, Option, Some, None, Result, Ok, Err, ⊤, map}
+use Rattle.std.specs.Prelude.{slice_get, slice_index_or}
 use Rattle.std.specs.List.{list_all}
 use Rattle.alias_base.specs.declared.ids.BlockId.{BlockId}
 use Rattle.alias_base.specs.declared.ids.IdentifierId.{IdentifierId}
@@ -35,7 +36,8 @@ use Rattle.alias_plain.specs.laws.UnsureFlow.{list_in, through, entered, unsure_
 
 -- ---- numbers that lists need
 
--- what a step over tables comes to where only its numbers matter. A freeze of a spread is refused before the list has its numbers; the instruction is broken anyway
+-- what a step over tables comes to where only its numbers matter. A freeze of a spread is refused before the list has
+-- its numbers; the instruction is broken anyway
 abbrev pub counted : {A : Type 0} → Result (A × TableLists) Refusal → Result (⊤ × TableLists) Stop
 counted (Ok p) = Ok (tt, p.1)
 counted (Err (refusal.TooMany which)) = Err (TooMany which)
@@ -47,7 +49,8 @@ count_reported None = gives tt
 count_reported (Some reported) = λ t. counted (intern_report reported.0 reported.1 t)
 
 -- the temporaries and the reports of an aliasing part
-abbrev pub count_part : Environment → Called → Option AliasingSignatureConfig → TableLists → Result (⊤ × TableLists) Stop
+abbrev pub count_part : Environment → Called → Option AliasingSignatureConfig → TableLists
+    → Result (⊤ × TableLists) Stop
 count_part env c None = gives tt
 count_part env c (Some part) = λ t. counted (config_expansion env part c.site c.args t)
 
@@ -101,7 +104,8 @@ module _ (c : Scope) where
   scan_block b (Some x) = scan_instructions b.instructions (entered c.func.body.blocks b.phis x)
 
   -- the blocks, of which the first has the position
-  abbrev pub scan_from : List (Option UnsureState) → ℕ → List (BlockId × BasicBlock) → TableLists → Result (⊤ × TableLists) Stop
+  abbrev pub scan_from : List (Option UnsureState) → ℕ → List (BlockId × BasicBlock) → TableLists
+      → Result (⊤ × TableLists) Stop
   scan_from entries n [] = gives tt
   scan_from entries n (b ∷ bs) = do
     _ ← scan_block b.1 (slice_index_or entries n None)
@@ -110,7 +114,8 @@ module _ (c : Scope) where
   -- ---- functions
 
   -- no step is refused, so that the sequence ends in one of two ways
-  abbrev pub scan_after : End (VisitLog UnsureState) (Unit {0}) (Unit {0}) (Unit {0}) → TableLists → Result (⊤ × TableLists) Stop
+  abbrev pub scan_after : End (VisitLog UnsureState) (Unit {0}) (Unit {0}) (Unit {0}) → TableLists
+      → Result (⊤ × TableLists) Stop
   scan_after (end.Solved w) = scan_from w.progress.joined_input 0 c.func.body.blocks
   scan_after (end.Fault b u) = refuses NotSettled
   scan_after (end.NotSettled n) = refuses NotSettled

@@ -1,6 +1,8 @@
--- Which identifiers aren't sure, as a flow over the positions of blocks. The state of a block has a set for each block that was gone on
+-- Which identifiers aren't sure, as a flow over the positions of blocks. The state of a block has a set for each block
+-- that was gone on
 -- from, known by one more than its position, and one, known by 0, for the beginning of a path.
-use Rattle.std.specs.Prelude.{ℕ, ◌+◌, ◌-◌, ◌==◌, Bool, true, List, [], ◌∷◌, ◌++◌, length, map, Option, Some, None, option_map, slice_get, replicate, if◌then◌else◌}
+use Rattle.std.specs.Prelude.{ℕ, ◌+◌, ◌-◌, ◌==◌, Bool, true, List, [], ◌∷◌, ◌++◌, length, map, Option, Some, None}
+use Rattle.std.specs.Prelude.{option_map, slice_get, replicate, if◌then◌else◌}
 use Rattle.std.specs.Option.{option_map_or}
 use Rattle.std.specs.List.{fold, range_with_len}
 use Rattle.alias_base.specs.Find.{value_at}
@@ -37,13 +39,15 @@ sure_numbers func = map number (func.context ++ defined_params func.fn_type func
 
 -- all identifiers but these
 abbrev pub unsure_at_first : Scope → Rows
-unsure_at_first c = without_members (sure_numbers c.func) (with_members (range_with_len 0 (length c.env.identifiers)) [])
+unsure_at_first c = without_members (sure_numbers c.func)
+    (with_members (range_with_len 0 (length c.env.identifiers)) [])
 
 -- ---- entering a block
 
 -- the block that a key stands for
 abbrev pub source_of : Blocks → ℕ → Option BlockId
-source_of blocks key = if key == 0 then None else option_map (λ (b : BlockId × BasicBlock). b.0) (slice_get blocks (key - 1))
+source_of blocks key = if key == 0 then None
+    else option_map (λ (b : BlockId × BasicBlock). b.0) (slice_get blocks (key - 1))
 
 -- the operand for the block isn't sure, or there is none
 abbrev pub operand_is_unsure : Option BlockId → Phi → Rows → Bool
@@ -52,7 +56,8 @@ operand_is_unsure (Some b) phi s = option_map_or (λ (p : Place). has s (number 
 
 -- the phi is sure exactly where its operand is
 abbrev pub with_phi : Option BlockId → Rows → Phi → Rows
-with_phi from s phi = if operand_is_unsure from phi s then with_member (number phi.place) s else without_member (number phi.place) s
+with_phi from s phi = if operand_is_unsure from phi s then with_member (number phi.place) s
+    else without_member (number phi.place) s
 
 abbrev pub with_phis : Option BlockId → List Phi → Rows → Rows
 with_phis from phis s = fold (with_phi from) s phis
@@ -60,7 +65,8 @@ with_phis from phis s = fold (with_phi from) s phis
 -- the entries' sets after the phis, each taken in with what there is so far
 abbrev pub entered_from : Blocks → List Phi → Option Rows → List (ℕ × Rows) → Option Rows
 entered_from blocks phis so_far [] = so_far
-entered_from blocks phis so_far (e ∷ es) = entered_from blocks phis (Some (joined union so_far (with_phis (source_of blocks e.0) phis e.1))) es
+entered_from blocks phis so_far (e ∷ es) =
+    entered_from blocks phis (Some (joined union so_far (with_phis (source_of blocks e.0) phis e.1))) es
 
 abbrev pub rows_or_none : Option Rows → Rows
 rows_or_none None = []

@@ -1,5 +1,6 @@
 -- Which numbers sets have.
-use Rattle.std.specs.Prelude.{◌≡◌, ◌≢◌, ℕ, ◌*◌, ◌/◌, ◌%◌, ◌^◌, ◌<◌, ◌==◌, ◌||◌, Bool, true, false, cond, IsTrue, List, [], Option, Some, None, bit_or, bit_and, refl}
+use Rattle.std.specs.Prelude.{◌≡◌, ◌≢◌, ℕ, ◌*◌, ◌/◌, ◌%◌, ◌^◌, ◌<◌, ◌==◌, ◌||◌, Bool, true, false, cond, IsTrue, List}
+use Rattle.std.specs.Prelude.{[], Option, Some, None, bit_or, bit_and, refl}
 use Rattle.std.specs.Int.Bits.{or_zero_l, or_zero_r}
 use Rattle.std.proofs.Common.{ap, sym, ◌∙◌, arith, subst, lit<}
 use Rattle.std.proofs.Math.Dec.{T}
@@ -18,8 +19,10 @@ use Rattle.alias_lattice.specs.ListMapLaws.{list_laws}
 use Rattle.alias_lattice.specs.PutLaws.{find-join, proper_put, proper_nil, proper_found}
 use Rattle.alias_lattice.specs.Reasons.{bits_below}
 use Rattle.alias_plain.specs.unsure.Words.{WordFits, has_bit, with_bit, without_bit}
-use Rattle.alias_plain.specs.unsure.WordLaws.{word_laws, has_bit-or, with_bit_same, with_bit_other, without_bit_same, without_bit_other}
-use Rattle.alias_plain.specs.unsure.Sets.{Rows, word_of, word_at, has, with_member, without_member, RowsProper, union, is_within}
+use Rattle.alias_plain.specs.unsure.WordLaws.{word_laws, has_bit-or, with_bit_same, with_bit_other, without_bit_same}
+use Rattle.alias_plain.specs.unsure.WordLaws.{without_bit_other}
+use Rattle.alias_plain.specs.unsure.Sets.{Rows, word_of, word_at, has, with_member, without_member, RowsProper, union}
+use Rattle.alias_plain.specs.unsure.Sets.{is_within}
 
 pub set_laws : LatticeLaws RowsProper union is_within
 set_laws = list_laws nat_cmp nat_cmp_total nat_cmp-IsAntisymmetric WordFits bit_or bits_below word_laws
@@ -47,11 +50,13 @@ word_fits s row h = found_fits (find nat_cmp row s) (proper_found nat_cmp WordFi
 
 pub proper_with : (x : ℕ) (s : Rows) → RowsProper s → RowsProper (with_member x s)
 unfolding with_member
-proper_with x s h = proper_put nat_cmp WordFits nat_cmp_total (x / 64) (with_bit (word_at s (x / 64)) (x % 64)) s h (or_fits (word_at s (x / 64)) (x % 64) (word_fits s (x / 64) h) (slot_below x))
+proper_with x s h = proper_put nat_cmp WordFits nat_cmp_total (x / 64) (with_bit (word_at s (x / 64)) (x % 64)) s h
+    (or_fits (word_at s (x / 64)) (x % 64) (word_fits s (x / 64) h) (slot_below x))
 
 pub proper_without : (x : ℕ) (s : Rows) → RowsProper s → RowsProper (without_member x s)
 unfolding without_member
-proper_without x s h = proper_put nat_cmp WordFits nat_cmp_total (x / 64) (without_bit (word_at s (x / 64)) (x % 64)) s h (and_fits (word_at s (x / 64)) _ (word_fits s (x / 64) h))
+proper_without x s h = proper_put nat_cmp WordFits nat_cmp_total (x / 64) (without_bit (word_at s (x / 64)) (x % 64)) s
+    h (and_fits (word_at s (x / 64)) _ (word_fits s (x / 64) h))
 
 -- ---- members
 
@@ -76,7 +81,8 @@ has-union a b x h i =
 word-put : (row k w : ℕ) (s : Rows) → word_at (put nat_cmp k w s) row ≡ cond (eq_by_cmp nat_cmp row k) w (word_at s row)
 word-put row k w s =
     ap word_of (find-put nat_cmp nat_cmp_total row k w s)
-    ∙ elim (eq_by_cmp nat_cmp row k) as (λ t. word_of (cond t (Some w) (find nat_cmp row s)) ≡ cond t w (word_of (find nat_cmp row s))) [ true ↦ refl | false ↦ refl ]
+    ∙ elim (eq_by_cmp nat_cmp row k) as (λ t. word_of (cond t (Some w) (find nat_cmp row s))
+    ≡ cond t w (word_of (find nat_cmp row s))) [ true ↦ refl | false ↦ refl ]
 
 same_row : (a b : ℕ) → a ≡ b → eq_by_cmp nat_cmp a b ≡ true
 same_row a b h = subst (λ k. eq_by_cmp nat_cmp a k ≡ true) h (ap is_eq (tied_itself nat_cmp_total a))
@@ -89,12 +95,17 @@ apart : (x y : ℕ) → x ≢ y → x / 64 ≡ y / 64 → x % 64 ≢ y % 64
 apart x y d r s = d (omega arith)
 
 put_same : (x w : ℕ) (s : Rows) → has_bit (word_at (put nat_cmp (x / 64) w s) (x / 64)) (x % 64) ≡ has_bit w (x % 64)
-put_same x w s = ap (λ v. has_bit v (x % 64)) (word-put (x / 64) (x / 64) w s ∙ ap (λ t. cond t w (word_at s (x / 64))) (same_row (x / 64) (x / 64) refl))
+put_same x w s = ap (λ v. has_bit v (x % 64))
+    (word-put (x / 64) (x / 64) w s ∙ ap (λ t. cond t w (word_at s (x / 64))) (same_row (x / 64) (x / 64) refl))
 
-put_other : (x y w : ℕ) (s : Rows) → x ≢ y → (x % 64 ≢ y % 64 → has_bit w (y % 64) ≡ has_bit (word_at s (x / 64)) (y % 64)) → has_bit (word_at (put nat_cmp (x / 64) w s) (y / 64)) (y % 64) ≡ has_bit (word_at s (y / 64)) (y % 64)
+put_other : (x y w : ℕ) (s : Rows) → x ≢ y
+    → (x % 64 ≢ y % 64 → has_bit w (y % 64) ≡ has_bit (word_at s (x / 64)) (y % 64))
+    → has_bit (word_at (put nat_cmp (x / 64) w s) (y / 64)) (y % 64) ≡ has_bit (word_at s (y / 64)) (y % 64)
 put_other x y w s d h =
     ap (λ v. has_bit v (y % 64)) (word-put (y / 64) (x / 64) w s)
-    ∙ elim (eq_by_cmp nat_cmp (y / 64) (x / 64)) as (λ t. eq_by_cmp nat_cmp (y / 64) (x / 64) ≡ t → has_bit (cond t w (word_at s (y / 64))) (y % 64) ≡ has_bit (word_at s (y / 64)) (y % 64)) [
+    ∙ elim (eq_by_cmp nat_cmp (y / 64) (x / 64)) as
+    (λ t. eq_by_cmp nat_cmp (y / 64) (x / 64) ≡ t → has_bit (cond t w (word_at s (y / 64))) (y % 64)
+    ≡ has_bit (word_at s (y / 64)) (y % 64)) [
       | true ↦ λ t.
           let row : y / 64 ≡ x / 64 = row_is (y / 64) (x / 64) t in
           h (apart x y d (sym row)) ∙ ap (λ r. has_bit (word_at s r) (y % 64)) (sym row)
@@ -103,19 +114,23 @@ put_other x y w s d h =
 
 pub has-with_same : (x : ℕ) (s : Rows) → has (with_member x s) x ≡ true
 unfolding has with_member
-has-with_same x s = put_same x (with_bit (word_at s (x / 64)) (x % 64)) s ∙ with_bit_same (word_at s (x / 64)) (x % 64) (slot_below x)
+has-with_same x s = put_same x (with_bit (word_at s (x / 64)) (x % 64)) s
+    ∙ with_bit_same (word_at s (x / 64)) (x % 64) (slot_below x)
 
 pub has-with_other : (x y : ℕ) (s : Rows) → x ≢ y → has (with_member x s) y ≡ has s y
 unfolding has with_member
-has-with_other x y s d = put_other x y (with_bit (word_at s (x / 64)) (x % 64)) s d (λ e. with_bit_other (word_at s (x / 64)) (x % 64) (y % 64) (slot_below x) (λ q. e (sym q)))
+has-with_other x y s d = put_other x y (with_bit (word_at s (x / 64)) (x % 64)) s d
+    (λ e. with_bit_other (word_at s (x / 64)) (x % 64) (y % 64) (slot_below x) (λ q. e (sym q)))
 
 pub has-without_same : (x : ℕ) (s : Rows) → has (without_member x s) x ≡ false
 unfolding has without_member
-has-without_same x s = put_same x (without_bit (word_at s (x / 64)) (x % 64)) s ∙ without_bit_same (word_at s (x / 64)) (x % 64) (slot_below x)
+has-without_same x s = put_same x (without_bit (word_at s (x / 64)) (x % 64)) s
+    ∙ without_bit_same (word_at s (x / 64)) (x % 64) (slot_below x)
 
 pub has-without_other : (x y : ℕ) (s : Rows) → x ≢ y → has (without_member x s) y ≡ has s y
 unfolding has without_member
-has-without_other x y s d = put_other x y (without_bit (word_at s (x / 64)) (x % 64)) s d (λ e. without_bit_other (word_at s (x / 64)) (x % 64) (y % 64) (slot_below x) (slot_below y) (λ q. e (sym q)))
+has-without_other x y s d = put_other x y (without_bit (word_at s (x / 64)) (x % 64)) s d
+    (λ e. without_bit_other (word_at s (x / 64)) (x % 64) (y % 64) (slot_below x) (slot_below y) (λ q. e (sym q)))
 
 -- ---- order
 
@@ -124,5 +139,7 @@ or-within true b h = refl
 or-within false b h = absurd (false≢true h)
 
 -- what is within another set has no further members
-pub within-has : (a b : Rows) (x : ℕ) → RowsProper a → RowsProper b → IsTrue (is_within a b) → IsTrue (has a x) → IsTrue (has b x)
-within-has a b x h i w m = subst (λ s. IsTrue (has s x)) ((set_laws.order a b h i).0 w) (subst IsTrue (sym (has-union a b x h i)) (or-within (has a x) (has b x) m))
+pub within-has : (a b : Rows) (x : ℕ) → RowsProper a → RowsProper b → IsTrue (is_within a b) → IsTrue (has a x)
+    → IsTrue (has b x)
+within-has a b x h i w m = subst (λ s. IsTrue (has s x)) ((set_laws.order a b h i).0 w)
+    (subst IsTrue (sym (has-union a b x h i)) (or-within (has a x) (has b x) m))

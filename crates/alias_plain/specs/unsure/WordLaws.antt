@@ -4,7 +4,8 @@ use Rattle.std.specs.Int.{bit_at, w64}
 use Rattle.std.specs.Int.Bits.{or_self}
 use Rattle.std.proofs.Common.{zero, suc, ap, sym, ◌∙◌, arith, subst}
 use Rattle.std.proofs.lemmas.Nat.{or_comm, or_lt}
-use Rattle.std.proofs.lemmas.Nat.Bits.{bit_at_or, bit_at-lt, bit_at_set_same, bit_at_set_other, bit_at_clear_same, bit_at_clear_other}
+use Rattle.std.proofs.lemmas.Nat.Bits.{bit_at_or, bit_at-lt, bit_at_set_same, bit_at_set_other, bit_at_clear_same}
+use Rattle.std.proofs.lemmas.Nat.Bits.{bit_at_clear_other}
 use Rattle.std.proofs.Math.Dec.{T, eqb→eq, eqb_refl}
 use Rattle.alias_lattice.specs.Laws.{LatticeLaws}
 use Rattle.alias_lattice.specs.Reasons.{bits_below}
@@ -24,7 +25,10 @@ word_laws = record {
   idempotent = λ x p. or_self x;
   commutative = λ x y p q. or_comm x y;
   associative = λ x y z p q r. or_assoc x y z;
-  order = λ x y p q. (λ h. eqb→eq _ _ (subst T (sym h) tt), λ h. T-is _ (subst (λ z. T (bit_or x y == z)) h (eqb_refl _)));
+  order = λ x y p q. (
+    λ h. eqb→eq _ _ (subst T (sym h) tt),
+    λ h. T-is _ (subst (λ z. T (bit_or x y == z)) h (eqb_refl _)),
+  );
 }
 
 -- ---- members

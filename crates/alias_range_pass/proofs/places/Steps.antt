@@ -2,7 +2,8 @@
 use Rattle.std.proofs.Common.{◌≡◌, ℕ, ◌+◌, ◌-◌, ◌<◌, Bool, ap, sym, ◌∙◌, arith, suc}
 use Rattle.alias_range_pass.specs.places.Blocks.{Placed, block_placed, blocks_placed}
 
-pub block_step : (is_function_expression : Bool) (n k : ℕ) (s t : Placed) → k < n → t ≡ block_placed is_function_expression k s
+pub block_step : (is_function_expression : Bool) (n k : ℕ) (s t : Placed) → k < n → t
+    ≡ block_placed is_function_expression k s
     → blocks_placed is_function_expression (n - (k + 1)) (k + 1) t ≡ blocks_placed is_function_expression (n - k) k s
 block_step b n k s t h is =
     let e : n - k ≡ suc (n - (k + 1)) = omega arith in

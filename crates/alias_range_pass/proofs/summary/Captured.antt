@@ -16,10 +16,14 @@ pub all_captured : (g : Nodes) (f h : HirFunction) → h ≡ function_captured g
 all_captured g f h is = inr is
 
 module _ (g : Nodes) (next : ℕ) (f : HirFunction) (env : Environment) (begin : List AliasingEffect) where
-  pub summarized_is : (marked places : List Place) (created : AliasingEffect) (summary : List AliasingEffect) → marked ≡ context_and_params f → created ≡ returns_created env f → places ≡ tracked f
-      → summary ≡ ((begin ++ marks_of_all g marked) ++ created ∷ []) ++ flows_listed g next f.returns places places → summary ≡ summarized g next f env begin
+  pub summarized_is : (marked places : List Place) (created : AliasingEffect) (summary : List AliasingEffect) → marked
+      ≡ context_and_params f → created ≡ returns_created env f → places ≡ tracked f
+      → summary ≡ ((begin ++ marks_of_all g marked) ++ created ∷ []) ++ flows_listed g next f.returns places places
+      → summary ≡ summarized g next f env begin
   summarized_is marked places created summary is_marked is_created is_places is =
       is
       ∙ ap (λ z. ((begin ++ marks_of_all g z) ++ created ∷ []) ++ flows_listed g next f.returns places places) is_marked
-      ∙ ap (λ z. ((begin ++ marks_of_all g (context_and_params f)) ++ z ∷ []) ++ flows_listed g next f.returns places places) is_created
-      ∙ ap (λ z. ((begin ++ marks_of_all g (context_and_params f)) ++ returns_created env f ∷ []) ++ flows_listed g next f.returns z z) is_places
+      ∙ ap (λ z. ((begin ++ marks_of_all g (context_and_params f)) ++ z ∷ [])
+      ++ flows_listed g next f.returns places places) is_created
+      ∙ ap (λ z. ((begin ++ marks_of_all g (context_and_params f)) ++ returns_created env f ∷ [])
+      ++ flows_listed g next f.returns z z) is_places

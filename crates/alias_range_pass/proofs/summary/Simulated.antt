@@ -13,6 +13,9 @@ no_ranges : (rs : List Identifier) (done : List Entry) → ranges_after None rs 
 no_ranges rs [] = refl
 no_ranges rs (e ∷ done) = no_ranges rs done
 
-pub simulated : (index : ℕ) (into : Place) (g : Nodes) (env : Environment) → env_after false (flow_start index into) g env ≡ env
+pub simulated : (index : ℕ) (into : Place) (g : Nodes) (env : Environment)
+    → env_after false (flow_start index into) g env ≡ env
 simulated index into g env =
-    ap (λ z. record env { identifiers = z; errors = env.errors ++ [] }) (no_ranges env.identifiers (expanded g (flow_start index into))) ∙ ap (λ z. record env { errors = z }) (append-nil env.errors)
+    ap (λ z. record env { identifiers = z; errors = env.errors ++ [] })
+    (no_ranges env.identifiers (expanded g (flow_start index into)))
+    ∙ ap (λ z. record env { errors = z }) (append-nil env.errors)

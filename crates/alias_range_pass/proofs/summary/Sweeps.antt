@@ -1,12 +1,14 @@
 -- What mutations raise, the last first.
-use Rattle.std.proofs.Common.{◌≡◌, ℕ, ◌+◌, ◌<◌, List, [], ◌∷◌, ◌++◌, length, map, reverse, drop, slice_index_or, refl, ap, sym, ◌∙◌, arith, suc, zero}
+use Rattle.std.proofs.Common.{◌≡◌, ℕ, ◌+◌, ◌<◌, List, [], ◌∷◌, ◌++◌, length, map, reverse, drop, slice_index_or, refl}
+use Rattle.std.proofs.Common.{ap, sym, ◌∙◌, arith, suc, zero}
 use Rattle.std.proofs.lemmas.List.{drop_more}
 use mathlib.Core.List.{reverse-cons}
 use Rattle.alias_graph.specs.declared.recorded.listing.RecordedMutation.{RecordedMutation}
 use Rattle.alias_graph.specs.recorded.Fitting.{AllOf}
 use Rattle.alias_range_pass.specs.summary.Sweeping.{range_walk}
 
-pub all_at : {A : Type 0} (P : A → Type 0) (xs : List A) (i : ℕ) (d : A) → AllOf P xs → i < length xs → P (slice_index_or xs i d)
+pub all_at : {A : Type 0} (P : A → Type 0) (xs : List A) (i : ℕ) (d : A) → AllOf P xs → i < length xs
+    → P (slice_index_or xs i d)
 all_at P [] i d h lt = absurd (omega arith)
 all_at P (x ∷ xs) zero d h lt = h.0
 all_at P (x ∷ xs) (suc i) d h lt = all_at P xs i d h.1 (omega arith)
@@ -24,7 +26,8 @@ walks_begin ms = ap (λ z. map range_walk (reverse z)) (sym (none_left ms))
 
 -- one mutation more
 pub walks_more : (ms : List RecordedMutation) (i left : ℕ) (d : RecordedMutation) → left ≡ i + 1 → i < length ms
-    → map range_walk (reverse (drop left ms)) ++ range_walk (slice_index_or ms i d) ∷ [] ≡ map range_walk (reverse (drop i ms))
+    → map range_walk (reverse (drop left ms)) ++ range_walk (slice_index_or ms i d) ∷ []
+    ≡ map range_walk (reverse (drop i ms))
 walks_more ms i left d is lt =
     let m = slice_index_or ms i d in
     ap (λ n. map range_walk (reverse (drop n ms)) ++ range_walk m ∷ []) is

@@ -1,5 +1,6 @@
 -- Phis, terminals and blocks with the effects of their places, and a whole function.
-use Rattle.std.specs.Prelude.{ℕ, ◌+◌, Bool, cond, List, [], ◌∷◌, Option, Some, None, map, option_map, slice_get, length, zero, suc}
+use Rattle.std.specs.Prelude.{ℕ, ◌+◌, Bool, cond, List, [], ◌∷◌, Option, Some, None, map, option_map, slice_get, length}
+use Rattle.std.specs.Prelude.{zero, suc}
 use Rattle.std.specs.Option.{option_map_or}
 use Rattle.alias_base.specs.declared.ids.BlockId.{BlockId}
 use Rattle.alias_base.specs.declared.ids.EvaluationOrder.{EvaluationOrder}
@@ -30,11 +31,15 @@ operand_with e x = (x.0, with_effect e x.1)
 
 -- the effect of the operand in slot i set
 abbrev pub effect_set_at : Effect → ℕ → List (BlockId × Place) → List (BlockId × Place)
-effect_set_at e i operands = option_map_or (λ (x : BlockId × Place). set_value_at operands i (with_effect e x.1)) (slice_get operands i) operands
+effect_set_at e i operands = option_map_or (λ (x : BlockId × Place). set_value_at operands i (with_effect e x.1))
+    (slice_get operands i) operands
 
 -- the phi's place gets Store; its operands get Capture where that is written later than the order, else Read
 abbrev pub phi_placed : List Identifier → EvaluationOrder → Phi → Phi
-phi_placed ids t phi = record phi { place = with_effect Store phi.place; operands = map (operand_with (source_effect ids t phi.place.identifier)) phi.operands }
+phi_placed ids t phi = record phi {
+  place = with_effect Store phi.place;
+  operands = map (operand_with (source_effect ids t phi.place.identifier)) phi.operands;
+}
 
 -- what is returned gets Freeze, and in function expressions Read; other places of terminals get Read
 abbrev pub terminal_effect : Bool → Terminal → Effect
@@ -65,7 +70,8 @@ terminal_placed is_function_expression t = map_terminal (with_effect (terminal_e
 
 -- phis and terminal of a block, where t is the order of its first instruction
 abbrev pub ends_placed : Bool → List Identifier → EvaluationOrder → BasicBlock → BasicBlock
-ends_placed is_function_expression ids t b = record b { phis = map (phi_placed ids t) b.phis; terminal = terminal_placed is_function_expression b.terminal }
+ends_placed is_function_expression ids t b =
+    record b { phis = map (phi_placed ids t) b.phis; terminal = terminal_placed is_function_expression b.terminal }
 
 abbrev pub order_or : Option Instruction → EvaluationOrder → EvaluationOrder
 order_or None t = t
@@ -91,8 +97,11 @@ block_merged f b env = with_identifiers (phis_merged (first_order f.instructions
 
 -- the phis of the block in slot k start their ranges, and then its phis and its terminal have effects
 abbrev pub ends_at_slot : Bool → ℕ → BasicBlock → HirFunction → Environment → Placed
-ends_at_slot is_function_expression k b f env =
-    (with_blocks (set_value_at f.body.blocks k (ends_placed is_function_expression (block_merged f b env).identifiers (first_order f.instructions b) b)) f, block_merged f b env)
+ends_at_slot is_function_expression k b f env = (
+  with_blocks (set_value_at f.body.blocks k
+      (ends_placed is_function_expression (block_merged f b env).identifiers (first_order f.instructions b) b)) f,
+  block_merged f b env,
+)
 
 abbrev pub with_instructions : List Instruction × Environment → HirFunction → Placed
 with_instructions r f = (record f { instructions = r.0 }, r.1)
@@ -102,16 +111,19 @@ block_instructions ids s = with_instructions (instructions_placed ids (s.0.instr
 
 abbrev pub placed_at : Bool → ℕ → Option BasicBlock → Placed → Placed
 placed_at is_function_expression k None s = s
-placed_at is_function_expression k (Some b) s = block_instructions b.instructions (ends_at_slot is_function_expression k b s.0 s.1)
+placed_at is_function_expression k (Some b) s =
+    block_instructions b.instructions (ends_at_slot is_function_expression k b s.0 s.1)
 
 -- the block in slot k
 abbrev pub block_placed : Bool → ℕ → Placed → Placed
-block_placed is_function_expression k s = placed_at is_function_expression k (option_map (λ (e : BlockId × BasicBlock). e.1) (slice_get s.0.body.blocks k)) s
+block_placed is_function_expression k s =
+    placed_at is_function_expression k (option_map (λ (e : BlockId × BasicBlock). e.1) (slice_get s.0.body.blocks k)) s
 
 -- n blocks, of which the first is in slot k
 abbrev pub blocks_placed : Bool → ℕ → ℕ → Placed → Placed
 blocks_placed is_function_expression zero k s = s
-blocks_placed is_function_expression (suc n) k s = blocks_placed is_function_expression n (k + 1) (block_placed is_function_expression k s)
+blocks_placed is_function_expression (suc n) k s =
+    blocks_placed is_function_expression n (k + 1) (block_placed is_function_expression k s)
 
 -- a function and its environment, with the effects of its places and its ranges by default
 abbrev pub function_placed : Bool → Placed → Placed

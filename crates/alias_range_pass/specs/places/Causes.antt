@@ -17,7 +17,8 @@ abbrev pub stored_places : InstructionValue → List Place
 stored_places (value.StoreContext lvalue x) = x ∷ []
 stored_places v = []
 
--- the identifiers whose ranges an instruction may end: those that it assigns, and a value that it stores into a context variable
+-- the identifiers whose ranges an instruction may end: those that it assigns, and a value that it stores into a context
+-- variable
 abbrev pub written : Instruction → List ℕ
 written i = numbers_of (i.lvalue ∷ lvalues_of i.value) ++ numbers_of (stored_places i.value)
 

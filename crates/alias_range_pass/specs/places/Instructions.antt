@@ -17,12 +17,16 @@ use Rattle.alias_range_pass.specs.places.Mapped.{map_operands, map_lvalues}
 use Rattle.alias_range_pass.specs.places.Ranges.{started, all_ranged, assigned, value_stored}
 use Rattle.alias_range_pass.specs.places.Tables.{Table, table_of, with_table}
 
--- the places get the table's effects, and where it has none ConditionallyMutate for what is assigned and Read for what is read
+-- the places get the table's effects, and where it has none ConditionallyMutate for what is assigned and Read for what
+-- is read
 abbrev pub value_placed : Table → InstructionValue → InstructionValue
 value_placed table v = map_operands (with_table table Read) (map_lvalues (with_table table ConditionallyMutate) v)
 
 abbrev pub places_placed : Table → Instruction → Instruction
-places_placed table i = record i { lvalue = with_table table ConditionallyMutate i.lvalue; value = value_placed table i.value }
+places_placed table i = record i {
+  lvalue = with_table table ConditionallyMutate i.lvalue;
+  value = value_placed table i.value;
+}
 
 -- the function with the effects of its context places
 abbrev pub context_placed : Table → HirFunction → HirFunction
@@ -36,12 +40,18 @@ created_placed table (Some g) fs = option_map_or (λ f. slice_set fs g.0 (contex
 abbrev pub with_identifiers : List Identifier → Environment → Environment
 with_identifiers ids env = record env { identifiers = ids }
 
--- operands are started, a value that is stored into a context variable lasts, and context places of a created function get effects
+-- operands are started, a value that is stored into a context variable lasts, and context places of a created function
+-- get effects
 abbrev pub surroundings : Table → EvaluationOrder → InstructionValue → Environment → Environment
-surroundings table t v env = record env { identifiers = value_stored t v (all_ranged (started t) (operands_of env v) env.identifiers); functions = created_placed table (created v) env.functions }
+surroundings table t v env = record env {
+  identifiers =
+      value_stored t v (all_ranged (started t) (operands_of env v) env.identifiers);
+  functions = created_placed table (created v) env.functions;
+}
 
 -- the same, where the instruction has effects
-abbrev pub surrounded : Option (List AliasingEffect) → Table → EvaluationOrder → InstructionValue → Environment → Environment
+abbrev pub surrounded : Option (List AliasingEffect) → Table → EvaluationOrder → InstructionValue → Environment
+    → Environment
 surrounded None table t v env = env
 surrounded (Some es) table t v env = if length es == 0 then env else surroundings table t v env
 
@@ -57,7 +67,8 @@ placed_by table i env = (places_placed table i, surrounded i.effects table i.id 
 abbrev pub instruction_placed : Instruction → Environment → Instruction × Environment
 instruction_placed i env = placed_by (table_of (assigned i env.identifiers) i) i (env_assigned i env)
 
-abbrev pub placed_in : List Instruction → Environment → InstructionId → Option Instruction → List Instruction × Environment
+abbrev pub placed_in : List Instruction → Environment → InstructionId → Option Instruction → List Instruction
+    × Environment
 placed_in is env id None = (is, env)
 placed_in is env id (Some i) = (slice_set is id.0 (instruction_placed i env).0, (instruction_placed i env).1)
 

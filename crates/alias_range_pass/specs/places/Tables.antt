@@ -36,7 +36,8 @@ source_effect ids t into = if ends_past ids t into then Capture else Read
 
 -- a value flows from a into x
 abbrev pub flow_tabled : List Identifier → EvaluationOrder → Place → Place → Table → Table
-flow_tabled ids t a x table = set_effect x.identifier Store (set_effect a.identifier (source_effect ids t x.identifier) table)
+flow_tabled ids t a x table = set_effect x.identifier Store
+    (set_effect a.identifier (source_effect ids t x.identifier) table)
 
 -- what an effect at order t sets
 abbrev pub effect_tabled : List Identifier → EvaluationOrder → AliasingEffect → Table → Table

@@ -1,5 +1,6 @@
 -- The flows from parameters and context places into each other and into what is returned.
-use Rattle.std.specs.Prelude.{ℕ, ◌+◌, ◌==◌, ◌&&◌, Bool, true, false, not, List, [], ◌∷◌, ◌++◌, Option, Some, None, if◌then◌else◌}
+use Rattle.std.specs.Prelude.{ℕ, ◌+◌, ◌==◌, ◌&&◌, Bool, true, false, not, List, [], ◌∷◌, ◌++◌, Option, Some, None}
+use Rattle.std.specs.Prelude.{if◌then◌else◌}
 use Rattle.std.specs.Option.{option_map_or}
 use Rattle.std.specs.List.{flat_map}
 use Rattle.alias_hir.specs.declared.effect.AliasingEffect.{AliasingEffect}
@@ -13,7 +14,14 @@ use Rattle.alias_range_pass.specs.summary.Walking.{nodes_after}
 
 -- the walk that is simulated from a tracked place: transitive, conditional, and without an end
 abbrev pub flow_start : ℕ → Place → WalkStart
-flow_start index into = record { index = index; place = into; transitive = true; kind = Conditional; reason = None; end = None }
+flow_start index into = record {
+  index = index;
+  place = into;
+  transitive = true;
+  kind = Conditional;
+  reason = None;
+  end = None;
+}
 
 abbrev pub ends_at : ℕ → Option Node → Bool
 ends_at index None = false
@@ -25,15 +33,19 @@ is_last g index x = ends_at index (marks_at g x.identifier)
 
 -- what is returned is an alias; another place captures
 abbrev pub flow_effect : Place → Place → Place → AliasingEffect
-flow_effect returns from into = if into.identifier.0 == returns.identifier.0 then effect.Alias from into else effect.Capture from into
+flow_effect returns from into = if into.identifier.0 == returns.identifier.0 then effect.Alias from into
+    else effect.Capture from into
 
--- a flow from one place into another is listed where they are different, the first is not what is returned, and the walk from the second came to it
+-- a flow from one place into another is listed where they are different, the first is not what is returned, and the
+-- walk from the second came to it
 abbrev pub is_flow : Nodes → ℕ → Place → Place → Place → Bool
 is_flow g index returns into from =
-    not (from.identifier.0 == into.identifier.0) && (not (from.identifier.0 == returns.identifier.0) && is_last g index from)
+    not (from.identifier.0 == into.identifier.0)
+    && (not (from.identifier.0 == returns.identifier.0) && is_last g index from)
 
 abbrev pub flow_from : Nodes → ℕ → Place → Place → Place → List AliasingEffect
-flow_from g index returns into from = if is_flow g index returns into from then flow_effect returns from into ∷ [] else []
+flow_from g index returns into from = if is_flow g index returns into from then flow_effect returns from into ∷ []
+    else []
 
 -- the flows into a place, after the walk from it
 abbrev pub flows_into : Nodes → ℕ → Place → List Place → Place → List AliasingEffect

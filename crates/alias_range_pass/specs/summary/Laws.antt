@@ -23,15 +23,18 @@ pub record SameLinks (g h : Nodes) : Type 0 where
 
 -- where a legal path joins a recorded mutation to a node, the mutation's order is below the end of the node's range
 abbrev pub Covers : Nodes → List RecordedMutation → List Identifier → Type 0
-Covers g ms ids = (m : RecordedMutation) → IsOneOf m ms → (e : Entry) → Legal g m.index (mutation_entry m) e → m.order.0 < end_at ids e.id.0
+Covers g ms ids = (m : RecordedMutation) → IsOneOf m ms → (e : Entry) → Legal g m.index (mutation_entry m) e → m.order.0
+    < end_at ids e.id.0
 
 -- where such a path ends with Definite, the node is marked as Definite after the walks
 abbrev pub SeesDefinite : Nodes → List RecordedMutation → Nodes → Type 0
-SeesDefinite g ms after = (m : RecordedMutation) → IsOneOf m ms → (e : Entry) → Legal g m.index (mutation_entry m) e → e.kind ≡ Definite → SeenDefinite after e.id
+SeesDefinite g ms after = (m : RecordedMutation) → IsOneOf m ms → (e : Entry) → Legal g m.index (mutation_entry m) e
+    → e.kind ≡ Definite → SeenDefinite after e.id
 
 -- the end is one past a recorded mutation that a legal path joins to the identifier
 abbrev pub MutationCause : Nodes → List RecordedMutation → ℕ → ℕ → Type 0
-MutationCause g ms k end = (m : RecordedMutation) × IsOneOf m ms × (e : Entry) × (e.id.0 ≡ k) × Legal g m.index (mutation_entry m) e × (end ≡ m.order.0 + 1)
+MutationCause g ms k end = (m : RecordedMutation) × IsOneOf m ms × (e : Entry) × (e.id.0 ≡ k)
+    × Legal g m.index (mutation_entry m) e × (end ≡ m.order.0 + 1)
 
 -- each range end is that of before, or has such a cause
 abbrev pub MutationCauses : Nodes → List RecordedMutation → List Identifier → List Identifier → Type 0
@@ -39,7 +42,8 @@ MutationCauses g ms old new = (k : ℕ) → (end_at new k ≡ end_at old k) ⊎ 
 
 -- ---- flows
 
--- a flow from one place into another: they are different, the first is not what is returned, and a legal path of the walk that is simulated from the second leads to the first
+-- a flow from one place into another: they are different, the first is not what is returned, and a legal path of the
+-- walk that is simulated from the second leads to the first
 pub record IsFlow (g : Nodes) (index : ℕ) (returns into from : Place) : Type 0 where
   pub different : from.identifier.0 ≡ into.identifier.0 → ⊥
   pub not_returned : from.identifier.0 ≡ returns.identifier.0 → ⊥
@@ -49,15 +53,18 @@ pub record IsFlow (g : Nodes) (index : ℕ) (returns into from : Place) : Type 0
 abbrev pub FlowsInto : Nodes → ℕ → Place → Place → List Place → List AliasingEffect → Type 0
 FlowsInto g index returns into [] es = es ≡ []
 FlowsInto g index returns into (from ∷ froms) es =
-    (IsFlow g index returns into from × (rest : List AliasingEffect) × (es ≡ flow_effect returns from into ∷ rest) × FlowsInto g index returns into froms rest)
+    (IsFlow g index returns into from × (rest : List AliasingEffect) × (es ≡ flow_effect returns from into ∷ rest)
+    × FlowsInto g index returns into froms rest)
     ⊎ ((IsFlow g index returns into from → ⊥) × FlowsInto g index returns into froms es)
 
 -- the effects are the flows into these places from all tracked ones, in order, each walk at a position of its own
 abbrev pub FlowsAre : Nodes → ℕ → Place → List Place → List Place → List AliasingEffect → Type 0
 FlowsAre g index returns places [] es = es ≡ []
 FlowsAre g index returns places (into ∷ intos) es =
-    (here : List AliasingEffect) × (rest : List AliasingEffect) × (es ≡ here ++ rest) × FlowsInto g index returns into places here × FlowsAre g (index + 1) returns places intos rest
+    (here : List AliasingEffect) × (rest : List AliasingEffect) × (es ≡ here ++ rest)
+    × FlowsInto g index returns into places here × FlowsAre g (index + 1) returns places intos rest
 
 -- a summary ends with these flows
 abbrev pub EndsWithFlows : Nodes → ℕ → Place → List Place → List AliasingEffect → Type 0
-EndsWithFlows g index returns places summary = (front : List AliasingEffect) × (flows : List AliasingEffect) × (summary ≡ front ++ flows) × FlowsAre g index returns places places flows
+EndsWithFlows g index returns places summary = (front : List AliasingEffect) × (flows : List AliasingEffect)
+    × (summary ≡ front ++ flows) × FlowsAre g index returns places places flows

@@ -35,7 +35,9 @@ returned_kind env id = if is_primitive_at env id then Primitive else (if is_jsx_
 abbrev pub returns_created : Environment → HirFunction → AliasingEffect
 returns_created env f = effect.Create f.returns (returned_kind env f.returns.identifier) KnownReturnSignature
 
--- the summary that begins with these effects, of a function over this graph: then the marks of context places and parameters, what is returned, and the flows, at positions from this one on
+-- the summary that begins with these effects, of a function over this graph: then the marks of context places and
+-- parameters, what is returned, and the flows, at positions from this one on
 abbrev pub summarized : Nodes → ℕ → HirFunction → Environment → List AliasingEffect → List AliasingEffect
 summarized g next f env begin =
-    ((begin ++ marks_of_all g (context_and_params f)) ++ returns_created env f ∷ []) ++ flows_listed g next f.returns (tracked f) (tracked f)
+    ((begin ++ marks_of_all g (context_and_params f)) ++ returns_created env f ∷ [])
+    ++ flows_listed g next f.returns (tracked f) (tracked f)

@@ -14,7 +14,13 @@ use Rattle.alias_range_pass.specs.summary.Walking.{Walked, nodes_after, env_afte
 
 -- what a mutation raises
 abbrev pub range_walk : RecordedMutation → RangeWalk
-range_walk m = record { index = m.index; start = m.place.identifier; transitive = m.transitive; kind = m.kind; end = mutation_end m }
+range_walk m = record {
+  index = m.index;
+  start = m.place.identifier;
+  transitive = m.transitive;
+  kind = m.kind;
+  end = mutation_end m;
+}
 
 -- the walk of a mutation whose range ends are raised
 abbrev pub mark_start : RecordedMutation → WalkStart

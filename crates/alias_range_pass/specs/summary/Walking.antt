@@ -46,7 +46,14 @@ mutation_end m = record { 0 = m.order.0 + 1 }
 
 -- the walk of a mutation
 abbrev pub mutation_start : RecordedMutation → WalkStart
-mutation_start m = record { index = m.index; place = m.place; transitive = m.transitive; kind = m.kind; reason = m.reason; end = Some (mutation_end m) }
+mutation_start m = record {
+  index = m.index;
+  place = m.place;
+  transitive = m.transitive;
+  kind = m.kind;
+  reason = m.reason;
+  end = Some (mutation_end m);
+}
 
 -- the entry that a mutation begins with
 abbrev pub mutation_entry : RecordedMutation → Entry
@@ -56,7 +63,10 @@ abbrev pub Walked : Type 0
 Walked = Nodes × Environment
 
 abbrev pub after_mutation : Bool → Walked → RecordedMutation → Walked
-after_mutation record_errors w m = (nodes_after (mutation_start m) w.0, env_after record_errors (mutation_start m) w.0 w.1)
+after_mutation record_errors w m = (
+  nodes_after (mutation_start m) w.0,
+  env_after record_errors (mutation_start m) w.0 w.1,
+)
 
 -- after the walks of these mutations
 abbrev pub after_mutations : Bool → List RecordedMutation → Walked → Walked
@@ -79,7 +89,8 @@ env_reported record_errors l env = with_reports (cond record_errors (effect_repo
 
 -- the graph and the environment after the walks of all mutations
 abbrev pub mutations_done : Bool → Listing → Environment → Walked
-mutations_done record_errors l env = after_mutations record_errors l.mutations (graph_listed l, env_reported record_errors l env)
+mutations_done record_errors l env = after_mutations record_errors l.mutations
+    (graph_listed l, env_reported record_errors l env)
 
 -- renders run where errors are recorded
 abbrev pub renders_done : Bool → Listing → Walked → Environment

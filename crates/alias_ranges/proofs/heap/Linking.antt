@@ -1,4 +1,5 @@
--- Links that stand in the lists of both of their ends before a position, chains of them, and that a graph that grows keeps both.
+-- Links that stand in the lists of both of their ends before a position, chains of them, and that a graph that grows
+-- keeps both.
 use Rattle.std.proofs.Common.{◌≡◌, ℕ, ◌<◌, ◌≤◌, Bool, true, List, Option, Some, None, is_some, refl, ap, subst, arith}
 use Rattle.alias_base.specs.declared.ids.IdentifierId.{IdentifierId}
 use Rattle.alias_graph.specs.declared.types.Direction.{Direction}
@@ -8,7 +9,8 @@ use Rattle.alias_graph.specs.declared.types.EdgeKind.TheVariants.{Capture, Alias
 use Rattle.alias_graph.specs.declared.types.Entry.{Entry}
 use Rattle.alias_graph.specs.declared.types.MutationKind.{MutationKind}
 use Rattle.alias_graph.specs.declared.types.MutationKind.TheVariants.{Conditional}
-use Rattle.alias_graph.specs.Legal.{Link, Legal, go_on, forward_alias, forward_maybe_alias, forward_capture, created_from, alias, maybe_alias, capture}
+use Rattle.alias_graph.specs.Legal.{Link, Legal, go_on, forward_alias, forward_maybe_alias, forward_capture}
+use Rattle.alias_graph.specs.Legal.{created_from, alias, maybe_alias, capture}
 use Rattle.alias_graph.specs.Links.{entry}
 use Rattle.alias_graph.specs.Nodes.{Edge, Source, Node, Nodes, node_at, has_node}
 use Rattle.alias_graph.specs.Walks.{IsOneOf}
@@ -82,7 +84,10 @@ pub node_same : (v : Node) → NodeGrows v v
 node_same v = record { forward = λ l i. i; sources = λ k l i. i }
 
 pub node_grows : (u v w : Node) → NodeGrows u v → NodeGrows v w → NodeGrows u w
-node_grows u v w a b = record { forward = λ l i. b.forward l (a.forward l i); sources = λ k l i. b.sources k l (a.sources k l i) }
+node_grows u v w a b = record {
+  forward = λ l i. b.forward l (a.forward l i);
+  sources = λ k l i. b.sources k l (a.sources k l i);
+}
 
 pub grows_same : (g : Nodes) → Grows g g
 grows_same g q v e = (v, e, node_same v)
@@ -107,20 +112,39 @@ grows_has g h gr q t =
     let w = gr q n.0 n.1 in
     has_at h q w.0 w.1
 
-edge_grows : (g h : Nodes) (n m : ℕ) (k : EdgeKind) (a x : IdentifierId) → Grows g h → n ≤ m → HasEdge g n k a x → HasEdge h m k a x
+edge_grows : (g h : Nodes) (n m : ℕ) (k : EdgeKind) (a x : IdentifierId) → Grows g h → n ≤ m → HasEdge g n k a x
+    → HasEdge h m k a x
 edge_grows g h n m k a x gr le s =
     let w = gr a s.node s.is_node in
     let lt : s.edge.index < n = s.before in
-    record { node = w.0; is_node = w.1; edge = s.edge; listed = w.2.forward s.edge s.listed; before = omega arith; kind = s.kind; other = s.other }
+    record {
+      node = w.0;
+      is_node = w.1;
+      edge = s.edge;
+      listed = w.2.forward s.edge s.listed;
+      before = omega arith;
+      kind = s.kind;
+      other = s.other;
+    }
 
-source_grows : (g h : Nodes) (n m : ℕ) (k : LinkKind) (a x : IdentifierId) → Grows g h → n ≤ m → HasSource g n k a x → HasSource h m k a x
+source_grows : (g h : Nodes) (n m : ℕ) (k : LinkKind) (a x : IdentifierId) → Grows g h → n ≤ m → HasSource g n k a x
+    → HasSource h m k a x
 source_grows g h n m k a x gr le s =
     let w = gr x s.node s.is_node in
     let lt : s.source.index < n = s.before in
-    record { node = w.0; is_node = w.1; source = s.source; listed = w.2.sources k s.source s.listed; before = omega arith; other = s.other }
+    record {
+      node = w.0;
+      is_node = w.1;
+      source = s.source;
+      listed = w.2.sources k s.source s.listed;
+      before = omega arith;
+      other = s.other;
+    }
 
-pub joins_grow : (g h : Nodes) (n m : ℕ) (k : LinkKind) (a x : IdentifierId) → Grows g h → n ≤ m → Joins g n k a x → Joins h m k a x
-joins_grow g h n m k a x gr le j = record { forward = edge_grows g h n m (edge_kind k) a x gr le j.forward; back = source_grows g h n m k a x gr le j.back }
+pub joins_grow : (g h : Nodes) (n m : ℕ) (k : LinkKind) (a x : IdentifierId) → Grows g h → n ≤ m → Joins g n k a x
+    → Joins h m k a x
+joins_grow g h n m k a x gr le j = record
+    { forward = edge_grows g h n m (edge_kind k) a x gr le j.forward; back = source_grows g h n m k a x gr le j.back }
 
 -- ---- chains
 
@@ -137,7 +161,8 @@ pub data Chain (g : Nodes) (n : ℕ) (r : IdentifierId) : IdentifierId → Type 
 
 pub chain_grows : (g h : Nodes) (n m : ℕ) (r y : IdentifierId) → Grows g h → n ≤ m → Chain g n r y → Chain h m r y
 chain_grows g h n m r _ gr le here = here
-chain_grows g h n m r _ gr le (further a x k c al j) = further a x k (chain_grows g h n m r a gr le c) al (joins_grow g h n m k a x gr le j)
+chain_grows g h n m r _ gr le (further a x k c al j) =
+    further a x k (chain_grows g h n m r a gr le c) al (joins_grow g h n m k a x gr le j)
 
 -- a capture of a place that may hold what began at q, into one that may hold what began at o
 pub record StoreLink (g : Nodes) (n : ℕ) (o q : IdentifierId) : Type 0 where
@@ -147,7 +172,8 @@ pub record StoreLink (g : Nodes) (n : ℕ) (o q : IdentifierId) : Type 0 where
   pub value : Chain g n q from
   pub holder : Chain g n o into
 
-pub store_grows : (g h : Nodes) (n m : ℕ) (o q : IdentifierId) → Grows g h → n ≤ m → StoreLink g n o q → StoreLink h m o q
+pub store_grows : (g h : Nodes) (n m : ℕ) (o q : IdentifierId) → Grows g h → n ≤ m → StoreLink g n o q
+    → StoreLink h m o q
 store_grows g h n m o q gr le s = record {
   from = s.from;
   into = s.into;
@@ -159,17 +185,22 @@ store_grows g h n m o q gr le s = record {
 -- ---- legal paths over them
 
 -- a legal path to x leads on over a forward edge
-edge_step : (g : Nodes) (m : ℕ) (start : Entry) (k : EdgeKind) (a x : IdentifierId) (t : Bool) (b c : Direction) (d f : MutationKind)
-    → ((l : Edge) → l.index < m → l.kind ≡ k → (v : Node) → IsOneOf l v.forward → Link m v (entry a t b d) (entry l.other t c f))
+edge_step : (g : Nodes) (m : ℕ) (start : Entry) (k : EdgeKind) (a x : IdentifierId) (t : Bool) (b c : Direction)
+    (d f : MutationKind)
+    → ((l : Edge) → l.index < m → l.kind ≡ k → (v : Node) → IsOneOf l v.forward
+    → Link m v (entry a t b d) (entry l.other t c f))
     → HasEdge g m k a x → has_node g x ≡ true → Legal g m start (entry a t b d) → Legal g m start (entry x t c f)
 edge_step g m start k a x t b c d f link s there p =
     let P : IdentifierId → Type 0 = λ z. Link m s.node (entry a t b d) (entry z t c f) in
     go_on s.node p s.is_node (subst P s.other (link s.edge s.before s.kind s.node s.listed)) there
 
 -- and back to one of its sources
-source_step : (g : Nodes) (m : ℕ) (start : Entry) (k : LinkKind) (a x : IdentifierId) (t u : Bool) (b : Direction) (d f : MutationKind)
-    → ((l : Source) → l.index < m → (v : Node) → IsOneOf l (sources_of k v) → Link m v (entry x t b d) (entry l.other u Backwards f))
-    → HasSource g m k a x → has_node g a ≡ true → Legal g m start (entry x t b d) → Legal g m start (entry a u Backwards f)
+source_step : (g : Nodes) (m : ℕ) (start : Entry) (k : LinkKind) (a x : IdentifierId) (t u : Bool) (b : Direction)
+    (d f : MutationKind)
+    → ((l : Source) → l.index < m → (v : Node) → IsOneOf l (sources_of k v)
+    → Link m v (entry x t b d) (entry l.other u Backwards f))
+    → HasSource g m k a x → has_node g a ≡ true → Legal g m start (entry x t b d)
+    → Legal g m start (entry a u Backwards f)
 source_step g m start k a x t u b d f link s there p =
     let P : IdentifierId → Type 0 = λ z. Link m s.node (entry x t b d) (entry z u Backwards f) in
     go_on s.node p s.is_node (subst P s.other (link s.source s.before s.node s.listed)) there
@@ -179,40 +210,74 @@ module _ (g : Nodes) (m : ℕ) (start : Entry) where
   abbrev pub BackAt : Bool → IdentifierId → Type 0
   BackAt t y = (u : Bool) × (d : MutationKind) × Legal g m start (entry y u Backwards d) × (t ≡ true → u ≡ true)
 
-  back_step : (k : LinkKind) (a x : IdentifierId) (t : Bool) (d : MutationKind) → IsAlias k → Joins g m k a x → Legal g m start (entry x t Backwards d) → BackAt t a
-  back_step CreatedLink a x t d al j p =
-      (true, d, source_step g m start CreatedLink a x t true Backwards d d (λ l lt v i. created_from l i lt refl) j.back (from_there g m CreatedLink a x j) p, λ h. refl)
+  back_step : (k : LinkKind) (a x : IdentifierId) (t : Bool) (d : MutationKind) → IsAlias k → Joins g m k a x
+      → Legal g m start (entry x t Backwards d) → BackAt t a
+  back_step CreatedLink a x t d al j p = (
+    true,
+    d,
+    source_step g m start CreatedLink a x t true Backwards d d (λ l lt v i. created_from l i lt refl) j.back
+        (from_there g m CreatedLink a x j) p,
+    λ h. refl,
+  )
   back_step CaptureLink a x t d al j p = absurd al
-  back_step AliasLink a x t d al j p =
-      (t, d, source_step g m start AliasLink a x t t Backwards d d (λ l lt v i. alias l i lt (λ is r. cc) refl) j.back (from_there g m AliasLink a x j) p, λ h. h)
-  back_step MaybeLink a x t d al j p =
-      (t, Conditional, source_step g m start MaybeLink a x t t Backwards d Conditional (λ l lt v i. maybe_alias l i lt (λ is r. cc) refl) j.back (from_there g m MaybeLink a x j) p, λ h. h)
+  back_step AliasLink a x t d al j p = (
+    t,
+    d,
+    source_step g m start AliasLink a x t t Backwards d d (λ l lt v i. alias l i lt (λ is r. cc) refl) j.back
+        (from_there g m AliasLink a x j) p,
+    λ h. h,
+  )
+  back_step MaybeLink a x t d al j p = (
+    t,
+    Conditional,
+    source_step g m start MaybeLink a x t t Backwards d Conditional
+        (λ l lt v i. maybe_alias l i lt (λ is r. cc) refl) j.back (from_there g m MaybeLink a x j) p,
+    λ h. h,
+  )
 
   -- a path goes on to an entry of the node y with this flag
   abbrev pub At : Bool → IdentifierId → Type 0
   At t y = (b : Direction) × (d : MutationKind) × Legal g m start (entry y t b d)
 
-  forward_step : (k : LinkKind) (a x : IdentifierId) (t : Bool) (b : Direction) (d : MutationKind) → IsAlias k → Joins g m k a x → Legal g m start (entry a t b d) → At t x
-  forward_step CreatedLink a x t b d al j p =
-      (Forwards, d, edge_step g m start Alias a x t b Forwards d d (λ l lt is v i. forward_alias l i lt is refl) j.forward (into_there g m CreatedLink a x j) p)
+  forward_step : (k : LinkKind) (a x : IdentifierId) (t : Bool) (b : Direction) (d : MutationKind) → IsAlias k
+      → Joins g m k a x → Legal g m start (entry a t b d) → At t x
+  forward_step CreatedLink a x t b d al j p = (
+    Forwards,
+    d,
+    edge_step g m start Alias a x t b Forwards d d (λ l lt is v i. forward_alias l i lt is refl)
+        j.forward (into_there g m CreatedLink a x j) p,
+  )
   forward_step CaptureLink a x t b d al j p = absurd al
-  forward_step AliasLink a x t b d al j p =
-      (Forwards, d, edge_step g m start Alias a x t b Forwards d d (λ l lt is v i. forward_alias l i lt is refl) j.forward (into_there g m AliasLink a x j) p)
-  forward_step MaybeLink a x t b d al j p =
-      (Forwards, Conditional, edge_step g m start MaybeAlias a x t b Forwards d Conditional (λ l lt is v i. forward_maybe_alias l i lt is refl) j.forward (into_there g m MaybeLink a x j) p)
+  forward_step AliasLink a x t b d al j p = (
+    Forwards,
+    d,
+    edge_step g m start Alias a x t b Forwards d d (λ l lt is v i. forward_alias l i lt is refl)
+        j.forward (into_there g m AliasLink a x j) p,
+  )
+  forward_step MaybeLink a x t b d al j p = (
+    Forwards,
+    Conditional,
+    edge_step g m start MaybeAlias a x t b Forwards d Conditional
+        (λ l lt is v i. forward_maybe_alias l i lt is refl) j.forward (into_there g m MaybeLink a x j) p,
+  )
 
   -- forward over a capture, which enters Backwards
-  pub into_holder : (a x : IdentifierId) (t : Bool) (b : Direction) (d : MutationKind) → Joins g m CaptureLink a x → Legal g m start (entry a t b d) → Legal g m start (entry x t Backwards d)
+  pub into_holder : (a x : IdentifierId) (t : Bool) (b : Direction) (d : MutationKind) → Joins g m CaptureLink a x
+      → Legal g m start (entry a t b d) → Legal g m start (entry x t Backwards d)
   into_holder a x t b d j p =
-      edge_step g m start Capture a x t b Backwards d d (λ l lt is v i. forward_capture l i lt is refl) j.forward (into_there g m CaptureLink a x j) p
+      edge_step g m start Capture a x t b Backwards d d (λ l lt is v i. forward_capture l i lt is refl) j.forward
+      (into_there g m CaptureLink a x j) p
 
   -- back over a capture, with the flag set
-  pub into_stored : (a x : IdentifierId) (b : Direction) (d : MutationKind) → Joins g m CaptureLink a x → Legal g m start (entry x true b d) → Legal g m start (entry a true Backwards d)
+  pub into_stored : (a x : IdentifierId) (b : Direction) (d : MutationKind) → Joins g m CaptureLink a x
+      → Legal g m start (entry x true b d) → Legal g m start (entry a true Backwards d)
   into_stored a x b d j p =
-      source_step g m start CaptureLink a x true true b d d (λ l lt v i. capture l i lt refl refl) j.back (from_there g m CaptureLink a x j) p
+      source_step g m start CaptureLink a x true true b d d (λ l lt v i. capture l i lt refl refl) j.back
+      (from_there g m CaptureLink a x j) p
 
   -- Backwards from a place to where its chain began
-  pub back_along : (r y : IdentifierId) → Chain g m r y → (t : Bool) (d : MutationKind) → Legal g m start (entry y t Backwards d) → BackAt t r
+  pub back_along : (r y : IdentifierId) → Chain g m r y → (t : Bool) (d : MutationKind)
+      → Legal g m start (entry y t Backwards d) → BackAt t r
   back_along r _ here t d p = (t, d, p, λ h. h)
   back_along r _ (further a x k c al j) t d p =
       let s = back_step k a x t d al j p in
@@ -220,7 +285,8 @@ module _ (g : Nodes) (m : ℕ) (start : Entry) where
       (w.0, w.1, w.2, λ h. w.3 (s.3 h))
 
   -- and from there to a place that its chain leads to
-  pub along : (r y : IdentifierId) → Chain g m r y → (t : Bool) (b : Direction) (d : MutationKind) → Legal g m start (entry r t b d) → At t y
+  pub along : (r y : IdentifierId) → Chain g m r y → (t : Bool) (b : Direction) (d : MutationKind)
+      → Legal g m start (entry r t b d) → At t y
   along r _ here t b d p = (b, d, p)
   along r _ (further a x k c al j) t b d p =
       let w = along r a c t b d p in

@@ -8,9 +8,11 @@ use Rattle.alias_graph.specs.Legal.{Legal, begin}
 use Rattle.alias_graph.specs.Links.{entry}
 use Rattle.alias_graph.specs.Nodes.{Nodes, has_node}
 use Rattle.alias_ranges.specs.heap.Heap.{History, Object, Holds, Stores, IsWithin, itself, stored, Reaches}
-use Rattle.alias_ranges.proofs.heap.Linking.{Grows, Chain, StoreLink, grows_has, chain_grows, store_grows, BackAt, At, into_holder, into_stored, back_along, along}
+use Rattle.alias_ranges.proofs.heap.Linking.{Grows, Chain, StoreLink, grows_has, chain_grows, store_grows, BackAt, At}
+use Rattle.alias_ranges.proofs.heap.Linking.{into_holder, into_stored, back_along, along}
 
--- each place that holds an object has a chain from the place that the object was made for, and each stored object has a capture
+-- each place that holds an object has a chain from the place that the object was made for, and each stored object has a
+-- capture
 pub record Sound (g : Nodes) (n : ℕ) (h : History) : Type 0 where
   pub known : (y : IdentifierId) (o : Object) → Holds h y o → has_node g y ≡ true
   pub chains : (y : IdentifierId) (o : Object) → Holds h y o → Chain g n o.origin y
@@ -25,7 +27,9 @@ sound_grows g k n m h gr le s = record {
 
 module _ (g : Nodes) (m : ℕ) (h : History) (s : Sound g m h) (start : Entry) where
   -- from a stored object to what stores it
-  out_of : (o w : Object) → IsWithin h o w → (t : Bool) (d : MutationKind) → Legal g m start (entry w.origin t Backwards d) → (u : Bool) × (c : MutationKind) × Legal g m start (entry o.origin u Backwards c)
+  out_of : (o w : Object) → IsWithin h o w → (t : Bool) (d : MutationKind)
+      → Legal g m start (entry w.origin t Backwards d) → (u : Bool) × (c : MutationKind)
+      × Legal g m start (entry o.origin u Backwards c)
   out_of o _ itself t d l = (t, d, l)
   out_of o _ (stored p q within st) t d l =
       let link = s.stores p q st in
@@ -51,7 +55,8 @@ module _ (g : Nodes) (m : ℕ) (h : History) (s : Sound g m h) (start : Entry) w
       set_at q.origin (back_along g m start q.origin link.from link.value true a.1 x)
 
   -- from the place that a written object was made for to each place that reaches it
-  from_written : (w : Object) (t : Bool) (d : MutationKind) → Legal g m start (entry w.origin t Backwards d) → (y : IdentifierId) → Reaches h y w → (u : Bool) × At g m start u y
+  from_written : (w : Object) (t : Bool) (d : MutationKind) → Legal g m start (entry w.origin t Backwards d)
+      → (y : IdentifierId) → Reaches h y w → (u : Bool) × At g m start u y
   from_written w t d l y r =
       let o = out_of r.0 w r.2 t d l in
       (o.0, along g m start r.0.origin y (s.chains y r.0 r.1) o.0 Backwards o.1 o.2)
@@ -61,15 +66,18 @@ abbrev pub LeadsTo : Nodes → ℕ → Entry → IdentifierId → Type 0
 LeadsTo g m start y = (u : Bool) × At g m start u y
 
 module _ (g : Nodes) (m : ℕ) (h : History) (s : Sound g m h) (v : IdentifierId) (d : MutationKind) where
-  pub local_leads : (w : Object) → Holds h v w → (y : IdentifierId) → Reaches h y w → LeadsTo g m (entry v false Backwards d) y
+  pub local_leads : (w : Object) → Holds h v w → (y : IdentifierId) → Reaches h y w
+      → LeadsTo g m (entry v false Backwards d) y
   local_leads w holds y r =
       let start = entry v false Backwards d in
       let b = back_along g m start w.origin v (s.chains v w holds) false d (begin (s.known v w holds)) in
       from_written g m h s start w b.0 b.1 b.2 y r
 
-  pub transitive_leads : (w : Object) → Reaches h v w → (y : IdentifierId) → Reaches h y w → LeadsTo g m (entry v true Backwards d) y
+  pub transitive_leads : (w : Object) → Reaches h v w → (y : IdentifierId) → Reaches h y w
+      → LeadsTo g m (entry v true Backwards d) y
   transitive_leads w writes y r =
       let start = entry v true Backwards d in
-      let b = back_along g m start writes.0.origin v (s.chains v writes.0 writes.1) true d (begin (s.known v writes.0 writes.1)) in
+      let b = back_along g m start writes.0.origin v (s.chains v writes.0 writes.1) true d
+      (begin (s.known v writes.0 writes.1)) in
       let i = into g m h s start writes.0 w writes.2 (set_at g m h s start writes.0.origin b) in
       from_written g m h s start w true i.0 i.1 y r

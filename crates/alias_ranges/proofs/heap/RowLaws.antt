@@ -41,7 +41,11 @@ pub branching_writes : Writes (history_at by_first_branch) by_first_branch.next 
 branching_writes = holds_3
 
 pub branching_reaches : Reaches (history_at by_first_branch) (id 1) (object_of 3)
-branching_reaches = (object_of 1, inr (apart 1 4 (λ e. omega arith), holds_1), stored (object_of 1) (object_of 3) itself (inr (inl (refl, holds_1), holds_3)))
+branching_reaches = (
+  object_of 1,
+  inr (apart 1 4 (λ e. omega arith), holds_1),
+  stored (object_of 1) (object_of 3) itself (inr (inl (refl, holds_1), holds_3)),
+)
 
 -- ---- and what doesn't
 
@@ -69,8 +73,10 @@ alone _ (stored p q within (inr st)) = absurd (differ 1 2 (λ e. omega arith) (s
 
 pub branching_apart : Reaches (history_at by_first_branch) (id 2) (object_of 3) → ⊥
 branching_apart (o, inl h, within) = absurd (apart 2 4 (λ e. omega arith) h.0)
-branching_apart (o, inr h, within) = differ 3 2 (λ e. omega arith) (alone (object_of 3) (subst (λ z. IsWithin (history_at by_first_branch) z (object_of 3)) (only_2 o h.1) within))
+branching_apart (o, inr h, within) = differ 3 2 (λ e. omega arith)
+    (alone (object_of 3) (subst (λ z. IsWithin (history_at by_first_branch) z (object_of 3)) (only_2 o h.1) within))
 
 -- the range of 1 ends past the write of 3
 pub branching_ends : (identifiers : List Identifier) → HeapIsCovered branching identifiers → 6 < end_at identifiers 1
-branching_ends identifiers covered = covered branching_forward branching_once by_first_branch (object_of 3) branching_writes (id 1) branching_reaches
+branching_ends identifiers covered = covered branching_forward branching_once by_first_branch (object_of 3)
+    branching_writes (id 1) branching_reaches

@@ -4,7 +4,8 @@ use Rattle.alias_base.specs.declared.ids.IdentifierId.{IdentifierId}
 use Rattle.alias_hir.specs.declared.effect.AliasingEffect.{AliasingEffect}
 use Rattle.alias_hir.specs.declared.effect.AliasingEffect.TheVariants as effect
 
--- x holds a new object; a new one and those of a; those of a; nothing; also those of a. And each object of x also stores those of a
+-- x holds a new object; a new one and those of a; those of a; nothing; also those of a. And each object of x also
+-- stores those of a
 pub data Change : Type 0 where
   New : (x : IdentifierId) → Change
   NewFrom : (a x : IdentifierId) → Change

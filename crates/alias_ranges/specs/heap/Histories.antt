@@ -1,4 +1,5 @@
--- What the items of a function do on the heap, and what is done along blocks. `all` are the places that the function makes: no other place ever holds an object.
+-- What the items of a function do on the heap, and what is done along blocks. `all` are the places that the function
+-- makes: no other place ever holds an object.
 use Rattle.std.specs.Prelude.{Bool, List, [], ◌∷◌, Option, Some, None, if◌then◌else◌}
 use Rattle.alias_base.specs.declared.ids.BlockId.{BlockId}
 use Rattle.alias_base.specs.declared.ids.IdentifierId.{IdentifierId}
@@ -62,4 +63,5 @@ last_of from (p ∷ ps) = last_of (Some p) ps
 
 -- after what is there from the start, the blocks `before`, and then `done` in the next one
 abbrev pub history : HirFunction → List BlockId → List Item → History
-history f before done = after_items (made_places f) (last_of None before) done (after_blocks f None before (after_items (made_places f) None (start_items f) []))
+history f before done = after_items (made_places f) (last_of None before) done
+    (after_blocks f None before (after_items (made_places f) None (start_items f) []))

@@ -16,7 +16,8 @@ use Rattle.alias_hir.specs.declared.terminal.Terminal.TheVariants as terminal
 use Rattle.alias_hir.specs.Parts.{param_place}
 use Rattle.alias_hir.specs.Terminals.{terminal_effects}
 
--- a place that is there from the start; a phi; an effect of an instruction of this order; an alias at the end of a block
+-- a place that is there from the start; a phi; an effect of an instruction of this order; an alias at the end of a
+-- block
 pub data Item : Type 0 where
   Starts : (place : Place) → Item
   Enters : (phi : Phi) → Item

@@ -53,7 +53,8 @@ may_widen all done (Some x) = is_among done x || not (is_among all x)
 -- where `done` are made before: each item makes a place that isn't made already, and widens none that is made later
 abbrev pub makes_in_order : List IdentifierId → List IdentifierId → List Item → Bool
 makes_in_order all done [] = true
-makes_in_order all done (it ∷ its) = (may_make done (item_makes it) && may_widen all done (item_widens it)) && makes_in_order all (with_made (item_makes it) done) its
+makes_in_order all done (it ∷ its) = (may_make done (item_makes it) && may_widen all done (item_widens it))
+    && makes_in_order all (with_made (item_makes it) done) its
 
 -- each place is made at most once, and is made before another is aliased into it, in stored order
 abbrev pub makes_once : HirFunction → Bool

@@ -21,7 +21,8 @@ is_before (Some p) (Some q) = nat_lt p q
 is_before p q = true
 
 abbrev pub goes_forward : List (BlockId × BasicBlock) → BlockId × BasicBlock → Bool
-goes_forward blocks b = list_all (λ s. is_before (slot_of_block blocks b.0) (slot_of_block blocks s)) (successors b.1.terminal)
+goes_forward blocks b = list_all (λ s. is_before (slot_of_block blocks b.0) (slot_of_block blocks s))
+    (successors b.1.terminal)
 
 -- each edge goes to a block later in stored order
 abbrev pub is_forward : HirFunction → Bool
@@ -30,7 +31,8 @@ is_forward f = list_all (goes_forward f.body.blocks) f.body.blocks
 -- from block p on these blocks follow by edges
 abbrev pub GoesOn : HirFunction → BlockId → List BlockId → Type 0
 GoesOn f p [] = Unit {0}
-GoesOn f p (q ∷ qs) = (b : BasicBlock) × (value_at f.body.blocks p ≡ Some b) × IsOneOf q (successors b.terminal) × GoesOn f q qs
+GoesOn f p (q ∷ qs) = (b : BasicBlock) × (value_at f.body.blocks p ≡ Some b) × IsOneOf q (successors b.terminal)
+    × GoesOn f q qs
 
 -- a path of blocks from the entry
 abbrev pub IsPath : HirFunction → List BlockId → Type 0
@@ -39,7 +41,8 @@ IsPath f (p ∷ ps) = (p ≡ f.body.entry) × GoesOn f p ps
 
 -- ---- moments
 
--- a moment on a path of blocks: it has gone through the blocks `before` and did `done` in the block `here`, and an effect of an instruction comes next
+-- a moment on a path of blocks: it has gone through the blocks `before` and did `done` in the block `here`, and an
+-- effect of an instruction comes next
 pub record Moment (f : HirFunction) : Type 0 where
   pub before : List BlockId
   pub here : BlockId

@@ -1,4 +1,5 @@
--- A small function of which the heap reading is computed: two branches join, and what a phi holds stores an object that is written then.
+-- A small function of which the heap reading is computed: two branches join, and what a phi holds stores an object that
+-- is written then.
 use Rattle.std.proofs.Common.{refl, inl}
 use Rattle.std.specs.Prelude.{ℕ, false, List, [], ◌∷◌, Some, None}
 use Rattle.alias_base.specs.declared.ids.BlockId.{BlockId}
@@ -31,13 +32,23 @@ use_of n = record { identifier = id n; effect = Unknown; reactive = false; span 
 
 -- an instruction of this order, with what is recorded of it
 abbrev pub recorded_at : ℕ → List AliasingEffect → Instruction
-recorded_at order effects = record { id = record { 0 = order }; lvalue = use_of 0; value = Debugger; span = None; effects = Some effects }
+recorded_at order effects = record {
+  id = record { 0 = order };
+  lvalue = use_of 0;
+  value = Debugger;
+  span = None;
+  effects = Some effects;
+}
 
 abbrev pub new_value : ℕ → AliasingEffect
 new_value n = Create (use_of n) Mutable Other
 
 abbrev pub first_block : BasicBlock
-first_block = record { phis = []; instructions = record { 0 = 0 } ∷ []; terminal = If (record { 0 = 2 }) (use_of 1) (block 11) (block 12) }
+first_block = record {
+  phis = [];
+  instructions = record { 0 = 0 } ∷ [];
+  terminal = If (record { 0 = 2 }) (use_of 1) (block 11) (block 12);
+}
 
 abbrev pub branch : ℕ → BasicBlock
 branch order = record { phis = []; instructions = []; terminal = Goto (record { 0 = order }) (block 13) }
@@ -47,7 +58,11 @@ abbrev pub joined_phi : Phi
 joined_phi = record { place = use_of 4; operands = (block 11, use_of 1) ∷ (block 12, use_of 2) ∷ [] }
 
 abbrev pub last_block : BasicBlock
-last_block = record { phis = joined_phi ∷ []; instructions = record { 0 = 1 } ∷ record { 0 = 2 } ∷ []; terminal = Return (record { 0 = 7 }) (use_of 4) None }
+last_block = record {
+  phis = joined_phi ∷ [];
+  instructions = record { 0 = 1 } ∷ record { 0 = 2 } ∷ [];
+  terminal = Return (record { 0 = 7 }) (use_of 4) None;
+}
 
 -- 1, 2 and 3 are made, 4 is 1 or 2, 3 is put into 4, and then 3 is written
 abbrev pub branching : HirFunction
@@ -57,8 +72,13 @@ branching = record {
   context = [];
   context_values = [];
   returns = use_of 0;
-  body = record { entry = block 10; blocks = (block 10, first_block) ∷ (block 11, branch 3) ∷ (block 12, branch 4) ∷ (block 13, last_block) ∷ [] };
-  instructions = recorded_at 1 (new_value 1 ∷ new_value 2 ∷ new_value 3 ∷ []) ∷ recorded_at 5 (Capture (use_of 3) (use_of 4) ∷ []) ∷ recorded_at 6 (Mutate (use_of 3) None ∷ []) ∷ [];
+  body = record {
+    entry = block 10;
+    blocks = (block 10, first_block) ∷ (block 11, branch 3) ∷ (block 12, branch 4)
+        ∷ (block 13, last_block) ∷ [];
+  };
+  instructions = recorded_at 1 (new_value 1 ∷ new_value 2 ∷ new_value 3 ∷ [])
+      ∷ recorded_at 5 (Capture (use_of 3) (use_of 4) ∷ []) ∷ recorded_at 6 (Mutate (use_of 3) None ∷ []) ∷ [];
   is_async = false;
   span = None;
   aliasing_effects = None;

@@ -20,7 +20,8 @@ listing_is (Err e) l h = cc
 -- what is recorded is what the function's effects record
 pub recorded_is_listed : (f : HirFunction) (l : Listing) → recorded f ≡ Ok l → listed f ≡ Ok l
 recorded_is_listed f l h =
-    let rest : Listing → Result Listing InferError = λ m. positions_left m.next (length (tracked f)) >>= (λ left. Ok m) in
+    let rest : Listing → Result Listing InferError = λ m. positions_left m.next (length (tracked f))
+    >>= (λ left. Ok m) in
     let u = went_on (none_unreplaced (unreplaced f)) (λ replaced. listing_or (listed f) >>= rest) l h in
     let v = went_on (listing_or (listed f)) rest l u.2 in
     let w = went_on (positions_left v.0.next (length (tracked f))) (λ left. Ok v.0) l v.2 in
@@ -28,7 +29,8 @@ recorded_is_listed f l h =
     listing_is (listed f) v.0 v.1 ∙ ap Ok e
 
 -- where the pass answers, this was recorded, and what it answers and leaves is by that
-pub pass_is : (is_function_expression : Bool) (f : HirFunction) (env : Environment) (r : Ranged) → range_pass is_function_expression f env ≡ Ok r
+pub pass_is : (is_function_expression : Bool) (f : HirFunction) (env : Environment) (r : Ranged)
+    → range_pass is_function_expression f env ≡ Ok r
     → (l : Listing) × (recorded f ≡ Ok l) × (ranged is_function_expression f env l ≡ r)
 pass_is b f env r h =
     let go : Listing → Result Ranged InferError = λ l. Ok (ranged b f env l) in

@@ -24,7 +24,8 @@ use Rattle.alias_step.specs.block.Contexts.{BlockContext}
 use Rattle.alias_step.specs.block.Faults.{BlockStep}
 
 -- what interning gives; it is never refused, so the second case doesn't come
-abbrev pub interned_or : AliasingEffect × TableLists → Result (AliasingEffect × TableLists) Refusal → AliasingEffect × TableLists
+abbrev pub interned_or : AliasingEffect × TableLists → Result (AliasingEffect × TableLists) Refusal → AliasingEffect
+    × TableLists
 interned_or as_it_is (Ok interned) = interned
 interned_or as_it_is (Err c) = as_it_is
 
@@ -34,7 +35,8 @@ record_interned e s t = let first = interned_or (e, t) (intern e t) in Ok (recor
 
 -- ---- MaybeThrow
 
--- What a call gives may be what it throws: the binding takes in its sites, and where it may be written, it is an alias of it.
+-- What a call gives may be what it throws: the binding takes in its sites, and where it may be written, it is an alias
+-- of it.
 abbrev pub catch_call : Place → Place → StepProgress → BlockStep StepProgress
 catch_call binding x s =
     let u = with_state (appended binding.identifier x.identifier s.state) s in
@@ -115,7 +117,8 @@ return_value is_function_expression value s =
 
 -- of a block with these instructions
 abbrev pub terminal_action : BlockContext → List InstructionId → Terminal → StepProgress → BlockStep StepProgress
-terminal_action c is (terminal.MaybeThrow id continuation handler effects) s = catch_into c.func.instructions (handler_binding c.facts.handlers handler) is s
+terminal_action c is (terminal.MaybeThrow id continuation handler effects) s =
+    catch_into c.func.instructions (handler_binding c.facts.handlers handler) is s
 terminal_action c is (terminal.Return id value effects) s = return_value c.is_function_expression value s
 -- these do nothing; each is named, so that a new terminal doesn't go without an action
 terminal_action c is (terminal.Goto id block) s = gives s

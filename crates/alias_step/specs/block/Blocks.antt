@@ -45,7 +45,8 @@ infer_instruction c i x s = do
   gives (after_instruction i s.effects u)
 
 -- by the instruction's number in its function; nothing is done where there is none
-abbrev pub infer_instruction_at : BlockContext → InstructionId → Option Instruction → BlockProgress → BlockStep BlockProgress
+abbrev pub infer_instruction_at : BlockContext → InstructionId → Option Instruction → BlockProgress
+    → BlockStep BlockProgress
 infer_instruction_at c i None s = gives s
 infer_instruction_at c i (Some x) s = infer_instruction c i x s
 

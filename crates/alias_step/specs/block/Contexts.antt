@@ -15,8 +15,14 @@ pub record BlockContext : Type 0 where
 
 -- what is known of a function before its instructions are stepped is its facts
 abbrev pub context_of : Environment → HirFunction → Bool → BlockContext
-context_of env func is_function_expression = record { env = env; func = func; facts = function_facts func env; is_function_expression = is_function_expression }
+context_of env func is_function_expression =
+    record { env = env; func = func; facts = function_facts func env; is_function_expression = is_function_expression }
 
 -- what a context that holds references speaks of
 abbrev pub held : HeldContext → BlockContext
-held c = record { env = c.env.now; func = c.func.now; facts = c.facts.now; is_function_expression = c.is_function_expression }
+held c = record {
+  env = c.env.now;
+  func = c.func.now;
+  facts = c.facts.now;
+  is_function_expression = c.is_function_expression;
+}

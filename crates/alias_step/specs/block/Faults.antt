@@ -14,7 +14,8 @@ use Rattle.alias_step.specs.declared.block.faults.BlockFault.TheVariants.{Refuse
 abbrev pub BlockStep : Type 0 → Type 0
 BlockStep A = TableLists → Result (A × TableLists) BlockRefusal
 
-abbrev pub in_block_at : {A : Type 0} → InstructionId → Result (A × TableLists) Refusal → Result (A × TableLists) BlockRefusal
+abbrev pub in_block_at : {A : Type 0} → InstructionId → Result (A × TableLists) Refusal
+    → Result (A × TableLists) BlockRefusal
 in_block_at i (Ok p) = Ok p
 in_block_at i (Err c) = Err (Instruction i c)
 
@@ -27,7 +28,8 @@ abbrev pub fault_at : InstructionId → EffectFault → BlockFault
 fault_at i (effect.Refused c) = Refused (Instruction i c)
 fault_at i (effect.Memory e) = Memory e
 
--- After Ok the answer is the one that is stated, and so are the tables. A refusal is the one that is stated. Memory may fail at any time.
+-- After Ok the answer is the one that is stated, and so are the tables. A refusal is the one that is stated. Memory may
+-- fail at any time.
 abbrev pub BlockLeaves : {A : Type 0} → Result (A × TableLists) BlockRefusal → Result A BlockFault → TableLists → Type 0
 BlockLeaves stated (Ok x) t = stated ≡ Ok (x, t)
 BlockLeaves stated (Err (Refused c)) t = stated ≡ Err c

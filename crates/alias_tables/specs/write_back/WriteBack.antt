@@ -29,13 +29,15 @@ abbrev pub with_context_read : IdentifierId → HirFunction → HirFunction
 with_context_read x f = record f { context = map (read_place x) f.context }
 
 abbrev pub with_read : ContextRead → List HirFunction → List HirFunction
-with_read r fs = option_map_or (λ (f : HirFunction). slice_set fs r.function.0 (with_context_read r.place f)) (slice_get fs r.function.0) fs
+with_read r fs = option_map_or (λ (f : HirFunction). slice_set fs r.function.0 (with_context_read r.place f))
+    (slice_get fs r.function.0) fs
 
 abbrev pub with_reads : List ContextRead → List HirFunction → List HirFunction
 with_reads [] fs = fs
 with_reads (r ∷ rs) fs = with_reads rs (with_read r fs)
 
--- the environment with what a pass added to its tables: an identifier for each temporary, its reports, and the context places that it found to be only read
+-- the environment with what a pass added to its tables: an identifier for each temporary, its reports, and the context
+-- places that it found to be only read
 abbrev pub with_tables : TableLists → Environment → Environment
 with_tables t env =
     let more = with_identifiers t.temporaries env in

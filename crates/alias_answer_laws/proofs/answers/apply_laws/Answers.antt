@@ -1,4 +1,5 @@
-use Rattle.alias_answer_laws.specs.answers.FunctionLaws.{recorded_without_apply, instructions_without_apply, terminals_without_apply, none_left}
+use Rattle.alias_answer_laws.specs.answers.FunctionLaws.{recorded_without_apply, instructions_without_apply}
+use Rattle.alias_answer_laws.specs.answers.FunctionLaws.{terminals_without_apply, none_left}
 use Rattle.alias_answer_laws.proofs.answers.apply_laws.Goals as goal
 
 pub returns : goal.returns

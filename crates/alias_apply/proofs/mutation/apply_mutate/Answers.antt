@@ -10,4 +10,5 @@ use Rattle.alias_apply.proofs.mutation.apply_mutate.Goals as goal
 pub returns : goal.returns
 returns c =
     let a = c.apply_mutation in
-    subst (λ (f : Step StepProgress). Follows (f c.args.tables.now) a.result a.new.step a.new.tables) (mutate_by_kind (held c.args.context.now) c.args.effect c.args.place c.args.step.now) a.ensures
+    subst (λ (f : Step StepProgress). Follows (f c.args.tables.now) a.result a.new.step a.new.tables)
+    (mutate_by_kind (held c.args.context.now) c.args.effect c.args.place c.args.step.now) a.ensures

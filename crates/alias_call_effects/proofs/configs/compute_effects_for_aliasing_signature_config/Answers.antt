@@ -13,9 +13,12 @@ returns-clause-answer c =
     let named = c.new-named.ensures in
     let names = c.as_slice-names.ensures in
     let pushed = c.in_ok-push_temporaries.ensures.answer in
-    let there : each (with_temporary c.site_of-site.result) c.args.config.now.temporaries nothing_named (kept c.args.env.now c.args.temporaries.now)
+    let there : each (with_temporary c.site_of-site.result) c.args.config.now.temporaries nothing_named
+    (kept c.args.env.now c.args.temporaries.now)
     ≡ Ok (c.push_temporaries.new.named, kept c.push_temporaries.new.env c.push_temporaries.new.temporaries) = cc in
-    rw (sym c.site_of-site.ensures) (config_answers c.args.config.now c.site_of-site.result c.args.args.now c.args.context.now has _ _ _ c.list_called.result c.list_called.new.env there c.list_called.ensures.answer)
+    rw (sym c.site_of-site.ensures) (config_answers c.args.config.now c.site_of-site.result c.args.args.now
+    c.args.context.now has _ _ _ c.list_called.result c.list_called.new.env there c.list_called.ensures.answer)
 
 pub returns-clause-grown : goal.returns-clause-grown
-returns-clause-grown c = grown_through _ _ _ c.push_temporaries.ensures.grown (c.list_called.ensures.grown c.push_temporaries.new.temporaries)
+returns-clause-grown c = grown_through _ _ _ c.push_temporaries.ensures.grown
+    (c.list_called.ensures.grown c.push_temporaries.new.temporaries)

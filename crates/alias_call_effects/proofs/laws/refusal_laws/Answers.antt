@@ -1,5 +1,6 @@
 use Rattle.std.proofs.Common.{[]}
-use Rattle.alias_call_effects.specs.laws.RefusalLaws.{caused_config_effects, caused_names_expansion, caused_legacy_expansion}
+use Rattle.alias_call_effects.specs.laws.RefusalLaws.{caused_config_effects, caused_names_expansion}
+use Rattle.alias_call_effects.specs.laws.RefusalLaws.{caused_legacy_expansion}
 use Rattle.alias_call_effects.proofs.laws.refusal_laws.Goals as goal
 
 pub returns : goal.returns

@@ -5,4 +5,5 @@ use Rattle.alias_calls.proofs.configs.push_temporaries.Given as goal
 
 -- the names that are left lead where all of them do
 abbrev pub invariant-loop-name : goal.invariant-loop-name
-invariant-loop-name l = each (with_temporary l.env l.site) (drop l.name-index l.names) l.places l.tables ≡ each (with_temporary l.env l.site) l.names l.initial.places l.initial.tables
+invariant-loop-name l = each (with_temporary l.env l.site) (drop l.name-index l.names) l.places l.tables
+    ≡ each (with_temporary l.env l.site) l.names l.initial.places l.initial.tables

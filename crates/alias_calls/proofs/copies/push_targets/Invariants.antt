@@ -5,4 +5,5 @@ use Rattle.alias_calls.proofs.copies.push_targets.Given as goal
 
 -- the effects so far, and those of the targets that are left
 abbrev pub invariant-loop-into : goal.invariant-loop-into
-invariant-loop-into l = l.out ++ map (pair_of l.kind l.from) (drop l.into-index l.targets) ≡ l.initial.out ++ map (pair_of l.kind l.from) l.targets
+invariant-loop-into l = l.out ++ map (pair_of l.kind l.from) (drop l.into-index l.targets) ≡ l.initial.out
+    ++ map (pair_of l.kind l.from) l.targets

@@ -10,7 +10,8 @@ pub sites-init : goal.sites-init
 sites-init c = ap (λ t. has_writing_site c.args.env.now (in_order t)) (above-none c.args.sites.now)
 
 pub sites-smaller : goal.sites-smaller
-sites-smaller c = left_fewer c.sites.after c.args.sites.now c.in-Some.site (sym c.next_site.ensures ∙ c.in-Some.is) c.recall_proper.ensures.0
+sites-smaller c = left_fewer c.sites.after c.args.sites.now c.in-Some.site (sym c.next_site.ensures ∙ c.in-Some.is)
+    c.recall_proper.ensures.0
 
 pub sites-preserved : goal.sites-preserved
 sites-preserved c =
@@ -18,7 +19,8 @@ sites-preserved c =
     let k = c.in-Some.site in
     let next : next_site c.sites.after t ≡ Some k = sym c.next_site.ensures ∙ c.in-Some.is in
     let others = has_writing_site c.args.env.now (in_order (above (Some k) t)) in
-    sym (ap (has_writing_site c.args.env.now) (left_more c.sites.after t k next c.recall_proper.ensures.0) ∙ ap (λ b. b || others) (sym c.is_writing_site.ensures ∙ c.if-is_writing_site.false))
+    sym (ap (has_writing_site c.args.env.now) (left_more c.sites.after t k next c.recall_proper.ensures.0)
+    ∙ ap (λ b. b || others) (sym c.is_writing_site.ensures ∙ c.if-is_writing_site.false))
     ∙ c.sites.invariant
 
 pub returns-then-is_writing_site : goal.returns-then-is_writing_site

@@ -4,4 +4,5 @@ use Rattle.alias_calls.proofs.legacy.push_all_links.Given as goal
 
 -- the links so far, and those of the captured places that are left
 abbrev pub invariant-loop-from : goal.invariant-loop-from
-invariant-loop-from l = l.out ++ all_links l.into l.stored (drop l.from-index l.captured) ≡ l.initial.out ++ all_links l.into l.stored l.captured
+invariant-loop-from l = l.out ++ all_links l.into l.stored (drop l.from-index l.captured) ≡ l.initial.out
+    ++ all_links l.into l.stored l.captured

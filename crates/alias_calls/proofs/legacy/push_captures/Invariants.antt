@@ -6,4 +6,5 @@ use Rattle.alias_calls.proofs.legacy.push_captures.Given as goal
 
 -- the captures so far, and those that are left
 abbrev pub invariant-loop-into : goal.invariant-loop-into
-invariant-loop-into l = l.out ++ map (λ (q : Place). Capture l.from q) (drop l.into-index l.stored) ≡ l.initial.out ++ map (λ (q : Place). Capture l.from q) l.stored
+invariant-loop-into l = l.out ++ map (λ (q : Place). Capture l.from q) (drop l.into-index l.stored) ≡ l.initial.out
+    ++ map (λ (q : Place). Capture l.from q) l.stored

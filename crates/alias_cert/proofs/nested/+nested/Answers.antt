@@ -5,7 +5,8 @@ use Rattle.alias_certificate.specs.declared.fault.CheckFault.{CheckFault}
 use Rattle.alias_nested.specs.Created.{created_functions}
 use Rattle.alias_nested.specs.Slots.{emptied}
 use Rattle.alias_nested.proofs.Creating.{created_is_among}
-use Rattle.alias_nested.proofs.Keeping.{pruned_self, pruned_through, pruned_fits, pruned_beside, environment_back, not_itself}
+use Rattle.alias_nested.proofs.Keeping.{pruned_self, pruned_through, pruned_fits, pruned_beside, environment_back}
+use Rattle.alias_nested.proofs.Keeping.{not_itself}
 use Rattle.alias_nested.proofs.Leading.{item_at}
 use Rattle.alias_nesting_laws.specs.NestingLaws.{taken_out_fits}
 use Rattle.alias_nesting_laws.specs.SlotLaws.{created_exists}
@@ -13,7 +14,8 @@ use Rattle.alias_fitting_laws.specs.pruning.PruningLaws.{function_through}
 use Rattle.alias_cert.specs.Functions.{checking}
 use Rattle.alias_cert.specs.Units.{taken_checked, slot_checked, below_checked}
 use Rattle.alias_cert.proofs.Coming.{comes_fault, comes_with_fault}
-use Rattle.alias_cert.proofs.Levels.{continues_all, continues_on, stops_here, all_done, below_none, below_more, taken_refused, taken_comes, slot_comes}
+use Rattle.alias_cert.proofs.Levels.{continues_all, continues_on, stops_here, all_done, below_none, below_more}
+use Rattle.alias_cert.proofs.Levels.{taken_refused, taken_comes, slot_comes}
 use Rattle.alias_cert.proofs.nested.+nested.Goals as goal
 
 pub check_created-returns-then-levels-eq0-clause-run : goal.check_created-returns-then-levels-eq0-clause-run
@@ -29,7 +31,9 @@ check_created-returns-in_err-created-clause-kept t c = pruned_self c.args.func.n
 
 pub check_created-loop-id-init : goal.check_created-loop-id-init
 check_created-loop-id-init t c = record {
-  run = λ fs a. continues_all (slot_checked c.args.functions.now (below_checked c.args.functions.now (c.args.levels - 1))) c.as_slice-id-items.result.now c.args.env.now fs c.args.solved.now a;
+  run = λ fs a. continues_all (slot_checked c.args.functions.now
+      (below_checked c.args.functions.now (c.args.levels - 1))) c.as_slice-id-items.result.now c.args.env.now fs
+      c.args.solved.now a;
   kept = pruned_self c.args.func.now c.args.env.now c.requires;
 }
 
@@ -40,13 +44,17 @@ check_created-loop-id-preserved t c =
     let at = item_at items c.loop-id.id-index (record { 0 = 0 }) c.loop-id-test.true in
     record {
       run = λ fs a.
-          continues_on (slot_checked c.args.functions.now (below_checked c.args.functions.now (c.args.levels - 1))) items c.loop-id.id-index id (checking c.args.env.now fs) c.loop-id.env c.check_slot.new.env c.loop-id.solved c.check_slot.new.solved
+          continues_on (slot_checked c.args.functions.now (below_checked c.args.functions.now (c.args.levels - 1)))
+          items c.loop-id.id-index id (checking c.args.env.now fs) c.loop-id.env c.check_slot.new.env
+          c.loop-id.solved c.check_slot.new.solved
           at (c.loop-id.invariant.run fs a) c.in_ok-check_slot.ensures.run;
-      kept = pruned_through c.args.env.now c.loop-id.env c.check_slot.new.env c.loop-id.invariant.kept c.check_slot.ensures.kept;
+      kept = pruned_through c.args.env.now c.loop-id.env c.check_slot.new.env c.loop-id.invariant.kept
+          c.check_slot.ensures.kept;
     }
 
 pub check_created-returns-in_err-check_slot-clause-kept : goal.check_created-returns-in_err-check_slot-clause-kept
-check_created-returns-in_err-check_slot-clause-kept t c = pruned_through c.args.env.now c.loop-id.env c.check_slot.new.env c.loop-id.invariant.kept c.check_slot.ensures.kept
+check_created-returns-in_err-check_slot-clause-kept t c =
+    pruned_through c.args.env.now c.loop-id.env c.check_slot.new.env c.loop-id.invariant.kept c.check_slot.ensures.kept
 
 pub check_created-check_slot-requires : goal.check_created-check_slot-requires
 check_created-check_slot-requires t c =
@@ -55,10 +63,20 @@ check_created-check_slot-requires t c =
     let items = c.as_slice-id-items.result.now in
     let same : items ≡ created_functions f = c.as_slice-id-items.ensures ∙ c.in_ok-created.ensures in
     let id : FunctionId = slice_index_or items c.loop-id.id-index (record { 0 = 0 }) in
-    let at : slice_get (created_functions f) c.loop-id.id-index ≡ Some id = subst (λ xs. slice_get xs c.loop-id.id-index ≡ Some id) same (item_at items c.loop-id.id-index (record { 0 = 0 }) c.loop-id-test.true) in
+    let at : slice_get (created_functions f) c.loop-id.id-index ≡ Some id =
+    subst (λ xs. slice_get xs c.loop-id.id-index ≡ Some id) same
+    (item_at items c.loop-id.id-index (record { 0 = 0 }) c.loop-id-test.true) in
     let among = created_is_among f c.args.env.now c.requires c.loop-id.id-index id at in
-    let fits = pruned_fits c.args.env.now env c.loop-id.invariant.kept f c.requires in
-    (omega arith, (created_exists env f id fits among, (λ h is. taken_out_fits env f h (emptied h.returns) id fits among is refl, λ h is. not_itself env f h id fits among is)))
+    let fits = pruned_fits c.args.env.now env c.loop-id.invariant.kept f c.requires in (
+      omega arith,
+      (
+        created_exists env f id fits among,
+        (
+          λ h is. taken_out_fits env f h (emptied h.returns) id fits among is refl,
+          λ h is. not_itself env f h id fits among is,
+        ),
+      ),
+    )
 
 pub check_created-returns-in_err-check_slot-clause-run : goal.check_created-returns-in_err-check_slot-clause-run
 check_created-returns-in_err-check_slot-clause-run t c =
@@ -72,10 +90,13 @@ check_created-returns-in_err-check_slot-clause-run t c =
     let id : FunctionId = slice_index_or items c.loop-id.id-index (record { 0 = 0 }) in
     λ fs a.
     let so_far = c.loop-id.invariant.run fs a in
-    comes_fault (below_checked functions c.args.levels f (checking c.args.env.now fs)) c.from_residual-in_err-check_slot.result e c.check_slot.new.env c.check_slot.new.solved same
+    comes_fault (below_checked functions c.args.levels f (checking c.args.env.now fs))
+    c.from_residual-in_err-check_slot.result e c.check_slot.new.env c.check_slot.new.solved same
     (λ free. below_more functions c.args.levels (c.args.levels - 1) f (checking c.args.env.now fs) items more all
-    ∙ stops_here (slot_checked functions (below_checked functions (c.args.levels - 1))) items c.loop-id.id-index id (checking c.args.env.now fs) c.loop-id.env c.loop-id.solved e so_far
-    (item_at items c.loop-id.id-index (record { 0 = 0 }) c.loop-id-test.true) (c.in_err-check_slot.ensures.run so_far.0 so_far.1.accounts free))
+    ∙ stops_here (slot_checked functions (below_checked functions (c.args.levels - 1))) items c.loop-id.id-index id
+    (checking c.args.env.now fs) c.loop-id.env c.loop-id.solved e so_far
+    (item_at items c.loop-id.id-index (record { 0 = 0 }) c.loop-id-test.true)
+    (c.in_err-check_slot.ensures.run so_far.0 so_far.1.accounts free))
 
 pub check_created-returns-clause-run : goal.check_created-returns-clause-run
 check_created-returns-clause-run t c =
@@ -88,7 +109,8 @@ check_created-returns-clause-run t c =
     let so_far = c.loop-id.invariant.run fs a in (
       so_far.0,
       below_more functions c.args.levels (c.args.levels - 1) f (checking c.args.env.now fs) items more all
-          ∙ all_done (slot_checked functions (below_checked functions (c.args.levels - 1))) items c.loop-id.id-index (checking c.args.env.now fs) c.loop-id.env c.loop-id.solved (omega (arith, c.loop-id-test.false)) so_far,
+          ∙ all_done (slot_checked functions (below_checked functions (c.args.levels - 1))) items c.loop-id.id-index
+          (checking c.args.env.now fs) c.loop-id.env c.loop-id.solved (omega (arith, c.loop-id-test.false)) so_far,
       so_far.1.accounts,
     )
 
@@ -98,36 +120,49 @@ check_slot-returns-clause-run t c =
     let taken = c.take_out-func in
     let done = c.check_taken-answer in
     λ fs a.
-    slot_comes functions (below_checked functions c.args.levels) c.args.id c.args.env.now taken.new.env fs taken.result taken.ensures.func taken.ensures.env done.new.func done.new.env c.put_back.new.env done.new.solved done.result c.put_back.ensures (done.ensures.run fs a)
+    slot_comes functions (below_checked functions c.args.levels) c.args.id c.args.env.now taken.new.env fs taken.result
+    taken.ensures.func taken.ensures.env done.new.func done.new.env c.put_back.new.env done.new.solved done.result
+    c.put_back.ensures (done.ensures.run fs a)
 
 pub check_slot-returns-clause-kept : goal.check_slot-returns-clause-kept
 check_slot-returns-clause-kept t c =
     let taken = c.take_out-func in
     let done = c.check_taken-answer in
-    environment_back c.args.env.now c.args.id taken.result done.new.func taken.new.env done.new.env c.put_back.new.env taken.ensures.func (c.requires.other taken.result taken.ensures.func) taken.ensures.env c.put_back.ensures done.ensures.kept
+    environment_back c.args.env.now c.args.id taken.result done.new.func taken.new.env done.new.env c.put_back.new.env
+    taken.ensures.func (c.requires.other taken.result taken.ensures.func) taken.ensures.env c.put_back.ensures
+    done.ensures.kept
 
 pub check_taken-returns-in_err-check_created-clause-run : goal.check_taken-returns-in_err-check_created-clause-run
 check_taken-returns-in_err-check_created-clause-run t c =
     let functions = c.args.functions.now in
     let e : CheckFault = c.in_err-check_created.field-0.0 in
     let same : c.from_residual.result ≡ Err e = search rules in
-    λ fs a. comes_with_fault (taken_checked functions (below_checked functions c.args.levels) c.args.id c.args.func.now (checking c.args.env.now fs)) c.from_residual.result e c.args.func.now c.check_created.new.env c.check_created.new.solved same
-    (λ free. taken_refused functions (below_checked functions c.args.levels) c.args.id c.args.func.now (checking c.args.env.now fs) e (c.in_err-check_created.ensures.run fs a free))
+    λ fs a. comes_with_fault (taken_checked functions (below_checked functions c.args.levels) c.args.id c.args.func.now
+    (checking c.args.env.now fs)) c.from_residual.result e c.args.func.now c.check_created.new.env
+    c.check_created.new.solved same
+    (λ free. taken_refused functions (below_checked functions c.args.levels) c.args.id c.args.func.now
+    (checking c.args.env.now fs) e (c.in_err-check_created.ensures.run fs a free))
 
 pub check_taken-returns-in_err-check_created-clause-kept : goal.check_taken-returns-in_err-check_created-clause-kept
-check_taken-returns-in_err-check_created-clause-kept t c = pruned_beside c.args.env.now c.check_created.new.env c.check_created.ensures.kept c.args.func.now c.requires
+check_taken-returns-in_err-check_created-clause-kept t c =
+    pruned_beside c.args.env.now c.check_created.new.env c.check_created.ensures.kept c.args.func.now c.requires
 
 pub check_taken-check_nested-requires : goal.check_taken-check_nested-requires
-check_taken-check_nested-requires t c = pruned_fits c.args.env.now c.check_created.new.env c.check_created.ensures.kept c.args.func.now c.requires
+check_taken-check_nested-requires t c = pruned_fits c.args.env.now c.check_created.new.env c.check_created.ensures.kept
+    c.args.func.now c.requires
 
 pub check_taken-returns-clause-run : goal.check_taken-returns-clause-run
 check_taken-returns-clause-run t c =
     let functions = c.args.functions.now in
     λ fs a.
     let l = c.in_ok-check_created.ensures.run fs a in
-    taken_comes functions (below_checked functions c.args.levels) c.args.id c.args.func.now c.check_nested.new.func (checking c.args.env.now fs) (checking c.check_created.new.env l.0) c.check_nested.new.env c.check_nested.new.solved c.check_nested.result l.1 (c.check_nested.ensures.run l.0 l.2)
+    taken_comes functions (below_checked functions c.args.levels) c.args.id c.args.func.now c.check_nested.new.func
+    (checking c.args.env.now fs) (checking c.check_created.new.env l.0) c.check_nested.new.env
+    c.check_nested.new.solved c.check_nested.result l.1 (c.check_nested.ensures.run l.0 l.2)
 
 pub check_taken-returns-clause-kept : goal.check_taken-returns-clause-kept
 check_taken-returns-clause-kept t c =
-    function_through c.args.func.now c.args.func.now c.check_nested.new.func c.args.env.now c.check_created.new.env c.check_nested.new.env
-    (pruned_beside c.args.env.now c.check_created.new.env c.check_created.ensures.kept c.args.func.now c.requires) c.check_nested.ensures.kept
+    function_through c.args.func.now c.args.func.now c.check_nested.new.func c.args.env.now c.check_created.new.env
+    c.check_nested.new.env
+    (pruned_beside c.args.env.now c.check_created.new.env c.check_created.ensures.kept c.args.func.now c.requires)
+    c.check_nested.ensures.kept

@@ -17,6 +17,8 @@ decreases-check_taken l = l.levels * 3 + 1
 -- what is left decides
 abbrev pub invariant-check_created-loop-id : goal.invariant-check_created-loop-id
 invariant-check_created-loop-id l = record {
-  run : (fs : _) → Accounts fs l.fn.solved → Continues (slot_checked l.functions (below_checked l.functions (l.levels - 1))) l.id-items (drop l.id-index l.id-items) (checking l.fn.env fs) l.env l.solved;
+  run : (fs : _) → Accounts fs l.fn.solved
+      → Continues (slot_checked l.functions (below_checked l.functions (l.levels - 1))) l.id-items
+      (drop l.id-index l.id-items) (checking l.fn.env fs) l.env l.solved;
   kept : EnvironmentPruned l.fn.env l.env;
 }

@@ -6,4 +6,5 @@ use Rattle.alias_certificate_laws.proofs.text.read_printed.Goals as goal
 
 pub returns : goal.returns
 returns c =
-    subst (λ stated. Gives is_memory stated c.read_certificate.result) (ap certificate_of_text c.as_bytes.ensures.value ∙ c.reads_back.ensures) c.read_certificate.ensures
+    subst (λ stated. Gives is_memory stated c.read_certificate.result)
+    (ap certificate_of_text c.as_bytes.ensures.value ∙ c.reads_back.ensures) c.read_certificate.ensures

@@ -7,4 +7,5 @@ use Rattle.alias_certificate_laws.proofs.text.reads_back.Goals as goal
 pub returns : goal.returns
 returns c =
     ap certificate_of_text c.requires.printed
-    ∙ read_back c.args.unit.now c.args.solved.now c.args.summary.now c.args.reports.now c.requires.fitting (subst IsUtf8 c.requires.printed c.utf8.text)
+    ∙ read_back c.args.unit.now c.args.solved.now c.args.summary.now c.args.reports.now c.requires.fitting
+    (subst IsUtf8 c.requires.printed c.utf8.text)

@@ -33,16 +33,22 @@ returns-in_ok-end_of-in-Ok-clause-solves c =
       entry = fitting_entry func env c.requires.fits;
       successors = λ n b x h. fitting_successors func env n b x c.requires.fits h;
     } in
-    let long : length recorded.items ≡ length func.body.blocks = sym recorded.ok.0 ∙ flow.recorded_long ∙ ap (λ r. r.blocks) now in
+    let long : length recorded.items ≡ length func.body.blocks = sym recorded.ok.0 ∙ flow.recorded_long
+    ∙ ap (λ r. r.blocks) now in
     let whole = sym (
     ap (λ r. solution state_join state_below r c.in_ok-pass.pass.tables c.in_ok-pass.pass.recorded.items) before
     ∙ ap (λ t. solution state_join state_below (numbered context) t c.in_ok-pass.pass.recorded.items) begun.tables
     ∙ ap (λ k. solution state_join state_below (numbered context) (tables_of env) k) begun.recorded) ∙ ending.1 in
     let left : flow.tables ≡ tables_left context = ending.4 ∙ sym (ap (tables_at (tables_of env)) whole) in
     subst (λ (p : PassEnd). IsSolved env func e p.solved) (sym c.in_ok-end_of-in-Ok.ensures)
-    (solved_over env func e (tables_left context) fits (solver_state_with c.in-Ok.solution flow.tables recorded.items) left (said.count ∙ ap (λ r. r.blocks) before) long
-    (subst (λ t. IsSolution state_below (numbered context).flow t (entry_at entries)) left (subst (λ r. IsSolution state_below r.flow flow.tables (entry_at entries)) now said.solves))
-    (subst (λ t. RecordsSteps (numbered context).flow t (entry_at entries) recorded.items) left (subst (λ r. RecordsSteps r.flow flow.tables (entry_at entries) recorded.items) now said.keeps))
+    (solved_over env func e (tables_left context) fits (solver_state_with c.in-Ok.solution flow.tables recorded.items)
+    left (said.count ∙ ap (λ r. r.blocks) before) long
+    (subst (λ t. IsSolution state_below (numbered context).flow t (entry_at entries)) left
+    (subst (λ r. IsSolution state_below r.flow flow.tables (entry_at entries)) now said.solves))
+    (subst (λ t. RecordsSteps (numbered context).flow t (entry_at entries) recorded.items) left
+    (subst (λ r. RecordsSteps r.flow flow.tables (entry_at entries) recorded.items) now said.keeps))
     (subst (λ k. KeepsOthers (entry_at entries) k recorded.items) begun.recorded said.others)
-    (subst (λ t. IsForward (numbered context) → AreJoins state_below (numbered context).flow StateProper t (entry_at entries)) left
-    (subst (λ r. IsForward r → AreJoins state_below r.flow StateProper flow.tables (entry_at entries)) before said.joins)))
+    (subst (λ t. IsForward (numbered context)
+    → AreJoins state_below (numbered context).flow StateProper t (entry_at entries)) left
+    (subst (λ r. IsForward r → AreJoins state_below r.flow StateProper flow.tables (entry_at entries)) before
+    said.joins)))

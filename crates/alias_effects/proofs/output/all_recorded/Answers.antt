@@ -8,6 +8,8 @@ loop-index-preserved c =
     let l = c.loop-index in
     let put = c.replace-effects.ensures.list in (
       ap length put ∙ length-set l.recorded l.index None ∙ l.invariant.0,
-      recorded_left instructions_recorded l.recorded _ l.index _ l.instructions.items _ c.replace-effects.ensures.before put c.in_ok-append_recorded.ensures.instructions ∙ l.invariant.1,
-      recorded_left terminal_recorded l.recorded _ l.index _ l.terminal.items _ c.replace-effects.ensures.before put c.in_ok-append_recorded.ensures.terminal ∙ l.invariant.2,
+      recorded_left instructions_recorded l.recorded _ l.index _ l.instructions.items _ c.replace-effects.ensures.before
+          put c.in_ok-append_recorded.ensures.instructions ∙ l.invariant.1,
+      recorded_left terminal_recorded l.recorded _ l.index _ l.terminal.items _ c.replace-effects.ensures.before put
+          c.in_ok-append_recorded.ensures.terminal ∙ l.invariant.2,
     )

@@ -4,4 +4,5 @@ use Rattle.alias_effects_laws.proofs.entries.Entries.{entries_named}
 use Rattle.alias_effects_laws.proofs.entries.entry_laws.Goals as goal
 
 pub returns : goal.returns
-returns c = λ b has w creates ends. entries_named c.args.func.now c.args.env.now b c.requires (λ f. has f ≡ true) creates w ends
+returns c = λ b has w creates ends. entries_named c.args.func.now c.args.env.now b c.requires (λ f. has f ≡ true)
+    creates w ends

@@ -13,5 +13,9 @@ invariant-loop-block g l =
     × (g.F.Flow.borrows l.flow ≡ g.F.Flow.borrows l.initial.flow)
     × (vec_len l.work_list.joined_input ≡ rules.blocks)
     × (vec_len l.work_list.dirty ≡ rules.blocks)
-    × (work_list_round lattice.join lattice.below rules (solver_state (work_list_of l.work_list) (g.F.Flow.tables l.flow) (g.F.Flow.recorded l.flow)) (up l.block (l.count - l.block))
-    ≡ work_list_round lattice.join lattice.below (g.F.Flow.rules l.initial.flow) (solver_state (work_list_of l.initial.work_list) (g.F.Flow.tables l.initial.flow) (g.F.Flow.recorded l.initial.flow)) (up 0 l.count))
+    × (work_list_round lattice.join lattice.below rules
+    (solver_state (work_list_of l.work_list) (g.F.Flow.tables l.flow) (g.F.Flow.recorded l.flow))
+    (up l.block (l.count - l.block))
+    ≡ work_list_round lattice.join lattice.below (g.F.Flow.rules l.initial.flow)
+    (solver_state (work_list_of l.initial.work_list) (g.F.Flow.tables l.initial.flow)
+    (g.F.Flow.recorded l.initial.flow)) (up 0 l.count))

@@ -12,6 +12,9 @@ invariant-rounds g l =
     × (l.count ≡ rules.blocks)
     × (vec_len l.work_list.joined_input ≡ rules.blocks)
     × (vec_len l.work_list.dirty ≡ rules.blocks)
-    × (work_list_rounds lattice.join lattice.below rules (100 - l.counter) (solver_state (work_list_of l.work_list) (g.F.Flow.tables l.flow) (g.F.Flow.recorded l.flow))
-    ≡ work_list_rounds lattice.join lattice.below (g.F.Flow.rules l.initial.flow) 100 (solver_state (work_list_of l.initial.work_list) (g.F.Flow.tables l.initial.flow) (g.F.Flow.recorded l.initial.flow)))
+    × (work_list_rounds lattice.join lattice.below rules (100 - l.counter)
+    (solver_state (work_list_of l.work_list) (g.F.Flow.tables l.flow) (g.F.Flow.recorded l.flow))
+    ≡ work_list_rounds lattice.join lattice.below (g.F.Flow.rules l.initial.flow) 100
+    (solver_state (work_list_of l.initial.work_list) (g.F.Flow.tables l.initial.flow)
+    (g.F.Flow.recorded l.initial.flow)))
     × (g.F.Flow.borrows l.flow ≡ g.F.Flow.borrows l.initial.flow)

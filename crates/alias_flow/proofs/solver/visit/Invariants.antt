@@ -10,4 +10,5 @@ invariant-loop-to g l =
     (vec_len l.work_list.joined_input ≡ rules.blocks)
     × (vec_len l.work_list.dirty ≡ rules.blocks)
     × (l.to-items ≡ rules.flow.edges l.block)
-    × (work_list_sends lattice.join lattice.below l.state (work_list_of l.work_list) (drop l.to-index l.to-items) ≡ work_list_sends lattice.join lattice.below l.state (work_list_of l.initial.work_list) l.to-items)
+    × (work_list_sends lattice.join lattice.below l.state (work_list_of l.work_list) (drop l.to-index l.to-items)
+    ≡ work_list_sends lattice.join lattice.below l.state (work_list_of l.initial.work_list) l.to-items)

@@ -5,5 +5,6 @@ use Rattle.alias_graph.proofs.adjacency.has_source.Given as goal
 
 abbrev pub invariant-loop-slot : goal.invariant-loop-slot
 invariant-loop-slot l =
-    (has_source l.from (sources_at l.links (drop l.slot-index l.slots)) ≡ has_source l.from (sources_at l.links l.slots))
+    (has_source l.from (sources_at l.links (drop l.slot-index l.slots))
+    ≡ has_source l.from (sources_at l.links l.slots))
     × AllBelow (length l.links) (drop l.slot-index l.slots)

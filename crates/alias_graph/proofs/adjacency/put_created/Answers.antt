@@ -6,4 +6,6 @@ use Rattle.alias_graph.proofs.adjacency.put_created.Goals as goal
 
 pub returns-clause-err : goal.returns-clause-err
 returns-clause-err c =
-    edge_dropped c.args.nodes.now c.add_edge.new.nodes c.drop_edge.new.nodes c.args.link.from c.args.slot c.in_ok-add_edge.ensures.ok (c.drop_edge.ensures ∙ ap (λ z. changed z c.args.link.from without_last_edge) c.in-Err.ensures.err)
+    edge_dropped c.args.nodes.now c.add_edge.new.nodes c.drop_edge.new.nodes c.args.link.from c.args.slot
+    c.in_ok-add_edge.ensures.ok (c.drop_edge.ensures
+    ∙ ap (λ z. changed z c.args.link.from without_last_edge) c.in-Err.ensures.err)

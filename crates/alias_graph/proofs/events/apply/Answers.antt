@@ -5,11 +5,14 @@ use Rattle.alias_graph.proofs.events.apply.Goals as goal
 
 pub returns-in_ok-make-in-Make-clause-known : goal.returns-in_ok-make-in-Make-clause-known
 returns-in_ok-make-in-Make-clause-known c =
-    subst (AllKnown c.args.known.now) (sym c.in_ok-make-in-Make.ensures.ok) (created_known c.args.known.now c.args.graph.now c.in-Make.id c.in-Make.value c.requires)
+    subst (AllKnown c.args.known.now) (sym c.in_ok-make-in-Make.ensures.ok)
+    (created_known c.args.known.now c.args.graph.now c.in-Make.id c.in-Make.value c.requires)
 
 pub returns-in_ok-make_from-in-CreateFrom-clause-known : goal.returns-in_ok-make_from-in-CreateFrom-clause-known
 returns-in_ok-make_from-in-CreateFrom-clause-known c =
-    subst (AllKnown c.args.known.now) (sym c.in_ok-make_from-in-CreateFrom.ensures.ok) (made_known c.args.known.now c.args.graph.now c.in-CreateFrom.index c.in-CreateFrom.from c.in-CreateFrom.into c.requires)
+    subst (AllKnown c.args.known.now) (sym c.in_ok-make_from-in-CreateFrom.ensures.ok)
+    (made_known c.args.known.now c.args.graph.now c.in-CreateFrom.index c.in-CreateFrom.from c.in-CreateFrom.into
+    c.requires)
 
 pub returns-in_ok-join-in-Link-clause-known : goal.returns-in_ok-join-in-Link-clause-known
 returns-in_ok-join-in-Link-clause-known c =

@@ -9,7 +9,8 @@ use Rattle.alias_graph.proofs.events.build.Goals as goal
 pub returns-clause-remaining : goal.returns-clause-remaining
 returns-clause-remaining c = λ id.
     let done : length c.args.events.now ≤ c.loop-event.event-index = omega arith in
-    ap (λ g. node_at g id) (sym (ap (λ z. fold after c.loop-event.graph (events_of z)) (drop_of_length-le c.args.events.now done)) ∙ c.loop-event.invariant.0)
+    ap (λ g. node_at g id) (sym (ap (λ z. fold after c.loop-event.graph (events_of z))
+    (drop_of_length-le c.args.events.now done)) ∙ c.loop-event.invariant.0)
     ∙ graph_is_remaining (events_of c.args.events.now) id
 
 pub apply-requires : goal.apply-requires

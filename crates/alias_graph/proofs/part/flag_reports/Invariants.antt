@@ -6,4 +6,5 @@ use Rattle.alias_graph.proofs.part.flag_reports.Given as goal
 abbrev pub invariant-loop-slot : goal.invariant-loop-slot
 invariant-loop-slot l =
     FlagsGrow l.initial.flags.items l.flags.items
-    × ((i : ℕ) → i < l.slot → slice_index_or l.flags.items i false ≡ false → stored_value_quiet l.env (stored_at l.nodes i))
+    × ((i : ℕ) → i < l.slot → slice_index_or l.flags.items i false ≡ false
+    → stored_value_quiet l.env (stored_at l.nodes i))

@@ -8,7 +8,8 @@ use Rattle.alias_graph.proofs.raise.raise_from.Given as goal
 
 abbrev pub invariant-raise : goal.invariant-raise
 invariant-raise g l =
-    Going (nodes_of l.links l.nodes) l.walk.index (range_entry l.walk) l.walk.end l.fn.identifiers l.identifiers l.scratch.seen (coming (waiting l.links l.nodes l.walk.index l.scratch.stack.items) l.next)
+    Going (nodes_of l.links l.nodes) l.walk.index (range_entry l.walk) l.walk.end l.fn.identifiers l.identifiers
+    l.scratch.seen (coming (waiting l.links l.nodes l.walk.index l.scratch.stack.items) l.next)
     × Comes l.nodes l.scratch.seen (waiting l.links l.nodes l.walk.index l.scratch.stack.items) l.next
 
 abbrev pub decreases-raise : goal.decreases-raise

@@ -10,4 +10,5 @@ abbrev pub invariant-loop : goal.invariant-loop
 invariant-loop l =
     Rendering (nodes_of l.links l.nodes) l.index l.fn.start l.seen.items l.stack.items l.counter
     × (1 + all_links (nodes_of l.links l.nodes) ≤ vec_capacity l.stack)
-    × (l.env ≡ with_reports (render_reports l.initial.env (nodes_of l.links l.nodes) (render_to (nodes_of l.links l.nodes) l.index l.fn.start l.counter).done) l.initial.env)
+    × (l.env ≡ with_reports (render_reports l.initial.env (nodes_of l.links l.nodes)
+    (render_to (nodes_of l.links l.nodes) l.index l.fn.start l.counter).done) l.initial.env)

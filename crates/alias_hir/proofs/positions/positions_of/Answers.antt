@@ -9,9 +9,11 @@ loop-name-preserved c =
     let now = c.match-position.positions.items in
     elim c.match-position.branch [
       | in-Some+in_ok-push w ↦
-          positions_left c.args.blocks.now c.args.names.now l.name-index _ (Some w.in-Some.position) l.positions.items now c.loop-name-test.true (sym w.in-Some.is ∙ c.position.ensures)
+          positions_left c.args.blocks.now c.args.names.now l.name-index _ (Some w.in-Some.position) l.positions.items
+          now c.loop-name-test.true (sym w.in-Some.is ∙ c.position.ensures)
           (ap (λ p. p.items) w.positions-is ∙ w.in_ok-push.ensures.ok) ∙ l.invariant
       | in_default w ↦
-          positions_left c.args.blocks.now c.args.names.now l.name-index _ None l.positions.items now c.loop-name-test.true (sym w.in_default.is ∙ c.position.ensures)
+          positions_left c.args.blocks.now c.args.names.now l.name-index _ None l.positions.items now
+          c.loop-name-test.true (sym w.in_default.is ∙ c.position.ensures)
           (ap (λ p. p.items) w.positions-is ∙ sym (append-nil l.positions.items)) ∙ l.invariant
     ]

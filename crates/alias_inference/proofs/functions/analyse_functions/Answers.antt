@@ -3,13 +3,18 @@ use Rattle.alias_inference.proofs.Following.{into_operands, into_blames, into_co
 use Rattle.alias_inference.proofs.functions.analyse_functions.Goals as goal
 
 pub returns-clause-operands : goal.returns-clause-operands
-returns-clause-operands g c = let a = c.analyse_functions in into_operands g.P.InnerPasses.keeps_all c.args.func.now c.args.env.now a.result a.new.env a.ensures.answer
+returns-clause-operands g c = let a = c.analyse_functions in
+    into_operands g.P.InnerPasses.keeps_all c.args.func.now c.args.env.now a.result a.new.env a.ensures.answer
 
 pub returns-clause-blames : goal.returns-clause-blames
-returns-clause-blames g c = let a = c.analyse_functions in into_blames g.P.InnerPasses.keeps_all c.args.func.now c.args.env.now a.result a.new.env a.ensures.answer
+returns-clause-blames g c = let a = c.analyse_functions in
+    into_blames g.P.InnerPasses.keeps_all c.args.func.now c.args.env.now a.result a.new.env a.ensures.answer
 
 pub returns-clause-complete : goal.returns-clause-complete
-returns-clause-complete g c = let a = c.analyse_functions in λ keeps_all. into_complete c.args.func.now c.args.env.now a.result a.new.env (a.ensures.exact keeps_all)
+returns-clause-complete g c = let a = c.analyse_functions in
+    λ keeps_all. into_complete c.args.func.now c.args.env.now a.result a.new.env (a.ensures.exact keeps_all)
 
 pub returns-clause-applies : goal.returns-clause-applies
-returns-clause-applies g c = let a = c.analyse_functions in λ none. into_without g.P.InnerPasses.keeps_all c.args.func.now c.args.env.now none a.result a.new.env a.ensures.answer
+returns-clause-applies g c = let a = c.analyse_functions in
+    λ none. into_without g.P.InnerPasses.keeps_all c.args.func.now c.args.env.now none a.result a.new.env
+    a.ensures.answer

@@ -11,10 +11,12 @@ pub returns-clause-walk : goal.returns-clause-walk
 returns-clause-walk c = λ g m start. walk_empties g m start
 
 pub returns-clause-walk_stays : goal.returns-clause-walk_stays
-returns-clause-walk_stays c = λ g m start n le. run_ends covers (node_exists g) (next g m) start (1 + 8 * all_links g) n le (walk_empties g m start)
+returns-clause-walk_stays c = λ g m start n le.
+    run_ends covers (node_exists g) (next g m) start (1 + 8 * all_links g) n le (walk_empties g m start)
 
 pub returns-clause-render : goal.returns-clause-render
-returns-clause-render c = λ g m start. run_empties same_id (lit g) (sources g m) start (1 + all_links g) (renders_few g m start (1 + all_links g))
+returns-clause-render c = λ g m start. run_empties same_id (lit g) (sources g m) start (1 + all_links g)
+    (renders_few g m start (1 + all_links g))
 
 pub returns-clause-render_stays : goal.returns-clause-render_stays
 returns-clause-render_stays c = λ g m start n le.

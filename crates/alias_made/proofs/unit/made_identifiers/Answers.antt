@@ -5,4 +5,5 @@ use Rattle.alias_made.proofs.unit.made_identifiers.Goals as goal
 
 pub loop-number-preserved : goal.loop-number-preserved
 loop-number-preserved c =
-    map-range_more (λ n. fresh_identifier None n 0) c.loop-number.number c.loop-number.identifiers c.push.new.self c.fresh_identifier.result c.loop-number.invariant c.fresh_identifier.ensures c.in_ok-push.ensures.items
+    map-range_more (λ n. fresh_identifier None n 0) c.loop-number.number c.loop-number.identifiers c.push.new.self
+    c.fresh_identifier.result c.loop-number.invariant c.fresh_identifier.ensures c.in_ok-push.ensures.items

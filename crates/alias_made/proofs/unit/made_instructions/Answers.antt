@@ -10,9 +10,13 @@ loop-block-preserved c =
     let seed = c.args.seed in
     let block = c.loop-block.block in
     let known = c.loop-block.invariant in
-    let next : c.draw_block-draw.new.self.state ≡ next_state (next_state (state_before seed block)) = c.draw_block-draw.ensures.state ∙ ap (λ state. next_state (next_state state)) known.drawn in
-    let made : instructions_of block c.draw_block-draw.result ≡ drawn_instructions seed block = ap (instructions_of block) (c.draw_block-draw.ensures.drawn ∙ ap (λ state. block_drawn state block) known.drawn) in
+    let next : c.draw_block-draw.new.self.state ≡ next_state (next_state (state_before seed block)) =
+    c.draw_block-draw.ensures.state ∙ ap (λ state. next_state (next_state state)) known.drawn in
+    let made : instructions_of block c.draw_block-draw.result ≡ drawn_instructions seed block =
+    ap (instructions_of block) (c.draw_block-draw.ensures.drawn
+    ∙ ap (λ state. block_drawn state block) known.drawn) in
     record {
       drawn = next ∙ sym (ap (state_before seed) (add-one block));
-      pushed = flat_map-range_more (drawn_instructions seed) block c.loop-block.instructions _ _ known.pushed made c.in_ok-push_instructions.ensures;
+      pushed = flat_map-range_more (drawn_instructions seed) block c.loop-block.instructions _ _ known.pushed made
+          c.in_ok-push_instructions.ensures;
     }

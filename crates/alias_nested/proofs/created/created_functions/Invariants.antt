@@ -7,4 +7,5 @@ use Rattle.alias_nested.proofs.created.created_functions.Given as goal
 
 -- what the blocks so far create, and what those that are left do, is what all of them create
 abbrev pub invariant-loop-block : goal.invariant-loop-block
-invariant-loop-block l = created_functions l.func ≡ l.found ++ flat_map (λ (b : BlockId × BasicBlock). created_by_all l.func b.1.instructions) l.block-iterator
+invariant-loop-block l = created_functions l.func ≡ l.found
+    ++ flat_map (λ (b : BlockId × BasicBlock). created_by_all l.func b.1.instructions) l.block-iterator

@@ -5,7 +5,8 @@ use Rattle.alias_nested.proofs.Ranging.{then_ranged, at_summary}
 use Rattle.alias_nested.proofs.infer.infer_all.Goals as goal
 
 pub infer_root-requires : goal.infer_root-requires
-infer_root-requires g c = pruned_fits c.args.env.now c.analyse_kept.new.env c.analyse_kept.ensures.kept c.args.func.now c.requires.fits
+infer_root-requires g c = pruned_fits c.args.env.now c.analyse_kept.new.env c.analyse_kept.ensures.kept c.args.func.now
+    c.requires.fits
 
 pub returns-clause-ranged : goal.returns-clause-ranged
 returns-clause-ranged g c =

@@ -8,14 +8,17 @@ use Rattle.alias_nested.proofs.Ranging.{unit_covered, unit_covers_heap, unit_cau
 use Rattle.alias_nested.proofs.infer.infer_unit.Goals as goal
 
 pub infer_all-requires-clause-fits : goal.infer_all-requires-clause-fits
-infer_all-requires-clause-fits g c = rules_make_function_fit c.into_unit-function.result c.into_unit-function.ensures.checked
+infer_all-requires-clause-fits g c = rules_make_function_fit c.into_unit-function.result
+    c.into_unit-function.ensures.checked
 
 pub returns-clause-answer : goal.returns-clause-answer
 returns-clause-answer g c =
     let l = c.in_ok-summary.ensures.run [] (record { same = sym c.new-solved.ensures; solve = tt }) in (
       l.0,
-      unit_as c.args.unit l.0 c.infer_all.new.func c.infer_all.new.env c.in_ok-summary.summary c.infer_all.new.solved c.take_reports-reports.new.env c.take_reports-reports.result
-          (unit_leads c.into_unit-function.result c.args.unit _ c.into_unit-function.ensures.unit l.1) l.2.same c.take_reports-reports.ensures.taken c.take_reports-reports.ensures.reports,
+      unit_as c.args.unit l.0 c.infer_all.new.func c.infer_all.new.env c.in_ok-summary.summary c.infer_all.new.solved
+          c.take_reports-reports.new.env c.take_reports-reports.result
+          (unit_leads c.into_unit-function.result c.args.unit _ c.into_unit-function.ensures.unit l.1) l.2.same
+          c.take_reports-reports.ensures.taken c.take_reports-reports.ensures.reports,
       l.2.solve,
     )
 
@@ -24,33 +27,49 @@ returns-clause-cover g c =
     let none : Accounts [] c.new-solved.result = record { same = sym c.new-solved.ensures; solve = tt } in
     let l = c.in_ok-summary.ensures.run [] none in
     unit_covered c.args.unit l.0 _
-    (unit_as c.args.unit l.0 c.infer_all.new.func c.infer_all.new.env c.in_ok-summary.summary c.infer_all.new.solved c.take_reports-reports.new.env c.take_reports-reports.result
-    (unit_leads c.into_unit-function.result c.args.unit _ c.into_unit-function.ensures.unit l.1) l.2.same c.take_reports-reports.ensures.taken c.take_reports-reports.ensures.reports)
-    _ c.infer_all.new.func c.infer_all.new.env l.1 (ap (λ (e : Environment). e.identifiers) c.take_reports-reports.ensures.taken) (c.in_ok-summary.ensures.ranged [] none)
+    (unit_as c.args.unit l.0 c.infer_all.new.func c.infer_all.new.env c.in_ok-summary.summary c.infer_all.new.solved
+    c.take_reports-reports.new.env c.take_reports-reports.result
+    (unit_leads c.into_unit-function.result c.args.unit _ c.into_unit-function.ensures.unit l.1) l.2.same
+    c.take_reports-reports.ensures.taken c.take_reports-reports.ensures.reports)
+    _ c.infer_all.new.func c.infer_all.new.env l.1
+    (ap (λ (e : Environment). e.identifiers) c.take_reports-reports.ensures.taken)
+    (c.in_ok-summary.ensures.ranged [] none)
 
 pub returns-clause-heap : goal.returns-clause-heap
 returns-clause-heap g c =
     let none : Accounts [] c.new-solved.result = record { same = sym c.new-solved.ensures; solve = tt } in
     let l = c.in_ok-summary.ensures.run [] none in
     unit_covers_heap c.args.unit l.0 _
-    (unit_as c.args.unit l.0 c.infer_all.new.func c.infer_all.new.env c.in_ok-summary.summary c.infer_all.new.solved c.take_reports-reports.new.env c.take_reports-reports.result
-    (unit_leads c.into_unit-function.result c.args.unit _ c.into_unit-function.ensures.unit l.1) l.2.same c.take_reports-reports.ensures.taken c.take_reports-reports.ensures.reports)
-    _ c.infer_all.new.func c.infer_all.new.env l.1 (ap (λ (e : Environment). e.identifiers) c.take_reports-reports.ensures.taken) (c.in_ok-summary.ensures.ranged [] none)
+    (unit_as c.args.unit l.0 c.infer_all.new.func c.infer_all.new.env c.in_ok-summary.summary c.infer_all.new.solved
+    c.take_reports-reports.new.env c.take_reports-reports.result
+    (unit_leads c.into_unit-function.result c.args.unit _ c.into_unit-function.ensures.unit l.1) l.2.same
+    c.take_reports-reports.ensures.taken c.take_reports-reports.ensures.reports)
+    _ c.infer_all.new.func c.infer_all.new.env l.1
+    (ap (λ (e : Environment). e.identifiers) c.take_reports-reports.ensures.taken)
+    (c.in_ok-summary.ensures.ranged [] none)
 
 pub returns-clause-cause : goal.returns-clause-cause
 returns-clause-cause g c =
     let none : Accounts [] c.new-solved.result = record { same = sym c.new-solved.ensures; solve = tt } in
     let l = c.in_ok-summary.ensures.run [] none in
     unit_caused c.args.unit l.0 _
-    (unit_as c.args.unit l.0 c.infer_all.new.func c.infer_all.new.env c.in_ok-summary.summary c.infer_all.new.solved c.take_reports-reports.new.env c.take_reports-reports.result
-    (unit_leads c.into_unit-function.result c.args.unit _ c.into_unit-function.ensures.unit l.1) l.2.same c.take_reports-reports.ensures.taken c.take_reports-reports.ensures.reports)
-    _ c.infer_all.new.func c.infer_all.new.env l.1 (ap (λ (e : Environment). e.identifiers) c.take_reports-reports.ensures.taken) (c.in_ok-summary.ensures.ranged [] none)
+    (unit_as c.args.unit l.0 c.infer_all.new.func c.infer_all.new.env c.in_ok-summary.summary c.infer_all.new.solved
+    c.take_reports-reports.new.env c.take_reports-reports.result
+    (unit_leads c.into_unit-function.result c.args.unit _ c.into_unit-function.ensures.unit l.1) l.2.same
+    c.take_reports-reports.ensures.taken c.take_reports-reports.ensures.reports)
+    _ c.infer_all.new.func c.infer_all.new.env l.1
+    (ap (λ (e : Environment). e.identifiers) c.take_reports-reports.ensures.taken)
+    (c.in_ok-summary.ensures.ranged [] none)
 
 pub returns-clause-flows : goal.returns-clause-flows
 returns-clause-flows g c =
     let none : Accounts [] c.new-solved.result = record { same = sym c.new-solved.ensures; solve = tt } in
     let l = c.in_ok-summary.ensures.run [] none in
     unit_flows c.args.unit l.0 _
-    (unit_as c.args.unit l.0 c.infer_all.new.func c.infer_all.new.env c.in_ok-summary.summary c.infer_all.new.solved c.take_reports-reports.new.env c.take_reports-reports.result
-    (unit_leads c.into_unit-function.result c.args.unit _ c.into_unit-function.ensures.unit l.1) l.2.same c.take_reports-reports.ensures.taken c.take_reports-reports.ensures.reports)
-    _ c.infer_all.new.func c.infer_all.new.env l.1 (ap (λ (e : Environment). e.identifiers) c.take_reports-reports.ensures.taken) (c.in_ok-summary.ensures.ranged [] none)
+    (unit_as c.args.unit l.0 c.infer_all.new.func c.infer_all.new.env c.in_ok-summary.summary c.infer_all.new.solved
+    c.take_reports-reports.new.env c.take_reports-reports.result
+    (unit_leads c.into_unit-function.result c.args.unit _ c.into_unit-function.ensures.unit l.1) l.2.same
+    c.take_reports-reports.ensures.taken c.take_reports-reports.ensures.reports)
+    _ c.infer_all.new.func c.infer_all.new.env l.1
+    (ap (λ (e : Environment). e.identifiers) c.take_reports-reports.ensures.taken)
+    (c.in_ok-summary.ensures.ranged [] none)

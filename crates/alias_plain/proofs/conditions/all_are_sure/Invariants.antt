@@ -5,4 +5,5 @@ use Rattle.alias_plain.proofs.conditions.all_are_sure.Given as goal
 
 -- what is left decides
 abbrev pub invariant-loop-number : goal.invariant-loop-number
-invariant-loop-number l = list_all (sure_in l.unsure) (drop l.number-index l.numbers) ≡ list_all (sure_in l.unsure) l.numbers
+invariant-loop-number l = list_all (sure_in l.unsure) (drop l.number-index l.numbers)
+    ≡ list_all (sure_in l.unsure) l.numbers

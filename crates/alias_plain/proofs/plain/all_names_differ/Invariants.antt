@@ -5,4 +5,5 @@ use Rattle.alias_plain.proofs.plain.all_names_differ.Given as goal
 
 -- what is left decides
 abbrev pub invariant-loop-func : goal.invariant-loop-func
-invariant-loop-func l = AllByRecursion NamesDiffer (drop l.func-index l.functions) → AllByRecursion NamesDiffer l.functions
+invariant-loop-func l = AllByRecursion NamesDiffer (drop l.func-index l.functions)
+    → AllByRecursion NamesDiffer l.functions

@@ -5,4 +5,5 @@ use Rattle.alias_plain.proofs.scan.scan_blocks.Given as goal
 
 -- the blocks that are left lead where all of them do
 abbrev pub invariant-loop-position : goal.invariant-loop-position
-invariant-loop-position l = scan_from (held l.scope) l.entries l.position (drop l.position l.scope.func.now.body.blocks) l.tables ≡ scan_from (held l.scope) l.entries 0 l.scope.func.now.body.blocks l.initial.tables
+invariant-loop-position l = scan_from (held l.scope) l.entries l.position (drop l.position l.scope.func.now.body.blocks)
+    l.tables ≡ scan_from (held l.scope) l.entries 0 l.scope.func.now.body.blocks l.initial.tables

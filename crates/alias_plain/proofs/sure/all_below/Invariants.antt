@@ -5,4 +5,5 @@ use Rattle.alias_plain.proofs.sure.all_below.Given as goal
 
 -- those that are left lead where all of them do
 abbrev pub invariant-loop-number : goal.invariant-loop-number
-invariant-loop-number l = with_members (range_with_len l.number (l.count - l.number)) l.set ≡ with_members (range_with_len 0 l.count) []
+invariant-loop-number l = with_members (range_with_len l.number (l.count - l.number)) l.set
+    ≡ with_members (range_with_len 0 l.count) []

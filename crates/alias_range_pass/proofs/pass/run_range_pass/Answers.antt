@@ -18,27 +18,35 @@ range_recorded-requires-clause-fits c =
     listed_fits (length c.args.env.now.identifiers) c.args.func.now c.in_ok-listing.listing c.requires is.listing
 
 pub range_recorded-requires-clause-orders : goal.range_recorded-requires-clause-orders
-range_recorded-requires-clause-orders c = orders_fit (length c.args.env.now.identifiers) c.args.func.now.instructions c.requires.instructions
+range_recorded-requires-clause-orders c =
+    orders_fit (length c.args.env.now.identifiers) c.args.func.now.instructions c.requires.instructions
 
 pub returns-clause-cover : goal.returns-clause-cover
 returns-clause-cover c = λ l h.
     let P : Listing → Type 0 = λ z. Covers (graph_listed z) z.mutations c.range_recorded.new.env.identifiers in
-    subst P (recorded_once c.args.func.now c.in_ok-listing.listing l c.in_ok-listing.ensures h) c.in_ok-summary.ensures.cover
+    subst P (recorded_once c.args.func.now c.in_ok-listing.listing l c.in_ok-listing.ensures h)
+    c.in_ok-summary.ensures.cover
 
 pub returns-clause-definite : goal.returns-clause-definite
 returns-clause-definite c = λ l h.
-    let P : Listing → Type 0 = λ z. SeesDefinite (graph_listed z) z.mutations (mutations_done (records c.args.is_function_expression c.args.env.now) z c.args.env.now).0 in
-    subst P (recorded_once c.args.func.now c.in_ok-listing.listing l c.in_ok-listing.ensures h) c.in_ok-summary.ensures.definite
+    let P : Listing → Type 0 = λ z. SeesDefinite (graph_listed z) z.mutations
+    (mutations_done (records c.args.is_function_expression c.args.env.now) z c.args.env.now).0 in
+    subst P (recorded_once c.args.func.now c.in_ok-listing.listing l c.in_ok-listing.ensures h)
+    c.in_ok-summary.ensures.definite
 
 pub returns-clause-cause : goal.returns-clause-cause
 returns-clause-cause c = λ l h.
-    let P : Listing → Type 0 = λ z. Causes (graph_listed z) z.mutations c.args.func.now.instructions c.args.env.now.identifiers c.range_recorded.new.env.identifiers in
-    subst P (recorded_once c.args.func.now c.in_ok-listing.listing l c.in_ok-listing.ensures h) c.in_ok-summary.ensures.cause
+    let P : Listing → Type 0 = λ z. Causes (graph_listed z) z.mutations c.args.func.now.instructions
+    c.args.env.now.identifiers c.range_recorded.new.env.identifiers in
+    subst P (recorded_once c.args.func.now c.in_ok-listing.listing l c.in_ok-listing.ensures h)
+    c.in_ok-summary.ensures.cause
 
 pub returns-clause-flows : goal.returns-clause-flows
 returns-clause-flows c = λ l h.
-    let P : Listing → Type 0 = λ z. EndsWithFlows (graph_listed z) z.next c.args.func.now.returns (tracked c.args.func.now) c.in_ok-summary.summary in
-    subst P (recorded_once c.args.func.now c.in_ok-listing.listing l c.in_ok-listing.ensures h) c.in_ok-summary.ensures.flows
+    let P : Listing → Type 0 = λ z. EndsWithFlows (graph_listed z) z.next c.args.func.now.returns
+    (tracked c.args.func.now) c.in_ok-summary.summary in
+    subst P (recorded_once c.args.func.now c.in_ok-listing.listing l c.in_ok-listing.ensures h)
+    c.in_ok-summary.ensures.flows
 
 pub range_recorded-requires-clause-left : goal.range_recorded-requires-clause-left
 range_recorded-requires-clause-left c =
@@ -48,4 +56,5 @@ range_recorded-requires-clause-left c =
 
 pub returns-in_err-listing-clause-pass : goal.returns-in_err-listing-clause-pass
 returns-in_err-listing-clause-pass c =
-    refused_pass c.args.is_function_expression c.args.func.now c.args.env.now c.from_residual-in_err-listing.result _ c.in_err-listing.ensures c.from_residual-in_err-listing.ensures.1
+    refused_pass c.args.is_function_expression c.args.func.now c.args.env.now c.from_residual-in_err-listing.result _
+    c.in_err-listing.ensures c.from_residual-in_err-listing.ensures.1

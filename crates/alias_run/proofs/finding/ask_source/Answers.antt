@@ -12,4 +12,5 @@ returns-in-Ok-clause-read g c =
     let failed = HasFailed (g.S.Source.faults source) (g.S.Source.faults after) (g.S.Source.at_last after) in
     let whole = c.in-Ok.ensures.whole in
     read_bytes c.args.query (g.S.Source.left source) failed c.in-Ok.bytes o.status o.answer whole.0 whole.1
-    (subst (λ bytes. IsJudged c.args.query (parts_of c.args.query bytes) o.status o.answer) c.as_slice.ensures c.judge_whole.ensures)
+    (subst (λ bytes. IsJudged c.args.query (parts_of c.args.query bytes) o.status o.answer) c.as_slice.ensures
+    c.judge_whole.ensures)

@@ -13,7 +13,9 @@ pub returns-in-Ok : goal.returns-in-Ok
 returns-in-Ok c =
     let is = c.in-Ok.ensures.0 in
     let o = c.explain_inferred.result in
-    of_inferred (IsExplainedOf c.args.function c.args.identifier) (memory_explained c.args.function c.args.identifier) c.args.unit c.in-Ok.inferred o.status o.answer (is.0, is.1) c.explain_inferred.ensures
+    of_inferred (IsExplainedOf c.args.function c.args.identifier) (memory_explained c.args.function c.args.identifier)
+    c.args.unit c.in-Ok.inferred o.status o.answer (is.0, is.1) c.explain_inferred.ensures
 
 pub returns-in-Err : goal.returns-in-Err
-returns-in-Err c = of_ended (IsExplainedOf c.args.function c.args.identifier) c.args.unit c.in-Err.status c.ended.result c.ended.ensures c.in-Err.ensures
+returns-in-Err c = of_ended (IsExplainedOf c.args.function c.args.identifier) c.args.unit c.in-Err.status c.ended.result
+    c.ended.ensures c.in-Err.ensures

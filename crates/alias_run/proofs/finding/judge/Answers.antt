@@ -2,4 +2,5 @@ use Rattle.alias_run.proofs.Running.{judged_fault}
 use Rattle.alias_run.proofs.finding.judge.Goals as goal
 
 pub returns-in-Err : goal.returns-in-Err
-returns-in-Err c = judged_fault c.args.query _ c.in-Err.fault _ c.ended.result c.ended.ensures c.from.ensures c.in-Err.ensures.reads
+returns-in-Err c = judged_fault c.args.query _ c.in-Err.fault _ c.ended.result c.ended.ensures c.from.ensures
+    c.in-Err.ensures.reads

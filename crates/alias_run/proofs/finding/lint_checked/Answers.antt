@@ -13,7 +13,8 @@ pub returns-in-Ok : goal.returns-in-Ok
 returns-in-Ok c =
     let is = c.in-Ok.ensures.0 in
     let o = c.lint_inferred.result in
-    of_inferred IsLintedOf memory_lints c.args.unit c.in-Ok.inferred o.status o.answer (is.0, is.1) c.lint_inferred.ensures
+    of_inferred IsLintedOf memory_lints c.args.unit c.in-Ok.inferred o.status o.answer (is.0, is.1)
+    c.lint_inferred.ensures
 
 pub returns-in-Err : goal.returns-in-Err
 returns-in-Err c = of_ended IsLintedOf c.args.unit c.in-Err.status c.ended.result c.ended.ensures c.in-Err.ensures

@@ -5,4 +5,5 @@ use Rattle.alias_step.proofs.calls.apply_effects.Given as goal
 
 -- the effects that are left go where all of them do
 abbrev pub invariant-loop-effect : goal.invariant-loop-effect
-invariant-loop-effect l = apply_effects (held l.context) l.effect-iterator.rest.items l.step l.tables ≡ apply_effects (held l.context) l.fn.effects l.initial.step l.initial.tables
+invariant-loop-effect l = apply_effects (held l.context) l.effect-iterator.rest.items l.step l.tables
+    ≡ apply_effects (held l.context) l.fn.effects l.initial.step l.initial.tables

@@ -6,4 +6,5 @@ use Rattle.alias_step.proofs.defaults.apply_operands.Given as goal
 
 -- the operands that are left go where all of them do
 abbrev pub invariant-loop-operand : goal.invariant-loop-operand
-invariant-loop-operand l = apply_operands (held l.context) (held_call l.call) l.all (drop l.operand-index l.left) l.step l.tables ≡ apply_operands (held l.context) (held_call l.call) l.all l.left l.initial.step l.initial.tables
+invariant-loop-operand l = apply_operands (held l.context) (held_call l.call) l.all (drop l.operand-index l.left) l.step
+    l.tables ≡ apply_operands (held l.context) (held_call l.call) l.all l.left l.initial.step l.initial.tables

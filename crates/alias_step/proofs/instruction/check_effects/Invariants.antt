@@ -5,4 +5,5 @@ use Rattle.alias_step.proofs.instruction.check_effects.Given as goal
 
 -- the effects that are left go where all of them do
 abbrev pub invariant-loop-effect : goal.invariant-loop-effect
-invariant-loop-effect l = check_effects (held l.context) l.places (drop l.effect-index l.effects) l.step l.tables ≡ check_effects (held l.context) l.places l.effects l.initial.step l.initial.tables
+invariant-loop-effect l = check_effects (held l.context) l.places (drop l.effect-index l.effects) l.step l.tables
+    ≡ check_effects (held l.context) l.places l.effects l.initial.step l.initial.tables

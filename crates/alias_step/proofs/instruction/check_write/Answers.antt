@@ -16,5 +16,7 @@ returns-in-Some c =
     let s' = c.record_write_if.new.step in
     let t' = c.record_write_if.new.tables in
     subst (λ o. Follows (check_write k c.args.places.now o s t) r s' t') (sym c.in-Some.is)
-    (subst (λ b. Follows (record_write_if k b (lookup s.state v.identifier) v s t) r s' t') c.is_frozen_context-is_reported.ensures
-    (subst (λ a. Follows (record_write_if k c.is_frozen_context-is_reported.result a v s t) r s' t') c.value_at-there.ensures c.record_write_if.ensures))
+    (subst (λ b. Follows (record_write_if k b (lookup s.state v.identifier) v s t) r s' t')
+    c.is_frozen_context-is_reported.ensures
+    (subst (λ a. Follows (record_write_if k c.is_frozen_context-is_reported.result a v s t) r s' t')
+    c.value_at-there.ensures c.record_write_if.ensures))

@@ -6,6 +6,8 @@ use Rattle.alias_tables.proofs.temporaries.push_temporary.Goals as goal
 
 pub returns-in-Ok-clause-index : goal.returns-in-Ok-clause-index
 returns-in-Ok-clause-index c = λ k.
-    index_push same_temp key_in temps_are_told_apart (get temp_cmp c.args.slots.now) (get temp_cmp c.insert.new.self) c.args.items.now c.args.key c.args.temporary c.requires.index (ap Some c.requires.of_key) c.requires.new
-    (subst (λ n. Updates temp_cmp c.args.slots.now c.insert.new.self c.args.key (Some n)) c.len-slot.ensures c.in-Ok.ensures.updates).0 k
+    index_push same_temp key_in temps_are_told_apart (get temp_cmp c.args.slots.now) (get temp_cmp c.insert.new.self)
+    c.args.items.now c.args.key c.args.temporary c.requires.index (ap Some c.requires.of_key) c.requires.new
+    (subst (λ n. Updates temp_cmp c.args.slots.now c.insert.new.self c.args.key (Some n)) c.len-slot.ensures
+    c.in-Ok.ensures.updates).0 k
     ∙ ap (temp_slot_like k) (sym c.in_ok-push.ensures.items)

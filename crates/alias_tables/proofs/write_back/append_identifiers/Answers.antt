@@ -12,4 +12,7 @@ loop-temporary-preserved c =
     ∙ one_more c.args.temporaries.now done c.args.env.now t.result c.loop-temporary-test.true t.is
 
 pub returns-in_default-clause-err : goal.returns-in_default-clause-err
-returns-in_default-clause-err c = (c.loop-temporary.temporary-index, c.in_default.ensures.err ∙ c.loop-temporary.invariant)
+returns-in_default-clause-err c = (
+  c.loop-temporary.temporary-index,
+  c.in_default.ensures.err ∙ c.loop-temporary.invariant,
+)

@@ -10,9 +10,12 @@ loop-temporary-preserved c =
     let l = c.loop-temporary in
     let xs = c.args.temporaries.now in
     let x = c.temporary-item.result in (
-      text_more temporary_line xs l.temporary-index x l.out c.push_temporary_line.new.out c.args.out.now c.loop-temporary-test.true c.temporary-item.is l.invariant.0 c.in_ok-push_temporary_line.ensures.text,
-      all_more SmallTemporary xs l.temporary-index x c.loop-temporary-test.true c.temporary-item.is l.invariant.1 c.in_ok-push_temporary_line.ensures.fits,
+      text_more temporary_line xs l.temporary-index x l.out c.push_temporary_line.new.out c.args.out.now
+          c.loop-temporary-test.true c.temporary-item.is l.invariant.0 c.in_ok-push_temporary_line.ensures.text,
+      all_more SmallTemporary xs l.temporary-index x c.loop-temporary-test.true c.temporary-item.is l.invariant.1
+          c.in_ok-push_temporary_line.ensures.fits,
     )
 
 pub returns-clause-fits : goal.returns-clause-fits
-returns-clause-fits c = all_taken SmallTemporary c.args.temporaries.now c.loop-temporary.temporary-index (omega (arith, c.loop-temporary-test.false)) c.loop-temporary.invariant.1
+returns-clause-fits c = all_taken SmallTemporary c.args.temporaries.now c.loop-temporary.temporary-index
+    (omega (arith, c.loop-temporary-test.false)) c.loop-temporary.invariant.1

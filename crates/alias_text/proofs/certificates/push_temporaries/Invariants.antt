@@ -5,4 +5,5 @@ use Rattle.alias_text.specs.Fitting.{SmallTemporary}
 use Rattle.alias_text.proofs.certificates.push_temporaries.Given as goal
 
 abbrev pub invariant-loop-temporary : goal.invariant-loop-temporary
-invariant-loop-temporary l = (l.out ≡ l.initial.out ++ flat_map temporary_line (take l.temporary-index l.temporaries)) × AllByRecursion SmallTemporary (take l.temporary-index l.temporaries)
+invariant-loop-temporary l = (l.out ≡ l.initial.out ++ flat_map temporary_line (take l.temporary-index l.temporaries))
+    × AllByRecursion SmallTemporary (take l.temporary-index l.temporaries)

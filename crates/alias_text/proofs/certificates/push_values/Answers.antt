@@ -16,21 +16,30 @@ values-init c =
 
 pub values-smaller : goal.values-smaller
 values-smaller c =
-    let next : next_entry site_cmp c.values.after c.args.state.now.values ≡ Some (c.in-Some.site, c.in-Some.value) = cc in
-    left_fewer site_cmp sites_total c.values.after c.args.state.now.values (c.in-Some.site, c.in-Some.value) next c.recall_proper.ensures.values.0
+    let next : next_entry site_cmp c.values.after c.args.state.now.values ≡ Some (c.in-Some.site, c.in-Some.value) =
+    cc in
+    left_fewer site_cmp sites_total c.values.after c.args.state.now.values (c.in-Some.site, c.in-Some.value) next
+    c.recall_proper.ensures.values.0
 
 pub values-preserved : goal.values-preserved
 values-preserved c =
     let all = c.args.out.now ++ flat_map value_line c.args.state.now.values in
-    let next : next_entry site_cmp c.values.after c.args.state.now.values ≡ Some (c.in-Some.site, c.in-Some.value) = cc in (
-      still_complete site_cmp sites_total value_line all c.values.out c.push_value_line.new.out c.values.after c.args.state.now.values (c.in-Some.site, c.in-Some.value) next c.recall_proper.ensures.values.0 c.in_ok-push_value_line.ensures.text c.values.invariant.0,
-      still_all site_cmp sites_total FittingValue c.values.after c.args.state.now.values (c.in-Some.site, c.in-Some.value) next c.recall_proper.ensures.values.0 c.in_ok-push_value_line.ensures.fits c.values.invariant.1,
+    let next : next_entry site_cmp c.values.after c.args.state.now.values ≡ Some (c.in-Some.site, c.in-Some.value) =
+    cc in (
+      still_complete site_cmp sites_total value_line all c.values.out c.push_value_line.new.out c.values.after
+          c.args.state.now.values (c.in-Some.site, c.in-Some.value) next c.recall_proper.ensures.values.0
+          c.in_ok-push_value_line.ensures.text c.values.invariant.0,
+      still_all site_cmp sites_total FittingValue c.values.after c.args.state.now.values
+          (c.in-Some.site, c.in-Some.value) next c.recall_proper.ensures.values.0 c.in_ok-push_value_line.ensures.fits
+          c.values.invariant.1,
     )
 
 pub returns-clause-text : goal.returns-clause-text
 returns-clause-text c =
     let all = c.args.out.now ++ flat_map value_line c.args.state.now.values in
-    now_complete site_cmp value_line all c.values.out c.values.after c.args.state.now.values (sym c.next_value.ensures ∙ c.in_default.is) c.values.invariant.0
+    now_complete site_cmp value_line all c.values.out c.values.after c.args.state.now.values
+    (sym c.next_value.ensures ∙ c.in_default.is) c.values.invariant.0
 
 pub returns-clause-fits : goal.returns-clause-fits
-returns-clause-fits c = now_all site_cmp FittingValue c.values.after c.args.state.now.values (sym c.next_value.ensures ∙ c.in_default.is) c.values.invariant.1
+returns-clause-fits c = now_all site_cmp FittingValue c.values.after c.args.state.now.values
+    (sym c.next_value.ensures ∙ c.in_default.is) c.values.invariant.1

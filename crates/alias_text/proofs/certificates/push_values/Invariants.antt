@@ -9,8 +9,10 @@ use Rattle.alias_text.proofs.certificates.push_values.Given as goal
 -- the values that are left complete the text, and all fit where they do
 abbrev pub invariant-values : goal.invariant-values
 invariant-values l =
-    (l.out ++ flat_map value_line (left_after site_cmp l.after l.state.values) ≡ l.initial.out ++ flat_map value_line l.state.values)
-    × (AllByRecursion FittingValue (left_after site_cmp l.after l.state.values) → AllByRecursion FittingValue l.state.values)
+    (l.out ++ flat_map value_line (left_after site_cmp l.after l.state.values) ≡ l.initial.out
+    ++ flat_map value_line l.state.values)
+    × (AllByRecursion FittingValue (left_after site_cmp l.after l.state.values)
+    → AllByRecursion FittingValue l.state.values)
 
 abbrev pub decreases-values : goal.decreases-values
 decreases-values l = length (left_after site_cmp l.after l.state.values)

@@ -5,4 +5,5 @@ use Rattle.alias_text.specs.Fitting.{SmallInstruction}
 use Rattle.alias_text.proofs.functions.push_instructions.Given as goal
 
 abbrev pub invariant-loop-id : goal.invariant-loop-id
-invariant-loop-id l = (l.out ≡ l.initial.out ++ listed_lines l.instructions (take l.id-index l.ids)) × AllByRecursion SmallInstruction (take l.id-index l.ids)
+invariant-loop-id l = (l.out ≡ l.initial.out ++ listed_lines l.instructions (take l.id-index l.ids))
+    × AllByRecursion SmallInstruction (take l.id-index l.ids)

@@ -5,4 +5,5 @@ use Rattle.alias_text.proofs.ranges.push_ranges.Given as goal
 
 -- the ranges that are left complete the text
 abbrev pub invariant-loop-index : goal.invariant-loop-index
-invariant-loop-index l = l.out ++ flat_map numbered_text (enumerate_from l.index (drop l.index l.identifiers)) ≡ l.initial.out ++ ranges_text l.identifiers
+invariant-loop-index l = l.out ++ flat_map numbered_text (enumerate_from l.index (drop l.index l.identifiers))
+    ≡ l.initial.out ++ ranges_text l.identifiers

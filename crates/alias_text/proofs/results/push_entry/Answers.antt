@@ -7,6 +7,8 @@ pub returns-clause-fits : goal.returns-clause-fits
 returns-clause-fits c =
     let func = c.args.func.now in
     let e = c.args.entry.now in
-    let fits : FittingState e.state → Small e.block.0 × SmallBlock (value_at func.body.blocks e.block) → FittingEntry func e =
+    let fits : FittingState e.state → Small e.block.0 × SmallBlock (value_at func.body.blocks e.block)
+    → FittingEntry func e =
     λ state rest. record { block = rest.0; state = state; instructions = rest.1 } in
-    if_both fits c.args.detail c.in_ok-push_entry_state.ensures.fits (if_so c.args.detail (c.in_ok-push_block_head.ensures.fits, c.in_ok-push_block_lines.ensures.fits))
+    if_both fits c.args.detail c.in_ok-push_entry_state.ensures.fits
+    (if_so c.args.detail (c.in_ok-push_block_head.ensures.fits, c.in_ok-push_block_lines.ensures.fits))

@@ -13,10 +13,14 @@ returns-clause-fits c =
     let u = c.args.unit.now in
     let s = c.args.solved.now in
     let d = c.args.detail in
-    let found = subst (λ (o : Option HirFunction). IfCertify d (FittingEntries o c.as_slice-2.result.now)) c.function_of.ensures c.in_ok-push_found.ensures.fits in
-    let entries = subst (λ (es : List BlockEntry). IfCertify d (FittingEntries (function_of u s.function) es)) c.as_slice-2.ensures found in
-    let fits : FittingEntries (function_of u s.function) s.entries → SmallName s.function × AllByRecursion SmallTemporary s.temporaries → FittingSolved u s =
+    let found = subst (λ (o : Option HirFunction). IfCertify d (FittingEntries o c.as_slice-2.result.now))
+    c.function_of.ensures c.in_ok-push_found.ensures.fits in
+    let entries = subst (λ (es : List BlockEntry). IfCertify d (FittingEntries (function_of u s.function) es))
+    c.as_slice-2.ensures found in
+    let fits : FittingEntries (function_of u s.function) s.entries → SmallName s.function
+    × AllByRecursion SmallTemporary s.temporaries → FittingSolved u s =
     λ found rest. record { function = rest.0; entries = found; temporaries = rest.1 } in
     let named = if_so d c.in_ok-push_function_head.ensures.fits in
-    let rest = if_both (λ (n : SmallName s.function) (t : AllByRecursion SmallTemporary s.temporaries). (n, t)) d named c.in_ok-push_tables_of.ensures.fits in
+    let rest = if_both (λ (n : SmallName s.function) (t : AllByRecursion SmallTemporary s.temporaries). (n, t)) d named
+    c.in_ok-push_tables_of.ensures.fits in
     if_both fits d entries rest

@@ -6,4 +6,6 @@ use Rattle.alias_text.proofs.results.push_functions.Given as goal
 
 -- the functions so far were appended
 abbrev pub invariant-loop-of_function : goal.invariant-loop-of_function
-invariant-loop-of_function l = (l.out ≡ l.initial.out ++ functions_text l.detail l.unit l.summary (take l.of_function-index l.solved)) × IfCertify l.detail (AllByRecursion (FittingSolved l.unit) (take l.of_function-index l.solved))
+invariant-loop-of_function l = (l.out ≡ l.initial.out
+    ++ functions_text l.detail l.unit l.summary (take l.of_function-index l.solved))
+    × IfCertify l.detail (AllByRecursion (FittingSolved l.unit) (take l.of_function-index l.solved))

@@ -23,10 +23,14 @@ decreases-get_context_reassignment l = l.levels * 6
 -- what is left decides
 abbrev pub invariant-walk_instructions-loop-id : goal.invariant-walk_instructions-loop-id
 invariant-walk_instructions-loop-id l =
-    instruction_steps l.env (context_reassignment l.levels l.env true) l.is_function_expression l.is_async l.func (l.initial.marks, l.initial.shared) l.instructions
-    ≡ instruction_steps l.env (context_reassignment l.levels l.env true) l.is_function_expression l.is_async l.func (l.marks, l.shared) (drop l.id-index l.instructions)
+    instruction_steps l.env (context_reassignment l.levels l.env true) l.is_function_expression l.is_async l.func
+    (l.initial.marks, l.initial.shared) l.instructions
+    ≡ instruction_steps l.env (context_reassignment l.levels l.env true) l.is_function_expression l.is_async l.func
+    (l.marks, l.shared) (drop l.id-index l.instructions)
 
 abbrev pub invariant-walk_blocks-loop-block : goal.invariant-walk_blocks-loop-block
 invariant-walk_blocks-loop-block l =
-    block_steps l.env (context_reassignment l.levels l.env true) l.is_function_expression l.is_async l.func (l.initial.marks, l.initial.shared) l.func.body.blocks
-    ≡ block_steps l.env (context_reassignment l.levels l.env true) l.is_function_expression l.is_async l.func (l.marks, l.shared) l.block-iterator
+    block_steps l.env (context_reassignment l.levels l.env true) l.is_function_expression l.is_async l.func
+    (l.initial.marks, l.initial.shared) l.func.body.blocks
+    ≡ block_steps l.env (context_reassignment l.levels l.env true) l.is_function_expression l.is_async l.func
+    (l.marks, l.shared) l.block-iterator

@@ -10,4 +10,5 @@ returns-then-is_defined c =
     let s = c.args.state.now in
     let x = c.args.place in
     c.freezes.ensures ∙ ap (λ (l : Lookup). freezes l.value.kind) c.kind_with_span.ensures
-    ∙ sym (freezes_where_defined s x c.recall_proper.ensures ∙ ap (λ b. b && freezes (lookup s x).kind) (sym c.is_defined.ensures ∙ c.if-is_defined.true))
+    ∙ sym (freezes_where_defined s x c.recall_proper.ensures
+    ∙ ap (λ b. b && freezes (lookup s x).kind) (sym c.is_defined.ensures ∙ c.if-is_defined.true))

@@ -6,10 +6,12 @@ use Rattle.alias_apply.specs.freezing.SiteLaws.{above-none, left_more, left_fewe
 use Rattle.alias_apply.proofs.freezing.sites.sites_in_order.Goals as goal
 
 pub sites-init : goal.sites-init
-sites-init c = ap (λ l. l ++ in_order (above None c.args.sites.now)) c.new-listed.ensures.items ∙ ap in_order (above-none c.args.sites.now)
+sites-init c = ap (λ l. l ++ in_order (above None c.args.sites.now)) c.new-listed.ensures.items
+    ∙ ap in_order (above-none c.args.sites.now)
 
 pub sites-smaller : goal.sites-smaller
-sites-smaller c = left_fewer c.sites.after c.args.sites.now c.in-Some.site (sym c.next_site.ensures ∙ c.in-Some.is) c.recall_proper.ensures.0
+sites-smaller c = left_fewer c.sites.after c.args.sites.now c.in-Some.site (sym c.next_site.ensures ∙ c.in-Some.is)
+    c.recall_proper.ensures.0
 
 pub sites-preserved : goal.sites-preserved
 sites-preserved c =

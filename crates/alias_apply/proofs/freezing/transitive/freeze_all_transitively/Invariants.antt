@@ -5,4 +5,5 @@ use Rattle.alias_apply.proofs.freezing.transitive.freeze_all_transitively.Given 
 
 -- the sites that are left go where all of them do
 abbrev pub invariant-loop-site : goal.invariant-loop-site
-invariant-loop-site l = at_sites (frozen_transitively l.reason (context_of l.env)) (drop l.site-index l.sites) l.state ≡ at_sites (frozen_transitively l.reason (context_of l.env)) l.sites l.initial.state
+invariant-loop-site l = at_sites (frozen_transitively l.reason (context_of l.env)) (drop l.site-index l.sites) l.state
+    ≡ at_sites (frozen_transitively l.reason (context_of l.env)) l.sites l.initial.state

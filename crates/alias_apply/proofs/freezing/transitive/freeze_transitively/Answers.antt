@@ -10,8 +10,10 @@ use Rattle.alias_apply.proofs.freezing.transitive.freeze_transitively.Goals as g
 pub freezings-smaller : goal.freezings-smaller
 freezings-smaller c =
     let s = c.freezings.state in
-    let n = subst (λ o. NextIs (context_of c.args.env.now) c.args.reason c.freezings.stack.items s o c.next_freezing.new.stack.items) c.in-Some.is c.in_ok-place.ensures in
-    subst (λ z. live z.values < live s.values) (sym c.in_ok-freeze_top-in-Some.ensures.state) (frozen_less c.args.reason c.in-Some.place s c.freezings.invariant.0 n.0)
+    let n = subst (λ o. NextIs (context_of c.args.env.now) c.args.reason c.freezings.stack.items s o
+    c.next_freezing.new.stack.items) c.in-Some.is c.in_ok-place.ensures in
+    subst (λ z. live z.values < live s.values) (sym c.in_ok-freeze_top-in-Some.ensures.state)
+    (frozen_less c.args.reason c.in-Some.place s c.freezings.invariant.0 n.0)
 
 pub freezings-preserved : goal.freezings-preserved
 freezings-preserved c =
@@ -19,7 +21,8 @@ freezings-preserved c =
     let r = c.args.reason in
     let context = context_of c.args.env.now in
     let p = c.in-Some.place in
-    let n = subst (λ o. NextIs context r c.freezings.stack.items s o c.next_freezing.new.stack.items) c.in-Some.is c.in_ok-place.ensures in (
+    let n = subst (λ o. NextIs context r c.freezings.stack.items s o c.next_freezing.new.stack.items) c.in-Some.is
+    c.in_ok-place.ensures in (
       subst Sorted (sym c.in_ok-freeze_top-in-Some.ensures.state) (frozen_sorted r p s c.freezings.invariant.0),
       ap (finish context r c.freeze_top.new.stack.items) c.in_ok-freeze_top-in-Some.ensures.state
           ∙ ap (λ t. finish context r t (frozen p r s)) c.in_ok-freeze_top-in-Some.ensures.stack

@@ -12,8 +12,10 @@ returns-in-Ok-clause-steps c =
     let numbers = c.args.numbers.now in
     let count = length said.temporaries in
     let h = c.in-Ok.ensures.checks (differs lines numbers count) (λ flow b k here.
-    ap (λ z. found_of z numbers c.len-temporaries.result flow.tables b (slice_index_or flow.recorded.items b None)) c.as_slice-lines.ensures
-    ∙ ap (λ z. found_of lines numbers z flow.tables b (slice_index_or flow.recorded.items b None)) c.len-temporaries.ensures
+    ap (λ z. found_of z numbers c.len-temporaries.result flow.tables b (slice_index_or flow.recorded.items b None))
+    c.as_slice-lines.ensures
+    ∙ ap (λ z. found_of lines numbers z flow.tables b (slice_index_or flow.recorded.items b None))
+    c.len-temporaries.ensures
     ∙ ap (found_of lines numbers count flow.tables b) here) in
     (h.0, ap (faulted said.function c.args.env.now c.args.func.now.body.blocks) h.1)
 
@@ -24,10 +26,15 @@ returns-in-Err-clause-steps c =
     let numbers = c.args.numbers.now in
     let count = length said.temporaries in
     let h = c.in-Err.ensures.checks (differs lines numbers count) (λ flow b k here.
-    ap (λ z. found_of z numbers c.len-temporaries.result flow.tables b (slice_index_or flow.recorded.items b None)) c.as_slice-lines.ensures
-    ∙ ap (λ z. found_of lines numbers z flow.tables b (slice_index_or flow.recorded.items b None)) c.len-temporaries.ensures
-    ∙ ap (found_of lines numbers count flow.tables b) here) in
-    (h.0, fault_is ⊤ said.function c.args.env.now c.args.func.now.body.blocks _ c.in-Err.fault c.fault_of.result _ h.1 c.fault_of.ensures)
+    ap (λ z. found_of z numbers c.len-temporaries.result flow.tables b (slice_index_or flow.recorded.items b None))
+    c.as_slice-lines.ensures
+    ∙ ap (λ z. found_of lines numbers z flow.tables b (slice_index_or flow.recorded.items b None))
+    c.len-temporaries.ensures
+    ∙ ap (found_of lines numbers count flow.tables b) here) in (
+      h.0,
+      fault_is ⊤ said.function c.args.env.now c.args.func.now.body.blocks _ c.in-Err.fault c.fault_of.result _ h.1
+          c.fault_of.ensures,
+    )
 
 pub returns-in-Ok-clause-func : goal.returns-in-Ok-clause-func
 returns-in-Ok-clause-func c = ap (λ p. p.1) c.in-Ok.ensures.borrows

@@ -8,5 +8,6 @@ use Rattle.alias_cert.proofs.function.lines.are_lines.Given as goal
 
 abbrev pub invariant-loop-index : goal.invariant-loop-index
 invariant-loop-index l =
-    list_all (λ i. line_is l.lines (block_at l.blocks i) (slice_index_or l.numbers i None)) (up l.index (length l.blocks - l.index))
+    list_all (λ i. line_is l.lines (block_at l.blocks i) (slice_index_or l.numbers i None))
+    (up l.index (length l.blocks - l.index))
     ≡ list_all (λ i. line_is l.lines (block_at l.blocks i) (slice_index_or l.numbers i None)) (up 0 (length l.blocks))

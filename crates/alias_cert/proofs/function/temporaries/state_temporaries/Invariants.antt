@@ -5,6 +5,7 @@ use Rattle.alias_cert.proofs.function.temporaries.state_temporaries.Given as goa
 
 abbrev pub invariant-loop-temporary : goal.invariant-loop-temporary
 invariant-loop-temporary l = record {
-  tables : temporaries_stated l.function l.env (drop l.temporary-index l.said) l.flow.tables ≡ temporaries_stated l.function l.env l.said l.initial.flow.tables;
+  tables : temporaries_stated l.function l.env (drop l.temporary-index l.said) l.flow.tables
+      ≡ temporaries_stated l.function l.env l.said l.initial.flow.tables;
   same : SameFlow l.initial.flow l.flow;
 }

@@ -13,5 +13,7 @@ invariant-loop-block g l =
     × (g.F.Flow.borrows l.flow ≡ g.F.Flow.borrows l.initial.flow)
     × (length l.arriving ≡ rules.blocks)
     × ((differs : _) → AreClaims g.F.Flow.tables g.F.Flow.recorded g.F.ClaimedFlow.found l.claims differs
-    → blocks_checked lattice.join lattice.below rules differs l.entries (up l.block (l.count - l.block)) (solver_state l.arriving (g.F.Flow.tables l.flow) (g.F.Flow.recorded l.flow))
-    ≡ blocks_checked lattice.join lattice.below (g.F.Flow.rules l.initial.flow) differs l.entries (up 0 l.count) (solver_state l.initial.arriving (g.F.Flow.tables l.initial.flow) (g.F.Flow.recorded l.initial.flow)))
+    → blocks_checked lattice.join lattice.below rules differs l.entries (up l.block (l.count - l.block))
+    (solver_state l.arriving (g.F.Flow.tables l.flow) (g.F.Flow.recorded l.flow))
+    ≡ blocks_checked lattice.join lattice.below (g.F.Flow.rules l.initial.flow) differs l.entries (up 0 l.count)
+    (solver_state l.initial.arriving (g.F.Flow.tables l.initial.flow) (g.F.Flow.recorded l.initial.flow)))

@@ -12,20 +12,32 @@ returns-in_err-arriving-clause-checks g c =
     let f = c.args.flow.now in
     let e = c.in_err-arriving.field-0.0 in
     let same : c.from_residual.result ≡ Err (fault.Memory e) = search rules in
-    λ differs claims. ([], memory_result g.F.Flow.cause (solution_checked l.join l.below (g.F.Flow.rules f) differs c.args.entries.now (g.F.Flow.tables f) (g.F.Flow.recorded f)) c.from_residual.result e (solver_state [] (g.F.Flow.tables f) (g.F.Flow.recorded f)) same)
+    λ differs claims. (
+      [],
+      memory_result g.F.Flow.cause
+          (solution_checked l.join l.below (g.F.Flow.rules f) differs c.args.entries.now (g.F.Flow.tables f)
+          (g.F.Flow.recorded f)) c.from_residual.result e (solver_state [] (g.F.Flow.tables f) (g.F.Flow.recorded f))
+          same,
+    )
 
 pub returns-in_default-clause-checks : goal.returns-in_default-clause-checks
 returns-in_default-clause-checks g c =
     let l = g.F.State.Lattice in
     let f = c.args.flow.now in
     let none : begins l.join l.below (g.F.Flow.rules f) c.args.entries.now ≡ None = search rules in
-    λ differs claims. ([], not_begun l.join l.below (g.F.Flow.rules f) differs c.args.entries.now (g.F.Flow.tables f) (g.F.Flow.recorded f) none)
+    λ differs claims. (
+      [],
+      not_begun l.join l.below (g.F.Flow.rules f) differs c.args.entries.now (g.F.Flow.tables f)
+          (g.F.Flow.recorded f) none,
+    )
 
 pub check_begun-requires : goal.check_begun-requires
 check_begun-requires g c =
     let l = g.F.State.Lattice in
-    let begun : begins l.join l.below (g.F.Flow.rules c.args.flow.now) c.args.entries.now ≡ Some c.in-Some.arriving.items = search rules in
-    let long = begun_long l.join l.below (g.F.Flow.rules c.args.flow.now) c.args.entries.now c.in-Some.arriving.items begun in
+    let begun : begins l.join l.below (g.F.Flow.rules c.args.flow.now) c.args.entries.now
+    ≡ Some c.in-Some.arriving.items = search rules in
+    let long = begun_long l.join l.below (g.F.Flow.rules c.args.flow.now) c.args.entries.now c.in-Some.arriving.items
+    begun in
     search rules
 
 pub returns-clause-checks : goal.returns-clause-checks
@@ -38,7 +50,9 @@ returns-clause-checks g c =
     let begun : begins l.join l.below r c.args.entries.now ≡ Some xs = search rules in
     λ differs claims. (
       c.check_begun.new.arriving,
-      checks_along g.F.Flow.cause (solution_checked l.join l.below r differs c.args.entries.now (g.F.Flow.tables f) (g.F.Flow.recorded f)) (begun_checked l.join l.below r differs c.args.entries.now (solver_state xs (g.F.Flow.tables f) (g.F.Flow.recorded f))) c.check_begun.result
+      checks_along g.F.Flow.cause (solution_checked l.join l.below r differs c.args.entries.now (g.F.Flow.tables f)
+          (g.F.Flow.recorded f)) (begun_checked l.join l.below r differs c.args.entries.now
+          (solver_state xs (g.F.Flow.tables f) (g.F.Flow.recorded f))) c.check_begun.result
           (solver_state c.check_begun.new.arriving (g.F.Flow.tables now) (g.F.Flow.recorded now))
           (has_begun l.join l.below r differs c.args.entries.now (g.F.Flow.tables f) (g.F.Flow.recorded f) xs begun)
           (c.check_begun.ensures.checks differs claims),

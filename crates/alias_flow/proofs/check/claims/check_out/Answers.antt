@@ -13,7 +13,9 @@ returns-in_err-difference g c =
     let e = c.in_err-difference.field-0.0 in
     let same : c.from_residual.result ≡ Err (fault.Memory e) = search rules in
     λ differs before k claims here was.
-    memory_result g.F.Flow.cause (outcome_checked l.join l.below (g.F.Flow.rules f) differs c.args.entries.now c.args.block (solver_state c.args.arriving.now (g.F.Flow.tables f) before) (Stepped c.args.out.now (g.F.Flow.tables f) k))
+    memory_result g.F.Flow.cause (outcome_checked l.join l.below (g.F.Flow.rules f) differs c.args.entries.now
+    c.args.block (solver_state c.args.arriving.now (g.F.Flow.tables f) before)
+    (Stepped c.args.out.now (g.F.Flow.tables f) k))
     c.from_residual.result e (solver_state c.args.arriving.now (g.F.Flow.tables f) (g.F.Flow.recorded f)) same
 
 pub returns-in-Some : goal.returns-in-Some
@@ -21,7 +23,9 @@ returns-in-Some g c =
     let l = g.F.State.Lattice in
     let f = c.args.flow.now in
     λ differs before k claims here was.
-    differs_is l.join l.below (g.F.Flow.rules f) differs c.args.entries.now c.args.block (solver_state c.args.arriving.now (g.F.Flow.tables f) before) c.args.out.now (g.F.Flow.tables f) k c.in-Some.difference
+    differs_is l.join l.below (g.F.Flow.rules f) differs c.args.entries.now c.args.block
+    (solver_state c.args.arriving.now (g.F.Flow.tables f) before) c.args.out.now (g.F.Flow.tables f) k
+    c.in-Some.difference
     (sym c.in-Some.is ∙ c.in_ok-difference.ensures ∙ claims f c.args.block k here)
 
 pub returns-in_err-successor : goal.returns-in_err-successor
@@ -31,8 +35,11 @@ returns-in_err-successor g c =
     let e = c.in_err-successor.field-0.0 in
     let same : c.from_residual-in_err-successor.result ≡ Err (fault.Memory e) = search rules in
     λ differs before k claims here was.
-    memory_result g.F.Flow.cause (outcome_checked l.join l.below (g.F.Flow.rules f) differs c.args.entries.now c.args.block (solver_state c.args.arriving.now (g.F.Flow.tables f) before) (Stepped c.args.out.now (g.F.Flow.tables f) k))
-    c.from_residual-in_err-successor.result e (solver_state c.pass_on.new.arriving (g.F.Flow.tables f) (g.F.Flow.recorded f)) same
+    memory_result g.F.Flow.cause (outcome_checked l.join l.below (g.F.Flow.rules f) differs c.args.entries.now
+    c.args.block (solver_state c.args.arriving.now (g.F.Flow.tables f) before)
+    (Stepped c.args.out.now (g.F.Flow.tables f) k))
+    c.from_residual-in_err-successor.result e
+    (solver_state c.pass_on.new.arriving (g.F.Flow.tables f) (g.F.Flow.recorded f)) same
 
 pub returns-in-Some-2 : goal.returns-in-Some-2
 returns-in-Some-2 g c =
@@ -40,8 +47,11 @@ returns-in-Some-2 g c =
     let f = c.args.flow.now in
     let none : c.in_ok-difference.field-0 ≡ None = search rules in
     λ differs before k claims here was.
-    passed_is l.join l.below (g.F.Flow.rules f) differs c.args.entries.now c.args.block (solver_state c.args.arriving.now (g.F.Flow.tables f) before) c.args.out.now (g.F.Flow.tables f) k None (Some c.in-Some-2.successor)
-    (sym none ∙ c.in_ok-difference.ensures ∙ claims f c.args.block k here) (sym c.in-Some-2.is ∙ c.in_ok-successor.ensures.answer)
+    passed_is l.join l.below (g.F.Flow.rules f) differs c.args.entries.now c.args.block
+    (solver_state c.args.arriving.now (g.F.Flow.tables f) before) c.args.out.now (g.F.Flow.tables f) k None
+    (Some c.in-Some-2.successor)
+    (sym none ∙ c.in_ok-difference.ensures ∙ claims f c.args.block k here)
+    (sym c.in-Some-2.is ∙ c.in_ok-successor.ensures.answer)
 
 pub returns-in-None : goal.returns-in-None
 returns-in-None g c =
@@ -49,5 +59,7 @@ returns-in-None g c =
     let f = c.args.flow.now in
     let none : c.in_ok-difference.field-0 ≡ None = search rules in
     λ differs before k claims here was.
-    out_passes l.join l.below (g.F.Flow.rules f) differs c.args.entries.now c.args.block c.args.arriving.now c.pass_on.new.arriving before (g.F.Flow.recorded f) c.args.out.now (g.F.Flow.tables f) k
-    (sym none ∙ c.in_ok-difference.ensures ∙ claims f c.args.block k here) (sym c.in-None.is ∙ c.in_ok-successor.ensures.answer) (c.in_ok-successor.ensures.arriving c.in-None.is) was
+    out_passes l.join l.below (g.F.Flow.rules f) differs c.args.entries.now c.args.block c.args.arriving.now
+    c.pass_on.new.arriving before (g.F.Flow.recorded f) c.args.out.now (g.F.Flow.tables f) k
+    (sym none ∙ c.in_ok-difference.ensures ∙ claims f c.args.block k here)
+    (sym c.in-None.is ∙ c.in_ok-successor.ensures.answer) (c.in_ok-successor.ensures.arriving c.in-None.is) was

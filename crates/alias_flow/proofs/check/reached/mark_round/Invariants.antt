@@ -8,5 +8,6 @@ invariant-loop-block g l =
     let rules = g.F.Flow.rules l.flow in
     (l.count ≡ rules.blocks)
     × (length l.marks ≡ rules.blocks)
-    × (marked_round rules.flow.edges l.marks (up l.block (l.count - l.block)) ≡ marked_round rules.flow.edges l.initial.marks (up 0 l.count))
+    × (marked_round rules.flow.edges l.marks (up l.block (l.count - l.block))
+    ≡ marked_round rules.flow.edges l.initial.marks (up 0 l.count))
     × (l.grew ≡ false → l.marks ≡ l.initial.marks)

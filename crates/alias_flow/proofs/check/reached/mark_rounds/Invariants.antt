@@ -7,4 +7,5 @@ invariant-rounds g l =
     let rules = g.F.Flow.rules l.flow in
     (l.count ≡ rules.blocks)
     × (length l.marks ≡ rules.blocks)
-    × (marked_rounds rules.flow.edges l.count (l.count - l.counter) l.marks ≡ marked_rounds rules.flow.edges l.count l.count l.initial.marks)
+    × (marked_rounds rules.flow.edges l.count (l.count - l.counter) l.marks
+    ≡ marked_rounds rules.flow.edges l.count l.count l.initial.marks)

@@ -10,13 +10,23 @@ use Rattle.alias_graph.proofs.graph.AliasGraph.join.Goals as goal
 
 pub returns-in_ok-put_link-clause-nodes : goal.returns-in_ok-put_link-clause-nodes
 returns-in_ok-put_link-clause-nodes c = λ id.
-    joined_same c.self.inside.links c.push.new.self c.self.inside.nodes c.put_link.new.nodes c.args.from c.args.into (with_forward_slot c.len-slot.result) (with_source_slot c.args.kind c.as_slice.result.now c.len-slot.result) c.in_ok-put_link.ensures.ok id
+    joined_same c.self.inside.links c.push.new.self c.self.inside.nodes c.put_link.new.nodes c.args.from c.args.into
+    (with_forward_slot c.len-slot.result) (with_source_slot c.args.kind c.as_slice.result.now c.len-slot.result)
+    c.in_ok-put_link.ensures.ok id
     ∙ ap (λ z. has_node z id) c.self.view_is
 
 pub put_link-requires-clause-new : goal.put_link-requires-clause-new
 put_link-requires-clause-new c = λ is.
-    let l : StoredLink = record { index = c.args.index; from = c.args.from; into = c.args.into; kind = c.args.kind; from_hint = c.at.result; into_hint = c.at-in-Some.result } in
+    let l : StoredLink = record {
+      index = c.args.index;
+      from = c.args.from;
+      into = c.args.into;
+      kind = c.args.kind;
+      from_hint = c.at.result;
+      into_hint = c.at-in-Some.result;
+    } in
     let ps = stored_sources_into c.self.inside.nodes c.args.into c.args.kind in
     subst (λ links. IsFirst links c.len-slot.result ps) (sym (c.as_slice.ensures ∙ c.in_ok-push.ensures.items))
     (subst (λ n. IsFirst (c.self.inside.links ++ l ∷ []) n ps) (sym c.len-slot.ensures)
-    (still_first c.self.inside.links l c.self.inside.nodes c.self.invariant.within (ap (λ g. has_source c.args.from (sources_into g c.args.into c.args.kind)) c.self.view_is ∙ c.requires is)))
+    (still_first c.self.inside.links l c.self.inside.nodes c.self.invariant.within
+    (ap (λ g. has_source c.args.from (sources_into g c.args.into c.args.kind)) c.self.view_is ∙ c.requires is)))

@@ -12,7 +12,8 @@ returns-clause-env c =
     let env = c.args.env.now in
     subst (λ (e : Environment). OnOk c.render_walk.result (c.render_walk.new.env ≡ e))
     (
-    ap (λ l. with_reports (render_reports env (nodes_of l c.self.inside.nodes) (rendered (nodes_of l c.self.inside.nodes) c.args.index c.args.start).done) env) c.as_slice.ensures
+    ap (λ l. with_reports (render_reports env (nodes_of l c.self.inside.nodes)
+    (rendered (nodes_of l c.self.inside.nodes) c.args.index c.args.start).done) env) c.as_slice.ensures
     ∙ ap (λ z. with_reports (render_reports env z (rendered z c.args.index c.args.start).done) env) c.self.view_is
     )
     c.render_walk.ensures.env

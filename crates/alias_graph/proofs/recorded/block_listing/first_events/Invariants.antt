@@ -7,4 +7,5 @@ abbrev pub invariant-loop-param : goal.invariant-loop-param
 invariant-loop-param l = l.events ≡ map (λ p. object_of (param_place p)) (take l.param-index l.param-items)
 
 abbrev pub invariant-loop-place : goal.invariant-loop-place
-invariant-loop-place l = l.events ≡ map (λ p. object_of (param_place p)) l.func.params ++ map object_of (take l.place-index l.place-items)
+invariant-loop-place l = l.events ≡ map (λ p. object_of (param_place p)) l.func.params
+    ++ map object_of (take l.place-index l.place-items)

@@ -23,10 +23,14 @@ decreases-reassignment l = l.levels * 6
 -- what is left decides
 abbrev pub invariant-walk_instructions-loop-id : goal.invariant-walk_instructions-loop-id
 invariant-walk_instructions-loop-id l =
-    instruction_steps l.env (λ k. reassignment l.levels l.env true (Some k)) l.is_function_expression l.is_async l.name l.func l.block ((l.initial.marks, l.initial.shared), l.initial.lints) l.ids
-    ≡ instruction_steps l.env (λ k. reassignment l.levels l.env true (Some k)) l.is_function_expression l.is_async l.name l.func l.block ((l.marks, l.shared), l.lints) (drop l.id-index l.ids)
+    instruction_steps l.env (λ k. reassignment l.levels l.env true (Some k)) l.is_function_expression l.is_async l.name
+    l.func l.block ((l.initial.marks, l.initial.shared), l.initial.lints) l.ids
+    ≡ instruction_steps l.env (λ k. reassignment l.levels l.env true (Some k)) l.is_function_expression l.is_async
+    l.name l.func l.block ((l.marks, l.shared), l.lints) (drop l.id-index l.ids)
 
 abbrev pub invariant-walk_blocks-loop-id : goal.invariant-walk_blocks-loop-id
 invariant-walk_blocks-loop-id l =
-    block_steps l.env (λ k. reassignment l.levels l.env true (Some k)) l.is_function_expression l.is_async l.name l.func ((l.initial.marks, l.initial.shared), l.initial.lints) l.func.body.blocks
-    ≡ block_steps l.env (λ k. reassignment l.levels l.env true (Some k)) l.is_function_expression l.is_async l.name l.func ((l.marks, l.shared), l.lints) l.id-iterator
+    block_steps l.env (λ k. reassignment l.levels l.env true (Some k)) l.is_function_expression l.is_async l.name l.func
+    ((l.initial.marks, l.initial.shared), l.initial.lints) l.func.body.blocks
+    ≡ block_steps l.env (λ k. reassignment l.levels l.env true (Some k)) l.is_function_expression l.is_async l.name
+    l.func ((l.marks, l.shared), l.lints) l.id-iterator

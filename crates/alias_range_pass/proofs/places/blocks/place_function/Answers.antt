@@ -7,4 +7,5 @@ use Rattle.alias_range_pass.proofs.places.blocks.place_function.Goals as goal
 pub returns-clause-cause : goal.returns-clause-cause
 returns-clause-cause c =
     let P : Placed → Type 0 = λ z. EndsCaused c.args.func.now.instructions c.args.env.now.identifiers z.1.identifiers in
-    subst P (sym c.in_ok-place_blocks.ensures.ok) (function_causes c.args.is_function_expression (c.args.func.now, c.args.env.now))
+    subst P (sym c.in_ok-place_blocks.ensures.ok)
+    (function_causes c.args.is_function_expression (c.args.func.now, c.args.env.now))

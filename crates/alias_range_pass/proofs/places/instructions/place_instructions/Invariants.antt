@@ -5,7 +5,8 @@ use Rattle.alias_range_pass.proofs.places.instructions.place_instructions.Given 
 
 abbrev pub invariant-loop-id : goal.invariant-loop-id
 invariant-loop-id l =
-    (instructions_placed (drop l.id-index l.ids) (l.instructions, l.env) ≡ instructions_placed l.ids (l.initial.instructions, l.initial.env))
+    (instructions_placed (drop l.id-index l.ids) (l.instructions, l.env)
+    ≡ instructions_placed l.ids (l.initial.instructions, l.initial.env))
     × OrdersFit l.instructions
     × EnvKept l.initial.env l.env
     × (map but_instruction l.instructions ≡ map but_instruction l.initial.instructions)

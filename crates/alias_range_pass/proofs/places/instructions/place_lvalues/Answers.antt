@@ -10,4 +10,5 @@ returns c =
     let table = c.args.table.now in
     let v = c.for_each_instruction_value_lvalue_mut.ensures.calls in
     c.for_each_instruction_value_lvalue_mut.ensures.rebuilt
-    ∙ ap (with_lvalues c.args.value.now) (visits_map _ (with_table table ConditionallyMutate) (λ f. f.0.now ≡ table) (λ f p f' q is k. search rules) _ _ _ _ refl v)
+    ∙ ap (with_lvalues c.args.value.now) (visits_map _ (with_table table ConditionallyMutate) (λ f. f.0.now ≡ table)
+    (λ f p f' q is k. search rules) _ _ _ _ refl v)

@@ -3,4 +3,5 @@ use Rattle.alias_range_pass.specs.places.Ranges.{begun, all_ranged}
 use Rattle.alias_range_pass.proofs.places.ranges.begin_all.Given as goal
 
 abbrev pub invariant-loop-place : goal.invariant-loop-place
-invariant-loop-place l = all_ranged (begun l.order) (drop l.place-index l.places) l.identifiers ≡ all_ranged (begun l.order) l.places l.initial.identifiers
+invariant-loop-place l = all_ranged (begun l.order) (drop l.place-index l.places) l.identifiers
+    ≡ all_ranged (begun l.order) l.places l.initial.identifiers

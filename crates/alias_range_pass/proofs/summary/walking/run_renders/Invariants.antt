@@ -5,4 +5,5 @@ use Rattle.alias_range_pass.proofs.summary.walking.run_renders.Given as goal
 
 abbrev pub invariant-loop-render : goal.invariant-loop-render
 invariant-loop-render l =
-    (after_renders l.graph (drop l.render-index l.renders) l.env ≡ after_renders l.graph l.renders l.initial.env) × WalksKeep l.initial.env l.env
+    (after_renders l.graph (drop l.render-index l.renders) l.env ≡ after_renders l.graph l.renders l.initial.env)
+    × WalksKeep l.initial.env l.env

@@ -5,4 +5,5 @@ use Rattle.alias_step.proofs.block.block.apply_signatures.Given as goal
 
 -- the steps that are left go where all of them do
 abbrev pub invariant-loop-id : goal.invariant-loop-id
-invariant-loop-id l = apply_signatures (held l.context) (drop l.id-index l.ids) l.progress l.tables ≡ apply_signatures (held l.context) l.ids l.initial.progress l.initial.tables
+invariant-loop-id l = apply_signatures (held l.context) (drop l.id-index l.ids) l.progress l.tables
+    ≡ apply_signatures (held l.context) l.ids l.initial.progress l.initial.tables

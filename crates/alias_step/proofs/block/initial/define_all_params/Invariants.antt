@@ -5,4 +5,5 @@ use Rattle.alias_step.proofs.block.initial.define_all_params.Given as goal
 
 -- the parameters that are left go where all of them do
 abbrev pub invariant-loop-param : goal.invariant-loop-param
-invariant-loop-param l = fold (with_param l.value) l.state (drop l.param-index l.params) ≡ fold (with_param l.value) l.initial.state l.params
+invariant-loop-param l = fold (with_param l.value) l.state (drop l.param-index l.params)
+    ≡ fold (with_param l.value) l.initial.state l.params

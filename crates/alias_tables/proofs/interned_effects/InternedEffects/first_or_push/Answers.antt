@@ -23,7 +23,8 @@ returns-clause-first c =
     ∙ kept_at (slot_like k es) e es
     ∙ sym (first_at same_key key_of k es)
     ∙ ap (first_like k) c.self.view_is in
-    moved c.copy_at.result (at_slot c.in_ok-slot.slot c.slot_or_push.new.effects) (first_like k c.args.self.now) there c.copy_at.ensures
+    moved c.copy_at.result (at_slot c.in_ok-slot.slot c.slot_or_push.new.effects) (first_like k c.args.self.now) there
+    c.copy_at.ensures
 
 pub returns-clause-effects : goal.returns-clause-effects
 returns-clause-effects c =

@@ -1,0 +1,4 @@
+pub mod Carried
+pub mod Tables
+pub mod Spans
+pub mod HandedOut

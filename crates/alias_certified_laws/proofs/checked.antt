@@ -1,0 +1,4 @@
+mod InOrder
+mod Ordering
+mod Preceding
+mod Stepping
