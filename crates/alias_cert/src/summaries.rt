@@ -19,7 +19,7 @@ pub(crate) fn range_fault(function: Option<FunctionId>, error: InferError) -> Ch
     match error {
         InferError::TooMany { which } => CheckFault::TooMany { which },
         InferError::Memory(e) => CheckFault::Memory(e),
-        // Never so: a function whose effects are recorded carries no Apply.
+        // Never so, by `step_law` of alias_certified_laws: a function whose effects are recorded carries no Apply.
         cause => CheckFault::Step {
             function,
             block: BlockId(0),

@@ -2,18 +2,13 @@
 ghost use Rattle.std.specs.Prelude.{◌≡◌, nat_lt, [], Some, None, IfOk, OnOk, if◌then◌else◌};
 ghost use Rattle.std.specs.List.{list_all};
 ghost use Rattle.alias_lattice.specs.States.{defined_as};
-ghost use Rattle.alias_certificate.specs.states.States.{is_created, is_site_there, with_values, with_sites, is_full, are_valued, is_variable_there, with_variables, stated_state};
+ghost use Rattle.alias_certificate.specs.states.States.{is_site_there, with_values, with_sites, is_full, are_valued, is_variable_there, with_variables, stated_state};
 
+use crate::created::CreatedFunctions;
 use crate::{CertBlock, CertValue, CertVariable};
-use alias_base::{FunctionId, IdentifierId};
+use alias_base::IdentifierId;
 use alias_lattice::{InferenceState, Site, SiteSet};
 use std::alloc::{AllocError, Global};
-
-fn is_created(created: &[FunctionId], function: FunctionId) -> bool
-    ensures { result ≡ is_created created.now function }
-{
-    created.iter().any(|id| id.0 == function.0)
-}
 
 fn is_below(identifier: IdentifierId, identifiers: usize) -> bool
     ensures { result ≡ nat_lt identifier.0 identifiers }
@@ -22,7 +17,7 @@ fn is_below(identifier: IdentifierId, identifiers: usize) -> bool
 }
 
 /// Whether the identifiers of the site are below the number, and its function is one of those created.
-fn is_site_there(identifiers: usize, created: &[FunctionId], site: Site) -> bool
+fn is_site_there(identifiers: usize, created: &CreatedFunctions, site: Site) -> bool
     ensures { result ≡ is_site_there identifiers created.now site }
 {
     match site {
@@ -33,11 +28,11 @@ fn is_site_there(identifiers: usize, created: &[FunctionId], site: Site) -> bool
         | Site::AssignCopy { from, into } => {
             is_below(from, identifiers) && is_below(into, identifiers)
         }
-        Site::Function(function) => is_created(created, function),
+        Site::Function(function) => created.has(function),
     }
 }
 
-fn are_sites_there(identifiers: usize, created: &[FunctionId], values: &[CertValue]) -> bool
+fn are_sites_there(identifiers: usize, created: &CreatedFunctions, values: &[CertValue]) -> bool
     ensures { result ≡ list_all (λ v. is_site_there identifiers created.now v.site) values.now }
 {
     values
@@ -104,7 +99,7 @@ fn define_variables(
 pub fn stated_state(
     alloc: Global,
     identifiers: usize,
-    created: &[FunctionId],
+    created: &CreatedFunctions,
     block: &CertBlock,
 ) -> Result<Option<InferenceState>, AllocError>
     ensures { IfOk result (λ state. state ≡ stated_state identifiers created.now block.now) }

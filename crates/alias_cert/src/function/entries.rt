@@ -6,7 +6,7 @@ ghost use Rattle.alias_cert.specs.function.Faults.{is_memory};
 
 use alias_base::{FunctionId, List};
 use alias_certificate::states::stated_state;
-use alias_certificate::{CertBlock, CheckFault};
+use alias_certificate::{CertBlock, CheckFault, CreatedFunctions};
 use alias_lattice::InferenceState;
 use std::alloc::Global;
 
@@ -15,7 +15,7 @@ fn entry_stated(
     alloc: Global,
     function: Option<FunctionId>,
     identifiers: usize,
-    created: &[FunctionId],
+    created: &CreatedFunctions,
     lines: &[CertBlock],
     number: Option<usize>,
 ) -> Result<Option<InferenceState>, CheckFault>
@@ -41,7 +41,7 @@ pub(crate) fn entries_stated(
     alloc: Global,
     function: Option<FunctionId>,
     identifiers: usize,
-    created: &[FunctionId],
+    created: &CreatedFunctions,
     lines: &[CertBlock],
     numbers: &[Option<usize>],
 ) -> Result<List<Option<InferenceState>>, CheckFault>

@@ -22,7 +22,7 @@ use crate::function::entries::entries_stated;
 use crate::function::lines::{are_lines, block_at, line_numbers};
 use crate::function::temporaries::state_temporaries;
 use alias_base::{BlockId, BlockMap, FunctionId, List};
-use alias_certificate::{CertFunction, CheckFault};
+use alias_certificate::{CertFunction, CheckFault, CreatedFunctions};
 use alias_effects::{EffectsFlow, PassEnd, refusal};
 use alias_facts::{FunctionFacts, function_facts};
 use alias_flow::Solution;
@@ -156,7 +156,7 @@ fn said_entries(
 ) -> Result<List<Option<InferenceState>>, CheckFault>
     ensures { Gives is_memory (entries_stated said.now.function (length env.now.identifiers + length said.now.temporaries) (created_functions func.now) said.now.blocks [] numbers.now) result }
 {
-    let created = created_functions(alloc, func)?;
+    let created = CreatedFunctions::new(alloc, created_functions(alloc, func)?)?;
     let Some(identifiers) = env.identifiers.len().checked_add(said.temporaries.len()) else {
         // Never so: as many entries don't fit into memory.
         return Err(CheckFault::Memory(AllocError));
@@ -165,7 +165,7 @@ fn said_entries(
         alloc,
         said.function,
         identifiers,
-        created.as_slice(),
+        &created,
         said.blocks.as_slice(),
         numbers,
     )
