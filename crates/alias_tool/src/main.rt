@@ -43,13 +43,24 @@ fn explain(rt: &HostRuntime, alloc: Global, status: &Status) {
     };
 }
 
+/// How the program ends where the words couldn't be had: memory ran out, or one of them isn't UTF-8.
+fn without_words(rt: &HostRuntime, alloc: Global, error: &io::Error) -> ExitCode {
+    if error.kind() == io::ErrorKind::OutOfMemory {
+        let status = Status::Memory;
+        explain(rt, alloc, &status);
+        return ExitCode::from(status.code());
+    }
+    let _ = eprintln!(rt;
+        "jirrambeo: the words of the command line couldn't be had from the system"
+    );
+    ExitCode::from(1)
+}
+
 fn main(rt: HostRuntime) -> ExitCode {
     let alloc = rt.alloc();
-    let Ok(words) = words_given(&rt, alloc) else {
-        let _ = eprintln!(rt;
-            "jirrambeo: the words of the command line couldn't be had from the system"
-        );
-        return ExitCode::from(1);
+    let words = match words_given(&rt, alloc) {
+        Ok(words) => words,
+        Err(error) => return without_words(&rt, alloc, &error),
     };
     let mut source = ReaderSource::new(rt.stdin());
     let mut sink = WriterSink::new(rt.stdout());
