@@ -16,8 +16,8 @@ use Rattle.alias_answer_laws.specs.answers.KnownUnitLaws.{no_call_says}
 use Rattle.alias_answer_laws.specs.answers.UnitLaws.{no_call_answers}
 use Rattle.alias_cause_laws.proofs.causes.Caused.{each_has_cause}
 use Rattle.alias_cause_laws.specs.causes.Causes.{EachHasCause}
-use Rattle.alias_inferred_laws.proofs.handed.Handing.{solved_over}
-use Rattle.alias_inferred_laws.specs.handed.Handed.{IsSolvedInOrder}
+use Rattle.alias_cause_laws.proofs.handed.HandingOut.{inferred_in_order}
+use Rattle.alias_cause_laws.specs.handed.HandedOut.{IsInferredInOrder}
 use Rattle.alias_nested.specs.Analysis.{Analysis, analysis, analysed, most_levels, is_free}
 use Rattle.alias_nested.specs.Answers.{AnalysedWith, Analyses, AnalysesInto, AnalysesExactly, AnalysesExactlyInto}
 use Rattle.alias_nested.specs.Units.{RootAnalysis, UnitAnalysis, root_analysed, handed_out, unit_analysed, InfersUnit}
@@ -41,8 +41,8 @@ module _ (u : HirUnit) (rules : rules_hold u ≡ Ok tt) where
   blameless_at (Ok i) h = tt
   blameless_at (Err e) h = λ free. blames_no_plain u e (unit_caused u rules e (h free))
 
-  solved_at : (r : Result Inferred InferError) → InfersUnit (unit_analysed u) r → IfOk r (λ i. IsSolvedInOrder u i)
-  solved_at (Ok i) h = solved_over u i rules h
+  solved_at : (r : Result Inferred InferError) → InfersUnit (unit_analysed u) r → IfOk r (λ i. IsInferredInOrder u i)
+  solved_at (Ok i) h = inferred_in_order u i rules h
   solved_at (Err e) h = tt
 
   explained_at : (r : Result Inferred InferError) → InfersUnit (unit_analysed u) r → IfOk r EachHasCause
@@ -77,7 +77,7 @@ module _ (u v : HirUnit) (same : v ≡ u) (rules : rules_hold v ≡ Ok tt) (r : 
   pub operands : (x : IdentifierId) → r ≢ Err (EffectsNotInferred x)
   operands = no_call_says u r h
 
-  pub solved : IfOk r (λ i. IsSolvedInOrder u i)
+  pub solved : IfOk r (λ i. IsInferredInOrder u i)
   solved = solved_at u keeps r h
 
   pub nested : IfOk r (λ i. IsOkAnd (unit_analysed u) (λ a. NestedAreRangedIn a.functions i))

@@ -5,7 +5,7 @@ ghost use Rattle.alias_base.specs.failures.Failures.{HasFailed};
 ghost use Rattle.alias_hir.specs.declared.error.InferError.TheVariants.{UnreplacedApply, EffectsNotInferred};
 ghost use Rattle.alias_rules.specs.Fitting.{function_fits};
 ghost use Rattle.alias_cause_laws.specs.causes.Causes.{EachHasCause};
-ghost use Rattle.alias_inferred_laws.specs.handed.Handed.{IsSolvedInOrder};
+ghost use Rattle.alias_cause_laws.specs.handed.HandedOut.{IsInferredInOrder};
 ghost use Rattle.alias_nested.specs.Analysis.{is_free, IsPassFault};
 ghost use Rattle.alias_nested.specs.Roots.{RootIsCovered, RootCoversHeap, RootHasCauses, RootListsFlows};
 ghost use Rattle.alias_nested.specs.Units.{unit_analysed, InfersUnit};
@@ -21,11 +21,13 @@ use std::alloc::Global;
 /// Infers a unit that is well formed, as `alias_nested::infer_unit` does it, with all that is ensured there.
 ///
 /// Besides: each refusal has its cause in the unit, so that a plain unit is refused only where a counter was at its
-/// last value or a function isn't settled, and one that is forward as well for the counter alone; that an Apply is left,
-/// or that an operand has no effect, is never answered. What is handed out has a solution of each function once,
-/// innermost first, and of the root last, each of which solves the flow. What the clauses `cover`, `heap`, `cause` and
-/// `flows` say of the root holds of each nested function too, but for its context places; and no explanation says that a
-/// range ends without a cause.
+/// last value or a function isn't settled, and one that is forward as well for the counter alone; that an Apply is
+/// left, or that an operand has no effect, is never answered. What is handed out has a solution of each function once,
+/// innermost first, and of the root last, each of which solves the flow over tables that declare what the unit does and
+/// the temporaries of the solutions before, where the functions before stand as they are handed out, with the ranges of
+/// their parameters; and the functions carry the effects of their solutions and no others. What the clauses `cover`,
+/// `heap`, `cause` and `flows` say of the root holds of each nested function too, but for its context places; and no
+/// explanation says that a range ends without a cause.
 pub fn infer_unit<P: InnerPasses>(
     alloc: Global,
     unit: Checked,
@@ -44,7 +46,7 @@ pub fn infer_unit<P: InnerPasses>(
     ensures plain { IfErr result (λ e. is_free e ≡ false → BlamesNoPlain unit e) }
     ensures applies { (i : _) (report : _) → result ≢ Err (UnreplacedApply i report) }
     ensures operands { (x : _) → result ≢ Err (EffectsNotInferred x) }
-    ensures solved { IfOk result (λ i. IsSolvedInOrder unit i) }
+    ensures solved { IfOk result (λ i. IsInferredInOrder unit i) }
     ensures nested { IfOk result (λ i. IsOkAnd (unit_analysed unit) (λ a. NestedAreRangedIn a.functions i)) }
     ensures explained { IfOk result EachHasCause }
 {

@@ -42,7 +42,7 @@ use Rattle.alias_run.specs.Findings.{parts_of, EndsInferred, IsAccepted, IsAccep
 use Rattle.alias_run.specs.Findings.{IsInferred, IsChecked, IsAnswered, IsFit, IsJudged, IsRead, IsFound, Leaves}
 use Rattle.alias_run.specs.Findings.{greatest_input}
 use Rattle.alias_run.specs.Inferences.{solved_tell}
-use Rattle.alias_inferred_laws.proofs.inferred.Carrying.{solutions_carried}
+use Rattle.alias_cause_laws.proofs.handed.HandingOut.{handed_out}
 use Rattle.alias_run.specs.Runs.{IsRun, IsInferredOf, IsAnsweredOf, IsUnitOf, ArePartsOf, IsDone, IsHeadline}
 use Rattle.alias_run.specs.Statuses.{text_status, unit_status, write_status}
 use Rattle.alias_run.specs.Texts.{text_of, answer_text}
@@ -340,7 +340,7 @@ module _ (known : Option (List ℕ)) (read_failed write_failed : Type 0) (held h
         k.1,
         k.2,
         solved_tell k.0 k.2,
-        solutions_carried j.0 (record { functions = k.0; inferred = x }) j.2.0 k.1,
+        handed_out j.0 (record { functions = k.0; inferred = x }) j.2.0 k.1 k.2,
         t,
       )
 
@@ -360,7 +360,7 @@ module _ (known : Option (List ℕ)) (read_failed write_failed : Type 0) (held h
     k.1,
     k.2,
     solved_tell k.0 k.2,
-    solutions_carried made (record { functions = k.0; inferred = x }) f.0 k.1,
+    handed_out made (record { functions = k.0; inferred = x }) f.0 k.1 k.2,
     t,
   )
 

@@ -18,7 +18,7 @@ use Rattle.alias_run.specs.declared.answer.Answer.TheVariants.{Nothing, Inferred
 use Rattle.alias_nested.specs.Analysis.{Analysed, SolvesItsFlow}
 use Rattle.alias_nested.specs.Units.{unit_analysed}
 use Rattle.alias_nested.specs.declared.infer.Inferred.{Inferred as UnitInference}
-use Rattle.alias_inferred_laws.specs.inferred.Solutions.{SolutionsAreCarried}
+use Rattle.alias_cause_laws.specs.handed.HandedOut.{IsHandedOut}
 use Rattle.alias_run.specs.declared.query.Query.{Query}
 use Rattle.alias_run.specs.declared.query.Query.TheVariants.{Acceptance, Lints, Explanation, FunctionExplanation}
 use Rattle.alias_run.specs.declared.query.Query.TheVariants.{Plainness}
@@ -43,16 +43,16 @@ module _ (asked : Option Command) (known : Option (List ℕ)) (read_failed write
   IsRun status a = IsFound asked known read_failed status a × Adds held (text_of asked status a) held'
 
 -- Where a unit was inferred: the unit is such a one; it is well formed; what is handed out is its inference, and of
--- each of its functions, as its
--- effects pass begins, the entry states solve the flow, and what is written for certain and isn't to be written stands
--- as an error effect; each function that is
--- handed out carries the effects of its solution; and the sink got the text of it, in this detail.
+-- each of its functions, as its effects pass begins, the entry states solve the flow, and what is written for certain
+-- and isn't to be written stands as an error effect; these are the functions of the unit in their order, each of which
+-- carries the effects of its solution and no others, and each was solved over tables that are in what is handed out;
+-- and the sink got the text of it, in this detail.
 abbrev pub IsInferredOf : (HirUnit → Type 0) → Detail → Option (List ℕ) → Option (List ℕ) → Answer → Type 0
 IsInferredOf IsInput printed held held' (Inferred i) =
     (u : HirUnit) × (fs : List Analysed) × IsInput u × (rules_hold u ≡ Ok tt)
     × (unit_analysed u ≡ Ok (record { functions = fs; inferred = i })) × AllByRecursion SolvesItsFlow fs
     × AllByRecursion TellsItsWrites fs
-    × SolutionsAreCarried (record { functions = fs; inferred = i }) × Adds held (inferred_text printed i) held'
+    × IsHandedOut u (record { functions = fs; inferred = i }) × Adds held (inferred_text printed i) held'
 IsInferredOf IsInput printed held held' a = ⊥
 
 -- the unit whose JSON the source had, where it is known what it had: the whole of it is the JSON of this unit

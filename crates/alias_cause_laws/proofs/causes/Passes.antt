@@ -74,7 +74,8 @@ module _ (u : Environment) (g : HirFunction) (uninferred : function_is_uninferre
 
   -- what holds of what stands in the function of the unit holds of the places of a function that is the same but for
   -- what is inferred
-  pub own_places : (P : ℕ → Type 0) (h : HirFunction) → ((x : ℕ) → is_among (identifiers_in u g) x ≡ true → P x) → bare h
+  pub own_places : (P : ℕ → Type 0) (h : HirFunction) → ((x : ℕ) → is_among (identifiers_in u g) x ≡ true → P x)
+      → bare h
       ≡ bare g → AllOwned P (places_in env h)
   own_places P h there e =
       let unit : AllOwned P (places_in u g) = by_numbers P (places_in u g) (all_there P (identifiers_in u g) there) in

@@ -180,7 +180,8 @@ module _ (u : HirUnit) (a : UnitAnalysis) (rules : rules_hold u ≡ Ok tt) (is :
         (λ c. let below = context_below number n c in let g = grown in let past = t.0 in absurd (omega arith)))
         own
 
-    pub not_behind : (n : ℕ) → IsOwn n → (id : FunctionId) → IsOneOf id r.behind → is_among (identifiers_at u.env id.0) n
+    pub not_behind : (n : ℕ) → IsOwn n → (id : FunctionId) → IsOneOf id r.behind
+        → is_among (identifiers_at u.env id.0) n
         ≡ true → ⊥
     not_behind n own id i other =
         let also : id.0 < length u.env.functions =
