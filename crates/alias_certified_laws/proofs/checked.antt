@@ -1,4 +1,4 @@
-mod InOrder
+pub mod InOrder
 mod Ordering
 mod Preceding
 mod Stepping

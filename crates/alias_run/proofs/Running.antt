@@ -43,7 +43,9 @@ use Rattle.alias_run.specs.Findings.{IsInferred, IsChecked, IsAnswered, IsFit, I
 use Rattle.alias_run.specs.Findings.{greatest_input}
 use Rattle.alias_run.specs.Inferences.{solved_tell}
 use Rattle.alias_cause_laws.proofs.handed.HandingOut.{handed_out}
+use Rattle.alias_certified_laws.proofs.checked.InOrder.{answer_in_order}
 use Rattle.alias_run.specs.Runs.{IsRun, IsInferredOf, IsAnsweredOf, IsUnitOf, ArePartsOf, IsDone, IsHeadline}
+use Rattle.alias_run.specs.Runs.{IsSolvedAsSaid, IsAcceptedOfInput}
 use Rattle.alias_run.specs.Statuses.{text_status, unit_status, write_status}
 use Rattle.alias_run.specs.Texts.{text_of, answer_text}
 
@@ -239,6 +241,17 @@ known_parts q None bytes u a r = tt
 known_parts q (Some all) bytes u a r = subst
     (λ z. UnitReading (parts_of q z).0 u × ((parts_of q z).1 ≡ (parts_of q bytes).1)) (sym a) (r, refl)
 
+-- where a certificate is accepted, the functions are solved as it says
+solved_as_said : (text : List ℕ) (u : HirUnit) (a : Answer) → rules_hold u ≡ Ok tt → IsAccepted text u Done a
+    → IsSolvedAsSaid text u a
+solved_as_said text u (Accepted x) k h = (h.0, h.1, answer_in_order h.0.functions u (Ok x) k h.2)
+solved_as_said text u Nothing k h = h.2
+solved_as_said text u (Inferred x) k h = h.2
+solved_as_said text u (Linted ls) k h = h.2
+solved_as_said text u (Explained e) k h = h.2
+solved_as_said text u (FunctionExplained xs) k h = h.2
+solved_as_said text u (Decided p) k h = h.2
+
 pub adds_nothing : (held : Option (List ℕ)) → Adds held [] held
 adds_nothing None = refl
 adds_nothing (Some old) = ap Some (sym (append-nil old))
@@ -368,13 +381,20 @@ module _ (known : Option (List ℕ)) (read_failed write_failed : Type 0) (held h
       → Adds held (answer_text detail.Infer Done a) held' → IsAnsweredOf q known held held' a
   done_asked q a f t = let j = f.3 in (j.0, (parts_of q f.0).1, known_parts q known f.0 j.0 f.1 j.1, j.2.0, j.2.1, t)
 
+  done_checked : (a : Answer) → IsRead Acceptance known read_failed Done a
+      → Adds held (answer_text detail.Infer Done a) held' → IsAcceptedOfInput known held held' a
+  done_checked a f t =
+      let j = f.3 in
+      let text = (parts_of Acceptance f.0).1 in
+      (j.0, text, known_parts Acceptance known f.0 j.0 f.1 j.1, j.2.0, j.2.1, solved_as_said text j.0 a j.2.0 j.2.1, t)
+
   done : (asked : Option Command) (i : Answer) → IsFound asked known read_failed Done i
       → Adds held (text_of asked Done i) held' → IsDone asked known held held' i
   unfolding IsFound
   done None i f a = let e : Done ≡ Words = f.0 in cc
   done (Some Infer) i f a = done_read detail.Infer i f a
   done (Some Certify) i f a = done_read detail.Certify i f a
-  done (Some Check) i f a = done_asked Acceptance i f a
+  done (Some Check) i f a = done_checked i f a
   done (Some Lint) i f a = done_asked Lints i f a
   done (Some (Explain g id)) i f a = done_asked (Explanation g id) i f a
   done (Some (ExplainFunction g)) i f a = done_asked (FunctionExplanation g) i f a

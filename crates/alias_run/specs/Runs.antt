@@ -14,11 +14,14 @@ use Rattle.alias_run.specs.declared.command.Command.TheVariants.{Plain, Made, He
 use Rattle.alias_run.specs.declared.status.Status.{Status}
 use Rattle.alias_run.specs.declared.status.Status.TheVariants.{Done, WriteFault, Memory}
 use Rattle.alias_run.specs.declared.answer.Answer.{Answer}
-use Rattle.alias_run.specs.declared.answer.Answer.TheVariants.{Nothing, Inferred}
+use Rattle.alias_run.specs.declared.answer.Answer.TheVariants.{Nothing, Inferred, Accepted}
 use Rattle.alias_nested.specs.Analysis.{Analysed, SolvesItsFlow}
 use Rattle.alias_nested.specs.Units.{unit_analysed}
 use Rattle.alias_nested.specs.declared.infer.Inferred.{Inferred as UnitInference}
 use Rattle.alias_cause_laws.specs.handed.HandedOut.{IsHandedOut}
+use Rattle.alias_cert_text.specs.Certificates.{certificate_of_text}
+use Rattle.alias_certificate.specs.declared.certificate.Certificate.{Certificate}
+use Rattle.alias_certified_laws.specs.checked.Handed.{IsAcceptedInOrder}
 use Rattle.alias_run.specs.declared.query.Query.{Query}
 use Rattle.alias_run.specs.declared.query.Query.TheVariants.{Acceptance, Lints, Explanation, FunctionExplanation}
 use Rattle.alias_run.specs.declared.query.Query.TheVariants.{Plainness}
@@ -72,13 +75,26 @@ IsAnsweredOf q known held held' a =
     (u : HirUnit) × (certificate : List ℕ) × ArePartsOf q known u certificate × (rules_hold u ≡ Ok tt)
     × IsAnswered q certificate u Done a × Adds held (answer_text detail.Infer Done a) held'
 
+-- of a certificate that is accepted: the functions of the unit have solutions, in order, of the entry states that it says
+abbrev pub IsSolvedAsSaid : List ℕ → HirUnit → Answer → Type 0
+IsSolvedAsSaid text u (Accepted x) =
+    (c : Certificate) × (certificate_of_text text ≡ Ok c) × IsAcceptedInOrder c.functions u x
+IsSolvedAsSaid text u a = ⊥
+
+-- Where a certificate was accepted: as of each query, and the functions are solved as it says.
+abbrev pub IsAcceptedOfInput : Option (List ℕ) → Option (List ℕ) → Option (List ℕ) → Answer → Type 0
+IsAcceptedOfInput known held held' a =
+    (u : HirUnit) × (certificate : List ℕ) × ArePartsOf Acceptance known u certificate × (rules_hold u ≡ Ok tt)
+    × IsAnswered Acceptance certificate u Done a × IsSolvedAsSaid certificate u a
+    × Adds held (answer_text detail.Infer Done a) held'
+
 -- What status Done means, by the command: the unit that was read was inferred, or the one that was made; or the sink
 -- got what the program tells of itself.
 abbrev pub IsDone : Option Command → Option (List ℕ) → Option (List ℕ) → Option (List ℕ) → Answer → Type 0
 IsDone None known held held' a = ⊥
 IsDone (Some Infer) known held held' a = IsInferredOf (IsUnitOf known) detail.Infer held held' a
 IsDone (Some Certify) known held held' a = IsInferredOf (IsUnitOf known) detail.Certify held held' a
-IsDone (Some Check) known held held' a = IsAnsweredOf Acceptance known held held' a
+IsDone (Some Check) known held held' a = IsAcceptedOfInput known held held' a
 IsDone (Some Lint) known held held' a = IsAnsweredOf Lints known held held' a
 IsDone (Some (Explain f id)) known held held' a = IsAnsweredOf (Explanation f id) known held held' a
 IsDone (Some (ExplainFunction f)) known held held' a = IsAnsweredOf (FunctionExplanation f) known held held' a
