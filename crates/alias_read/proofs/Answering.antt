@@ -1,4 +1,4 @@
--- From what a reader of data gives to what `read_unit` answers.
+-- From what a reader of data gives to what a reader of units answers.
 use Rattle.std.proofs.Common.{◌≡◌, ℕ, List}
 use Rattle.std.specs.Prelude.{Result, Ok, Err, IfErr}
 use Rattle.serde_json.specs.Data.{Data}

@@ -116,7 +116,7 @@ UnitReading bytes u = (d : Data) × IsReading bytes d × (unit_of d ≡ Ok u)
 abbrev pub NoUnit : List ℕ → Type 0
 NoUnit bytes = (u : HirUnit) → UnitReading bytes u → ⊥
 
--- what `read_unit` answers
+-- what a reader of units answers
 abbrev pub ReadsUnit : List ℕ → Result HirUnit TextFault → Type 0
 ReadsUnit bytes (Ok u) = UnitReading bytes u
 ReadsUnit bytes (Err (fault.NotUnit p r)) = (d : Data) × IsReading bytes d × (unit_of d ≡ Err (value.Refused p r))

@@ -27,4 +27,4 @@ pub mod values;
 
 pub use alias_json::{TextRule, ValueFault};
 pub use fault::TextFault;
-pub use unit::read_unit;
+pub use unit::read_unit_by_tree;

@@ -7,7 +7,7 @@ ghost use Rattle.alias_json.specs.Fault.{is_memory};
 ghost use Rattle.alias_read.specs.Json.{given_or};
 ghost use Rattle.alias_read.specs.Shapes.{new_name, shape_named, shape_at, shape_items_at, shapes_at};
 
-use crate::json::{flag, optional, required};
+use crate::json::{FromJson, flag, given_or, optional, required};
 use alias_base::Text;
 use alias_hir::shapes::Shapes;
 use alias_hir::signature::Shape;
@@ -18,16 +18,17 @@ use std::alloc::Global;
 pub fn shapes_of(alloc: Global, path: &Path, value: &Tree) -> Result<Shapes, ValueFault>
     ensures { Gives is_memory (given_or shapes_at [] (pointer path.now) (codes "shapes") (view value.now)) result }
 {
-    let here = Path::Key {
-        above: path,
-        key: "shapes",
-    };
-    match value.get("shapes") {
-        None => Ok(Shapes::new(alloc)),
-        Some(found) => match found.as_array() {
-            Some(values) => shapes(alloc, &here, values),
-            None => refused(alloc, &here, TextRule::Kind),
-        },
+    given_or(alloc, path, "shapes", value, Shapes::new(alloc))
+}
+
+impl FromJson for Shapes {
+    ghost reads = { shapes_at };
+
+    fn from_json(alloc: Global, path: &Path, value: &Tree) -> Result<Shapes, ValueFault> {
+        match value.as_array() {
+            Some(values) => shapes(alloc, path, values),
+            None => refused(alloc, path, TextRule::Kind),
+        }
     }
 }
 

@@ -1,9 +1,10 @@
 //! The kinds of terminals, by what fields they have, and their names.
-ghost use Rattle.alias_json.specs.Names.{named_at};
+ghost use Rattle.std.specs.Prelude.{◌≡◌};
+ghost use Rattle.alias_json.specs.Names.{named, named_at};
 ghost use Rattle.alias_read.specs.TerminalKinds.{terminal_names};
 
 use crate::json::FromJson;
-use alias_json::{Path, Tree, ValueFault, by_name};
+use alias_json::{Path, Tree, ValueFault, by_name, named};
 use std::alloc::Global;
 
 /// The kinds whose only field is the block that control goes on to.
@@ -81,4 +82,12 @@ impl FromJson for TerminalKind {
     fn from_json(alloc: Global, path: &Path, value: &Tree) -> Result<TerminalKind, ValueFault> {
         by_name(alloc, &TERMINALS, path, value)
     }
+}
+
+/// The kind of terminal that a name stands for.
+#[tactic(auto, unfolding(crate::specs::TerminalKinds::terminal_names))]
+pub fn terminal_kind(name: &str) -> Option<TerminalKind>
+    ensures { result ≡ named terminal_names name.now }
+{
+    named(&TERMINALS, name)
 }

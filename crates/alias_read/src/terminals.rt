@@ -54,7 +54,7 @@ fn terminal_of_kind(
 }
 
 /// The key of the block that control goes on to.
-fn jump_key(kind: JumpKind) -> &'static str
+pub fn jump_key(kind: JumpKind) -> &'static str
     ensures { result.now ≡ jump_key kind }
 {
     match kind {
@@ -65,7 +65,8 @@ fn jump_key(kind: JumpKind) -> &'static str
     }
 }
 
-fn jump_with(kind: JumpKind, id: EvaluationOrder, block: BlockId) -> Terminal
+/// The terminal of a kind that goes on to a block.
+pub fn jump_with(kind: JumpKind, id: EvaluationOrder, block: BlockId) -> Terminal
     ensures { result ≡ jump_with kind id block }
 {
     match kind {
@@ -103,7 +104,8 @@ fn jump_of(
     Ok(jump_with(kind, id, block))
 }
 
-fn branch_with(
+/// The terminal of a kind that goes on to one of two blocks.
+pub fn branch_with(
     kind: BranchKind,
     id: EvaluationOrder,
     test: Place,
@@ -175,7 +177,8 @@ fn switch(
     Ok(Terminal::Switch { id, test, cases })
 }
 
-fn exit_with(kind: ExitKind, id: EvaluationOrder, value: Place) -> Terminal
+/// The terminal of a kind that leaves the function.
+pub fn exit_with(kind: ExitKind, id: EvaluationOrder, value: Place) -> Terminal
     ensures { result ≡ exit_with kind id value }
 {
     match kind {

@@ -59,7 +59,8 @@ impl FromJson for ContextValue {
     }
 }
 
-fn context_values(
+/// What context places of this number are.
+pub fn context_values(
     alloc: Global,
     count: usize,
     path: &Path,
@@ -134,7 +135,8 @@ fn unit_keys(alloc: Global, format: Format, path: &Path, value: &Tree) -> Result
     }
 }
 
-fn with_context_values(mut root: HirFunction, context_values: List<ContextValue>) -> HirFunction
+/// The root, with what its context places are.
+pub fn with_context_values(mut root: HirFunction, context_values: List<ContextValue>) -> HirFunction
     ensures { result ≡ with_context_values root context_values }
 {
     root.context_values = context_values;
@@ -189,8 +191,8 @@ impl FromJson for Unit {
     }
 }
 
-/// The unit that the bytes spell, or why they spell none.
-pub fn read_unit(alloc: Global, bytes: &[u8]) -> Result<Unit, TextFault>
+/// The unit that the bytes spell, or why they spell none, by way of their tree.
+pub fn read_unit_by_tree(alloc: Global, bytes: &[u8]) -> Result<Unit, TextFault>
     ensures reads { ReadsUnit bytes.now result }
     ensures unit { IfOk result (λ u. UnitReading bytes.now u) }
     ensures none { IfErr result (λ e. ¬ IsMemory e → NoUnit bytes.now) }
