@@ -9,10 +9,10 @@ mod plain;
 mod reach;
 
 use alias_base::Text;
-use alias_read::read_unit;
 use alias_rules::check::{Checked, check_unit};
 use alias_run::Status;
 use alias_run::text::push_refusal_line;
+use alias_straight::read_unit;
 use alias_stream::{ReaderSource, Sink, Source, WriterSink, read_whole, write_whole};
 use plain::effects_text;
 use std::alloc::Global;

@@ -6,8 +6,8 @@ use alias_hir::env::Unit;
 use alias_hir::error::{InferError, Pass};
 use alias_inner_passes::{FailingPasses, InnerPasses};
 use alias_nested::infer_unit;
-use alias_read::read_unit;
 use alias_rules::check::{Checked, check_unit};
+use alias_straight::read_unit;
 use std::alloc::{AllocError, Global};
 
 /// How the inference of a unit ends.

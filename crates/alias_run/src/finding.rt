@@ -25,8 +25,8 @@ use alias_lint::lines::lint_lines;
 use alias_made::made_unit;
 use alias_nested::{Inferred, infer_unit};
 use alias_plain::plain_unit;
-use alias_read::read_unit;
 use alias_rules::check::{Checked, check_unit};
+use alias_straight::read_unit;
 use alias_stream::{Source, read_whole};
 use std::alloc::Global;
 
