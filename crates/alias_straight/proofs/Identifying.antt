@@ -16,6 +16,7 @@ use Rattle.alias_straight.specs.Tables.{identifier_of}
 use Rattle.alias_straight.specs.Tables.{identifier_of}
 use Rattle.alias_straight.specs.Tables.{identifier_of}
 use Rattle.alias_straight.specs.Tables.{identifier_of}
+use Rattle.alias_straight.specs.Tables.{identifier_of}
 use Rattle.alias_straight.specs.Takes.{Takes}
 use Rattle.alias_straight.specs.Members.{TakesMember, MayTake, Fields, members_of, IsRead}
 use Rattle.alias_straight.proofs.Fielding.{opened, goes, may_go, closed}

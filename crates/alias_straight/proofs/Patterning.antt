@@ -100,10 +100,8 @@ array_pattern_is (Some d) items x p =
     let fs : Fields = (codes "array", Some d) ∷ [] in
     let e0 : required (list_at pattern_element_at) p (codes "array") (object (members_of fs)) ≡ Ok items =
     required_is (list_at pattern_element_at) (codes "array") fs items (Some d) refl x p in
-    let e1 : known_keys (codes "array" ∷ []) p (object (members_of fs)) ≡ Ok tt =
-    known_is (codes "array" ∷ []) fs refl p in
     let whole : array_pattern_at p (object (members_of fs)) ≡ Ok (pattern.Array (record { items = items })) =
-    rw (e0, e1) refl in
+    rw e0 refl in
     pattern_found fs true false p (pattern.Array (record { items = items })) refl refl whole
 
 pub array_pattern_taken : (depth : ℕ) (start t0 t1 rest : List Token) (items : List ArrayPatternElement) → 0 < depth
@@ -128,10 +126,8 @@ object_pattern_is (Some d) properties x p =
     let fs : Fields = (codes "object", Some d) ∷ [] in
     let e0 : required (list_at property_at) p (codes "object") (object (members_of fs)) ≡ Ok properties =
     required_is (list_at property_at) (codes "object") fs properties (Some d) refl x p in
-    let e1 : known_keys (codes "object" ∷ []) p (object (members_of fs)) ≡ Ok tt =
-    known_is (codes "object" ∷ []) fs refl p in
     let whole : object_pattern_at p (object (members_of fs))
-    ≡ Ok (pattern.Object (record { properties = properties })) = rw (e0, e1) refl in
+    ≡ Ok (pattern.Object (record { properties = properties })) = rw e0 refl in
     pattern_found fs false true p (pattern.Object (record { properties = properties })) refl refl whole
 
 pub object_pattern_taken : (depth : ℕ) (start t0 t1 rest : List Token) (properties : List ObjectPropertyOrSpread) → 0

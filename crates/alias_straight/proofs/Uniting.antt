@@ -260,7 +260,8 @@ abbrev data_in : Option (Data × List Token) → Option Data
 data_in None = None
 data_in (Some q) = Some q.0
 
-last_read : (j : json.Json) (r : List Token) (x : Option Data) (d : Data) → of_json j ≡ x → option_map (λ b. (b, r)) x
+last_read : (j : json.Json) (r : List Token) (x : Option Data) (d : Data) → of_json j ≡ x
+    → option_map {U = Data × List Token} (λ b. (b, r)) x
     ≡ Some (d, []) → option_and_then of_json (json.if_last j r) ≡ Some d
 last_read j r None d is e = absurd (subst IsNone e tt)
 last_read j r (Some b) d is e =

@@ -1,12 +1,15 @@
 //! Reads a whole unit.
-ghost use Rattle.std.specs.Prelude.{◌≡◌, ◌<◌, [], Some, Ok, IfOk, IfErr, option_map};
+ghost use Rattle.std.specs.Prelude.{◌≡◌, ◌<◌, [], Some, Ok, IfOk, IfErr, option_map, codes};
 ghost use Rattle.json.specs.Json.{value};
 ghost use Rattle.serde_json.specs.Data.{Data};
 ghost use Rattle.serde_json.specs.Read.{of_json, converted, read};
 ghost use Rattle.alias_json.specs.Tree.{view};
 ghost use Rattle.alias_json.specs.Pointer.{at_key};
 ghost use Rattle.alias_read.specs.Fault.{IsMemory};
-ghost use Rattle.alias_read.specs.Json.{if_given};
+ghost use Rattle.alias_read.specs.Json.{if_given, list_at};
+ghost use Rattle.alias_read.specs.Shapes.{shapes_at};
+ghost use Rattle.alias_read.specs.Tables.{unset, config_at};
+ghost use Rattle.alias_read.specs.Types.{type_at};
 ghost use Rattle.alias_read.specs.Units.{unit_of, ReadsUnit, UnitReading, NoUnit};
 ghost use Rattle.alias_straight.specs.Entries.{as_is};
 ghost use Rattle.alias_straight.specs.Members.{from_key, MayTake};
@@ -20,6 +23,7 @@ use alias_hir::env::{Config, Environment, Unit};
 use alias_hir::hir::{ContextValue, HirFunction};
 use alias_hir::interned::InternedReports;
 use alias_hir::shapes::Shapes;
+use alias_hir::types::Ty;
 use alias_json::{Bump, Path, Scratch, Tree, take_tree};
 use alias_read::TextFault;
 use alias_read::json::FromJson;
@@ -84,6 +88,24 @@ fn read_part<T: FromJson + Drop>(
     Ok(read)
 }
 
+fn read_config(alloc: Global, part: Option<Tree>) -> Result<Config, TakeFault>
+    ensures { IfOk result (λ config. if_given config_at unset (at_key [] (codes "config")) (option_map view part.entry) ≡ Ok config) }
+{
+    read_part(alloc, "config", part, Config::default())
+}
+
+fn read_types(alloc: Global, part: Option<Tree>) -> Result<List<Ty>, TakeFault>
+    ensures { IfOk result (λ types. if_given (list_at type_at) [] (at_key [] (codes "types")) (option_map view part.entry) ≡ Ok types) }
+{
+    read_part(alloc, "types", part, List::new(alloc))
+}
+
+fn read_shapes(alloc: Global, part: Option<Tree>) -> Result<Shapes, TakeFault>
+    ensures { IfOk result (λ shapes. if_given shapes_at [] (at_key [] (codes "shapes")) (option_map view part.entry) ≡ Ok shapes) }
+{
+    read_part(alloc, "shapes", part, Shapes::new(alloc))
+}
+
 /// What the context places of the root are, of which the first format says nothing.
 fn read_values(
     alloc: Global,
@@ -122,18 +144,18 @@ fn take_unit<'a>(
     let inner = depth - 1;
     let mut next = open_object(reader)?;
     let format = take_member(alloc, reader, inner, &mut next, "format")?;
-    let config = take_part(alloc, reader, arena, inner, &mut next, "config")?;
-    let types = take_part(alloc, reader, arena, inner, &mut next, "types")?;
-    let shapes = take_part(alloc, reader, arena, inner, &mut next, "shapes")?;
+    let config_part = take_part(alloc, reader, arena, inner, &mut next, "config")?;
+    let types_part = take_part(alloc, reader, arena, inner, &mut next, "types")?;
+    let shapes_part = take_part(alloc, reader, arena, inner, &mut next, "shapes")?;
     let identifiers = take_list(alloc, reader, inner, &mut next, "identifiers")?;
     let functions = take_list(alloc, reader, inner, &mut next, "functions")?;
     let root: HirFunction = take_member(alloc, reader, inner, &mut next, "root")?;
-    let values = take_part(alloc, reader, arena, inner, &mut next, "context_values")?;
+    let values_part = take_part(alloc, reader, arena, inner, &mut next, "context_values")?;
     close_object(next)?;
-    let config = read_part(alloc, "config", config, Config::default())?;
-    let types = read_part(alloc, "types", types, List::new(alloc))?;
-    let shapes = read_part(alloc, "shapes", shapes, Shapes::new(alloc))?;
-    let context_values = read_values(alloc, format, &root, values)?;
+    let config = read_config(alloc, config_part)?;
+    let types = read_types(alloc, types_part)?;
+    let shapes = read_shapes(alloc, shapes_part)?;
+    let context_values = read_values(alloc, format, &root, values_part)?;
     Ok(Unit {
         function: with_context_values(root, context_values),
         env: Environment {
