@@ -12,6 +12,7 @@ import re
 import shutil
 import signal
 import subprocess
+import sys
 import tempfile
 import threading
 import time
@@ -21,6 +22,7 @@ from cli.sources import BUILT, CRATES, HERE, OUT, PARTS, PROGRAM, STAMP, crates_
 
 SILENCE = 8  # seconds until the next line of progress
 GIVEN = ('stdin', 'stdout', 'args')  # what the gate runs the program on
+GATE = (sys.executable, os.path.join(HERE, 'cli', 'gate.py'))
 PROVED = re.compile(r'rt: (\w+)(?: proved$| is kept:)')
 REFUSED = re.compile(r'rt: (\w+) NOT PROVED$')
 
@@ -78,7 +80,7 @@ class Gate:
         while not ended.wait(SILENCE):
             say(self.told())
 
-    def passed(self, top, command=('rt', 'ci')):
+    def passed(self, top, command=GATE):
         """Whether the gate passes in the folder. What it said stands beside the last crate, in out/build.log."""
         folder = os.path.join(CRATES, self.names[-1], 'out')
         os.makedirs(folder, exist_ok=True)
