@@ -15,6 +15,7 @@ mod Operating
 mod Patterning
 mod Phis
 mod Placing
+mod Pointing
 mod Properties
 mod Storing
 mod StoringKinds

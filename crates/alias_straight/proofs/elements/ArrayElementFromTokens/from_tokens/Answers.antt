@@ -1,4 +1,5 @@
 use Rattle.std.specs.Prelude.{codes}
+use Rattle.std.specs.Cmp.Lexicographic.{same_text}
 use Rattle.std.proofs.Common.{◌≡◌, ◌∷◌, ap, ◌∙◌, arith}
 use Rattle.json.specs.Token.{Token}
 use Rattle.json.specs.Reads.{token_of}
@@ -22,7 +23,8 @@ returns-else-ne c =
     let first : c.args.reader.now ≡ token_of c.in_ok-token.token ∷ c.next.new.self = grind arith in
     let begins : c.args.reader.now ≡ Token.string c.in-String.text.now ∷ c.next.new.self = first
     ∙ ap (λ k. token_of k ∷ c.next.new.self) c.in-String.is in
-    let hole : c.in-String.text.now ≡ codes "hole" = grind arith in
+    let hole : c.in-String.text.now ≡ codes "hole" =
+    same_text c.in-String.text.now (codes "hole") (grind arith) in
     hole_taken c.args.depth _ _ c.in-String.text.now begins hole
 
 pub returns-in_ok-place-in_default : goal.returns-in_ok-place-in_default

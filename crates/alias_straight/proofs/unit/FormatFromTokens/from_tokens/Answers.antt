@@ -4,7 +4,7 @@ use Rattle.alias_straight.proofs.Elementing.{taken_as}
 use Rattle.alias_straight.proofs.Placing.{number_taken}
 use Rattle.std.proofs.Common.{refl, arith}
 use Rattle.alias_straight.proofs.Uniting.{first_there, second_there}
-use Rattle.alias_straight.proofs.unit.FormatFromTokens/from_tokens.Goals as goal
+use Rattle.alias_straight.proofs.unit.FormatFromTokens.from_tokens.Goals as goal
 
 pub returns-in-1 : goal.returns-in-1
 returns-in-1 c = taken_as number_at format_at c.args._depth _ _ c.in_ok-number.number _
