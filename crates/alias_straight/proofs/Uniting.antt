@@ -1,6 +1,8 @@
 -- Units, as they are taken off the tokens.
-use Rattle.std.specs.Prelude.{Result, Ok, Err, ⊤, codes, length, option_map, option_and_then, unwrap_or}
-use Rattle.std.proofs.Common.{◌≡◌, ℕ, ◌-◌, ◌<◌, true, List, [], ◌∷◌, Option, Some, None, refl, ap, sym, subst, ◌∙◌}
+use Rattle.std.specs.Prelude.{Result, Ok, Err, ⊤, MatchOption, codes, length, is_some, option_map, option_and_then}
+use Rattle.std.specs.Prelude.{unwrap_or}
+use Rattle.std.proofs.Common.{◌≡◌, ℕ, ◌-◌, ◌<◌, true, false, true≢false, List, [], ◌∷◌, Option, Some, None, refl, ap}
+use Rattle.std.proofs.Common.{sym, subst, ◌∙◌}
 use Rattle.alias_base.specs.Answer.{◌>>=◌}
 use Rattle.json.specs.Token.{Token}
 use Rattle.json.specs.Lex.{tokens}
@@ -251,6 +253,12 @@ module _ (depth : ℕ) (start t0 t1 t2 t3 t4 t5 t6 t7 t8 rest : List Token) (vc 
   unit_taken Second m0 hv = second_taken m0 hv
 
 -- ---- a text
+
+-- no token is next, so none is left
+pub none_left : {A : Type 0} (o : Option A) (ts more : List Token) (P : A → Type 0)
+    → MatchOption o ((ts ≡ []) × (more ≡ [])) P → is_some o ≡ false → ts ≡ []
+none_left None ts more P m n = m.0
+none_left (Some x) ts more P m n = absurd (true≢false n)
 
 abbrev rest_of : Option (Data × List Token) → List Token → List Token
 rest_of None other = other
