@@ -9,10 +9,10 @@ mod plain;
 mod reach;
 
 use alias_base::Text;
-use alias_read::read_unit_by_tree;
 use alias_rules::check::{Checked, check_unit};
 use alias_run::Status;
 use alias_run::text::push_refusal_line;
+use alias_straight::read_unit;
 use alias_stream::{ReaderSource, Sink, Source, WriterSink, read_whole, write_whole};
 use plain::effects_text;
 use std::alloc::Global;
@@ -20,7 +20,7 @@ use std::process::ExitCode;
 
 /// The unit that the bytes spell, once it is checked.
 fn unit_of(alloc: Global, bytes: &[u8]) -> Result<Checked, Status> {
-    let unit = read_unit_by_tree(alloc, bytes)?;
+    let unit = read_unit(alloc, bytes)?;
     Ok(check_unit(alloc, unit)?)
 }
 

@@ -6,8 +6,8 @@ use alias_hir::env::Unit;
 use alias_hir::error::{InferError, Pass};
 use alias_inner_passes::{FailingPasses, InnerPasses};
 use alias_nested::infer_unit;
-use alias_read::read_unit_by_tree;
 use alias_rules::check::{Checked, check_unit};
+use alias_straight::read_unit;
 use std::alloc::{AllocError, Global};
 
 /// How the inference of a unit ends.
@@ -49,7 +49,7 @@ fn inferred<P: InnerPasses>(alloc: Global, unit: Checked, passes: &mut P) -> End
 
 /// The unit that the text spells, once it is checked.
 pub(crate) fn checked(alloc: Global, text: &str) -> Option<Checked> {
-    match read_unit_by_tree(alloc, text.as_bytes()) {
+    match read_unit(alloc, text.as_bytes()) {
         Ok(unit) => kept(alloc, unit),
         Err(_) => None,
     }

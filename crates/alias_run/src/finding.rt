@@ -25,8 +25,8 @@ use alias_lint::lines::lint_lines;
 use alias_made::made_unit;
 use alias_nested::{Inferred, infer_unit};
 use alias_plain::plain_unit;
-use alias_read::read_unit_by_tree;
 use alias_rules::check::{Checked, check_unit};
+use alias_straight::read_unit;
 use alias_stream::{Source, read_whole};
 use std::alloc::Global;
 
@@ -205,7 +205,7 @@ fn parts_of(query: Query, bytes: &[u8]) -> (&[u8], &[u8])
 fn judge(alloc: Global, query: Query, unit: &[u8], certificate: &[u8]) -> Outcome
     ensures { IsJudged query (unit.now, certificate.now) result.status result.answer }
 {
-    match read_unit_by_tree(alloc, unit) {
+    match read_unit(alloc, unit) {
         Ok(read) => judge_unit(alloc, query, read, certificate),
         Err(fault) => ended(Status::from(fault)),
     }
