@@ -257,7 +257,9 @@ class Watched(Source):
     def test_what_changes_is_looked_at_again(self):
         words = [sys.executable, os.path.join(self.there.top, 'jirrambeo'), 'lint', 'app', '--watch']
         with open(os.path.join(self.there.top, 'told'), 'w', encoding='utf-8') as told:
-            going = subprocess.Popen(words, cwd=self.there.top, stdout=told, stderr=subprocess.DEVNULL)
+            # A shell that starts the tests behind itself has them ignore this signal.
+            going = subprocess.Popen(words, cwd=self.there.top, stdout=told, stderr=subprocess.DEVNULL,
+                                     preexec_fn=lambda: signal.signal(signal.SIGINT, signal.SIG_DFL))
         try:
             self.wait_for(2)
             self.there.write('app/row.jsx', CARD)
