@@ -2,4 +2,9 @@ pub mod Carrying
 pub mod Tabling
 pub mod Starting
 pub mod Spanning
+pub mod Untouched
+pub mod Summarizing
+pub mod Finding
+pub mod Capturing
+pub mod Looking
 pub mod HandingOut

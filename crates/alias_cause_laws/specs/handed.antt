@@ -1,4 +1,6 @@
 pub mod Carried
 pub mod Tables
 pub mod Spans
+pub mod Captures
+pub mod Seen
 pub mod HandedOut

@@ -2,8 +2,10 @@
 
 ghost use Rattle.std.specs.Prelude.{◌≡◌, Ok};
 ghost use Rattle.std.specs.List.{AllByRecursion};
+ghost use Rattle.alias_cause_laws.specs.handed.Captures.{CreatedAreSummarized};
 ghost use Rattle.alias_cause_laws.specs.handed.Carried.{NoMoreIsCarried};
 ghost use Rattle.alias_cause_laws.specs.handed.HandedOut.{IsHandedOut};
+ghost use Rattle.alias_cause_laws.specs.handed.Seen.{EachLooksAsHanded};
 ghost use Rattle.alias_cause_laws.specs.handed.Spans.{ParamsStay};
 ghost use Rattle.alias_cause_laws.specs.handed.Tables.{DeclareAsGiven};
 ghost use Rattle.alias_nested.specs.Analysis.{SolvesItsFlow};
@@ -33,6 +35,23 @@ pub fn table_laws(unit: &Unit)
 /// ranges that they have in what is handed out: so each effects pass of a later function finds them. Does nothing.
 pub fn span_laws(unit: &Unit)
     ensures { (a : UnitAnalysis) → rules_hold unit.now ≡ Ok tt → unit_analysed unit.now ≡ Ok a → ParamsStay a }
+{
+    let _unit = unit;
+}
+
+/// In what is inferred of a unit that is well formed each effects pass found the functions that its function creates as
+/// they are handed out, but that their context places had the effects which their summaries give: those that the summary
+/// captures or mutates were captured, and no others. Does nothing.
+pub fn capture_laws(unit: &Unit)
+    ensures { (a : UnitAnalysis) → rules_hold unit.now ≡ Ok tt → unit_analysed unit.now ≡ Ok a → CreatedAreSummarized a }
+{
+    let _unit = unit;
+}
+
+/// In what is inferred of a unit that is well formed each effects pass began over an environment that looks to it like one
+/// that is computed of what is handed out, without the temporaries from its own on. Does nothing.
+pub fn look_laws(unit: &Unit)
+    ensures { (a : UnitAnalysis) → rules_hold unit.now ≡ Ok tt → unit_analysed unit.now ≡ Ok a → EachLooksAsHanded a }
 {
     let _unit = unit;
 }

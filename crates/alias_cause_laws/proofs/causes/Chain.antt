@@ -26,7 +26,7 @@ use Rattle.alias_cause_laws.proofs.causes.Passes.{begun, after, bare_same, effec
 use Rattle.alias_cause_laws.proofs.causes.Passes.{more_length}
 use Rattle.alias_cause_laws.proofs.causes.Walking.{Link, Chained, range_kept}
 
-all_at : (fs : List HirFunction) (k : ℕ) (g : HirFunction) → list_all function_is_uninferred fs ≡ true → slice_get fs k
+pub all_at : (fs : List HirFunction) (k : ℕ) (g : HirFunction) → list_all function_is_uninferred fs ≡ true → slice_get fs k
     ≡ Some g → function_is_uninferred g ≡ true
 all_at [] k g h e = cc
 all_at (f ∷ fs) zero g h e = let same : f ≡ g = cc in

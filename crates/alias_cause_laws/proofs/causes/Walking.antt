@@ -105,7 +105,7 @@ pub record Stored (x : Analysed) (o : Option HirFunction) : Type 0 where
 context_alike : (f g : HirFunction) → but_context g ≡ but_context f → AreAlike f g
 context_alike f g e = ap (λ (z : HirFunction). record (but_ranged z) { context = z.context }) e
 
-slot_is : (o p : Option HirFunction) (f : HirFunction) → option_map but_context p ≡ option_map but_context o → o
+pub slot_is : (o p : Option HirFunction) (f : HirFunction) → option_map but_context p ≡ option_map but_context o → o
     ≡ Some f → (g : HirFunction) × (p ≡ Some g) × (but_context g ≡ but_context f)
 slot_is None p f e h = cc
 slot_is (Some x) None f e h = cc
@@ -177,19 +177,19 @@ flows_listed b f env r fits h =
 abbrev Taken : Type 0
 Taken = HirFunction × Analysis
 
-ok_same : {A E : Type 0} (x y : A) → ◌≡◌ {A = Result A E} (Ok x) (Ok y) → x ≡ y
+pub ok_same : {A E : Type 0} (x y : A) → ◌≡◌ {A = Result A E} (Ok x) (Ok y) → x ≡ y
 ok_same x y h = cc
 
 -- the steps of an analysis of a function that is in its slot
-record FoundParts (analyse_below : HirFunction → Analysis → Result Analysis InferError) (id : FunctionId) (a : Analysis)
+pub record FoundParts (analyse_below : HirFunction → Analysis → Result Analysis InferError) (id : FunctionId) (a : Analysis)
     (x : HirFunction) (b : Analysis) : Type 0 where
-  below : Analysis
-  went_below : analyse_below x (record a { env = with_function id (emptied x.returns) a.env }) ≡ Ok below
-  taken : Taken
-  went_own : function_analysed id x below ≡ Ok taken
-  back : put_back id taken ≡ b
+  pub below : Analysis
+  pub went_below : analyse_below x (record a { env = with_function id (emptied x.returns) a.env }) ≡ Ok below
+  pub taken : Taken
+  pub went_own : function_analysed id x below ≡ Ok taken
+  pub back : put_back id taken ≡ b
 
-found_parts : (analyse_below : HirFunction → Analysis → Result Analysis InferError) (id : FunctionId) (a : Analysis)
+pub found_parts : (analyse_below : HirFunction → Analysis → Result Analysis InferError) (id : FunctionId) (a : Analysis)
     (x : HirFunction) (b : Analysis) → found_analysed analyse_below id a (Some x) ≡ Ok b
     → FoundParts analyse_below id a x b
 found_parts analyse_below id a x b h =
@@ -276,7 +276,7 @@ module _ (u : Environment) where
     pub stored : (x : Analysed) → IsOneOf x taken → (id : FunctionId) → x.solved.function ≡ Some id
         → (is_among (numbers order) id.0 ≡ true) × Stored x (slice_get b.env.functions id.0)
 
-  not_behind : (xs ys : List FunctionId) → ((k : ℕ) → times (numbers (xs ++ ys)) k ≤ 1) → (k : ℕ)
+  pub not_behind : (xs ys : List FunctionId) → ((k : ℕ) → times (numbers (xs ++ ys)) k ≤ 1) → (k : ℕ)
       → is_among (numbers xs) k ≡ true → is_among (numbers ys) k ≡ false
   not_behind xs ys once k h =
       absent (is_among (numbers ys) k) (λ i.
@@ -286,7 +286,7 @@ module _ (u : Environment) where
       let y = counted (numbers ys) k i in
       absurd (omega arith))
 
-  not_before : (xs ys : List FunctionId) → ((k : ℕ) → times (numbers (xs ++ ys)) k ≤ 1) → (k : ℕ)
+  pub not_before : (xs ys : List FunctionId) → ((k : ℕ) → times (numbers (xs ++ ys)) k ≤ 1) → (k : ℕ)
       → is_among (numbers ys) k ≡ true → is_among (numbers xs) k ≡ false
   not_before xs ys once k h =
       absent (is_among (numbers xs) k) (λ i.
@@ -296,7 +296,7 @@ module _ (u : Environment) where
       let y = counted (numbers ys) k h in
       absurd (omega arith))
 
-  ready_front : (xs ys : List FunctionId) (env : Environment) → Ready (xs ++ ys) env → Ready xs env
+  pub ready_front : (xs ys : List FunctionId) (env : Environment) → Ready (xs ++ ys) env → Ready xs env
   ready_front xs ys env r = record {
     slots = λ k h. r.slots k (in_front xs ys k h);
     once = λ k. let a = r.once k in let t = times_append xs ys k in omega arith;
@@ -343,7 +343,7 @@ module _ (u : Environment) where
   nothing_put (y ∷ ys) (suc k) x f h = nothing_put ys k x f h
 
   -- a function that is out of its slot has no context there
-  less_out : (env : Environment) (id : FunctionId) (f : HirFunction) → NamesLess u env
+  pub less_out : (env : Environment) (id : FunctionId) (f : HirFunction) → NamesLess u env
       → NamesLess u (with_function id (emptied f.returns) env)
   less_out env id f less = λ k x h.
       elim (nat_eq k id.0) as (λ b. nat_eq k id.0 ≡ b → is_among (context_at u k) x ≡ true) [
@@ -354,13 +354,13 @@ module _ (u : Environment) where
             (set_other env.functions id.0 k (emptied f.returns) (λ same. differs k id.0 e same)) h)
       ] refl
 
-  put_there : (xs : List HirFunction) (k : ℕ) (g : HirFunction) → k < length xs → slice_get (slice_set xs k g) k
+  pub put_there : (xs : List HirFunction) (k : ℕ) (g : HirFunction) → k < length xs → slice_get (slice_set xs k g) k
       ≡ Some g
   put_there [] k g h = absurd (omega arith)
   put_there (x ∷ xs) zero g h = refl
   put_there (x ∷ xs) (suc k) g h = put_there xs k g (omega arith)
 
-  holder_among : (f : HirFunction) (env : Environment) → function_fits f env ≡ true → (k : ℕ)
+  pub holder_among : (f : HirFunction) (env : Environment) → function_fits f env ≡ true → (k : ℕ)
       → is_among (numbers (created_functions f)) k ≡ true → is_among (created_in f) k ≡ true
   holder_among f env fits k h =
       let most = created_at_most None f ((fitted f env fits).rule ListedOnce refl) k in
@@ -485,7 +485,7 @@ module _ (u : Environment) where
       } in
       subst (λ (z : Analysis). Walked [] a z) is nothing
 
-  none_found : (env : Environment) (f : HirFunction) (id : FunctionId) → function_fits f env ≡ true
+  pub none_found : (env : Environment) (f : HirFunction) (id : FunctionId) → function_fits f env ≡ true
       → is_among (created_in f) id.0 ≡ true → slice_get env.functions id.0 ≡ None → ⊥
   none_found env f id fits among at = let s = slot_facts env f id fits among in let no : None ≡ Some s.0 = sym at
       ∙ s.1 in cc
@@ -497,7 +497,7 @@ module _ (u : Environment) where
     abbrev ids_of : FunctionId → List FunctionId
     ids_of id = ids_below id ++ id ∷ []
 
-    below_walked : (id : FunctionId) (x : HirFunction) (a a1 : Analysis) → slice_get a.env.functions id.0 ≡ Some x
+    pub below_walked : (id : FunctionId) (x : HirFunction) (a a1 : Analysis) → slice_get a.env.functions id.0 ≡ Some x
         → function_fits x (with_function id (emptied x.returns) a.env) ≡ true → NamesLess u a.env
         → Ready (ids_of id) a.env
         → analysed n x (record a { env = with_function id (emptied x.returns) a.env }) ≡ Ok a1
@@ -514,7 +514,7 @@ module _ (u : Environment) where
         (subst (λ ids. Ready (innermost_first n u.functions ids) out) (sym same)
         (ready_out (ids_below id) id x a.env ready)) h)
 
-    found_some : (f : HirFunction) (id : FunctionId) (a b : Analysis) (x : HirFunction)
+    pub found_some : (f : HirFunction) (id : FunctionId) (a b : Analysis) (x : HirFunction)
         (p : FoundParts (analysed n) id a x b) → slice_get a.env.functions id.0 ≡ Some x → function_fits f a.env ≡ true
         → is_among (created_in f) id.0 ≡ true → NamesLess u a.env → Ready (ids_of id) a.env
         → Walked (ids_of id) a b
@@ -525,7 +525,7 @@ module _ (u : Environment) where
         (taken_walked f (ids_below id) id x a p.below p.taken at fits among less ready fits0
         (below_walked id x a p.below at fits0 less ready p.went_below) p.went_own)
 
-    found_walked : (f : HirFunction) (id : FunctionId) (a b : Analysis) (o : Option HirFunction)
+    pub found_walked : (f : HirFunction) (id : FunctionId) (a b : Analysis) (o : Option HirFunction)
         → slice_get a.env.functions id.0 ≡ o → function_fits f a.env ≡ true → is_among (created_in f) id.0 ≡ true
         → NamesLess u a.env → Ready (ids_of id) a.env
         → found_analysed (analysed n) id a o ≡ Ok b → Walked (ids_of id) a b

@@ -20,6 +20,8 @@ use Rattle.alias_hir.specs.declared.hir.Instruction.{Instruction}
 use Rattle.alias_step.specs.declared.block.recorded.InstructionEffects.{InstructionEffects}
 use Rattle.alias_step.specs.declared.block.recorded.TerminalEffects.{TerminalEffects}
 use Rattle.alias_effects.specs.Recording.{block_with, with_terminal_at, recorded_instructions, recorded_terminals}
+use Rattle.alias_effects.specs.Recording.{with_effects_of}
+use Rattle.alias_effects.specs.declared.solved.Solved.{Solved}
 use Rattle.alias_explain.proofs.Lists.{in_longer}
 use Rattle.alias_fitting_laws.specs.bare.BareParts.{terminal_records}
 use Rattle.alias_graph.specs.Walks.{IsOneOf}
@@ -28,7 +30,6 @@ use Rattle.alias_rules.specs.function_rules.Rules.{instruction_is_uninferred, ph
 use Rattle.alias_rules.specs.function_rules.Rules.{block_is_uninferred, function_is_uninferred}
 use Rattle.alias_range_pass.specs.places.Keeping.{but_context, but_instruction, but_entry}
 use Rattle.alias_nested.specs.Analysis.{Analysed}
-use Rattle.alias_nested.specs.Roots.{with_effects}
 use Rattle.alias_nested.specs.Units.{UnitAnalysis, unit_analysed}
 use Rattle.alias_nesting_laws.specs.SlotLaws.{set_other}
 use Rattle.alias_inferred_laws.proofs.inferred.Carrying.{solutions_carried}
@@ -170,39 +171,40 @@ ends_same b c e = sym (terminal_records b.1.terminal)
 -- ---- one function
 
 -- nothing is inferred of its instructions and blocks
-record Plain (f : HirFunction) : Type 0 where
-  instructions : list_all instruction_is_uninferred f.instructions ≡ true
-  blocks : list_all (λ (e : BlockId × BasicBlock). block_is_uninferred e.1) f.body.blocks ≡ true
+pub record Plain (f : HirFunction) : Type 0 where
+  pub instructions : list_all instruction_is_uninferred f.instructions ≡ true
+  pub blocks : list_all (λ (e : BlockId × BasicBlock). block_is_uninferred e.1) f.body.blocks ≡ true
 
-plain_of : (f : HirFunction) → function_is_uninferred f ≡ true → Plain f
+pub plain_of : (f : HirFunction) → function_is_uninferred f ≡ true → Plain f
 plain_of f h =
     let a = both_true _ (list_all (λ (e : BlockId × BasicBlock). block_is_uninferred e.1) f.body.blocks) h in
     record { instructions = (both_true _ (list_all instruction_is_uninferred f.instructions) a.0).1; blocks = a.1 }
 
 -- effects of context places say nothing of them
-plain_alike : (f g : HirFunction) → but_context f ≡ but_context g → Plain g → Plain f
+pub plain_alike : (f g : HirFunction) → but_context f ≡ but_context g → Plain g → Plain f
 plain_alike f g e p = record {
   instructions = ap (λ (z : HirFunction). list_all instruction_is_uninferred z.instructions) e ∙ p.instructions;
   blocks = ap (λ (z : HirFunction). list_all (λ (b : BlockId × BasicBlock). block_is_uninferred b.1) z.body.blocks) e
       ∙ p.blocks;
 }
 
-no_more : (x : Analysed) (f : HirFunction) → Plain x.func → but_ranged f ≡ but_ranged (with_effects x)
-    → CarriesNoMore x.solved f
-no_more x f plain same = record {
+-- what carries the effects of a solution, and had none before, carries no others
+pub no_more : (s : Solved) (func f : HirFunction) → Plain func → but_ranged f ≡ but_ranged (with_effects_of s func)
+    → CarriesNoMore s f
+no_more s func f plain same = record {
   instructions = λ n i at none.
-      let j = instruction_same f.instructions (with_effects x).instructions n i
+      let j = instruction_same f.instructions (with_effects_of s func).instructions n i
       (ap (λ (z : HirFunction). z.instructions) same) at in
-      j.2 ∙ bare_at x.func.instructions n j.0 plain.instructions
-      (sym (unrecorded n x.solved.effects x.func.instructions none) ∙ j.1);
+      j.2 ∙ bare_at func.instructions n j.0 plain.instructions
+      (sym (unrecorded n s.effects func.instructions none) ∙ j.1);
   terminals = λ b there none.
-      let c = entry_same f.body.blocks (with_effects x).body.blocks b (ap (λ (z : HirFunction). z.body.blocks) same)
-      there in
+      let c = entry_same f.body.blocks (with_effects_of s func).body.blocks b
+      (ap (λ (z : HirFunction). z.body.blocks) same) there in
       let key : b.0 ≡ c.0.0 = ap (λ (z : BlockId × BasicBlock). z.0) c.2 in
-      let own : IsOneOf c.0 x.func.body.blocks =
-      unended x.solved.terminal_effects x.func.body.blocks c.0 c.1
-      (λ h. none (subst (λ k. AreRecordedOfEnd k x.solved.terminal_effects) (sym key) h)) in
-      ends_same b c.0 c.2 ∙ bare_end x.func.body.blocks c.0 plain.blocks own;
+      let own : IsOneOf c.0 func.body.blocks =
+      unended s.terminal_effects func.body.blocks c.0 c.1
+      (λ h. none (subst (λ k. AreRecordedOfEnd k s.terminal_effects) (sym key) h)) in
+      ends_same b c.0 c.2 ∙ bare_end func.body.blocks c.0 plain.blocks own;
 }
 
 -- ---- the unit
@@ -230,4 +232,4 @@ module _ (u : HirUnit) (a : UnitAnalysis) (rules : rules_hold u ≡ Ok tt) (is :
 
   -- of each function
   pub none_carry_more : NoMoreIsCarried a
-  none_carry_more x f i e = no_more x f (each_plain x i) (solutions_carried u a rules is x f i e)
+  none_carry_more x f i e = no_more x.solved x.func f (each_plain x i) (solutions_carried u a rules is x f i e)

@@ -112,11 +112,11 @@ rendered_same : (g : Nodes) (rs : List RecordedRender) (env : Environment) → (
 rendered_same g [] env = refl
 rendered_same g (r ∷ rs) env = rendered_same g rs (after_render g env r)
 
-renders_same : (c : Bool) (l : Listing) (w : Walked) → (renders_done c l w).functions ≡ w.1.functions
+pub renders_same : (c : Bool) (l : Listing) (w : Walked) → (renders_done c l w).functions ≡ w.1.functions
 renders_same true l w = rendered_same w.0 l.renders w.1
 renders_same false l w = refl
 
-walks_functions : (c : Bool) (ms : List RecordedMutation) (w : Walked) → (after_mutations c ms w).1.functions
+pub walks_functions : (c : Bool) (ms : List RecordedMutation) (w : Walked) → (after_mutations c ms w).1.functions
     ≡ w.1.functions
 walks_functions c [] w = refl
 walks_functions c (m ∷ ms) w = walks_functions c ms (after_mutation c w m)

@@ -81,7 +81,7 @@ more_declared (t ∷ ts) env other h =
     (one_declared t.place.span env ∙ ap (λ (e : Environment). declarations (with_identifier t.place.span e)) h
     ∙ sym (one_declared t.place.span other))
 
-both_more : (ts us : List Temporary) (env : Environment) → with_identifiers (ts ++ us) env
+pub both_more : (ts us : List Temporary) (env : Environment) → with_identifiers (ts ++ us) env
     ≡ with_identifiers us (with_identifiers ts env)
 both_more [] us env = refl
 both_more (t ∷ ts) us env = both_more ts us (with_identifier t.place.span env)
