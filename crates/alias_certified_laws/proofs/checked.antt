@@ -1,4 +1,5 @@
 pub mod InOrder
 mod Ordering
 mod Preceding
-mod Stepping
+pub mod Stepping
+mod Recording

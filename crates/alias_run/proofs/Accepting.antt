@@ -12,13 +12,14 @@ use Rattle.alias_certificate.specs.declared.certificate.Certificate.{Certificate
 use Rattle.alias_certificate.specs.declared.fault.CheckFault.{CheckFault}
 use Rattle.alias_certificate.specs.declared.fault.CheckFault.TheVariants as fault
 use Rattle.alias_cert.specs.Functions.{Checking, checking}
-use Rattle.alias_cert.specs.Units.{unit_checked}
+use Rattle.alias_cert.specs.Units.{unit_checked, Accepts}
 use Rattle.alias_cert_text.specs.Certificates.{certificate_of_text}
 use Rattle.alias_cert_text.specs.declared.fault.CertFault.{CertFault}
 use Rattle.alias_cert_text.specs.declared.fault.CertFault.TheVariants as text_fault
 use Rattle.alias_certificate_laws.specs.text.Certifying.{certificate_of}
 use Rattle.alias_accepted_laws.specs.Complete.{IsAcceptedOrFull, accepted, full}
 use Rattle.alias_accepted_laws.proofs.Accepted.{certificates_are_accepted}
+use Rattle.alias_certified_laws.proofs.checked.Stepping.{fault_blames}
 use Rattle.alias_run.specs.declared.answer.Answer.{Answer}
 use Rattle.alias_run.specs.declared.answer.Answer.TheVariants.{Nothing}
 use Rattle.alias_run.specs.declared.command.Command.{Command}
@@ -29,12 +30,28 @@ use Rattle.alias_run.specs.declared.status.Status.{Status}
 use Rattle.alias_run.specs.declared.status.Status.TheVariants.{Done, NotJson, NotUnit, Unfit, BadLine, Rejected}
 use Rattle.alias_run.specs.declared.status.Status.TheVariants.{ReadFault, TooLong, Memory}
 use Rattle.alias_run.specs.Findings.{greatest_input, parts_of, Infers, IsAccepted, IsChecked, IsJudged, IsRead, IsFound}
-use Rattle.alias_run.specs.Findings.{EndsAccepted}
+use Rattle.alias_run.specs.Findings.{IsAcceptedOf, EndsAccepted}
 use Rattle.alias_run.specs.Runs.{IsRun, IsAccepting}
+use Rattle.alias_run.specs.Statuses.{check_status}
 use Rattle.alias_run.specs.Texts.{text_of, IsCertificateOf, IsCertifying}
 use Rattle.alias_run.proofs.Refusing.{one_some, one_unit, run_ends}
+use Rattle.alias_run.proofs.Running.{ended_as}
 
 -- ---- the check
+
+-- why a certificate of a unit that is well formed is rejected
+rejected : (c : Certificate) (u : HirUnit) (e : CheckFault) → rules_hold u ≡ Ok tt → Accepts c.functions u (Err e)
+    → IsAcceptedOf c u (check_status e) Nothing
+rejected c u (fault.Memory x) rules h = refl
+rejected c u e rules h = (h refl, refl, fault_blames c.functions u e rules (h refl))
+
+-- so it is where it is known of the unit that it is well formed
+pub check_rejected : (c : Certificate) (u v : HirUnit) (e : CheckFault) (status : Status) (o : Outcome) → o
+    ≡ ended_as status → status ≡ check_status e → v ≡ u → rules_hold v ≡ Ok tt → Accepts c.functions u (Err e)
+    → IsAcceptedOf c u o.status o.answer
+check_rejected c u v e status o ended is same rules h =
+    subst (λ (z : Outcome). IsAcceptedOf c u z.status z.answer) (sym (ended ∙ ap ended_as is))
+    (rejected c u e (subst (λ z. rules_hold z ≡ Ok tt) same rules) h)
 
 -- a check that is rejected, where it is accepted or no number is left
 full_alone : (r : Result (HirFunction × Checking) CheckFault) (e : CheckFault) → IsAcceptedOrFull r → r ≡ Err e → e

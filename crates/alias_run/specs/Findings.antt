@@ -28,6 +28,7 @@ use Rattle.alias_cert_text.specs.Certificates.{certificate_of_text}
 use Rattle.alias_cert_text.specs.Input.{input_parts}
 use Rattle.alias_cert_text.specs.declared.fault.CertFault.TheVariants as text_fault
 use Rattle.alias_certificate.specs.declared.certificate.Certificate.{Certificate}
+use Rattle.alias_certified_laws.specs.checked.Steps.{BlamesAStep}
 use Rattle.alias_certificate.specs.declared.fault.CheckFault.TheVariants as check_fault
 use Rattle.alias_base.specs.declared.ids.FunctionId.{FunctionId}
 use Rattle.alias_base.specs.declared.ids.IdentifierId.{IdentifierId}
@@ -88,10 +89,10 @@ abbrev pub Infers : HirUnit → UnitInference → Type 0
 Infers u i = (fs : List Analysed) × (unit_analysed u ≡ Ok (record { functions = fs; inferred = i }))
 
 -- what the check of a certificate leads to: it is accepted, and of each function the entry states that it says solve
--- the flow; or it is rejected, with the first fault
+-- the flow; or it is rejected, with the first fault, and that of a step blames a step of a block
 abbrev pub IsAcceptedOf : Certificate → HirUnit → Status → Answer → Type 0
 IsAcceptedOf c u Done (Accepted x) = Accepts c.functions u (Ok x)
-IsAcceptedOf c u (Rejected fault) a = (unit_checked c.functions u ≡ Err fault) × (a ≡ Nothing)
+IsAcceptedOf c u (Rejected fault) a = (unit_checked c.functions u ≡ Err fault) × (a ≡ Nothing) × BlamesAStep fault
 IsAcceptedOf c u Memory a = a ≡ Nothing
 IsAcceptedOf c u status a = ⊥
 

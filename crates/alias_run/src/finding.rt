@@ -57,6 +57,8 @@ fn infer_checked(alloc: Global, unit: Checked) -> Outcome
 fn accept_certificate(alloc: Global, unit: Checked, certificate: &Certificate) -> Outcome
     ensures { IsAcceptedOf certificate.now unit result.status result.answer }
 {
+    // Looked at for what the clause of `unit` says: the unit is well formed.
+    let _unit = unit.unit();
     match check_certificate(alloc, unit, certificate) {
         Ok(accepted) => done(Answer::Accepted(accepted)),
         Err(fault) => ended(Status::from(fault)),

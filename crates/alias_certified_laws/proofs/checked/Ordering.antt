@@ -42,6 +42,10 @@ use Rattle.alias_cert.specs.Functions.{ranging, summary_checked, stored_summary,
 use Rattle.alias_cert.specs.Functions.{nested_as_said}
 use Rattle.alias_cert.specs.Functions.{nested_checked}
 use Rattle.alias_cert.specs.Units.{each, put_back, taken_checked, found_checked, slot_checked, below_checked}
+use Rattle.alias_certified_laws.specs.checked.Carried.{CarriesItsSolution}
+use Rattle.alias_inferred_laws.specs.inferred.Solutions.{but_ranged}
+use Rattle.alias_inferred_laws.proofs.inferred.Listing.{places_annotated, without_summary}
+use Rattle.alias_inferred_laws.proofs.inferred.Ranging.{pass_leaves}
 
 pub ok_is : {A E : Type 0} (x y : A) → ◌≡◌ {A = Result A E} (Ok x) (Ok y) → x ≡ y
 ok_is x y h = cc
@@ -87,13 +91,15 @@ stands_alike fs out env more same s = record {
 
 -- ---- one nested function
 
--- A nested function is checked: it creates what it created, what is noted is noted of it as its check began, and of the
--- functions in their slots only context places change.
+-- A nested function is checked: it creates what it created, what is noted is noted of it as its check began, it carries
+-- its solution, and of the functions in their slots only context places change.
 pub record Finished (id : FunctionId) (f : HirFunction) (a : Checking) (g : HirFunction) (b : Checking) : Type 0 where
   pub entry : CheckedFunction
   pub functions : b.functions ≡ a.functions ++ entry ∷ []
   pub number : entry.solved.function ≡ Some id
   pub at : entry.env ≡ a.env
+  pub begun : entry.func ≡ f
+  pub carries : CarriesItsSolution entry g
   pub creates : created_functions g ≡ created_functions f
   pub contexts : map but_context b.env.functions ≡ map but_context a.env.functions
 
@@ -112,6 +118,8 @@ effects_finished id f a c s h =
       functions = refl;
       number = refl;
       at = refl;
+      begun = refl;
+      carries = refl;
       creates = created_recorded e.solved f;
       contexts = passed_contexts a.env e;
     })
@@ -123,6 +131,7 @@ ranging_ok id (Err e) x h = cc
 
 -- what follows the effects
 record Completed (f : HirFunction) (env : Environment) (g : HirFunction) (more : Environment) : Type 0 where
+  carries : but_ranged g ≡ but_ranged f
   creates : created_functions g ≡ created_functions f
   contexts : map but_context more.functions ≡ map but_context env.functions
 
@@ -132,7 +141,13 @@ finished_completed f env q h =
     let w = went_on (range_pass true f env) (λ (r : Ranged). Ok (annotated r.summary r.after)) q h in
     let r : Ranged = w.0 in
     subst (λ (q : HirFunction × Environment). Completed f env q.0 q.1) (ok_is (annotated r.summary r.after) q w.2)
-    (record { creates = created_ranged f env r w.1; contexts = ranged_contexts f env r w.1 })
+    (record {
+      carries =
+          ap (λ ps. record (but_ranged r.after.0) { context = ps }) (places_annotated r.summary r.after.0.context)
+          ∙ ap without_summary (pass_leaves true f env r w.1).still;
+      creates = created_ranged f env r w.1;
+      contexts = ranged_contexts f env r w.1;
+    })
 
 pub summed_ok : (c : CertFunction) (summary : List AliasingEffect) (f : HirFunction) (a : Checking) (s : Both)
     → summed c summary f a ≡ Ok s → ◌≡◌ {A = Both} (f, a) s
@@ -155,6 +170,8 @@ function_finished functions id f a s h =
       functions = first.functions;
       number = first.number;
       at = first.at;
+      begun = first.begun;
+      carries = after.carries ∙ first.carries;
       creates = after.creates ∙ first.creates;
       contexts = after.contexts ∙ first.contexts;
     })

@@ -59,7 +59,7 @@ new_or_there (f ∷ fs) (z ∷ xs) ys x y h =
     { rest = t.rest; all = ap (λ zs. f ∷ zs) t.all ∙ ap (λ w. w ∷ xs ++ x ∷ t.rest) same; behind = t.behind }))
     (new_or_there fs xs ys x y rest)
 
-named_last : (id : FunctionId) (xs : List CheckedFunction) (y : CheckedFunction) → y.solved.function ≡ Some id
+pub named_last : (id : FunctionId) (xs : List CheckedFunction) (y : CheckedFunction) → y.solved.function ≡ Some id
     → IsNamed id (xs ++ y ∷ [])
 named_last id [] y e = inl (sym e)
 named_last id (x ∷ xs) y e = inr (named_last id xs y e)

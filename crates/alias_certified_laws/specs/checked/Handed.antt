@@ -13,6 +13,7 @@ use Rattle.alias_certificate.specs.declared.fault.CheckFault.{CheckFault}
 use Rattle.alias_cert.specs.declared.check.Accepted.{Accepted}
 use Rattle.alias_cert.specs.Functions.{CheckedFunction, SolvesItsFlow, AreAsSaid}
 use Rattle.alias_cert.specs.Units.{Accepts}
+use Rattle.alias_certified_laws.specs.checked.Carried.{BeginAsGiven, SolutionsAreCarried, NoMoreIsCarried}
 
 -- the number of each function that was checked; None is the root
 abbrev pub names_of : List CheckedFunction → List (Option FunctionId)
@@ -30,7 +31,8 @@ EarlierStay fs env = (xs ys : List CheckedFunction) (x : CheckedFunction) (id : 
 
 -- Each function of the unit once, innermost first, and last the root: what is handed out of each solves its flow as the
 -- check of it begins, it enters its blocks as the certificate says, and those that were checked before it stand as its
--- check found them.
+-- check found them. In the unit that is handed out it is the function of the unit given that carries the effects of its
+-- solution, and no others.
 pub record IsAcceptedInOrder (certificate : List CertFunction) (u : HirUnit) (a : Accepted) : Type 0 where
   pub functions : List CheckedFunction
   pub solutions : map (λ (x : CheckedFunction). x.solved) functions ≡ a.solved
@@ -38,6 +40,9 @@ pub record IsAcceptedInOrder (certificate : List CertFunction) (u : HirUnit) (a 
   pub solve : AllByRecursion SolvesItsFlow functions
   pub said : AreAsSaid certificate functions
   pub earlier : EarlierStay functions a.unit.env
+  pub given : BeginAsGiven u functions
+  pub carry : SolutionsAreCarried functions a.unit
+  pub alone : NoMoreIsCarried functions a.unit
 
 -- so it is of what is accepted
 abbrev pub AcceptsInOrder : List CertFunction → HirUnit → Result Accepted CheckFault → Type 0
