@@ -1,7 +1,6 @@
 -- What follows of the answers of calls that infer a unit, or analyse its nested functions.
-use Rattle.std.proofs.Common.{◌≡◌, ◌≢◌, Bool, List, [], refl, sym, ap, subst}
+use Rattle.std.proofs.Common.{◌≡◌, ◌≢◌, ◌∙◌, Bool, List, [], length, refl, sym, ap, subst}
 use Rattle.std.specs.Prelude.{true, false, Result, Ok, Err, IfOk, IfErr, IsOkAnd, ⊤}
-use Rattle.alias_base.specs.Answer.{◌>>=◌}
 use Rattle.alias_base.specs.declared.ids.IdentifierId.{IdentifierId}
 use Rattle.alias_base.specs.declared.ids.InstructionId.{InstructionId}
 use Rattle.alias_hir.specs.declared.env.Environment.{Environment}
@@ -10,6 +9,7 @@ use Rattle.alias_hir.specs.declared.error.InferError.{InferError}
 use Rattle.alias_hir.specs.declared.error.InferError.TheVariants.{UnreplacedApply, EffectsNotInferred}
 use Rattle.alias_hir.specs.declared.hir.HirFunction.{HirFunction}
 use Rattle.alias_hir.specs.declared.report.Report.{Report}
+use Rattle.alias_rules.specs.Fitting.{function_fits}
 use Rattle.alias_rules.specs.Functions.{rules_hold}
 use Rattle.alias_effects.specs.declared.solved.Solved.{Solved}
 use Rattle.alias_answer_laws.specs.answers.KnownUnitLaws.{no_call_says}
@@ -18,13 +18,14 @@ use Rattle.alias_cause_laws.proofs.causes.Caused.{each_has_cause}
 use Rattle.alias_cause_laws.specs.causes.Causes.{EachHasCause}
 use Rattle.alias_cause_laws.proofs.handed.HandingOut.{inferred_in_order}
 use Rattle.alias_cause_laws.specs.handed.HandedOut.{IsInferredInOrder}
-use Rattle.alias_nested.specs.Analysis.{Analysis, analysis, analysed, most_levels, is_free}
+use Rattle.alias_completeness.specs.summaries.Faces.{HaveFaces}
+use Rattle.alias_nested.specs.Analysis.{analysis, analysed, most_levels, is_free}
 use Rattle.alias_nested.specs.Answers.{AnalysedWith, Analyses, AnalysesInto, AnalysesExactly, AnalysesExactlyInto}
-use Rattle.alias_nested.specs.Units.{RootAnalysis, UnitAnalysis, root_analysed, handed_out, unit_analysed, InfersUnit}
+use Rattle.alias_nested.specs.Units.{UnitAnalysis, unit_analysed, InfersUnit}
 use Rattle.alias_nested.specs.declared.infer.Inferred.{Inferred}
 use Rattle.alias_cause_laws.proofs.nested.Ranging.{nested_are_ranged}
 use Rattle.alias_answer_laws.proofs.refusals.Refusing.{never_unknown}
-use Rattle.alias_unit_completeness.specs.Complete.{unit_caused, analyses_blame, into_blame}
+use Rattle.alias_unit_completeness.specs.Complete.{unit_caused, nested_caused_alone, analyses_blame, into_blame}
 use Rattle.alias_unit_completeness.specs.Refusals.{IsCaused, BlamesRightly, BlamesNoPlain, blames_no_plain}
 use Rattle.alias_inference.specs.Inferences.{unit_with, NestedAreRangedIn}
 
@@ -110,34 +111,43 @@ module _ (keeps_all : Bool) (f : HirFunction) (env : Environment) where
       (subst (λ (z : Result ⊤ InferError). AnalysesInto (AnalysedWith keeps_all most_levels f (analysis env [])) z
       after) q h refl)
 
-  pub certified_blames : (r : Result (List Solved) InferError) (after : Environment)
-      → Analyses (AnalysedWith keeps_all most_levels f (analysis env [])) r after → rules_hold (unit_with f env) ≡ Ok tt
+-- the functions of the table have faces
+module _ (f : HirFunction) (env : Environment) (fits : function_fits f env ≡ true)
+    (faces : HaveFaces (length env.identifiers) env.functions) where
+  pub certified_blames : (keeps_all : Bool) (r : Result (List Solved) InferError) (after : Environment)
+      → Analyses (AnalysedWith keeps_all most_levels f (analysis env [])) r after
       → IfErr r (λ e. BlamesRightly (unit_with f env) e)
-  certified_blames (Ok x) after h rules = tt
-  certified_blames (Err e) after h rules = analyses_blame (unit_with f env) rules keeps_all (Err e) after h e refl
+  certified_blames keeps_all (Ok x) after h = tt
+  certified_blames keeps_all (Err e) after h =
+      analyses_blame (unit_with f env) fits faces keeps_all (Err e) after h e refl
 
-  pub into_blames : (r : Result ⊤ InferError) (after : Environment)
-      → AnalysesInto (AnalysedWith keeps_all most_levels f (analysis env [])) r after → rules_hold (unit_with f env)
-      ≡ Ok tt → IfErr r (λ e. BlamesRightly (unit_with f env) e)
-  into_blames (Ok x) after h rules = tt
-  into_blames (Err e) after h rules = into_blame (unit_with f env) rules keeps_all (Err e) after h e refl
+  pub into_blames : (keeps_all : Bool) (r : Result ⊤ InferError) (after : Environment)
+      → AnalysesInto (AnalysedWith keeps_all most_levels f (analysis env [])) r after
+      → IfErr r (λ e. BlamesRightly (unit_with f env) e)
+  into_blames keeps_all (Ok x) after h = tt
+  into_blames keeps_all (Err e) after h = into_blame (unit_with f env) fits faces keeps_all (Err e) after h e refl
 
--- over passes that keep everything
-module _ (f : HirFunction) (env : Environment) where
-  -- the inference of the unit is refused where the analysis of its nested functions is
-  refused_unit : (e : InferError) → analysed most_levels f (analysis env []) ≡ Err e → unit_analysed (unit_with f env)
-      ≡ Err e
-  refused_unit e h = ap (λ (r : Result Analysis InferError). (r >>= root_analysed f)
-      >>= (λ (x : RootAnalysis). Ok (handed_out x))) h
+  -- over passes that keep everything
+  caused_alone : {A : Type 0} (r : Result A InferError) (e : InferError) → r ≡ Err e
+      → ((i : InstructionId) (report : Report) → r ≢ Err (UnreplacedApply i report))
+      → ((x : IdentifierId) → r ≢ Err (EffectsNotInferred x)) → analysed most_levels f (analysis env []) ≡ Err e
+      → IsCaused (unit_with f env) e
+  caused_alone r e is apply operand h =
+      nested_caused_alone (unit_with f env) fits faces e h (λ i report same. apply i report (is ∙ ap Err same))
+      (λ x same. operand x (is ∙ ap Err same))
 
   pub certified_complete : (r : Result (List Solved) InferError) (after : Environment)
-      → AnalysesExactly (analysed most_levels f (analysis env [])) r after → rules_hold (unit_with f env) ≡ Ok tt
+      → AnalysesExactly (analysed most_levels f (analysis env [])) r after
+      → ((i : InstructionId) (report : Report) → r ≢ Err (UnreplacedApply i report))
+      → ((x : IdentifierId) → r ≢ Err (EffectsNotInferred x))
       → IfErr r (λ e. is_free e ≡ false → IsCaused (unit_with f env) e)
-  certified_complete (Ok x) after h rules = tt
-  certified_complete (Err e) after h rules = λ free. unit_caused (unit_with f env) rules e (refused_unit e (h free))
+  certified_complete (Ok x) after h apply operand = tt
+  certified_complete (Err e) after h apply operand = λ free. caused_alone (Err e) e refl apply operand (h free)
 
   pub into_complete : (r : Result ⊤ InferError) (after : Environment)
-      → AnalysesExactlyInto (analysed most_levels f (analysis env [])) r after → rules_hold (unit_with f env) ≡ Ok tt
+      → AnalysesExactlyInto (analysed most_levels f (analysis env [])) r after
+      → ((i : InstructionId) (report : Report) → r ≢ Err (UnreplacedApply i report))
+      → ((x : IdentifierId) → r ≢ Err (EffectsNotInferred x))
       → IfErr r (λ e. is_free e ≡ false → IsCaused (unit_with f env) e)
-  into_complete (Ok x) after h rules = tt
-  into_complete (Err e) after h rules = λ free. unit_caused (unit_with f env) rules e (refused_unit e (h free))
+  into_complete (Ok x) after h apply operand = tt
+  into_complete (Err e) after h apply operand = λ free. caused_alone (Err e) e refl apply operand (h free)

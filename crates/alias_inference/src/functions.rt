@@ -4,13 +4,13 @@ ghost use Rattle.std.specs.Prelude.{◌≡◌, ◌≢◌, ℕ, ◌≤◌, true, 
 ghost use Rattle.alias_base.specs.failures.Failures.{HasFailed};
 ghost use Rattle.alias_hir.specs.declared.error.InferError.TheVariants.{EffectsNotInferred, UnreplacedApply};
 ghost use Rattle.alias_rules.specs.Fitting.{function_fits};
-ghost use Rattle.alias_rules.specs.Functions.{rules_hold};
 ghost use Rattle.alias_rules.specs.Nesting.{times};
 ghost use Rattle.alias_nested.specs.Analysis.{analysis, most_levels, analysed, is_free, IsPassFault};
 ghost use Rattle.alias_nested.specs.Answers.{AnalysedWith, Analyses, AnalysesInto, AnalysesExactly, AnalysesExactlyInto};
 ghost use Rattle.alias_nested.specs.Order.{below_innermost_first, numbers, functions_of, KeepsToOrder};
 ghost use Rattle.alias_nested.specs.Refusals.{AnalysisRefused, Leaves};
 ghost use Rattle.alias_answer_laws.specs.answers.Applies.{NestedLackApply};
+ghost use Rattle.alias_completeness.specs.summaries.Faces.{HaveFaces};
 ghost use Rattle.alias_fitting_laws.specs.pruning.Pruning.{SlotsKept};
 ghost use Rattle.alias_unit_completeness.specs.Refusals.{BlamesRightly, IsCaused};
 ghost use Rattle.alias_inference.specs.Inferences.{unit_with};
@@ -27,10 +27,11 @@ use std::alloc::Global;
 /// with all that is ensured there.
 ///
 /// Besides: that an operand has no effect is never answered, nor that an `Apply` is left where no instruction of a
-/// nested function carried one at the call. Where the function and its environment are a unit that
-/// is well formed, a function that a refusal blames for what it does isn't plain in that unit, and one that isn't
-/// settled isn't forward, whatever the passes of the caller change; and where these keep everything, each refusal has
-/// its cause in the unit.
+/// nested function carried one at the call. Where the functions of the table have faces, so that each may be called, a
+/// function that a refusal blames for what it does isn't plain in the table as it was handed in, and one that isn't
+/// settled isn't forward, whatever the passes of the caller change; and where these keep everything, and no `Apply` was
+/// carried, each refusal has its cause there. A function has a face whose own places are distinct, whose returned place
+/// is in the table, and whose summary, if it has one, is in order; what else the table holds doesn't matter.
 pub fn analyse_functions_certified<P: InnerPasses, F: FnMut(&HirFunction, &Environment)>(
     alloc: Global,
     func: &mut HirFunction,
@@ -54,8 +55,8 @@ pub fn analyse_functions_certified<P: InnerPasses, F: FnMut(&HirFunction, &Envir
     ensures failed { IsPassFault result → HasFailed (P.faults passes.old) (P.faults passes.new) (P.at_last passes.new) }
     ensures operands { (x : _) → result ≢ Err (EffectsNotInferred x) }
     ensures applies { NestedLackApply env.old → (i : _) (report : _) → result ≢ Err (UnreplacedApply i report) }
-    ensures blames { rules_hold (unit_with func.old env.old) ≡ Ok tt → IfErr result (λ e. BlamesRightly (unit_with func.old env.old) e) }
-    ensures complete { P.keeps_all ≡ true → rules_hold (unit_with func.old env.old) ≡ Ok tt → IfErr result (λ e. is_free e ≡ false → IsCaused (unit_with func.old env.old) e) }
+    ensures blames { HaveFaces (length env.old.identifiers) env.old.functions → IfErr result (λ e. BlamesRightly (unit_with func.old env.old) e) }
+    ensures complete { P.keeps_all ≡ true → HaveFaces (length env.old.identifiers) env.old.functions → NestedLackApply env.old → IfErr result (λ e. is_free e ≡ false → IsCaused (unit_with func.old env.old) e) }
 {
     alias_nested::analyse_functions_certified(alloc, func, env, passes, debug_logger)
 }
@@ -84,8 +85,8 @@ pub fn analyse_functions<P: InnerPasses, F: FnMut(&HirFunction, &Environment)>(
     ensures failed { IsPassFault result → HasFailed (P.faults passes.old) (P.faults passes.new) (P.at_last passes.new) }
     ensures operands { (x : _) → result ≢ Err (EffectsNotInferred x) }
     ensures applies { NestedLackApply env.old → (i : _) (report : _) → result ≢ Err (UnreplacedApply i report) }
-    ensures blames { rules_hold (unit_with func.old env.old) ≡ Ok tt → IfErr result (λ e. BlamesRightly (unit_with func.old env.old) e) }
-    ensures complete { P.keeps_all ≡ true → rules_hold (unit_with func.old env.old) ≡ Ok tt → IfErr result (λ e. is_free e ≡ false → IsCaused (unit_with func.old env.old) e) }
+    ensures blames { HaveFaces (length env.old.identifiers) env.old.functions → IfErr result (λ e. BlamesRightly (unit_with func.old env.old) e) }
+    ensures complete { P.keeps_all ≡ true → HaveFaces (length env.old.identifiers) env.old.functions → NestedLackApply env.old → IfErr result (λ e. is_free e ≡ false → IsCaused (unit_with func.old env.old) e) }
 {
     alias_nested::analyse_functions(alloc, func, env, passes, debug_logger)
 }

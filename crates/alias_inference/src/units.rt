@@ -25,7 +25,8 @@ use std::alloc::Global;
 /// left, or that an operand has no effect, is never answered. What is handed out has a solution of each function once,
 /// innermost first, and of the root last, each of which solves the flow over tables that declare what the unit does and
 /// the temporaries of the solutions before, where the functions before stand as they are handed out, with the ranges of
-/// their parameters; and the functions carry the effects of their solutions and no others. What the clauses `cover`,
+/// their parameters, and those that it creates with the context places captured that their summaries capture or mutate;
+/// and the functions carry the effects of their solutions and no others. What the clauses `cover`,
 /// `heap`, `cause` and `flows` say of the root holds of each nested function too, but for its context places; and no
 /// explanation says that a range ends without a cause.
 pub fn infer_unit<P: InnerPasses>(

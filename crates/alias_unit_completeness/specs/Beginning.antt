@@ -1,37 +1,78 @@
--- What the functions of a unit that is well formed begin with, and that tables which are kept agree with those of the
--- unit.
-use Rattle.std.specs.Prelude.{◌≡◌, ℕ, ◌<◌, true, List, [], ◌∷◌, Option, Some, None, Ok, option_map, nat_lt, length}
-use Rattle.std.specs.Prelude.{slice_get, refl}
-use Rattle.std.proofs.Common.{ap, sym, ◌∙◌, ltb-true}
-use Rattle.std.specs.List.{AllByRecursion}
+-- What a function that the inference takes begins with, and so do those below it; and that tables which are kept agree
+-- with those of before.
+use Rattle.std.specs.Prelude.{◌≡◌, ℕ, ◌+◌, ◌<◌, ◌≤◌, ◌==◌, Bool, true, cond, List, [], ◌∷◌, Option, Some, None, Ok}
+use Rattle.std.specs.Prelude.{option_map, nat_lt, length, slice_get, refl}
+use Rattle.std.proofs.Common.{zero, suc, ap, sym, ◌∙◌, subst, ltb-true, arith}
+use Rattle.std.proofs.lemmas.Bool.Decides.{nat_tests}
+use Rattle.std.specs.List.{AllByRecursion, flat_map}
 use Rattle.std.specs.Option.{option_map_or}
 use Rattle.alias_base.specs.Answer.{all_pass}
 use Rattle.alias_base.specs.AnswerLaws.{both_pass}
 use Rattle.alias_base.specs.declared.ids.BlockId.{BlockId}
 use Rattle.alias_base.specs.declared.ids.DeclarationId.{DeclarationId}
 use Rattle.alias_base.specs.declared.ids.FunctionId.{FunctionId}
+use Rattle.alias_base.specs.declared.ids.InstructionId.{InstructionId}
 use Rattle.alias_base.specs.declared.ids.TypeId.{TypeId}
 use Rattle.alias_step_laws.specs.blocks.ContextLaws.{numbers_of}
 use Rattle.alias_rules.specs.function_rules.Rules.{place_fits, created_fits, identifier_fits, instruction_fits}
-use Rattle.alias_rules.specs.function_rules.Rules.{phi_fits, block_fits, numbers_fit, tables_fit, is_block}
+use Rattle.alias_rules.specs.function_rules.Rules.{phi_fits, block_fits, numbers_fit, tables_fit, is_block, is_among}
 use Rattle.alias_hir.specs.Terminals.{terminal_places}
 use Rattle.alias_hir.specs.Types.{type_at}
 use Rattle.alias_hir.specs.Values.{places_of, created}
 use Rattle.alias_hir.specs.declared.env.Environment.{Environment}
 use Rattle.alias_hir.specs.declared.env.Identifier.{Identifier}
-use Rattle.alias_hir.specs.declared.env.Unit.{Unit as HirUnit}
 use Rattle.alias_hir.specs.declared.hir.BasicBlock.{BasicBlock}
 use Rattle.alias_hir.specs.declared.hir.HirFunction.{HirFunction}
 use Rattle.alias_hir.specs.declared.hir.Instruction.{Instruction}
 use Rattle.alias_hir.specs.declared.place.Place.{Place}
-use Rattle.alias_rules.specs.Functions.{rules_hold, of_function}
-use Rattle.alias_rules.specs.RuleLaws.{parts_of_rules, root_of_rules, nested_of_rules, passes_at}
+use Rattle.alias_nested.proofs.Counting.{there_among}
+use Rattle.alias_nesting_laws.specs.ClosureLaws.{Closed, tree_closed}
+use Rattle.alias_nesting_laws.specs.FittingLaws.{Fitted}
+use Rattle.alias_rules.specs.Functions.{of_function}
+use Rattle.alias_rules.specs.Nesting.{number_of, created_in, created_of, times}
+use Rattle.alias_rules.specs.RuleLaws.{passes_at}
+use Rattle.alias_rules.specs.TreeLaws.{times_cons, times_both}
 use Rattle.alias_rules.specs.declared.rules.Rule.TheVariants.{Numbers, Entry}
 use Rattle.alias_visit.specs.Places.{created_places}
 use Rattle.alias_completeness.specs.Agreeing.{Agrees}
 use Rattle.alias_completeness.specs.summaries.KeptTables.{bound_to, TablesKept}
 use Rattle.alias_completeness.specs.AgreeingFacts.{InTable, IsInside, AllInside}
 use Rattle.alias_unit_completeness.specs.Moments.{asked}
+
+-- ---- what instructions create
+
+pub self_once : (n : ℕ) → times (n ∷ []) n ≡ 1
+self_once n =
+    let self : (n == n) ≡ true = grind (arith, nat_tests) in
+    times_cons n [] n ∙ ap (λ (z : Bool). cond z 1 0 + 0) self
+
+-- the functions that instructions create
+abbrev pub creates : List Instruction → List ℕ
+creates is = flat_map (λ (i : Instruction). number_of (created i.value)) is
+
+-- what one of them creates is among these
+pub created_there : (is : List Instruction) (n : ℕ) (x : Instruction) (c : FunctionId) → slice_get is n ≡ Some x
+    → created x.value ≡ Some c → 1 ≤ times (creates is) c.0
+created_there [] n x c e h = cc
+created_there (y ∷ is) zero x c e h =
+    let same : y ≡ x = cc in
+    let first : number_of (created y.value) ≡ c.0 ∷ [] = ap (λ (i : Instruction). number_of (created i.value)) same
+    ∙ ap number_of h in
+    let one : times (number_of (created y.value)) c.0 ≡ times (c.0 ∷ []) c.0 = ap (λ ns. times ns c.0) first in
+    let t : times (c.0 ∷ []) c.0 ≡ 1 = self_once c.0 in
+    let all : times (creates (y ∷ is)) c.0 ≡ times (number_of (created y.value)) c.0 + times (creates is) c.0 =
+    times_both (number_of (created y.value)) (creates is) c.0 in
+    omega arith
+created_there (y ∷ is) (suc n) x c e h =
+    let rest : 1 ≤ times (creates is) c.0 = created_there is n x c e h in
+    let all : times (creates (y ∷ is)) c.0 ≡ times (number_of (created y.value)) c.0 + times (creates is) c.0 =
+    times_both (number_of (created y.value)) (creates is) c.0 in
+    omega arith
+
+-- and it is one of those that the function creates
+created_among : (g : HirFunction) (i : InstructionId) (x : Instruction) (c : FunctionId)
+    → slice_get g.instructions i.0 ≡ Some x → created x.value ≡ Some c → is_among (created_in g) c.0 ≡ true
+created_among g i x c e makes = there_among (created_in g) c.0 (created_there g.instructions i.0 x c e makes)
 
 -- ---- numbers that fit
 
@@ -45,28 +86,28 @@ module _ (env : Environment) where
   places_in (p ∷ ps) h = let b = both_pass (place_fits env p) (all_pass (place_fits env) ps) h in
       (place_in p b.0, places_in ps b.1)
 
-  -- the numbers of all nested functions fit
-  abbrev pub NestedFit : Type 0
-  NestedFit = (k : ℕ) (g : HirFunction) → slice_get env.functions k ≡ Some g → numbers_fit env g ≡ Ok tt
-
-  module _ (nested : NestedFit) where
+  -- the numbers of these nested functions fit
+  module _ (These : ℕ → Type 0)
+      (nested : (k : ℕ) (g : HirFunction) → These k → slice_get env.functions k ≡ Some g → numbers_fit env g ≡ Ok tt) where
     context_in : (o : Option HirFunction) → ((g : HirFunction) → o ≡ Some g → numbers_fit env g ≡ Ok tt)
         → AllByRecursion (InTable env) (option_map_or (λ (g : HirFunction). g.context) o [])
     context_in None h = tt
     context_in (Some g) h = places_in g.context (numbers_of env g (h g refl)).context
 
-    contexts_in : (o : Option FunctionId) → AllByRecursion (InTable env) (created_places env o)
-    contexts_in None = tt
-    contexts_in (Some f) = context_in (slice_get env.functions f.0) (nested f.0)
+    contexts_in : (o : Option FunctionId) → ((c : FunctionId) → o ≡ Some c → These c.0)
+        → AllByRecursion (InTable env) (created_places env o)
+    contexts_in None these = tt
+    contexts_in (Some f) these = context_in (slice_get env.functions f.0) (λ g e. nested f.0 g (these f refl) e)
 
-    instruction_in : (x : Instruction) → instruction_fits env x ≡ Ok tt → IsInside env x
-    instruction_in x h =
+    instruction_in : (x : Instruction) → instruction_fits env x ≡ Ok tt
+        → ((c : FunctionId) → created x.value ≡ Some c → These c.0) → IsInside env x
+    instruction_in x h these =
         let a = both_pass (place_fits env x.lvalue) _ h in
         let b = both_pass (created_fits env (created x.value)) (all_pass (place_fits env) (places_of x.value)) a.1 in
         record {
           lvalue = place_in x.lvalue a.0;
           places = places_in (places_of x.value) b.1;
-          contexts = contexts_in (created x.value);
+          contexts = contexts_in (created x.value) these;
         }
 
     ends_in : (g : HirFunction) (bs : List (BlockId × BasicBlock))
@@ -79,12 +120,14 @@ module _ (env : Environment) where
         let r = both_pass _ (all_pass (place_fits env) (terminal_places b.1.terminal)) q.1 in
         (places_in (terminal_places b.1.terminal) r.1, ends_in g bs p.1)
 
-    pub all_inside : (g : HirFunction) → numbers_fit env g ≡ Ok tt → AllInside env g
-    all_inside g h =
+    pub all_inside : (g : HirFunction) → numbers_fit env g ≡ Ok tt
+        → ((k : ℕ) → is_among (created_in g) k ≡ true → These k) → AllInside env g
+    all_inside g h these =
         let n = numbers_of env g h in
         record {
           instructions = λ i x e. instruction_in x
-              (passes_at (instruction_fits env) g.instructions i.0 x n.instructions e);
+              (passes_at (instruction_fits env) g.instructions i.0 x n.instructions e)
+              (λ c makes. these c.0 (created_among g i x c e makes));
           ends = ends_in g g.body.blocks n.blocks;
         }
 
@@ -130,23 +173,33 @@ agrees_kept base more fit k = record {
   config = k.config;
 }
 
--- ---- a unit
+-- ---- a function that the inference takes, with those below it
 
-module _ (u : HirUnit) (rules : rules_hold u ≡ Ok tt) where
-  pub nested_fit : NestedFit u.env
-  nested_fit k g e = sym (ap (of_function Numbers u.env k) e)
-      ∙ nested_of_rules Numbers u k (parts_of_rules u rules).numbers
+module _ (func : HirFunction) (env : Environment) (fit : Fitted func env) where
+  abbrev pub IsBelow : ℕ → Type 0
+  IsBelow k = is_among fit.below k ≡ true
 
-  pub root_inside : AllInside u.env u.function
-  root_inside = all_inside u.env nested_fit u.function (root_of_rules Numbers u (parts_of_rules u rules).numbers)
+  closed : Closed env [] (created_in func) fit.below
+  closed = tree_closed env 63 [] (created_in func) fit.below fit.tree
 
-  pub nested_inside : (k : ℕ) (g : HirFunction) → slice_get u.env.functions k ≡ Some g → AllInside u.env g
-  nested_inside k g e = all_inside u.env nested_fit g (nested_fit k g e)
+  below_fit : (k : ℕ) (g : HirFunction) → IsBelow k → slice_get env.functions k ≡ Some g → numbers_fit env g ≡ Ok tt
+  below_fit k g h e = sym (ap (of_function Numbers env k) e) ∙ fit.rule_below Numbers refl k h
 
-  pub root_entry : is_block u.function u.function.body.entry ≡ true
-  root_entry = asked (is_block u.function u.function.body.entry) _
-      (root_of_rules Entry u (parts_of_rules u rules).entry)
+  created_below : (k : ℕ) (g : HirFunction) → IsBelow k → slice_get env.functions k ≡ Some g → (j : ℕ)
+      → is_among (created_in g) j ≡ true → IsBelow j
+  created_below k g h e j made = closed.closed k h refl j
+      (subst (λ (o : Option HirFunction). is_among (created_of o) j ≡ true) (sym e) made)
 
-  pub nested_entry : (k : ℕ) (g : HirFunction) → slice_get u.env.functions k ≡ Some g → is_block g g.body.entry ≡ true
-  nested_entry k g e = asked (is_block g g.body.entry) _
-      (sym (ap (of_function Entry u.env k) e) ∙ nested_of_rules Entry u k (parts_of_rules u rules).entry)
+  pub root_inside : AllInside env func
+  root_inside = all_inside env IsBelow below_fit func (fit.rule Numbers refl) closed.has_level
+
+  pub nested_inside : (k : ℕ) (g : HirFunction) → IsBelow k → slice_get env.functions k ≡ Some g → AllInside env g
+  nested_inside k g h e = all_inside env IsBelow below_fit g (below_fit k g h e) (created_below k g h e)
+
+  pub root_entry : is_block func func.body.entry ≡ true
+  root_entry = asked (is_block func func.body.entry) _ (fit.rule Entry refl)
+
+  pub nested_entry : (k : ℕ) (g : HirFunction) → IsBelow k → slice_get env.functions k ≡ Some g
+      → is_block g g.body.entry ≡ true
+  nested_entry k g h e = asked (is_block g g.body.entry) _
+      (sym (ap (of_function Entry env k) e) ∙ fit.rule_below Entry refl k h)

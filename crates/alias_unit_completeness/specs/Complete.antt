@@ -4,7 +4,7 @@ use Rattle.std.specs.Prelude.{◌≡◌, ◌≢◌, ℕ, ◌+◌, ◌≤◌, Boo
 use Rattle.std.specs.Prelude.{None, Result, Ok, Err, ⊤, is_some, length, map, slice_get, refl}
 use Rattle.alias_base.specs.Answer.{◌>>=◌}
 use Rattle.alias_base.specs.Find.{value_at}
-use Rattle.std.proofs.Common.{ap, sym, subst, arith}
+use Rattle.std.proofs.Common.{ap, sym, ◌∙◌, subst, arith}
 use Rattle.alias_base.specs.declared.ids.FunctionId.{FunctionId}
 use Rattle.alias_base.specs.declared.ids.IdentifierId.{IdentifierId}
 use Rattle.alias_base.specs.declared.ids.InstructionId.{InstructionId}
@@ -18,7 +18,6 @@ use Rattle.alias_effects.specs.declared.output.PassEnd.{PassEnd}
 use Rattle.alias_effects.specs.declared.solved.Solved.{Solved}
 use Rattle.alias_graph.specs.recorded.BlockListings.{listed}
 use Rattle.alias_graph.specs.declared.recorded.listing.Listing.{Listing}
-use Rattle.alias_rules.specs.function_rules.Rules.{tables_fit}
 use Rattle.alias_hir.specs.Values.{created}
 use Rattle.alias_hir.specs.Errors.{is_memory}
 use Rattle.alias_hir.specs.declared.env.Environment.{Environment}
@@ -30,24 +29,27 @@ use Rattle.alias_hir.specs.declared.error.InferError.{InferError}
 use Rattle.alias_hir.specs.declared.error.InferError.TheVariants as error
 use Rattle.alias_hir.specs.declared.hir.HirFunction.{HirFunction}
 use Rattle.alias_hir.specs.declared.report.Report.{Report}
-use Rattle.alias_nested.proofs.InOrder.{created_numbers}
+use Rattle.alias_fitting_laws.specs.pruning.BelowLaws.{below_distinct}
+use Rattle.alias_nested.proofs.Counting.{numbers_innermost_first, there_among, times_in_tree}
+use Rattle.alias_nested.proofs.Creating.{once_again}
+use Rattle.alias_nested.proofs.InOrder.{once_below}
 use Rattle.alias_nested.specs.Analysis.{named, Analysis, analysis, analysed, most_levels, is_free}
 use Rattle.alias_nested.specs.Answers.{FunctionAnalysed, AnalysedWith, Analyses, AnalysesInto}
 use Rattle.alias_nested.specs.Created.{created_functions}
-use Rattle.alias_nested.specs.Order.{created_by_slot, innermost_first, numbers}
+use Rattle.alias_nested.specs.Order.{innermost_first}
+use Rattle.alias_nesting_laws.specs.FittingLaws.{Fitted, fitted}
 use Rattle.alias_nested.specs.Units.{RootAnalysis, validated, root_analysed, all_analysed, UnitAnalysis, unit_analysed}
 use Rattle.alias_nested.specs.Units.{InfersUnit}
 use Rattle.alias_nested.specs.declared.infer.Inferred.{Inferred}
 use Rattle.alias_answer_laws.proofs.order.Levels.{fits_within}
-use Rattle.alias_answer_laws.proofs.order.Solving.{root_apart}
-use Rattle.alias_answer_laws.proofs.order.Unit.{slots_as_often}
 use Rattle.alias_range_pass.specs.Passes.{Ranged, ranged, range_pass}
 use Rattle.alias_range_pass.specs.Refusals.{unreplaced, none_unreplaced, listing_or, positions_left, recorded}
 use Rattle.alias_range_pass.specs.places.Keeping.{but_context}
 use Rattle.alias_range_pass.specs.summary.Summaries.{tracked}
+use Rattle.alias_rules.specs.Fitting.{function_fits}
 use Rattle.alias_rules.specs.Functions.{rules_hold}
-use Rattle.alias_rules.specs.Nesting.{created_in, created_of, created_at, times}
-use Rattle.alias_rules.specs.RuleLaws.{parts_of_rules, rules_make_function_fit}
+use Rattle.alias_rules.specs.Nesting.{created_in, created_at, times}
+use Rattle.alias_rules.specs.RuleLaws.{rules_make_function_fit}
 use Rattle.alias_validate.specs.Levels.{is_within}
 use Rattle.alias_visit.specs.Places.{created_places}
 use Rattle.alias_plainness.specs.Making.{number}
@@ -60,13 +62,14 @@ use Rattle.alias_completeness.specs.Passing.{IsPlainAnswer}
 use Rattle.alias_completeness.specs.summaries.Faces.{HasPlaces, HaveFaces, faces_callable, context_ids}
 use Rattle.alias_unit_completeness.specs.Answering.{Meets, AllMeet, meets_then, caused_meets, meets_error, One, Below}
 use Rattle.alias_unit_completeness.specs.Answering.{AsStated, below_with, below_stated}
-use Rattle.alias_unit_completeness.specs.Beginning.{agrees_kept, root_inside, nested_inside, root_entry, nested_entry}
+use Rattle.alias_unit_completeness.specs.Beginning.{agrees_kept, IsBelow, root_inside, nested_inside, root_entry}
+use Rattle.alias_unit_completeness.specs.Beginning.{nested_entry}
 use Rattle.alias_unit_completeness.specs.Counted.{IsCounted, listed_counted}
 use Rattle.alias_unit_completeness.specs.Moments.{unit_holds}
 use Rattle.alias_unit_completeness.specs.Passing.{pass_of, forward_is_settled, Caused, nested_blamed, root_blamed}
 use Rattle.alias_unit_completeness.specs.Refusals.{BlamesRightly, IsCaused}
 use Rattle.alias_unit_completeness.specs.Turning.{turns_stated, turns_by_passes}
-use Rattle.alias_unit_completeness.specs.Walking.{Stands, stands_self, After, Once, Turned, goes}
+use Rattle.alias_unit_completeness.specs.Walking.{Stands, stands_self, After, Once, Tree, Turned, goes}
 
 -- ---- behind the effects pass
 
@@ -144,40 +147,30 @@ module _ (u : HirUnit) where
       (λ more t. tt)))
 
 -- neither since an Apply is left nor since an operand lacks an effect
-is_caused : (u : HirUnit) (r : Result UnitAnalysis InferError)
-    → ((i : InstructionId) (report : Report) → r ≢ Err (error.UnreplacedApply i report))
-    → ((x : IdentifierId) → r ≢ Err (error.EffectsNotInferred x)) → (e : InferError) → r ≡ Err e → Caused u e
-    → IsCaused u e
-is_caused u r apply operand (error.UnreplacedApply i report) q h = apply i report q
-is_caused u r apply operand (error.EffectsNotInferred x) q h = operand x q
-is_caused u r apply operand (error.PassFault f pass) q h = let no : true ≡ false = h.1 in cc
-is_caused u r apply operand (error.Memory x) q h = let no : true ≡ false = h.1 in cc
-is_caused u r apply operand e q h = h.0
+is_caused : (u : HirUnit) (e : InferError)
+    → ((i : InstructionId) (report : Report) → e ≢ error.UnreplacedApply i report)
+    → ((x : IdentifierId) → e ≢ error.EffectsNotInferred x) → Caused u e → IsCaused u e
+is_caused u (error.UnreplacedApply i report) apply operand h = apply i report refl
+is_caused u (error.EffectsNotInferred x) apply operand h = operand x refl
+is_caused u (error.PassFault f pass) apply operand h = let no : true ≡ false = h.1 in cc
+is_caused u (error.Memory x) apply operand h = let no : true ≡ false = h.1 in cc
+is_caused u e apply operand h = h.0
 
--- ---- a unit
+-- ---- the functions below the function of a unit
 
-module _ (u : HirUnit) (rules : rules_hold u ≡ Ok tt) where
-  -- what a function's instructions create its blocks list
-  listed_creations : (k : ℕ) (f : HirFunction) → slice_get u.env.functions k ≡ Some f → (j : ℕ) → 1
-      ≤ times (created_in f) j → 1 ≤ times (numbers (created_functions f)) j
-  listed_creations k f at j h =
-      let a : times (created_numbers u.env.functions k) j ≡ times (created_at u.env k) j = slots_as_often u rules k j in
-      let b : times (created_numbers u.env.functions k) j ≡ times (numbers (created_functions f)) j =
-      ap (λ (o : Option HirFunction). times (numbers (created_by_slot o)) j) at in
-      let c : times (created_at u.env k) j ≡ times (created_in f) j =
-      ap (λ (o : Option HirFunction). times (created_of o) j) at in
-      omega arith
+-- the function is one that the inference takes, and the functions of the table have faces
+module _ (u : HirUnit) (fits : function_fits u.function u.env ≡ true)
+    (faces : HaveFaces (length u.env.identifiers) u.env.functions) where
+  abbrev parts : Fitted u.function u.env
+  parts = fitted u.function u.env fits
 
-  faces : HaveFaces (length u.env.identifiers) u.env.functions
-  faces = (unit_holds u rules).faces
-
-  tables : tables_fit u.env ≡ Ok tt
-  tables = (parts_of_rules u rules).tables
+  abbrev Own : ℕ → Type 0
+  Own = IsBelow u.function u.env parts
 
   -- what the root names means the same once the functions below it are analysed
   root_agrees : (W : ℕ → Type 0) (env : Environment) → Stands u.env [] W env → AgreesOn u.function u.env env
   root_agrees W env s = record {
-    agrees = agrees_kept u.env env tables s.tables;
+    agrees = agrees_kept u.env env parts.tables s.tables;
     contexts = λ i x found. of_created (created x.value);
   }
     where
@@ -186,10 +179,29 @@ module _ (u : HirUnit) (rules : rules_hold u ≡ Ok tt) where
       of_created (Some c) = s.contexts c.0 refl
 
   all_once : Once [] (λ k. Unit {0}) (innermost_first most_levels u.env.functions (created_functions u.function))
-  all_once = record { once = (root_apart u rules).once; waits = λ j h. tt }
+  all_once = record {
+    once = λ j. let none : times [] j ≡ 0 = refl in let a = once_below u.function u.env fits most_levels j in omega arith;
+    waits = λ j h. tt;
+  }
+
+  -- those below are a tree
+  all_tree : Tree u.env Own most_levels [] (created_in u.function)
+  all_tree =
+      let in_tree : (j : ℕ) → times [] j
+      + times (numbers_innermost_first most_levels (created_at u.env) (created_in u.function)) j ≤ times parts.below j
+      = times_in_tree 63 most_levels u.env [] (created_in u.function) parts.below parts.tree in
+      record {
+        once = λ j.
+            let a = in_tree j in
+            let b : times parts.below j ≤ 1 = once_again [] parts.below j
+            (below_distinct u.env u.function parts.below parts.tree) in
+            omega arith;
+        own = λ j h. there_among parts.below j
+            (let none : times [] j ≡ 0 = refl in let a = in_tree j in omega arith);
+      }
 
   deep : is_within 64 u.env u.function ≡ true
-  deep = fits_within u.function u.env (rules_make_function_fit u rules)
+  deep = fits_within u.function u.env fits
 
   -- ---- effects passes, over tables that have grown
 
@@ -197,17 +209,18 @@ module _ (u : HirUnit) (rules : rules_hold u ≡ Ok tt) where
   other_context : (f g : HirFunction) → but_context g ≡ but_context f → g ≡ with_context g.context f
   other_context f g same = ap (λ (z : HirFunction). record z { context = g.context }) same
 
-  module _ (id : FunctionId) (f g : HirFunction) (env : Environment) (at : slice_get u.env.functions id.0 ≡ Some f)
-      (same : but_context g ≡ but_context f) (agrees : AgreesOn f u.env env) (callable : AreCallable env) where
+  module _ (id : FunctionId) (f g : HirFunction) (env : Environment) (own : Own id.0)
+      (at : slice_get u.env.functions id.0 ≡ Some f) (same : but_context g ≡ but_context f)
+      (agrees : AgreesOn f u.env env) (callable : AreCallable env) where
     nested_plain : IsPlain f u.env → IsPlainAnswer (pass_end env g true)
     nested_plain plain =
         subst (λ (z : HirFunction). IsPlainAnswer (pass_end env z true)) (sym (other_context f g same))
-        (grown_pass f u.env env g.context true (nested_entry u rules id.0 f at) callable agrees
-        (nested_inside u rules id.0 f at) (context_ids f g same) plain)
+        (grown_pass f u.env env g.context true (nested_entry u.function u.env parts id.0 f own at) callable agrees
+        (nested_inside u.function u.env parts id.0 f own at) (context_ids f g same) plain)
 
     same_entry : is_some (value_at g.body.blocks g.body.entry) ≡ true
     same_entry = subst (λ (z : HirFunction). is_some (value_at z.body.blocks z.body.entry) ≡ true)
-        (sym (other_context f g same)) (nested_entry u rules id.0 f at)
+        (sym (other_context f g same)) (nested_entry u.function u.env parts id.0 f own at)
 
     same_body : g.body ≡ f.body
     same_body = ap (λ (z : HirFunction). z.body) same
@@ -220,10 +233,11 @@ module _ (u : HirUnit) (rules : rules_hold u ≡ Ok tt) where
   root_caused : (env : Environment) → AgreesOn u.function u.env env → AreCallable env → (e : InferError)
       → pass_end env u.function false ≡ Err e → Caused u e
   root_caused env agrees callable e q =
+      let entry = root_entry u.function u.env parts in
       root_blamed u e (pass_of env u.function false e q)
-      (λ plain. subst IsPlainAnswer q (grown_pass u.function u.env env u.function.context false (root_entry u rules)
-      callable agrees (root_inside u rules) refl plain))
-      (λ forward. forward_is_settled env u.function false (root_entry u rules)
+      (λ plain. subst IsPlainAnswer q (grown_pass u.function u.env env u.function.context false entry
+      callable agrees (root_inside u.function u.env parts) refl plain))
+      (λ forward. forward_is_settled env u.function false entry
       (forward_alike u.function u.function u.env env false refl forward) e q)
 
   ranges_caused : (id : FunctionId) (f : HirFunction) (env : Environment) (e : InferError) → range_pass true f env
@@ -246,11 +260,11 @@ module _ (u : HirUnit) (rules : rules_hold u ≡ Ok tt) where
       → AllMeet E (Turned g a) (one id g a)) where
     below_root : AllMeet E AllStand (Below one most_levels u.function (analysis u.env []))
     below_root =
-        goes E one u.env tables faces listed_creations
-        (λ id f g a at same agrees callable places.
-        turns id g a places (λ e q. weaker (named id e) (nested_caused id f g a.env at same agrees callable e q)))
+        goes E one u.env parts.tables faces Own
+        (λ id f g a own at same agrees callable places.
+        turns id g a places (λ e q. weaker (named id e) (nested_caused id f g a.env own at same agrees callable e q)))
         most_levels u.function u.function [] (λ k. Unit {0})
-        (analysis u.env []) refl deep (stands_self u.env faces) all_once
+        (analysis u.env []) refl deep all_tree (stands_self u.env faces) all_once
 
   -- where the passes keep all
   nested_stated : Meets (Caused u) AllStand (analysed most_levels u.function (analysis u.env []))
@@ -261,6 +275,14 @@ module _ (u : HirUnit) (rules : rules_hold u ≡ Ok tt) where
       (below_stated most_levels u.function (analysis u.env []) (analysed most_levels u.function (analysis u.env []))
       refl)
 
+  -- each refusal of the analysis has its cause, but for an Apply that is left or an operand without effect
+  pub nested_caused_alone : (e : InferError) → analysed most_levels u.function (analysis u.env []) ≡ Err e
+      → ((i : InstructionId) (report : Report) → e ≢ error.UnreplacedApply i report)
+      → ((x : IdentifierId) → e ≢ error.EffectsNotInferred x) → IsCaused u e
+  nested_caused_alone e q apply operand =
+      is_caused u e apply operand
+      (meets_error (Caused u) AllStand (analysed most_levels u.function (analysis u.env [])) e nested_stated q)
+
   -- over passes of the caller, whatever their law lets them change
   pub passes_blame : (b : Bool) (e : InferError) → AnalysedWith b most_levels u.function (analysis u.env []) (Err e)
       → BlamesRightly u e
@@ -270,20 +292,31 @@ module _ (u : HirUnit) (rules : rules_hold u ≡ Ok tt) where
       places caused (λ pass. tt) b) (Err e)
       (below_with b most_levels u.function (analysis u.env []) (Err e) h)
 
+-- ---- a unit that is well formed
+
+module _ (u : HirUnit) (rules : rules_hold u ≡ Ok tt) where
+  fitting : function_fits u.function u.env ≡ true
+  fitting = rules_make_function_fit u rules
+
+  pub faced : HaveFaces (length u.env.identifiers) u.env.functions
+  faced = (unit_holds u rules).faces
+
   -- ---- the whole inference
 
   unit_meets : Meets (Caused u) (λ (a : UnitAnalysis). Unit {0}) (unit_analysed u)
   unit_meets =
       meets_then (Caused u) (λ (r : RootAnalysis). Unit {0}) (λ (a : UnitAnalysis). Unit {0})
       (all_analysed u.function (analysis u.env [])) _
-      (meets_then (Caused u) AllStand (λ (r : RootAnalysis). Unit {0})
-      (analysed most_levels u.function (analysis u.env [])) (root_analysed u.function) nested_stated
-      (λ b s. root_meets u u.function b (root_caused b.env (root_agrees NoneWaits b.env s)
-      (faces_callable b.env s.faces)))) (λ r t. tt)
+      (meets_then (Caused u) (AllStand u fitting faced) (λ (r : RootAnalysis). Unit {0})
+      (analysed most_levels u.function (analysis u.env [])) (root_analysed u.function) (nested_stated u fitting faced)
+      (λ b s. root_meets u u.function b (root_caused u fitting faced b.env
+      (root_agrees u fitting faced (NoneWaits u fitting faced) b.env s) (faces_callable b.env s.faces)))) (λ r t. tt)
 
   -- each refusal has its cause
   pub unit_caused : (e : InferError) → unit_analysed u ≡ Err e → IsCaused u e
-  unit_caused e q = is_caused u (unit_analysed u) (unit_never_left u rules) (unit_always_known u) e q
+  unit_caused e q = is_caused u e
+      (λ i report same. unit_never_left u rules i report (q ∙ ap Err same))
+      (λ x same. unit_always_known u x (q ∙ ap Err same))
       (meets_error (Caused u) (λ (a : UnitAnalysis). Unit {0}) (unit_analysed u) e unit_meets q)
 
   -- so has one of a call that infers the unit, but for what is free
@@ -297,23 +330,24 @@ memory_blames : (u : HirUnit) (e : InferError) → is_memory e ≡ true → Blam
 memory_blames u (error.Memory x) h = tt
 memory_blames u e h = cc
 
-answer_blames : (u : HirUnit) (rules : rules_hold u ≡ Ok tt) (b : Bool) (e : InferError)
-    → (is_memory e ≡ false → AnalysedWith b most_levels u.function (analysis u.env []) (Err e)) → (free : Bool)
-    → is_memory e ≡ free → BlamesRightly u e
-answer_blames u rules b e h true free = memory_blames u e free
-answer_blames u rules b e h false free = passes_blame u rules b e (h free)
+module _ (u : HirUnit) (fits : function_fits u.function u.env ≡ true)
+    (faces : HaveFaces (length u.env.identifiers) u.env.functions) (b : Bool) where
+  answer_blames : (e : InferError)
+      → (is_memory e ≡ false → AnalysedWith b most_levels u.function (analysis u.env []) (Err e)) → (free : Bool)
+      → is_memory e ≡ free → BlamesRightly u e
+  answer_blames e h true free = memory_blames u e free
+  answer_blames e h false free = passes_blame u fits faces b e (h free)
 
-pub analyses_blame : (u : HirUnit) → rules_hold u ≡ Ok tt
-    → (b : Bool) (answer : Result (List Solved) InferError) (env : Environment)
-    → Analyses (AnalysedWith b most_levels u.function (analysis u.env [])) answer env → (e : InferError) → answer
-    ≡ Err e
-    → BlamesRightly u e
-analyses_blame u rules b answer env h e q =
-    answer_blames u rules b e (subst (λ r. Analyses (AnalysedWith b most_levels u.function (analysis u.env [])) r env) q
-    h) (is_memory e) refl
+  pub analyses_blame : (answer : Result (List Solved) InferError) (env : Environment)
+      → Analyses (AnalysedWith b most_levels u.function (analysis u.env [])) answer env → (e : InferError)
+      → answer ≡ Err e → BlamesRightly u e
+  analyses_blame answer env h e q =
+      answer_blames e (subst (λ r. Analyses (AnalysedWith b most_levels u.function (analysis u.env [])) r env) q h)
+      (is_memory e) refl
 
-pub into_blame : (u : HirUnit) → rules_hold u ≡ Ok tt → (b : Bool) (answer : Result ⊤ InferError) (env : Environment)
-    → AnalysesInto (AnalysedWith b most_levels u.function (analysis u.env [])) answer env → (e : InferError) → answer
-    ≡ Err e → BlamesRightly u e
-into_blame u rules b answer env h e q = answer_blames u rules b e
-    (subst (λ r. AnalysesInto (AnalysedWith b most_levels u.function (analysis u.env [])) r env) q h) (is_memory e) refl
+  pub into_blame : (answer : Result ⊤ InferError) (env : Environment)
+      → AnalysesInto (AnalysedWith b most_levels u.function (analysis u.env [])) answer env → (e : InferError)
+      → answer ≡ Err e → BlamesRightly u e
+  into_blame answer env h e q =
+      answer_blames e (subst (λ r. AnalysesInto (AnalysedWith b most_levels u.function (analysis u.env [])) r env) q h)
+      (is_memory e) refl

@@ -3,7 +3,6 @@
 use Rattle.std.specs.Prelude.{◌≡◌, ◌⊎◌, ℕ, ◌+◌, ◌<◌, ◌≤◌, ◌==◌, nat_eq, Bool, true, false, cond, List, [], ◌∷◌, ◌++◌}
 use Rattle.std.specs.Prelude.{Option, Some, None, Ok, option_map, length, map, slice_get, slice_set, refl}
 use Rattle.std.proofs.Common.{zero, suc, ap, sym, ◌∙◌, subst, inl, inr, arith}
-use Rattle.std.proofs.lemmas.Bool.Decides.{nat_tests}
 use Rattle.std.proofs.lemmas.Bool.{eqb-true}
 use Rattle.std.proofs.lemmas.List.{length-map, map-append}
 use Rattle.std.specs.List.{AllByRecursion, flat_map}
@@ -20,7 +19,7 @@ use Rattle.alias_hir.specs.declared.hir.HirFunction.{HirFunction}
 use Rattle.alias_hir.specs.declared.hir.Instruction.{Instruction}
 use Rattle.alias_nested.proofs.Changing.{slots_stay}
 use Rattle.alias_nested.proofs.Counting.{numbers_innermost_first, listed_level}
-use Rattle.alias_nested.proofs.InOrder.{times_append, created_numbers, order_numbers}
+use Rattle.alias_nested.proofs.InOrder.{times_append}
 use Rattle.alias_nested.specs.Analysis.{Analysis, put_back}
 use Rattle.alias_nested.specs.Answers.{Answers, Each}
 use Rattle.alias_nested.specs.Created.{one_of, created_by, created_by_all, created_functions}
@@ -31,7 +30,7 @@ use Rattle.alias_nesting_laws.specs.SlotLaws.{length_set, set_other}
 use Rattle.alias_nesting_laws.specs.Slots.{with_function}
 use Rattle.alias_answer_laws.proofs.order.Ordering.{neither, both_false, differs}
 use Rattle.alias_range_pass.specs.places.Keeping.{but_context}
-use Rattle.alias_rules.specs.Nesting.{number_of, created_in, times}
+use Rattle.alias_rules.specs.Nesting.{created_in, created_of, created_at, times}
 use Rattle.alias_rules.specs.TreeLaws.{times_cons, times_both, counted}
 use Rattle.alias_validate.specs.Levels.{function_within, created_within, is_within}
 use Rattle.alias_visit.specs.Places.{created_places}
@@ -43,7 +42,7 @@ use Rattle.alias_completeness.specs.summaries.Faces.{HasPlaces, HasFace, HaveFac
 use Rattle.alias_completeness.specs.summaries.Faces.{context_ids, in_slot, places_alike, faces_alike, Stays}
 use Rattle.alias_completeness.specs.summaries.KeptTables.{TablesKept, tables_self, tables_then}
 use Rattle.alias_completeness.specs.AgreeingFacts.{AgreesOn}
-use Rattle.alias_unit_completeness.specs.Beginning.{agrees_kept}
+use Rattle.alias_unit_completeness.specs.Beginning.{agrees_kept, self_once, created_there}
 use Rattle.alias_unit_completeness.specs.Answering.{AllMeet, meets_on, only_meets, then_meets, One, Taken, Found}
 use Rattle.alias_unit_completeness.specs.Answering.{InSlot, Below}
 use Rattle.alias_unit_completeness.specs.Moments.{set_face, found_face, stand_in, all_at}
@@ -210,34 +209,6 @@ among_append xs ys k h =
     (sym (among_both (numbers xs) (numbers ys) k)
     ∙ sym (ap (λ ns. is_among ns k) (map-append (λ (id : FunctionId). id.0) xs ys)) ∙ h)
 
-self_once : (n : ℕ) → times (n ∷ []) n ≡ 1
-self_once n =
-    let self : (n == n) ≡ true = grind (arith, nat_tests) in
-    times_cons n [] n ∙ ap (λ (z : Bool). cond z 1 0 + 0) self
-
--- the functions that instructions create
-abbrev creates : List Instruction → List ℕ
-creates is = flat_map (λ (i : Instruction). number_of (created i.value)) is
-
--- what one of them creates is among these
-created_there : (is : List Instruction) (n : ℕ) (x : Instruction) (c : FunctionId) → slice_get is n ≡ Some x
-    → created x.value ≡ Some c → 1 ≤ times (creates is) c.0
-created_there [] n x c e h = cc
-created_there (y ∷ is) zero x c e h =
-    let same : y ≡ x = cc in
-    let first : number_of (created y.value) ≡ c.0 ∷ [] = ap (λ (i : Instruction). number_of (created i.value)) same
-    ∙ ap number_of h in
-    let one : times (number_of (created y.value)) c.0 ≡ times (c.0 ∷ []) c.0 = ap (λ ns. times ns c.0) first in
-    let t : times (c.0 ∷ []) c.0 ≡ 1 = self_once c.0 in
-    let all : times (creates (y ∷ is)) c.0 ≡ times (number_of (created y.value)) c.0 + times (creates is) c.0 =
-    times_both (number_of (created y.value)) (creates is) c.0 in
-    omega arith
-created_there (y ∷ is) (suc n) x c e h =
-    let rest : 1 ≤ times (creates is) c.0 = created_there is n x c e h in
-    let all : times (creates (y ∷ is)) c.0 ≡ times (number_of (created y.value)) c.0 + times (creates is) c.0 =
-    times_both (number_of (created y.value)) (creates is) c.0 in
-    omega arith
-
 -- ---- the walk
 
 -- the function of the unit that another one is, but for the effects of context places
@@ -269,19 +240,94 @@ found_below (x ∷ fs) (suc k) f e = let h = found_below fs k f e in omega arith
 
 -- ---- what is analysed below a function
 
-level_there : (base : Environment) (n : ℕ) (f : HirFunction) (c : ℕ) → 1 ≤ times (numbers (created_functions f)) c → 1
-    ≤ times (numbers (innermost_first (suc n) base.functions (created_functions f))) c
-level_there base n f c own =
-    let level : times (numbers_innermost_first (suc n) (created_numbers base.functions) (numbers (created_functions f)))
-    c
-    ≡ times (numbers (created_functions f)) c
-    + times (numbers_innermost_first n (created_numbers base.functions)
-    (flat_map (created_numbers base.functions) (numbers (created_functions f)))) c
-    = listed_level n (created_numbers base.functions) (numbers (created_functions f)) c in
-    let order : times (numbers (innermost_first (suc n) base.functions (created_functions f))) c
-    ≡ times (numbers_innermost_first (suc n) (created_numbers base.functions) (numbers (created_functions f))) c
-    = ap (λ ns. times ns c) (order_numbers (suc n) base.functions (created_functions f)) in
-    omega arith
+-- the functions on n levels below a number and the number itself are among those on one more level that it is on
+branch : (n : ℕ) (c : ℕ → List ℕ) (xs : List ℕ) (k j : ℕ) → 1 ≤ times xs k
+    → times (numbers_innermost_first n c (c k)) j + times (k ∷ []) j ≤ times (numbers_innermost_first (suc n) c xs) j
+unfolding numbers_innermost_first
+branch n c [] k j h = let none : times [] k ≡ 0 = refl in absurd (omega arith)
+branch n c (x ∷ xs) k j h =
+    let g : ℕ → List ℕ = λ y. numbers_innermost_first n c (c y) ++ y ∷ [] in
+    let a : times (g x ++ flat_map g xs) j ≡ times (g x) j + times (flat_map g xs) j =
+    times_both (g x) (flat_map g xs) j in
+    let b : times (numbers_innermost_first n c (c x) ++ x ∷ []) j ≡ times (numbers_innermost_first n c (c x)) j
+    + times (x ∷ []) j = times_both (numbers_innermost_first n c (c x)) (x ∷ []) j in
+    let first : times (numbers_innermost_first n c (c x)) j + times (x ∷ []) j ≤ times (g x ++ flat_map g xs) j =
+    omega arith in
+    elim (x == k) as (λ t. (x == k) ≡ t
+    → times (numbers_innermost_first n c (c k)) j + times (k ∷ []) j ≤ times (g x ++ flat_map g xs) j) [
+      | true ↦ λ e. subst (λ z. times (numbers_innermost_first n c (c z)) j + times (z ∷ []) j
+          ≤ times (g x ++ flat_map g xs) j) (eqb-true x k e) first
+      | false ↦ λ e.
+          let p : times (x ∷ xs) k ≡ 0 + times xs k = times_cons x xs k
+          ∙ ap (λ (t : Bool). cond t 1 0 + times xs k) e in
+          let rest : times (numbers_innermost_first n c (c k)) j + times (k ∷ []) j ≤ times (flat_map g xs) j =
+          branch n c xs k j (omega arith) in
+          omega arith
+    ] refl
+
+-- The functions on n levels below the numbers: each is there once, none of them is out, and it is one of these.
+pub record Tree (base : Environment) (Own : ℕ → Type 0) (n : ℕ) (out xs : List ℕ) : Type 0 where
+  pub once : (j : ℕ) → times out j + times (numbers_innermost_first n (created_at base) xs) j ≤ 1
+  pub own : (j : ℕ) → 1 ≤ times (numbers_innermost_first n (created_at base) xs) j → Own j
+
+-- the function of a number goes so many levels down
+abbrev IsDeep : Environment → ℕ → FunctionId → Type 0
+IsDeep base n id = function_within (is_within n base) (slice_get base.functions id.0) ≡ true
+
+-- a function that is created while these are out
+record Branch (base : Environment) (Own : ℕ → Type 0) (n : ℕ) (out : List ℕ) (id : FunctionId) : Type 0 where
+  deep : IsDeep base (suc n) id
+  own : Own id.0
+  below : Tree base Own n (id.0 ∷ out) (created_at base id.0)
+
+branch_of : (base : Environment) (Own : ℕ → Type 0) (n : ℕ) (out xs : List ℕ) (id : FunctionId)
+    → Tree base Own (suc n) out xs → IsDeep base (suc n) id → 1 ≤ times xs id.0 → Branch base Own n out id
+branch_of base Own n out xs id t deep there =
+    let c : ℕ → List ℕ = created_at base in
+    record {
+      deep = deep;
+      own = t.own id.0 (let b = branch n c xs id.0 id.0 there in
+          let one : times (id.0 ∷ []) id.0 ≡ 1 = self_once id.0 in omega arith);
+      below = record {
+        once = λ j.
+            let b = branch n c xs id.0 j there in
+            let o = t.once j in
+            let p : times (id.0 ∷ out) j ≡ cond (id.0 == j) 1 0 + times out j = times_cons id.0 out j in
+            let q : times (id.0 ∷ []) j ≡ cond (id.0 == j) 1 0 + times [] j = times_cons id.0 [] j in
+            omega arith;
+        own = λ j h. t.own j (let b = branch n c xs id.0 j there in omega arith);
+      };
+    }
+
+-- what is so of each function that an instruction creates
+module _ (P : FunctionId → Type 0) (f : HirFunction)
+    (each : (i : InstructionId) (x : Instruction) (c : FunctionId) → slice_get f.instructions i.0 ≡ Some x
+    → created x.value ≡ Some c → P c) where
+  one_created : (i : InstructionId) (x : Instruction) → slice_get f.instructions i.0 ≡ Some x → (o : Option FunctionId)
+      → created x.value ≡ o → AllByRecursion P (one_of o)
+  one_created i x at None e = tt
+  one_created i x at (Some c) e = (each i x c at e, tt)
+
+  found_created : (i : InstructionId) (o : Option Instruction) → slice_get f.instructions i.0 ≡ o
+      → AllByRecursion P (created_by o)
+  found_created i None at = tt
+  found_created i (Some x) at = one_created i x at (created x.value) refl
+
+  listed_created : (is : List InstructionId) → AllByRecursion P (created_by_all f is)
+  listed_created [] = tt
+  listed_created (i ∷ is) = all_both P (created_by (slice_get f.instructions i.0)) (created_by_all f is)
+      (found_created i (slice_get f.instructions i.0) refl) (listed_created is)
+
+  blocks_created : (bs : List (BlockId × BasicBlock))
+      → AllByRecursion P (flat_map (λ (b : BlockId × BasicBlock). created_by_all f b.1.instructions) bs)
+  blocks_created [] = tt
+  blocks_created (b ∷ bs) = all_both P (created_by_all f b.1.instructions)
+      (flat_map (λ (b : BlockId × BasicBlock). created_by_all f b.1.instructions) bs)
+      (listed_created b.1.instructions) (blocks_created bs)
+
+  -- is so of those that are analysed
+  all_created : AllByRecursion P (created_functions f)
+  all_created = blocks_created f.body.blocks
 
 module _ (base : Environment) where
   abbrev ids_below : ℕ → FunctionId → List FunctionId
@@ -290,42 +336,11 @@ module _ (base : Environment) where
   abbrev ids_of : ℕ → FunctionId → List FunctionId
   ids_of n id = ids_below n id ++ id ∷ []
 
-  -- the function of a number goes so many levels down
-  abbrev IsDeep : ℕ → FunctionId → Type 0
-  IsDeep n id = function_within (is_within n base) (slice_get base.functions id.0) ≡ true
-
   deep_created : (n : ℕ) (f : HirFunction) → is_within (suc n) base f ≡ true → (i : InstructionId) (x : Instruction)
       → slice_get f.instructions i.0 ≡ Some x → created_within (is_within n base) base (created x.value) ≡ true
   unfolding is_within
   deep_created n f h i x e = all_at (λ (y : Instruction). created_within (is_within n base) base (created y.value))
       f.instructions i.0 x h e
-
-  deep_one : (n : ℕ) (o : Option FunctionId) → created_within (is_within n base) base o ≡ true
-      → AllByRecursion (IsDeep n) (one_of o)
-  deep_one n None h = tt
-  deep_one n (Some c) h = (h, tt)
-
-  deep_listed : (n : ℕ) (f : HirFunction) → is_within (suc n) base f ≡ true → (is : List InstructionId)
-      → AllByRecursion (IsDeep n) (created_by_all f is)
-  deep_listed n f h [] = tt
-  deep_listed n f h (i ∷ is) = all_both (IsDeep n) (created_by (slice_get f.instructions i.0)) (created_by_all f is)
-      (by_found (slice_get f.instructions i.0) refl) (deep_listed n f h is)
-    where
-      by_found : (o : Option Instruction) → slice_get f.instructions i.0 ≡ o → AllByRecursion (IsDeep n) (created_by o)
-      by_found None e = tt
-      by_found (Some x) e = deep_one n (created x.value) (deep_created n f h i x e)
-
-  -- those that a function creates go one level less far down
-  all_deep : (n : ℕ) (f : HirFunction) → is_within (suc n) base f ≡ true
-      → AllByRecursion (IsDeep n) (created_functions f)
-  all_deep n f h = in_blocks f.body.blocks
-    where
-      in_blocks : (bs : List (BlockId × BasicBlock))
-          → AllByRecursion (IsDeep n) (flat_map (λ (b : BlockId × BasicBlock). created_by_all f b.1.instructions) bs)
-      in_blocks [] = tt
-      in_blocks (b ∷ bs) = all_both (IsDeep n) (created_by_all f b.1.instructions)
-          (flat_map (λ (b : BlockId × BasicBlock). created_by_all f b.1.instructions) bs)
-          (deep_listed n f h b.1.instructions) (in_blocks bs)
 
   nothing_deep : (o : Option HirFunction) → function_within (is_within zero base) o ≡ true → o ≡ None
   unfolding is_within
@@ -362,29 +377,29 @@ module _ (base : Environment) where
     itself_waits : W id.0
     itself_waits = once.waits id.0 (let b = itself_once in omega arith)
 
-  module _ (fit : tables_fit base ≡ Ok tt)
-      (listed : (k : ℕ) (f : HirFunction) → slice_get base.functions k ≡ Some f → (j : ℕ) → 1 ≤ times (created_in f) j
-      → 1 ≤ times (numbers (created_functions f)) j) where
+  module _ (fit : tables_fit base ≡ Ok tt) (Own : ℕ → Type 0) where
     -- what the function creates isn't out while it is analysed
-    created_not_out : (n : ℕ) (k : ℕ) (f : HirFunction) (out : List ℕ) (W : ℕ → Type 0) → slice_get base.functions k
-        ≡ Some f → is_within (suc n) base f ≡ true → Once out W (innermost_first n base.functions (created_functions f))
-        → (i : InstructionId) (x : Instruction) (c : FunctionId) → slice_get f.instructions i.0 ≡ Some x
-        → created x.value ≡ Some c → (is_among out c.0 ≡ false) ⊎ (slice_get base.functions c.0 ≡ None)
-    created_not_out zero k f out W at deep once i x c found makes =
+    created_not_out : (n : ℕ) (f : HirFunction) (out : List ℕ) → is_within (suc n) base f ≡ true
+        → Tree base Own n out (created_in f) → (i : InstructionId) (x : Instruction) (c : FunctionId)
+        → slice_get f.instructions i.0 ≡ Some x → created x.value ≡ Some c
+        → (is_among out c.0 ≡ false) ⊎ (slice_get base.functions c.0 ≡ None)
+    created_not_out zero f out deep tree i x c found makes =
         inr (nothing_deep (slice_get base.functions c.0)
         (sym (ap (created_within (is_within zero base) base) makes) ∙ deep_created zero f deep i x found))
-    created_not_out (suc n) k f out W at deep once i x c found makes =
-        let there : 1 ≤ times (numbers (innermost_first (suc n) base.functions (created_functions f))) c.0 =
-        level_there base n f c.0 (listed k f at c.0 (created_there f.instructions i.0 x c found makes)) in
-        inl (not_twice out (numbers (innermost_first (suc n) base.functions (created_functions f))) c.0 (once.once c.0)
-        there)
+    created_not_out (suc n) f out deep tree i x c found makes =
+        let below : List ℕ = numbers_innermost_first (suc n) (created_at base) (created_in f) in
+        let level : times below c.0 ≡ times (created_in f) c.0
+        + times (numbers_innermost_first n (created_at base) (flat_map (created_at base) (created_in f))) c.0
+        = listed_level n (created_at base) (created_in f) c.0 in
+        let own : 1 ≤ times (created_in f) c.0 = created_there f.instructions i.0 x c found makes in
+        let there : 1 ≤ times below c.0 = omega arith in
+        inl (not_twice out below c.0 (tree.once c.0) there)
 
     -- over what a function's environment has become, more says of what the function names what the unit does
-    agrees_now : (n : ℕ) (k : ℕ) (f : HirFunction) (out : List ℕ) (V W : ℕ → Type 0) (env : Environment)
-        → slice_get base.functions k ≡ Some f → is_within (suc n) base f ≡ true
-        → Once out W (innermost_first n base.functions (created_functions f)) → Stands base out V env
+    agrees_now : (n : ℕ) (f : HirFunction) (out : List ℕ) (V : ℕ → Type 0) (env : Environment)
+        → is_within (suc n) base f ≡ true → Tree base Own n out (created_in f) → Stands base out V env
         → AgreesOn f base env
-    agrees_now n k f out V W env at deep once s =
+    agrees_now n f out V env deep tree s =
         record {
           agrees = agrees_kept base env fit s.tables;
           contexts = λ i x found. of_created i x found (created x.value) refl;
@@ -394,7 +409,7 @@ module _ (base : Environment) where
             → (o : Option FunctionId) → created x.value ≡ o → map number (created_places env o)
             ≡ map number (created_places base o)
         of_created i x found None e = refl
-        of_created i x found (Some c) e = elim (created_not_out n k f out W at deep once i x c found e) [
+        of_created i x found (Some c) e = elim (created_not_out n f out deep tree i x c found e) [
           | inl h ↦ s.contexts c.0 h
           | inr h ↦ ap context_numbers (same_none base.functions env.functions c.0 s.count h)
               ∙ sym (ap context_numbers h)
@@ -414,24 +429,25 @@ record Left (base : Environment) (id : FunctionId) (out : List ℕ) (W : ℕ →
   stands : Stands base (id.0 ∷ out) W t.1.env
 
 module _ (E : InferError → Type 0) (one : One) (base : Environment) (fit : tables_fit base ≡ Ok tt)
-    (faces : HaveFaces (length base.identifiers) base.functions)
-    (listed : (k : ℕ) (f : HirFunction) → slice_get base.functions k ≡ Some f → (j : ℕ) → 1 ≤ times (created_in f) j → 1
-    ≤ times (numbers (created_functions f)) j)
-    (turns : (id : FunctionId) (f g : HirFunction) (a : Analysis) → slice_get base.functions id.0 ≡ Some f
-    → but_context g ≡ but_context f → AgreesOn f base a.env → AreCallable a.env
+    (faces : HaveFaces (length base.identifiers) base.functions) (Own : ℕ → Type 0)
+    (turns : (id : FunctionId) (f g : HirFunction) (a : Analysis) → Own id.0
+    → slice_get base.functions id.0 ≡ Some f → but_context g ≡ but_context f → AgreesOn f base a.env → AreCallable a.env
     → HasPlaces (length a.env.identifiers) g → AllMeet E (Turned g a) (one id g a)) where
   abbrev AllStand : List ℕ → (ℕ → Type 0) → List FunctionId → Answers Analysis → Type 0
   AllStand out W ids answers = AllMeet E (λ (b : Analysis). Stands base out (After W ids) b.env) answers
 
   abbrev Goes : ℕ → Type 1
   Goes n = (f g : HirFunction) (out : List ℕ) (W : ℕ → Type 0) (a : Analysis) → but_context g ≡ but_context f
-      → is_within (suc n) base f ≡ true → Stands base out W a.env
+      → is_within (suc n) base f ≡ true → Tree base Own n out (created_in f) → Stands base out W a.env
       → Once out W (innermost_first n base.functions (created_functions f))
       → AllStand out W (innermost_first n base.functions (created_functions f)) (Below one n g a)
 
   module _ (n : ℕ) (goes : Goes n) (id : FunctionId) (out : List ℕ) (W : ℕ → Type 0)
-      (once : Once out W (ids_of base n id)) where
+      (once : Once out W (ids_of base n id)) (here : Branch base Own n out id) where
     module _ (g : HirFunction) (slot : InUnit base id.0 g) (deep : is_within (suc n) base slot.func ≡ true) where
+      below : Tree base Own n (id.0 ∷ out) (created_in slot.func)
+      below = subst (λ (o : Option HirFunction). Tree base Own n (id.0 ∷ out) (created_of o)) slot.at here.below
+
       same_order : innermost_first n base.functions (created_functions slot.func) ≡ ids_below base n id
       same_order = ap (λ (o : Option HirFunction). innermost_first n base.functions (created_by_slot o)) (sym slot.at)
 
@@ -444,13 +460,13 @@ module _ (E : InferError → Type 0) (one : One) (base : Environment) (fit : tab
       own_passes b s =
           let V : ℕ → Type 0 = After W (ids_below base n id) in
           let agrees : AgreesOn slot.func base b.env =
-          agrees_now base fit listed n id.0 slot.func (id.0 ∷ out) V W b.env slot.at deep once_slot s in
+          agrees_now base fit Own n slot.func (id.0 ∷ out) V b.env deep below s in
           let places : HasPlaces (length b.env.identifiers) g
           = places_alike (length base.identifiers) (length b.env.identifiers) slot.func g
           (in_slot slot.func g slot.same) s.tables.longer
           (found_face (length base.identifiers) base.functions id.0 slot.func slot.at faces).places in
           let turned : AllMeet E (Turned g b) (one id g b) =
-          turns id slot.func g b slot.at slot.same agrees (faces_callable b.env s.faces) places in
+          turns id slot.func g b here.own slot.at slot.same agrees (faces_callable b.env s.faces) places in
           λ r h. meets_on E (Turned g b) (Left base id out V) r
           (λ t k. record {
             contexts = k.own.context ∙ context_ids slot.func g slot.same ∙ sym (ap context_numbers slot.at);
@@ -464,41 +480,42 @@ module _ (E : InferError → Type 0) (one : One) (base : Environment) (fit : tab
           then_meets E (λ (b : Analysis). Stands base (id.0 ∷ out) (After W (ids_below base n id)) b.env)
           (Left base id out (After W (ids_below base n id))) (Below one n g a) (one id g)
           (subst (λ ids. AllStand (id.0 ∷ out) W ids (Below one n g a)) same_order
-          (goes slot.func g (id.0 ∷ out) W a slot.same deep s once_slot)) own_passes
+          (goes slot.func g (id.0 ∷ out) W a slot.same deep below s once_slot)) own_passes
 
-    found_goes : (a : Analysis) → IsDeep base (suc n) id → Stands base out W a.env → (o : Option HirFunction)
+    found_goes : (a : Analysis) → Stands base out W a.env → (o : Option HirFunction)
         → slice_get a.env.functions id.0 ≡ o → AllStand out W (ids_of base n id) (Found one (Below one n) id a o)
-    found_goes a deep s None e = only_meets E (λ (b : Analysis). Stands base out (After W (ids_of base n id)) b.env)
+    found_goes a s None e = only_meets E (λ (b : Analysis). Stands base out (After W (ids_of base n id)) b.env)
         (Ok a) (stands_fewer base out W (After W (ids_of base n id)) a.env (λ k h. h.0) s)
-    found_goes a deep s (Some g) e =
+    found_goes a s (Some g) e =
         let slot : InUnit base id.0 g = in_unit base id.0 g (slice_get base.functions id.0) refl
         (sym (ap (λ (o : Option HirFunction). option_map but_context o) e)
         ∙ s.waiting id.0 (not_out base n id out W once) (itself_waits base n id out W once)) in
-        let below : is_within (suc n) base slot.func ≡ true =
-        sym (ap (function_within (is_within (suc n) base)) slot.at) ∙ deep in
+        let deep : is_within (suc n) base slot.func ≡ true =
+        sym (ap (function_within (is_within (suc n) base)) slot.at) ∙ here.deep in
         let out_of : Analysis = record a { env = with_function id (emptied g.returns) a.env } in
         then_meets E (Left base id out (After W (ids_below base n id)))
         (λ (b : Analysis). Stands base out (After W (ids_of base n id)) b.env) (Taken one (Below one n) id g out_of)
         _
-        (taken_goes g slot below out_of (stands_out base id g out W a.env e s))
+        (taken_goes g slot deep out_of (stands_out base id g out W a.env e s))
         (λ t h. only_meets E (λ (b : Analysis). Stands base out (After W (ids_of base n id)) b.env) (Ok (put_back id t))
         (stands_fewer base out (λ k. After W (ids_below base n id) k × (nat_eq k id.0 ≡ false))
         (After W (ids_of base n id)) (with_function id t.0 t.1.env) (fewer_after base n id out W once)
         (stands_back base id t.0 out (After W (ids_below base n id)) t.1.env
         (found_below base.functions id.0 slot.func slot.at) h.contexts h.face h.stands)))
 
-  each_goes : (n : ℕ) → Goes n → (ids : List FunctionId) → AllByRecursion (IsDeep base (suc n)) ids
-      → (out : List ℕ) (W : ℕ → Type 0) (a : Analysis) → Stands base out W a.env
+  each_goes : (n : ℕ) → Goes n → (ids : List FunctionId) (out : List ℕ)
+      → AllByRecursion (Branch base Own n out) ids → (W : ℕ → Type 0) (a : Analysis) → Stands base out W a.env
       → Once out W (flat_map (ids_of base n) ids)
       → AllStand out W (flat_map (ids_of base n) ids) (Each (InSlot one (Below one n)) ids a)
-  each_goes n goes [] deep out W a s once =
+  each_goes n goes [] out branches W a s once =
       only_meets E (λ (b : Analysis). Stands base out (After W []) b.env) (Ok a)
       (stands_fewer base out W (After W []) a.env (λ k h. h.0) s)
-  each_goes n goes (id ∷ ids) deep out W a s once =
+  each_goes n goes (id ∷ ids) out branches W a s once =
       then_meets E (λ (b : Analysis). Stands base out (After W (ids_of base n id)) b.env)
       (λ (b : Analysis). Stands base out (After W (flat_map (ids_of base n) (id ∷ ids))) b.env)
       (InSlot one (Below one n) id a) (Each (InSlot one (Below one n)) ids)
-      (found_goes n goes id out W (once_first out W (ids_of base n id) (flat_map (ids_of base n) ids) once) a deep.0 s
+      (found_goes n goes id out W (once_first out W (ids_of base n id) (flat_map (ids_of base n) ids) once) branches.0
+      a s
       (slice_get a.env.functions id.0) refl)
       (λ b t r h. meets_on E (λ (c : Analysis).
       Stands base out (After (After W (ids_of base n id)) (flat_map (ids_of base n) ids)) c.env)
@@ -506,17 +523,22 @@ module _ (E : InferError → Type 0) (one : One) (base : Environment) (fit : tab
       (λ c k. stands_fewer base out (After (After W (ids_of base n id)) (flat_map (ids_of base n) ids))
       (After W (flat_map (ids_of base n) (id ∷ ids))) c.env
       (λ j l. let p = among_append (ids_of base n id) (flat_map (ids_of base n) ids) j l.1 in ((l.0, p.0), p.1)) k)
-      (each_goes n goes ids deep.1 out (After W (ids_of base n id)) b t
+      (each_goes n goes ids out branches.1 (After W (ids_of base n id)) b t
       (once_rest out W (ids_of base n id) (flat_map (ids_of base n) ids) once) r h))
 
   -- the analysis of the functions on n levels
   pub goes : (n : ℕ) → Goes n
   unfolding Below innermost_first
-  goes zero f g out W a same deep s once =
+  goes zero f g out W a same deep tree s once =
       only_meets E (λ (b : Analysis). Stands base out (After W []) b.env) (Ok a)
       (stands_fewer base out W (After W []) a.env (λ k h. h.0) s)
-  goes (suc n) f g out W a same deep s once =
+  goes (suc n) f g out W a same deep tree s once =
+      let branches : AllByRecursion (Branch base Own n out) (created_functions f) =
+      all_created (Branch base Own n out) f (λ i x c at makes.
+      branch_of base Own n out (created_in f) c tree
+      (sym (ap (created_within (is_within (suc n) base) base) makes) ∙ deep_created base (suc n) f deep i x at)
+      (created_there f.instructions i.0 x c at makes)) in
       let same_created : created_functions f ≡ created_functions g = sym (ap created_functions same) in
       subst (λ ids. AllStand out W (flat_map (ids_of base n) (created_functions f))
       (Each (InSlot one (Below one n)) ids a)) same_created
-      (each_goes n (goes n) (created_functions f) (all_deep base (suc n) f deep) out W a s once)
+      (each_goes n (goes n) (created_functions f) out branches W a s once)
