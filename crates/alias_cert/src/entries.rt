@@ -5,7 +5,7 @@ use alias_effects::BlockEntry;
 use alias_lattice::Lattice;
 
 /// Tells the prover that all entry states are proper. Does nothing.
-pub(crate) fn entries_known(entries: &[BlockEntry])
+pub fn entries_known(entries: &[BlockEntry])
     ensures { AreKnown entries.now }
 {
     for entry in entries {

@@ -4,8 +4,8 @@
 pub mod claims;
 mod entries;
 pub mod function;
-mod lines;
-mod temporaries;
+pub mod lines;
+pub mod temporaries;
 
 pub use crate::function::claims::Difference;
 pub use crate::function::function::check_function_certificate;

@@ -18,7 +18,7 @@ use alias_ranges::infer_mutation_aliasing_ranges;
 use std::alloc::Global;
 
 /// Whether the names are the same.
-fn same_name(first: Option<FunctionId>, second: Option<FunctionId>) -> bool
+pub fn same_name(first: Option<FunctionId>, second: Option<FunctionId>) -> bool
     ensures { result ≡ same_name first second }
 {
     match (first, second) {

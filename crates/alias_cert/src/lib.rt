@@ -4,10 +4,10 @@
 
 pub mod check;
 pub mod effects;
-mod entries;
+pub mod entries;
 pub mod function;
-mod functions;
+pub mod functions;
 mod nested;
-mod summaries;
+pub mod summaries;
 
 pub use check::{Accepted, check_certificate};

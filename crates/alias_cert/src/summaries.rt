@@ -13,7 +13,7 @@ use alias_hir::hir::HirFunction;
 use std::alloc::Global;
 
 /// Why the range pass gives no summary.
-pub(crate) fn range_fault(function: Option<FunctionId>, error: InferError) -> CheckFault
+pub fn range_fault(function: Option<FunctionId>, error: InferError) -> CheckFault
     ensures { result ≡ range_fault function error }
 {
     match error {

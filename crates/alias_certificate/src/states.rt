@@ -1,13 +1,14 @@
 //! The entry state that a certificate says of a block.
 ghost use Rattle.std.specs.Prelude.{◌≡◌, nat_lt, [], Some, None, IfOk, OnOk, if◌then◌else◌};
 ghost use Rattle.std.specs.List.{list_all};
-ghost use Rattle.alias_lattice.specs.States.{defined_as};
+ghost use Rattle.alias_lattice.specs.States.{defined_as, state_join};
+ghost use Rattle.alias_certificate.specs.states.Raised.{values_raised, variables_raised, raised_state};
 ghost use Rattle.alias_certificate.specs.states.States.{is_site_there, with_values, with_sites, is_full, are_valued, is_variable_there, with_variables, stated_state};
 
 use crate::created::CreatedFunctions;
 use crate::{CertBlock, CertValue, CertVariable};
 use alias_base::IdentifierId;
-use alias_lattice::{InferenceState, Site, SiteSet};
+use alias_lattice::{InferenceState, Lattice, Site, SiteSet};
 use std::alloc::{AllocError, Global};
 
 fn is_below(identifier: IdentifierId, identifiers: usize) -> bool
@@ -113,6 +114,64 @@ pub fn stated_state(
     let variables = block.variables.as_slice();
     if define_variables(alloc, identifiers, &mut state, variables)? {
         Ok(Some(state))
+    } else {
+        Ok(None)
+    }
+}
+
+/// Joins the values in: that of each site, or the line's where the site has none.
+fn raise_values(
+    alloc: Global,
+    state: &mut InferenceState,
+    values: &[CertValue],
+) -> Result<(), AllocError>
+    ensures { OnOk result (state.new ≡ values_raised values.now state.old) }
+{
+    let mut said = InferenceState::empty(alloc);
+    give_values(&mut said, values)?;
+    state.merge_from(&said)?;
+    Ok(())
+}
+
+/// Gives the identifiers the sites besides their own, and answers whether all that they name is there.
+fn raise_variables(
+    alloc: Global,
+    identifiers: usize,
+    state: &mut InferenceState,
+    variables: &[CertVariable],
+) -> Result<bool, AllocError>
+    ensures { IfOk result (λ there. variables_raised identifiers variables.now state.old ≡ (if there then Some state.new else None)) }
+{
+    let mut said = state.try_clone()?;
+    if !define_variables(alloc, identifiers, &mut said, variables)? {
+        return Ok(false);
+    }
+    state.merge_from(&said)?;
+    Ok(true)
+}
+
+/// The state that the block's lines raise the given one to, which is above it: the values of their sites are joined with
+/// its own, and its identifiers have their sites besides. `None` where they name what isn't there: an identifier that isn't
+/// below `identifiers`, a function that isn't one of those created, no site of an identifier, or a site that has no value
+/// then. The one error is out of memory.
+pub fn raised_state(
+    alloc: Global,
+    identifiers: usize,
+    created: &CreatedFunctions,
+    block: &CertBlock,
+    state: InferenceState,
+) -> Result<Option<InferenceState>, AllocError>
+    ensures { IfOk result (λ raised. raised ≡ raised_state identifiers created.now block.now state) }
+{
+    let values = block.values.as_slice();
+    if !are_sites_there(identifiers, created, values) {
+        return Ok(None);
+    }
+    let mut raised = state;
+    raise_values(alloc, &mut raised, values)?;
+    let variables = block.variables.as_slice();
+    if raise_variables(alloc, identifiers, &mut raised, variables)? {
+        Ok(Some(raised))
     } else {
         Ok(None)
     }

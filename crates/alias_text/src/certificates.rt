@@ -115,7 +115,8 @@ fn push_reasons(out: &mut Text, reasons: ReasonSet) -> Result<(), AllocError>
     }
 }
 
-fn push_value_line(out: &mut Text, site: Site, value: AbstractValue) -> Result<(), AllocError>
+/// Appends the line of a site's value. An `Err` is out of memory: `out` may then hold a part of it.
+pub fn push_value_line(out: &mut Text, site: Site, value: AbstractValue) -> Result<(), AllocError>
     ensures text { OnOk result (out.new ≡ out.old ++ value_line (site, value)) }
     ensures fits { OnOk result (FittingValue (site, value)) }
 {
@@ -143,7 +144,8 @@ fn push_values(out: &mut Text, state: &InferenceState) -> Result<(), AllocError>
     Ok(())
 }
 
-fn push_spaced_site(out: &mut Text, site: Site) -> Result<(), AllocError>
+/// Appends a blank and a site. An `Err` is out of memory: `out` may then hold a part of it.
+pub fn push_spaced_site(out: &mut Text, site: Site) -> Result<(), AllocError>
     ensures text { OnOk result (out.new ≡ out.old ++ spaced_site site) }
     ensures fits { OnOk result (SmallSite site) }
 {
@@ -281,7 +283,8 @@ fn push_temporary_line(
     out.push_str("\n")
 }
 
-fn push_temporaries(
+/// Appends a line for each temporary. An `Err` is out of memory: `out` may then hold a part of it.
+pub fn push_temporaries(
     alloc: Global,
     out: &mut Text,
     temporaries: &[Temporary],

@@ -1,7 +1,7 @@
 //! What is inferred of a unit, as text.
 #![tactic(auto)]
 
-mod certificates;
+pub mod certificates;
 mod counts;
 pub mod detail;
 pub mod effects;

@@ -23,7 +23,7 @@ use alias_lattice::InferenceState;
 use std::alloc::{AllocError, Global};
 
 /// The function of the unit with this number, which is the root at `None`.
-fn function_of(unit: &Unit, function: Option<FunctionId>) -> Option<&HirFunction>
+pub fn function_of(unit: &Unit, function: Option<FunctionId>) -> Option<&HirFunction>
     ensures { option_copied result ≡ function_of unit.now function }
 {
     match function {

@@ -38,7 +38,7 @@ use alias_tables::Refusal;
 use std::alloc::{AllocError, Global};
 
 /// The positions that are marked.
-fn marked_positions(alloc: Global, marks: &[bool]) -> Result<List<u32>, AllocError>
+pub fn marked_positions(alloc: Global, marks: &[bool]) -> Result<List<u32>, AllocError>
     requires { length marks.now < 2 ^ 32 }
     ensures { IfOk result (λ positions. positions ≡ marked_positions 0 marks.now) }
 {
@@ -62,7 +62,7 @@ fn named(function: Option<FunctionId>, error: InferError) -> InferError
 }
 
 /// Why the step of the block is refused.
-fn step_fault(
+pub fn step_fault(
     alloc: Global,
     function: Option<FunctionId>,
     env: &Environment,

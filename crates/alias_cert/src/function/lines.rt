@@ -41,7 +41,7 @@ fn marked_count(marks: &[bool]) -> usize
 }
 
 /// The name of the block at a position.
-pub(crate) fn block_at(blocks: &BlockMap<BasicBlock>, position: usize) -> BlockId
+pub fn block_at(blocks: &BlockMap<BasicBlock>, position: usize) -> BlockId
     ensures { result ≡ block_at blocks.now position }
 {
     match blocks.get_index(position) {

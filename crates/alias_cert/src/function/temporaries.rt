@@ -65,7 +65,7 @@ fn state_temporary(
 }
 
 /// The flow gets the temporaries, one after the other.
-pub(crate) fn state_temporaries(
+pub fn state_temporaries(
     alloc: Global,
     function: Option<FunctionId>,
     env: &Environment,

@@ -1,0 +1,4 @@
+pub mod Passing
+pub mod Edges
+pub mod Arrivals
+pub mod Solves

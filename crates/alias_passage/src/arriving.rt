@@ -1,0 +1,73 @@
+//! What arrives at blocks, and what stands there.
+ghost use Rattle.std.specs.Prelude.{◌≡◌, ◌<◌, OnOk, length};
+ghost use Rattle.std.specs.List.{AllByRecursion};
+ghost use Rattle.alias_flow.specs.Machine.{send, send_all};
+ghost use Rattle.alias_flow.specs.check.Checks.{is_below_entry, first_not_above};
+ghost use Rattle.alias_passage.specs.Passes.{forward_edges, back_edges};
+
+use alias_lattice::Lattice;
+use std::alloc::AllocError;
+
+/// A copy of the state arrives at the block.
+pub(crate) fn arrive<S: Lattice + Drop>(
+    arriving: &mut [Option<S>],
+    state: &S,
+    block: u32,
+) -> Result<(), AllocError>
+    requires { block < length arriving.old }
+    ensures { OnOk result (arriving.new ≡ send S.join state.now arriving.old block) }
+{
+    match &mut arriving[block as usize] {
+        Some(old) => {
+            old.join_from(state)?;
+        }
+        none => *none = Some(state.try_clone()?),
+    }
+    Ok(())
+}
+
+/// Copies of the state arrive over those edges of the block that go forward.
+pub(crate) fn arrive_forward<S: Lattice + Drop>(
+    arriving: &mut [Option<S>],
+    state: &S,
+    block: u32,
+    edges: &[u32],
+) -> Result<(), AllocError>
+    requires { AllByRecursion (λ e. e < length arriving.old) edges.now }
+    ensures { OnOk result (arriving.new ≡ send_all S.join state.now arriving.old (forward_edges block edges.now)) }
+{
+    for edge in edges {
+        if block < *edge {
+            arrive(arriving, state, *edge)?;
+        }
+    }
+    Ok(())
+}
+
+/// Whether the block has an entry state that the state is below.
+fn is_below_entry<S: Lattice + Drop>(entries: &[Option<S>], state: &S, block: u32) -> bool
+    ensures { result ≡ is_below_entry S.below entries.now state.now block }
+{
+    match entries.get(block as usize) {
+        Some(Some(entry)) => state.is_below(entry),
+        _ => false,
+    }
+}
+
+/// The first of the blocks that edges of the block go back to, whose entry state the state isn't below.
+pub(crate) fn first_not_above<S: Lattice + Drop>(
+    entries: &[Option<S>],
+    state: &S,
+    block: u32,
+    edges: &[u32],
+) -> Option<u32>
+    ensures { result ≡ first_not_above S.below entries.now state.now (back_edges block edges.now) }
+{
+    for edge in edges {
+        let is_back = *edge <= block;
+        if is_back && !is_below_entry(entries, state, *edge) {
+            return Some(*edge);
+        }
+    }
+    None
+}
