@@ -24,7 +24,10 @@ function clear() {
 
 function copy() {
   const missing = Object.values(FROM).find(from => !fs.existsSync(path.join(TOP, from)));
-  if (missing) throw new Error(`${missing} isn't there: hosts/build makes it`);
+  if (missing) {
+    console.error(`eslint-plugin: ${missing} isn't there: hosts/build makes it`);
+    process.exit(1);
+  }
   fs.copyFileSync(path.join(TOP, 'LICENSE'), LICENSE);
   for (const [to, from] of Object.entries(FROM)) fs.cpSync(path.join(TOP, from), path.join(VENDOR, to), {recursive: true});
 }

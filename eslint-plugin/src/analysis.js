@@ -9,7 +9,7 @@
 const path = require('path');
 const {FRONTEND} = require('./parts.js');
 const {lint} = require('./inference.js');
-const {unitsOfProgram, reports, sourceMap, Positions} = require(path.join(FRONTEND, 'index.js'));
+const {unitsOfProgram, isIncompatible, reports, sourceMap, Positions} = require(path.join(FRONTEND, 'index.js'));
 
 /** Categories of this plugin's own: what isn't analysed, and a call by which a function can't be. */
 const UNSUPPORTED = 'Unsupported';
@@ -17,6 +17,9 @@ const INCOMPATIBLE = 'IncompatibleLibrary';
 
 /** @type {WeakMap<object, Array<Found>>} */
 const known = new WeakMap();
+
+/** Files of which it is told what isn't analysed. @type {WeakSet<object>} */
+const wanted = new WeakSet();
 
 /** @param {{line: number, column: number, endLine: number, endColumn: number}} range counted from 1 */
 const locOf = ({line, column, endLine, endColumn}) => ({start: {line, column: column - 1}, end: {line: endLine, column: endColumn - 1}});
@@ -35,9 +38,9 @@ function messageOf({message, help, labels}) {
 }
 
 /** What the inference refuses, at the instruction that its line names, or at the function. */
-function refusalOf(text, made, positions) {
+function refusalOf(text, unit, positions) {
   const line = text.trim();
-  const map = sourceMap(made.unit, positions);
+  const map = sourceMap(unit, positions);
   const [, cause, fn, number] = /^refused (\w+)(?: (root|\d+))?(?: (\d+))?/.exec(line) || [];
   const named = map.functions[fn === undefined || fn === 'root' ? map.functions.length - 1 : Number(fn)] || map.functions[map.functions.length - 1];
   const instruction = cause === 'IncompatibleLibrary' || cause === 'SpreadArgument' ? named.instructions[Number(number)] : null;
@@ -48,12 +51,13 @@ function refusalOf(text, made, positions) {
   return {category: UNSUPPORTED, loc, message: `This function isn't analysed: ${line}.`};
 }
 
-/** @param {object} made @param {{status: number, text: string}} answer @returns {Array<Found>} */
-function foundIn(made, {status, text}, positions) {
-  if (status !== 0) return [refusalOf(text, made, positions)];
+/** @param {Buffer} bytes of a unit @param {{status: number, text: string}} answer @returns {Array<Found>} */
+function foundIn(bytes, {status, text}, positions) {
+  if (status === 0 && !text.startsWith('lint ')) return [];
+  const unit = JSON.parse(bytes.toString());
+  if (status !== 0) return [refusalOf(text, unit, positions)];
   const lines = text.split('\n').filter(line => line.startsWith('lint '));
-  if (lines.length === 0) return [];
-  return reports(lines, made.unit, positions).map(report => ({category: report.category, message: messageOf(report), loc: locOf(report.range)}));
+  return reports(lines, unit, positions).map(report => ({category: report.category, message: messageOf(report), loc: locOf(report.range)}));
 }
 
 /** A function within one that has a unit of its own too may be told of twice. @param {Array<Found>} found */
@@ -65,21 +69,41 @@ function once(found) {
   });
 }
 
-/** @param {{ast: object, text: string}} sourceCode @returns {Array<Found>} */
-function analysed({ast, text}) {
+/**
+ * Whether a function that is no component and no hook may have a report besides that it isn't analysed. Its unit's root
+ * only makes it, and of a function that is only made none is reported; but one that calls what is incompatible is refused.
+ * @param {any} ast
+ */
+const mayReportOthers = ast => ast.body.some(s => s.type === 'ImportDeclaration' && isIncompatible(s.source.value));
+
+/** @param {{ast: object, text: string}} sourceCode @param {boolean} isAll @returns {Array<Found>} */
+function analysed({ast, text}, isAll) {
   let made;
   try {
-    made = unitsOfProgram(ast, text, {offsets: 'utf16', config: {validate_no_impure_functions_in_render: true}});
+    const others = isAll || mayReportOthers(ast) ? 'nested' : 'none';
+    made = unitsOfProgram(ast, text, {offsets: 'utf16', as: 'bytes', others, config: {validate_no_impure_functions_in_render: true}});
   } catch (error) {
     if (!(error instanceof SyntaxError)) throw error;
     return [{category: UNSUPPORTED, message: `This file isn't analysed: ${sentence(error.message)}`, loc: {start: {line: 1, column: 0}}}];
   }
-  const positions = new Positions(text, 'utf16');
   const refused = made.filter(one => one.refused).map(({refused: {line, column, reason}}) => (
     {category: UNSUPPORTED, message: `This function isn't analysed: ${sentence(reason)}`, loc: {start: {line, column: column - 1}}}));
-  const whole = made.filter(one => one.unit);
-  const answers = lint(whole.map(one => one.unit));
-  return once([...refused, ...whole.flatMap((one, i) => foundIn(one, answers[i], positions))]);
+  const units = made.filter(one => one.unit).map(one => one.unit);
+  if (units.length === 0) return refused;
+  const positions = new Positions(text, 'utf16');
+  const answers = lint(units);
+  return once([...refused, ...units.flatMap((unit, i) => foundIn(unit, answers[i], positions))]);
+}
+
+/**
+ * Asks for all functions of a file, so that each that isn't analysed is told of. Else they are those of which there may
+ * be another report. ESLint makes all rules of a file before it asks any of them.
+ * @param {object} sourceCode
+ */
+function wantAll(sourceCode) {
+  if (wanted.has(sourceCode)) return;
+  wanted.add(sourceCode);
+  known.delete(sourceCode);
 }
 
 /**
@@ -90,10 +114,10 @@ function analysed({ast, text}) {
 function analysis(sourceCode) {
   let found = known.get(sourceCode);
   if (!found) {
-    found = analysed(sourceCode);
+    found = analysed(sourceCode, wanted.has(sourceCode));
     known.set(sourceCode, found);
   }
   return found;
 }
 
-module.exports = {analysis, UNSUPPORTED, INCOMPATIBLE};
+module.exports = {analysis, wantAll, UNSUPPORTED, INCOMPATIBLE};

@@ -1,6 +1,6 @@
 'use strict';
 /** The rules: one for each category of reports, named as the React Compiler's rules for ESLint are. */
-const {analysis, UNSUPPORTED, INCOMPATIBLE} = require('./analysis.js');
+const {analysis, wantAll, UNSUPPORTED, INCOMPATIBLE} = require('./analysis.js');
 
 /** @type {Record<string, {category: string, description: string, isRecommended: boolean}>} */
 const RULES = {
@@ -19,6 +19,7 @@ function ruleOf({category, description, isRecommended}) {
     /** @param {any} context */
     create(context) {
       const sourceCode = context.sourceCode || context.getSourceCode();
+      if (category === UNSUPPORTED) wantAll(sourceCode);
       return {
         Program() {
           for (const {category: own, message, loc} of analysis(sourceCode)) {

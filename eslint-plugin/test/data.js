@@ -8,6 +8,18 @@ process.env.NODE_PATH = [process.env.NODE_PATH, '/usr/share/nodejs'].filter(Bool
 /** @type {any} */ (Module)._initPaths();
 const {ADDON} = require('../src/parts.js');
 
+// Debian's @babel/eslint-parser asks for the classes of eslint-scope under a name that no package of Debian has.
+const LACKING = '@nicolo-ribaudo/eslint-scope-5-internals';
+const {_resolveFilename: find} = /** @type {any} */ (Module);
+/** @type {any} */ (Module)._resolveFilename = (name, ...more) => {
+  try {
+    return find(name, ...more);
+  } catch (error) {
+    if (name !== LACKING) throw error;
+    return find('eslint-scope', ...more);
+  }
+};
+
 /** A module that may not be there. @returns {any} */
 function given(name) {
   try {

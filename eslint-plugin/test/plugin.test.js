@@ -3,7 +3,8 @@
 const test = require('node:test');
 const assert = require('node:assert');
 const {eslint, skip, plugin, PARSER_OPTIONS, linterOf, messages, given: parser} = require('./data.js');
-const {analysis} = skip ? {analysis: null} : require('../src/analysis.js');
+const {analysis, wantAll} = require('../src/analysis.js');
+const {parse} = require('../../frontend/src/parse.js');
 const {lint} = require('../src/inference.js');
 
 const PROPS = 'function C(props) {\n  props.n = 1;\n  return <b>{props.n}</b>;\n}\n';
@@ -60,6 +61,31 @@ test('what isn\'t analysed is told by `report-unsupported` alone', {skip}, () =>
   assert.deepStrictEqual(messages(text).map(m => m.line), [3]);
   const found = messages(text, {'jirrambeo/report-unsupported': 'warn'});
   assert.deepStrictEqual(found.map(m => [m.line, m.message]), [[1, 'This function isn\'t analysed: a generator.']]);
+});
+
+test('a file without components and hooks is passed over, whatever it has, unless all is asked for', {skip: parser('@babel/parser') ? false : 'the parser is not there'}, () => {
+  const text = 'import {useTable} from "table";\nfunction* g() {}\nfunction help(a) { useState(a).x = 1; outer = Math.random(); }\n';
+  const sourceCode = {ast: parse(text).program, text};
+  assert.deepStrictEqual(analysis(sourceCode), []);
+  const generator = {ast: parse('function* g() {}').program, text: 'function* g() {}'};
+  assert.deepStrictEqual(analysis(generator), []);
+  wantAll(generator);
+  wantAll(generator);
+  assert.deepStrictEqual(analysis(generator).map(one => one.message), ['This function isn\'t analysed: a generator.']);
+  assert.strictEqual(analysis(generator), analysis(generator));
+});
+
+test('a function that calls what can\'t be memoized is told of, though it is no component', {skip}, () => {
+  const text = 'import {useReactTable} from "@tanstack/react-table";\nfunction help(x) {\n  return useReactTable(x);\n}\n';
+  assert.deepStrictEqual(messages(text).map(one => [one.ruleId, one.line]), [['jirrambeo/incompatible-library', 3]]);
+});
+
+test('`report-unsupported` tells of all functions, whichever rule is asked first', {skip}, () => {
+  const levels = plugin.configs.recommended.rules;
+  const text = `function* g() { yield 1; }\n${PROPS}`;
+  for (const rules of [{...levels, 'jirrambeo/report-unsupported': 'warn'}, {'jirrambeo/report-unsupported': 'warn', ...levels}]) {
+    assert.deepStrictEqual(messages(text, rules).map(one => [one.ruleId, one.line]), [['jirrambeo/report-unsupported', 1], ['jirrambeo/immutability', 3]]);
+  }
 });
 
 test('a file that doesn\'t parse has ESLint\'s own report', {skip}, () => {

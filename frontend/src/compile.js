@@ -5,7 +5,26 @@ const {enterSSA} = require('./enterSSA.js');
 const {eliminateRedundantPhi} = require('./eliminateRedundantPhi.js');
 const {inferTypes} = require('./inferTypes.js');
 const {optimizePropsMethodCalls} = require('./optimizePropsMethodCalls.js');
-const {emit, wrapped} = require('./unit.js');
+const {makeIdent} = require('./HIR.js');
+const {emit} = require('./unit.js');
+
+/**
+ * A function that only makes the given one, and returns it. As a nested function its parameters may be
+ * anything that callers hand in, where a root's are taken to be frozen: so for functions that are no
+ * component and no hook.
+ * @param {import('./HIR.js').Fn} fn
+ * @returns {import('./HIR.js').Fn}
+ */
+function wrapped(fn) {
+  const {start, end} = fn;
+  const place = () => ({ident: makeIdent(start, end), start, end});
+  const made = place();
+  const block = {id: 0, phis: [], preds: new Set(), instructions: [
+    {lvalue: made, value: {kind: 'FunctionExpression', fn: {...fn, kind: 'Other'}}, start, end},
+  ], terminal: {kind: 'Return', value: made, start, end}};
+  return {kind: 'Other', name: null, params: [], context: [], returns: place(), isAsync: false, entry: 0,
+    blocks: new Map([[0, block]]), start, end};
+}
 
 /**
  * @param {import('./scope.js').Names} names

@@ -34,14 +34,16 @@ function onlyOperand(phi, now) {
 function redundant(blocks) {
   /** @type {Map<Ident, Ident>} */
   const versions = new Map();
+  /** @param {Ident} ident */
   const now = ident => {
     let x = ident;
-    while (versions.has(x)) x = versions.get(x);
+    for (let next = versions.get(x); next; next = versions.get(x)) x = next;
     return x;
   };
+  const withPhis = blocks.filter(block => block.phis.length > 0);
   for (let changed = true; changed;) {
     changed = false;
-    for (const block of blocks) {
+    for (const block of withPhis) {
       block.phis = block.phis.filter(phi => {
         const same = onlyOperand(phi, now);
         if (same === null) return true;
@@ -62,10 +64,14 @@ function eliminateRedundantPhi(fn, unknown) {
   const blocks = allBlocks(fn);
   const {now, isAny} = redundant(blocks);
   if (!isAny && unknown.size === 0) return;
-  const renamed = ({ident, start, end}) => ({ident: now(ident), start, end});
+  const renamed = place => {
+    if (place.ident.once) return place;
+    const ident = now(place.ident);
+    return ident === place.ident ? place : {ident, start: place.start, end: place.end};
+  };
   const read = place => {
     const known = renamed(place);
-    if (unknown.has(known.ident)) throw new Refused('a use before the declaration', place, known.ident.name);
+    if (unknown.size > 0 && unknown.has(known.ident)) throw new Refused('a use before the declaration', place, known.ident.name);
     return known;
   };
   for (const block of blocks) {

@@ -25,8 +25,11 @@ function copied(node) {
   const changed = [];
   for (const key in node) {
     const value = node[key];
-    if (value === null || typeof value !== 'object' || LEFT_OUT.has(key)) continue;
-    const now = Array.isArray(value) ? allTurned(value) : turned(value);
+    if (value === null || typeof value !== 'object') continue;
+    const isList = Array.isArray(value);
+    if (isList ? value.length === 0 || typeof value[0] === 'number' : typeof value.type !== 'string') continue; // as `range` and `loc`
+    if (LEFT_OUT.has(key)) continue;
+    const now = isList ? allTurned(value) : turned(value);
     if (now !== value) changed.push(key, now);
   }
   if (changed.length === 0 && typeof node.start === 'number' && !RENAMED[node.type]) return node;

@@ -12,7 +12,7 @@
  * @property {?string} name
  * @property {'component'|'hook'|'other'} kind
  * @property {Position} at of its beginning
- * @property {object} [unit] where it was lowered
+ * @property {any} [unit] where it was lowered: an object, or with `as` its JSON
  * @property {{reason: string, message: string} & Position} [refused] where it wasn't, and why
  */
 const {parse} = require('./parse.js');
@@ -20,6 +20,7 @@ const {fromESTree, isESTree} = require('./fromESTree.js');
 const {resolveNames} = require('./scope.js');
 const {markInlined} = require('./sharing.js');
 const {memoName} = require('./lower/memo.js');
+const {isIncompatible} = require('./ObjectShape.js');
 const {findFunctions} = require('./findFunctions.js');
 const {compile, emit} = require('./compile.js');
 const {children} = require('./syntax.js');
@@ -30,13 +31,15 @@ const {Positions} = require('./positions.js');
  * @typedef {object} Options
  * @property {string} [filename] its ending says which language it is
  * @property {'utf16'|'bytes'} [offsets] what spans count; as the React Compiler's, bytes
- * @property {'nested'|'root'} [others] functions that are no component and no hook stand below a root that
+ * @property {'nested'|'root'|'none'} [others] functions that are no component and no hook stand below a root that
  *   makes them (the default): their parameters, and `this` as the last one, are whatever callers hand in. As
- *   roots their parameters are taken to be frozen, as the React Compiler's mode `all` has it
+ *   roots their parameters are taken to be frozen, as the React Compiler's mode `all` has it. With `none` they
+ *   are left out, and components and hooks in them are there alone
  * @property {boolean} [dropMemo] whether useMemo and useCallback become what they do, between memo markers; they do
  *   unless it is false
  * @property {boolean} [compiler] the React Compiler's own way of lowering, where this front end has a better one
  * @property {object} [config] of the unit
+ * @property {'bytes'} [as] units are Buffers of their JSON, which is faster where they are only handed on
  */
 
 /**
@@ -87,12 +90,15 @@ function guarded(ast, run) {
 function unitsOfProgram(ast, text, options = {}) {
   const {names, functions} = guarded(ast, () => functionsOf(isESTree(ast) ? fromESTree(ast) : ast.type === 'File' ? ast : {program: ast}, options));
   const positions = new Positions(text, options.offsets);
-  return functions.map(({func, name, kind}) => {
+  const offset = positions.toOffset();
+  const wanted = options.others === 'none' ? functions.filter(({kind}) => kind !== 'Other') : functions;
+  return wanted.map(({func, name, kind}) => {
     /** @type {Made} */
     const made = {name, kind: /** @type {Made['kind']} */ (kind.toLowerCase()), at: positions.position(func.node.start)};
     try {
       const {root} = compile(names, func, kind, options);
-      made.unit = emit(root, {config: options.config, compiler: options.compiler, offset: i => positions.offset(i)});
+      const bytes = emit(root, {config: options.config, compiler: options.compiler, offset});
+      made.unit = options.as === 'bytes' ? bytes : JSON.parse(bytes.toString());
     } catch (given) {
       const error = given instanceof RangeError ? new Refused('it is nested too deeply', deepest(func.node)) : given;
       if (!(error instanceof Refused)) throw error;
@@ -102,4 +108,4 @@ function unitsOfProgram(ast, text, options = {}) {
   });
 }
 
-module.exports = {unitsOf, unitsOfProgram, functionsOf, Refused, Positions, ...require('./sourcemap.js')};
+module.exports = {unitsOf, unitsOfProgram, functionsOf, isIncompatible, Refused, Positions, ...require('./sourcemap.js')};

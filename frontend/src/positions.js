@@ -40,6 +40,14 @@ class Positions {
     return this.before + (this.isBytes && !this.isAscii ? this.bytes()[index] : index);
   }
 
+  /** What `offset` does, for one who asks it of many. @returns {(index: number) => number} */
+  toOffset() {
+    const {before} = this;
+    if (!this.isBytes || this.isAscii) return before === 0 ? index => index : index => before + index;
+    const table = this.bytes();
+    return index => before + table[index];
+  }
+
   /** From an offset back to an index. @param {number} offset */
   index(offset) {
     const rest = Math.max(0, offset - this.before);

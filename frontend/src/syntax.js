@@ -20,19 +20,31 @@ const PLAIN_CASTS = new Set(['TSNonNullExpression', 'TSInstantiationExpression',
 const isNode = x => x !== null && typeof x === 'object' && typeof x.type === 'string';
 /** @param {Node} node */
 const isFunction = node => FUNCTIONS.has(node.type);
+/** @type {Map<string, boolean>} what is known of types of nodes, which are few */
+const typeOnly = new Map();
+
+/** @param {string} type */
+const isTypeOfTypes = type => (/^(TS|Declare|Interface|Opaque)/.test(type) || type === 'TypeAlias' || type === 'EnumDeclaration') && !TYPED.has(type);
+
 /** Has no value at all: a declaration of a type. @param {Node} node */
-const isTypeOnly = node => (/^(TS|Declare|Interface|Opaque)/.test(node.type) || node.type === 'TypeAlias' ||
-  node.type === 'EnumDeclaration') && !TYPED.has(node.type);
+function isTypeOnly({type}) {
+  let known = typeOnly.get(type);
+  if (known === undefined) {
+    known = isTypeOfTypes(type);
+    typeOnly.set(type, known);
+  }
+  return known;
+}
 
 /** The nodes directly below, in order of their fields. @param {Node} node @returns {Array<Node>} */
 function children(node) {
   const out = [];
   for (const key in node) {
     const value = node[key];
-    if (value === null || typeof value !== 'object' || SKIPPED.has(key)) continue;
+    if (value === null || typeof value !== 'object') continue;
     if (Array.isArray(value)) {
-      for (const item of value) if (isNode(item)) out.push(item);
-    } else if (typeof value.type === 'string') out.push(value);
+      if (value.length > 0 && !SKIPPED.has(key)) for (const item of value) if (isNode(item)) out.push(item);
+    } else if (typeof value.type === 'string' && !SKIPPED.has(key)) out.push(value);
   }
   return out;
 }

@@ -12,7 +12,7 @@ const readline = require('readline');
 const {answer} = require('../../frontend/src/answers.js');
 const {run} = require('./index.js');
 
-/** @param {{unit?: object}} made @param {string} words */
+/** @param {{unit?: Buffer}} made @param {string} words */
 function told({unit, ...made}, words) {
   return unit ? {...made, ...run(words, unit)} : made;
 }
@@ -20,8 +20,9 @@ function told({unit, ...made}, words) {
 /** @param {any} request */
 function answerOf(request) {
   if (request.file === undefined) return {id: request.id, ...run(request.words, Buffer.from(request.input, 'latin1'))};
-  const found = answer(request);
-  if (request.words === undefined || !found.functions) return found;
+  if (request.words === undefined) return answer(request);
+  const found = answer({...request, options: {...request.options, as: 'bytes'}});
+  if (!found.functions) return found;
   return {...found, functions: found.functions.map(made => told(made, request.words))};
 }
 

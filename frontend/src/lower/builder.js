@@ -121,6 +121,7 @@ class Builder {
   emit(value, node) {
     if (value.kind === 'LoadLocal' && value.place.ident.name === null) return value.place;
     const lvalue = this.temporary(node);
+    lvalue.ident.once = true;
     this.push(lvalue, value, node);
     return lvalue;
   }

@@ -16,10 +16,10 @@ class Numbered extends Emitter {
     this.numberOf = new Map(); // of nested functions
   }
 
-  value(v) {
-    const out = super.value(v);
-    if (v.fn) this.numberOf.set(v.fn, out.function);
-    return out;
+  nested(fn) {
+    const number = super.nested(fn);
+    this.numberOf.set(fn, number);
+    return number;
   }
 }
 
@@ -192,7 +192,7 @@ async function inferred(source, shorter = 0) {
   const {status, text} = await run('infer', JSON.stringify(unit));
   if (status !== 0) return {refused: `program: ${status} ${text.slice(0, 200)}`};
   prepare(made.root, 'root', emitter);
-  return {...made, kind, unit, source, out: parseOutput(text, shorter), number: ident => emitter.idents.get(ident)};
+  return {...made, kind, unit, source, out: parseOutput(text, shorter), number: ident => emitter.tables.idents.get(ident)};
 }
 
 module.exports = {inferred};

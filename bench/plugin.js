@@ -1,0 +1,100 @@
+#!/usr/bin/env node
+'use strict';
+/**
+ * What the plugin adds to ESLint's own time: bench/plugin.js [FILE..]
+ *
+ * Of each file, or of two made ones of 1,000 lines (143 small functions; 50 components), it prints in milliseconds the
+ * processor time of the main thread that a run with the recommended rules takes beyond one without rules: of the first
+ * file of a process, and of a file after others (the least and the middle of ROUNDS=12). Without the built addon units
+ * are made and nothing is inferred, and it says so. NODE_PATH=/usr/share/nodejs where Debian has ESLint.
+ */
+const fs = require('fs');
+const path = require('path');
+const {spawnSync} = require('child_process');
+
+const PLUGIN = path.join(__dirname, '../eslint-plugin/src');
+const ROUNDS = Number(process.env.ROUNDS || 12);
+const OPTIONS = {parserOptions: {ecmaVersion: 2020, sourceType: 'module', ecmaFeatures: {jsx: true}}};
+
+const small = i => `function helper${i}(list, key) {
+  const found = list.filter(item => item.key === key);
+  if (found.length === 0) return null;
+  const first = found[0];
+  return {...first, count: found.length};
+}
+
+`;
+
+const component = i => `export function Card${i}({title, items, onPick}) {
+  const [open, setOpen] = useState(false);
+  const shown = items.filter(item => open || item.pinned);
+  const total = useMemo(() => shown.reduce((sum, item) => sum + item.price, 0), [shown]);
+  const pick = useCallback(event => {
+    event.preventDefault();
+    onPick(title, shown.length);
+  }, [title, onPick, shown]);
+  useEffect(() => {
+    document.title = title + total;
+  }, [title, total]);
+  return (
+    <div className="card" onClick={() => setOpen(!open)}>
+      <h2>{title}</h2>
+      {shown.map(item => <Row key={item.id} item={item} onPick={pick} />)}
+      <b>{total > 0 ? total.toFixed(2) : 'none'}</b>
+    </div>
+  );
+}
+
+`;
+
+const many = (count, make) => Array.from({length: count}, (_, i) => make(i)).join('');
+const MADE = {
+  'small functions': many(143, small),
+  components: `import {useState, useMemo, useCallback, useEffect} from 'react';\n\n${many(50, component)}`,
+};
+
+/** Processor time of this thread, in milliseconds: that of others, which compile and collect, isn't in it. */
+const processor = () => Number(fs.readFileSync(`/proc/self/task/${process.pid}/schedstat`, 'latin1').split(' ')[0]) / 1e6;
+
+/** Where the addon isn't built, nothing is said of units. */
+function withoutInference() {
+  const {ADDON} = require(path.join(PLUGIN, 'parts.js'));
+  if (fs.existsSync(ADDON)) return false;
+  require(path.join(PLUGIN, 'inference.js'));
+  require.cache[path.join(PLUGIN, 'inference.js')].exports = {lint: units => units.map(() => ({status: 0, text: 'lints 0\n'}))};
+  return true;
+}
+
+function measured(text) {
+  const {Linter} = /** @type {any} */ (require('eslint'));
+  const isBare = withoutInference();
+  const plugin = /** @type {any} */ (require(path.join(PLUGIN, 'index.js')));
+  const linter = new Linter();
+  for (const [name, rule] of Object.entries(plugin.rules)) linter.defineRule(`jirrambeo/${name}`, rule);
+  const timed = rules => {
+    const begun = processor();
+    const [fatal] = linter.verify(text, {...OPTIONS, rules}, {filename: 'file.jsx'}).filter(one => one.fatal);
+    if (fatal) throw new Error(fatal.message);
+    return processor() - begun;
+  };
+  const bare = () => timed({});
+  const full = () => timed(plugin.configs.recommended.rules);
+  for (let i = 0; i < 3; i++) bare();
+  const first = full() - bare();
+  for (let i = 0; i < 4; i++) full();
+  const later = Array.from({length: ROUNDS}, () => full() - bare()).sort((a, b) => a - b);
+  return {isBare, first, least: later[0], middle: later[ROUNDS >> 1]};
+}
+
+if (process.argv[2] === '--one') {
+  process.stdout.write(JSON.stringify(measured(fs.readFileSync(0, 'utf8'))));
+} else {
+  const files = process.argv.slice(2);
+  const texts = files.length > 0 ? Object.fromEntries(files.map(file => [file, fs.readFileSync(file, 'utf8')])) : MADE;
+  for (const [name, text] of Object.entries(texts)) {
+    const {stdout} = spawnSync(process.execPath, [__filename, '--one'], {input: text, encoding: 'utf8', stdio: ['pipe', 'pipe', 'inherit']});
+    const {isBare, first, least, middle} = JSON.parse(stdout);
+    const told = [['first file', first], ['after others, least', least], ['middle', middle]].map(([what, ms]) => `${what} ${Number(ms).toFixed(0)}`);
+    console.log(`${name}, ${text.split('\n').length - 1} lines: ${told.join(', ')}${isBare ? ' (without the inference)' : ''}`);
+  }
+}
