@@ -5,6 +5,7 @@ import fcntl
 import json
 import os
 import shutil
+import signal
 import subprocess
 import tempfile
 import time
@@ -20,7 +21,8 @@ class Browser:
     """A page of a browser. `errors` has what went wrong in its scripts."""
 
     def __init__(self, width=1400, height=900):
-        self.room = tempfile.TemporaryDirectory()
+        # Its processes don't all end with the first one, and may still write while the folder goes.
+        self.room = tempfile.TemporaryDirectory(ignore_cleanup_errors=True)
         (theirs_in, self.out), (self.into, theirs_out) = os.pipe(), os.pipe()
         low = [fcntl.fcntl(fd, fcntl.F_DUPFD, 10) for fd in (theirs_in, theirs_out)]
 
@@ -31,7 +33,8 @@ class Browser:
         words = [BROWSER, '--headless', '--no-sandbox', '--disable-gpu', '--disable-dev-shm-usage',
                  '--remote-debugging-pipe', '--user-data-dir=' + self.room.name, 'about:blank']
         self.process = subprocess.Popen(words, stdin=subprocess.DEVNULL, stdout=subprocess.DEVNULL,
-                                        stderr=subprocess.DEVNULL, pass_fds=(3, 4), preexec_fn=place)
+                                        stderr=subprocess.DEVNULL, pass_fds=(3, 4), preexec_fn=place,
+                                        start_new_session=True)
         for fd in (theirs_in, theirs_out, *low):
             os.close(fd)
         self.number, self.left, self.session, self.errors = 0, b'', None, []
@@ -126,7 +129,7 @@ class Browser:
 
     def close(self):
         os.close(self.out)
-        self.process.kill()
+        os.killpg(self.process.pid, signal.SIGKILL)
         self.process.wait()
         os.close(self.into)
         self.room.cleanup()

@@ -10,13 +10,13 @@ from unittest import mock
 from cli import front, inference
 from cli.tests.installed import ROOT
 
-# The text is the words and the input; the status is the length of the words. The words "end" end the process, and
-# "long" has a text of 3 MB.
+# The text is the words and the input, and of a unit that "lint" is asked of the type of its root; the status is the
+# length of the words. The words "end" end the process, and "long" has a text of 3 MB.
 STAND_IN = r'''
 'use strict';
 exports.run = (words, input) => {
   if (words === 'end') process.exit(3);
-  const given = Buffer.isBuffer(input) ? input.toString('hex') : JSON.stringify(input.root.fn_type);
+  const given = words === 'lint' ? JSON.stringify(JSON.parse(input).root.fn_type) : input.toString('hex');
   return {status: words.length, text: `${words}\n${given}${words === 'long' ? 'x'.repeat(3000000) : ''}`};
 };
 '''
