@@ -15,6 +15,7 @@ const editor = new Editor((text) => take(text));
 const asker = new Asker('/told', (told, { text }, time) => answer(told, text, time));
 const SLOW = 300; // milliseconds after which it is said that an answer is awaited
 let waiting = 0;
+let unreadable = ''; // what is said of an address that has no text, for as long as the first example stands in its place
 
 function say(text) {
   sentence.textContent = text;
@@ -24,6 +25,7 @@ function say(text) {
 // Asks about a text, and puts it into the address.
 function take(text) {
   const { length } = new TextEncoder().encode(text);
+  if (text !== PLAY.first) unreadable = '';
   if (length > PLAY.most) say(`The text is too long: it has ${length.toLocaleString('en')} bytes, and ${PLAY.most.toLocaleString('en')} are the most that is looked at here.`);
   else {
     clearTimeout(waiting);
@@ -43,7 +45,7 @@ function keep(text) {
 function answer(told, text, time) {
   if (text !== editor.value) return;
   clearTimeout(waiting);
-  say(told.sentence || '');
+  say(told.sentence || (text === PLAY.first ? unreadable : ''));
   if (told.sentence) return;
   const line = editor.caretLine();
   DATA = { ...EMPTY, ...told, source: text.split('\n') };
@@ -98,7 +100,8 @@ async function fromAddress() {
     if (text !== editor.value) begun(text);
     return true;
   } catch {
-    say('The address has no text that can be read.');
+    unreadable = 'The address has no text that can be read.';
+    say(unreadable);
     return false;
   }
 }

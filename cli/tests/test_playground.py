@@ -331,6 +331,8 @@ class Typing(unittest.TestCase):
         page.wait('%s[1]' % FRAMES)
         page.open('about:blank')
         page.open(self.address + '#source=???')
+        # Still there where the first example, which stands in its place, has its answer.
+        page.wait('DATA.units.length')
         self.assertIn('no text that can be read',
                       page.wait('document.querySelector(".sentence:not([hidden])")?.innerText'))
 
