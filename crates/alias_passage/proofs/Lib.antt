@@ -1,4 +1,5 @@
 pub mod Passing
 pub mod Edges
 pub mod Arrivals
+pub mod Forward
 pub mod Solves

@@ -3,26 +3,30 @@ use Rattle.std.proofs.Common.{◌≡◌, ℕ, ◌+◌, ◌<◌, ◌≤◌, ◌�
 use Rattle.std.proofs.Common.{IsTrue, List, [], ◌∷◌, ◌++◌, length, get_or, set, replicate, Option, Some, None, Result}
 use Rattle.std.proofs.Common.{Ok, Err, zero, suc, refl, ap, sym, ◌∙◌, subst, arith}
 use Rattle.std.proofs.lemmas.List.{get_or-set_same, get_or-set_other, length-set, length-replicate}
-use Rattle.std.proofs.lemmas.Bool.{cases_eq, false≢true, ltb-true}
+use Rattle.std.proofs.lemmas.Bool.{cases_eq, ltb-true}
 use Rattle.std.specs.List.{AllByRecursion}
 use Rattle.alias_base.specs.Answer.{◌>>=◌}
 use Rattle.alias_lattice.specs.Laws.{LatticeLaws}
-use Rattle.alias_lattice.specs.Flows.{Outcome, Stepped, Refused, IsOneOf}
+use Rattle.alias_lattice.specs.Flows.{Outcome, Stepped, Refused, IsOneOf, IsReached, at_entry, by_edge}
 use Rattle.alias_flow.specs.Machine.{Rules, up, joined, send, send_all, FlowLaws}
 use Rattle.alias_flow.specs.Runs.{solver_state}
-use Rattle.alias_flow.specs.Solutions.{entry_at, goes_forward}
-use Rattle.alias_flow.specs.check.Checks.{is_below_at, is_below_entry, first_not_above, Arriving, passed as passes_out}
+use Rattle.alias_flow.specs.Solutions.{entry_at, goes_forward, IsForward}
+use Rattle.alias_flow.specs.check.Checks.{is_below_at, is_below_entry, first_not_above, passed as passes_out}
 use Rattle.alias_flow.specs.check.Checks.{outcome_checked, state_checked, block_checked, blocks_checked, begins}
 use Rattle.alias_flow.specs.check.Checks.{first_arriving, not_joined, first_not_joined, joined_unless, joins_checked}
-use Rattle.alias_flow.specs.check.Checks.{solution_checked}
+use Rattle.alias_flow.specs.check.Checks.{is_joined, solution_checked}
+use Rattle.alias_flow.proofs.check.Marks.{marked_within}
+use Rattle.alias_flow.proofs.check.Solves.{is_forward as is_forward_flow}
 use Rattle.alias_flow.proofs.Order.{below_itself, below_trans}
 use Rattle.alias_flow.proofs.check.Checking.{has_begun}
 use Rattle.alias_flow.proofs.check.Arrivals.{Arrived, send_arrives, sends_arrive}
 use Rattle.alias_passage.specs.Givens.{Raises}
 use Rattle.alias_passage.specs.Passes.{forward_edges, back_edges, or_empty, Passing, passed, outcome_passed, entered}
 use Rattle.alias_passage.specs.Passes.{state_passed, block_passed, turn_passed, blocks_passed, passage_begun, flow_passed}
-use Rattle.alias_passage.proofs.Arrivals.{Over, sends_keep, sends_reach, take_arrives}
-use Rattle.alias_passage.proofs.Edges.{forward_is, is_forward, forward_within, all_stand, back_same}
+use Rattle.alias_passage.proofs.Arrivals.{sends_keep, sends_reach, take_arrives}
+use Rattle.alias_passage.proofs.Forward.{IsThere, SameFrom, forward_all, sends_long, sends_stay, sends_there, sends_other}
+use Rattle.alias_passage.proofs.Forward.{sends_same}
+use Rattle.alias_passage.proofs.Edges.{is_forward, forward_within, all_stand, back_same}
 
 abbrev pub IsOk : {A E : Type 0} → Result A E → A → Type 0
 IsOk r x = r ≡ Ok x
@@ -145,11 +149,30 @@ module _ {P B T K C D : Type 0} {proper : P → Type 0} {join : P → P → P} {
   abbrev pub no_claim : T → ℕ → K → Option D
   no_claim t b k = None
 
+  -- all edges go forward, and blocks are entered with what arrives
+  pub record IsBare : Type 0 where
+    pub forward : IsForward rules
+    pub enters : (b : ℕ) (x s : P) (m : B) → enter b x ≡ Some (s, m) → s ≡ x
+
+  -- what has arrived stays, and something arrives where edges of these blocks lead to
+  pub record Gathers (i n : ℕ) (z arriving : List (Option P)) : Type 0 where
+    pub stays : (q : ℕ) → IsThere z q → IsThere arriving q
+    pub sent : (b e : ℕ) → i ≤ b → b < i + n → get_or marks b false ≡ true → IsOneOf e (rules.flow.edges b)
+        → IsThere arriving e
+
+  -- nothing more arrives at earlier blocks, and these are entered with what has arrived in the end
+  pub record Joins (i n : ℕ) (v : Passing P B T K) (z arriving : List (Option P)) : Type 0 where
+    pub kept : (q : ℕ) → q < i → entry_at arriving q ≡ entry_at z q
+    pub joined : (q : ℕ) → i ≤ q → q < i + n → get_or marks q false ≡ true → entry_at v.progress.entries q
+        ≡ Some (or_empty empty (entry_at arriving q))
+
   -- the check of these blocks comes to an answer
   pub record Checks (i n : ℕ) (w v : Passing P B T K) (z : List (Option P)) : Type 0 where
     pub arriving : List (Option P)
     pub run : blocks_checked {C = C} join below rules no_claim v.progress.entries (up i n)
         (solver_state z w.tables w.recorded) ≡ Ok (solver_state arriving v.tables v.recorded)
+    pub gathers : length z ≡ rules.blocks → Gathers i n z arriving
+    pub joins : IsBare → length z ≡ rules.blocks → SameFrom i w.progress.arriving z → Joins i n v z arriving
 
   -- what the turns of the blocks from i on, n of them, come to
   pub record ArePassed (i n : ℕ) (w v : Passing P B T K) : Type 0 where
@@ -166,7 +189,18 @@ module _ {P B T K C D : Type 0} {proper : P → Type 0} {join : P → P → P} {
     earlier = λ b lt. refl;
     enters = λ q le lt m. let no : ⊥ = omega arith in absurd no;
     others = λ q m. refl;
-    checks = λ z. record { arriving = z; run = refl };
+    checks = λ z. record {
+      arriving = z;
+      run = refl;
+      gathers = λ long. record {
+        stays = λ q h. h;
+        sent = λ b e le lt m one. let no : ⊥ = omega arith in absurd no;
+      };
+      joins = λ bare long same. record {
+        kept = λ q lt. refl;
+        joined = λ q le lt m. let no : ⊥ = omega arith in absurd no;
+      };
+    };
   }
 
   -- a block that isn't marked, before the others
@@ -189,6 +223,20 @@ module _ {P B T K C D : Type 0} {proper : P → Type 0} {join : P → P → P} {
               (solver_state z w.tables w.recorded) o
               >>= blocks_checked join below rules no_claim v.progress.entries (up (i + 1) n)) here
               ∙ rest.run;
+          gathers = λ long. let g = rest.gathers long in record {
+            stays = g.stays;
+            sent = λ b e le lt m one. ⊎_elim
+                (λ same. let no : false ≡ true = sym none ∙ ap (λ k. get_or marks k false) (sym same) ∙ m in cc)
+                (λ other. g.sent b e (omega (arith, other)) (omega arith) m one)
+                (cases_eq b i);
+          };
+          joins = λ bare long same. let j = rest.joins bare long (λ q le. same q (omega arith)) in record {
+            kept = λ q lt. j.kept q (omega arith);
+            joined = λ q le lt m. ⊎_elim
+                (λ at. let no : false ≡ true = sym none ∙ ap (λ k. get_or marks k false) (sym at) ∙ m in cc)
+                (λ other. j.joined q (omega (arith, other)) (omega arith) m)
+                (cases_eq q i);
+          };
         };
   }
 
@@ -291,6 +339,51 @@ module _ {P B T K C D : Type 0} {proper : P → Type 0} {join : P → P → P} {
             ∙ ap (passes_out join below rules no_claim v.progress.entries i y t k (solver_state z w.tables w.recorded) None)
             none_above
 
+        gathers_first : (z : List (Option P)) (arriving : List (Option P))
+            → (length (send_all join y z (rules.flow.edges i)) ≡ rules.blocks
+            → Gathers (i + 1) n (send_all join y z (rules.flow.edges i)) arriving)
+            → length z ≡ rules.blocks → Gathers i (suc n) z arriving
+        gathers_first z arriving rest long =
+            let inside = f.edges_below i within in
+            let g = rest (sends_long join y z (rules.flow.edges i) ∙ long) in
+            record {
+              stays = λ q h. g.stays q (sends_stay join y z (rules.flow.edges i) rules.blocks long inside q h);
+              sent = λ b e le lt h one. ⊎_elim
+                  (λ same. g.stays e (sends_there join y z (rules.flow.edges i) rules.blocks long inside e
+                  (subst (λ k. IsOneOf e (rules.flow.edges k)) same one)))
+                  (λ other. g.sent b e (omega (arith, other)) (omega arith) h one)
+                  (cases_eq b i);
+            }
+
+        joins_first : (z : List (Option P)) (arriving : List (Option P)) → (bare : IsBare)
+            → (length (send_all join y z (rules.flow.edges i)) ≡ rules.blocks
+            → SameFrom (i + 1) (send_all join y (set w.progress.arriving i None) (forward_edges i (rules.flow.edges i)))
+            (send_all join y z (rules.flow.edges i))
+            → Joins (i + 1) n v (send_all join y z (rules.flow.edges i)) arriving)
+            → length z ≡ rules.blocks → SameFrom i w.progress.arriving z → Joins i (suc n) v z arriving
+        joins_first z arriving bare rest long same =
+            let later = bare.forward i within in
+            let es = rules.flow.edges i in
+            let left : SameFrom (i + 1) (set w.progress.arriving i None) z = λ q le.
+            let apart : q ≢ i = omega arith in
+            get_or-set_other w.progress.arriving i q None None apart ∙ same q (omega arith) in
+            let sent = sends_same join y (set w.progress.arriving i None) z es rules.blocks i
+            (length-set w.progress.arriving i None ∙ waits.arrived.long) long (f.edges_below i within) later left in
+            let j = rest (sends_long join y z es ∙ long)
+            (subst (λ fs. SameFrom (i + 1) (send_all join y (set w.progress.arriving i None) fs) (send_all join y z es))
+            (sym (forward_all i es later)) sent) in
+            record {
+              kept = λ q lt. j.kept q (omega arith) ∙ sends_other join y z es i q later (omega arith);
+              joined = λ q le lt h. ⊎_elim
+                  (λ at. ap (entry_at v.progress.entries) at ∙ entry_here
+                  ∙ ap Some (bare.enters i (or_empty empty (entry_at w.progress.arriving i)) s m enters)
+                  ∙ ap (λ o. Some (or_empty empty o)) (same i (omega arith)
+                  ∙ sym (j.kept i (omega arith) ∙ sends_other join y z es i i later (omega arith)))
+                  ∙ ap (λ k. Some (or_empty empty (entry_at arriving k))) (sym at))
+                  (λ other. j.joined q (omega (arith, other)) (omega arith) h)
+                  (cases_eq q i);
+            }
+
         pub passed_first : ArePassed i (suc n) w v
         passed_first = record {
           long = c.long ∙ length-set w.progress.entries i (Some s);
@@ -308,6 +401,8 @@ module _ {P B T K C D : Type 0} {proper : P → Type 0} {join : P → P → P} {
             arriving = rest.arriving;
             run = ap (λ r. r >>= blocks_checked join below rules no_claim v.progress.entries (up (i + 1) n)) (check_here z)
                 ∙ rest.run;
+            gathers = gathers_first z rest.arriving rest.gathers;
+            joins = λ bare. joins_first z rest.arriving bare (rest.joins bare);
           };
         }
 
@@ -415,3 +510,44 @@ module _ {P B T K C D : Type 0} {proper : P → Type 0} {join : P → P → P} {
       pub loops_join : goes_forward rules ≡ false → not_joined below rules v.progress.entries all_checked.arriving ≡ None
       loops_join back = ap (λ t. if t then first_not_joined below v.progress.entries all_checked.arriving
           (up 0 rules.blocks) else None) back
+
+      first_long : length (first_arriving join below rules v.progress.entries) ≡ rules.blocks
+      first_long = started.arrived.long
+
+      module _ (bare : IsBare) (marks_long : length marks ≡ rules.blocks)
+          (reached : (b : ℕ) → IsReached rules.flow b → get_or marks b false ≡ true)
+          (is_reached : (b : ℕ) → get_or marks b false ≡ true → IsReached rules.flow b) where
+        -- something arrives at each block that is reached
+        arrives : (b : ℕ) → IsReached rules.flow b → IsThere all_checked.arriving b
+        arrives b at_entry =
+            (all_checked.gathers first_long).stays rules.flow.entry (rules.flow.initial, initial_sent)
+        arrives b (by_edge a e r one) =
+            let within : a < length marks = marked_within marks a (reached a r) in
+            (all_checked.gathers first_long).sent a e (omega arith) (omega (arith, marks_long, within)) (reached a r) one
+
+        -- where all edges go forward, and blocks are entered with what arrives, entry states are joins
+        is_joined_at : (b : ℕ) → b < rules.blocks → (t : Bool) → get_or marks b false ≡ t
+            → is_joined below (entry_at v.progress.entries b) (entry_at all_checked.arriving b) ≡ true
+        is_joined_at b lt true m =
+            let a = arrives b (is_reached b m) in
+            let is : entry_at v.progress.entries b ≡ Some a.0 =
+            (all_checked.joins bare first_long (λ q le. refl)).joined b (omega arith) (omega arith) m
+            ∙ ap (λ o. Some (or_empty empty o)) a.1 in
+            ap (λ o. is_joined below o (entry_at all_checked.arriving b)) is
+            ∙ ap (is_below_at below a.0) a.1 ∙ below_itself l a.0 (known b a.0 is).0
+        is_joined_at b lt false m =
+            ap (λ o. is_joined below o (entry_at all_checked.arriving b))
+            (all_passed.others b m ∙ none_at rules.blocks b)
+
+        none_not_joined : (i n : ℕ) → i + n ≡ rules.blocks
+            → first_not_joined below v.progress.entries all_checked.arriving (up i n) ≡ None
+        none_not_joined i zero all = refl
+        none_not_joined i (suc n) all =
+            ap (λ t. if t then first_not_joined below v.progress.entries all_checked.arriving (up (i + 1) n) else Some i)
+            (is_joined_at i (omega arith) (get_or marks i false) refl)
+            ∙ none_not_joined (i + 1) n (omega arith)
+
+        pub bare_joins : not_joined below rules v.progress.entries all_checked.arriving ≡ None
+        bare_joins = ap (λ t. if t then first_not_joined below v.progress.entries all_checked.arriving
+            (up 0 rules.blocks) else None) (is_forward_flow rules bare.forward)
+            ∙ none_not_joined 0 rules.blocks (omega arith)

@@ -1,8 +1,7 @@
-use Rattle.std.proofs.Common.{rules, ◌≡◌, ◌-◌, ◌+◌, ◌<◌, Err, length, refl, ap, sym, ◌∙◌, arith, subst}
+use Rattle.std.proofs.Common.{rules, ◌≡◌, ◌-◌, ◌+◌, ◌<◌, Err, ap, sym, ◌∙◌}
 use Rattle.std.specs.Prelude.{⊤}
 use Rattle.alias_flow.specs.Machine.{up}
 use Rattle.alias_flow.specs.Runs.{solver_state}
-use Rattle.alias_flow.specs.check.Checks.{ChecksInto}
 use Rattle.alias_flow.proofs.check.Checking.{checks_along, fault_result}
 use Rattle.alias_passage.specs.Passes.{blocks_passed}
 use Rattle.alias_passage.proofs.Passing.{turns_next, turns_fault}

@@ -5,7 +5,6 @@ use Rattle.alias_flow.specs.Runs.{solver_state}
 use Rattle.alias_flow.specs.check.Checks.{ChecksInto}
 use Rattle.alias_flow.proofs.check.Checking.{checks_along}
 use Rattle.alias_passage.specs.Passes.{outcome_passed, block_passed, entered}
-use Rattle.alias_passage.specs.declared.passage.Passage.{Passage}
 use Rattle.alias_passage.proofs.Passing.{block_enters}
 use Rattle.alias_passage.proofs.steps.pass_block.Goals as goal
 
