@@ -2,7 +2,7 @@
 ghost use Rattle.std.specs.Prelude.{◌≡◌, nat_lt, [], Some, None, IfOk, OnOk, if◌then◌else◌};
 ghost use Rattle.std.specs.List.{list_all};
 ghost use Rattle.alias_lattice.specs.States.{defined_as, state_join};
-ghost use Rattle.alias_certificate.specs.states.Raised.{values_raised, variables_raised, raised_state};
+ghost use Rattle.alias_certificate.specs.states.Raised.{values_raised, variables_raised, are_sites_named, raised_state};
 ghost use Rattle.alias_certificate.specs.states.States.{is_site_there, with_values, with_sites, is_full, are_valued, is_variable_there, with_variables, stated_state};
 
 use crate::created::CreatedFunctions;
@@ -150,6 +150,29 @@ fn raise_variables(
     Ok(true)
 }
 
+/// Whether the sites of a line are all there.
+fn is_named(identifiers: usize, created: &CreatedFunctions, variable: &CertVariable) -> bool
+    ensures { result ≡ list_all (λ k. is_site_there identifiers created.now k) variable.now.sites }
+{
+    variable
+        .sites
+        .as_slice()
+        .iter()
+        .all(|site| is_site_there(identifiers, created, *site))
+}
+
+fn are_sites_named(
+    identifiers: usize,
+    created: &CreatedFunctions,
+    variables: &[CertVariable],
+) -> bool
+    ensures { result ≡ are_sites_named identifiers created.now variables.now }
+{
+    variables
+        .iter()
+        .all(|variable| is_named(identifiers, created, variable))
+}
+
 /// The state that the block's lines raise the given one to, which is above it: the values of their sites are joined with
 /// its own, and its identifiers have their sites besides. `None` where they name what isn't there: an identifier that isn't
 /// below `identifiers`, a function that isn't one of those created, no site of an identifier, or a site that has no value
@@ -164,12 +187,14 @@ pub fn raised_state(
     ensures { IfOk result (λ raised. raised ≡ raised_state identifiers created.now block.now state) }
 {
     let values = block.values.as_slice();
-    if !are_sites_there(identifiers, created, values) {
+    let variables = block.variables.as_slice();
+    if !are_sites_there(identifiers, created, values)
+        || !are_sites_named(identifiers, created, variables)
+    {
         return Ok(None);
     }
     let mut raised = state;
     raise_values(alloc, &mut raised, values)?;
-    let variables = block.variables.as_slice();
     if raise_variables(alloc, identifiers, &mut raised, variables)? {
         Ok(Some(raised))
     } else {
