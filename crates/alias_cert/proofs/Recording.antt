@@ -77,7 +77,7 @@ module _ (function : Option FunctionId) (env : Environment) where
   stated_at c t u true h e = given_within c t u (temporary env c.key None t) refl h e
   stated_at c t u false h e = cc
 
-  temporaries_within : (cs : List CertTemporary) (t u : TableLists) → TablesWithin env t
+  pub temporaries_within : (cs : List CertTemporary) (t u : TableLists) → TablesWithin env t
       → temporaries_stated function env cs t ≡ Ok u → TablesWithin env u
   temporaries_within [] t u h e = let same : t ≡ u = cc in subst (TablesWithin env) same h
   temporaries_within (c ∷ cs) t u h e =

@@ -68,7 +68,7 @@ module _ (F : FunctionId → Type 0) where
   valued_has s h (Function f) e = h f e
   valued_has s h k e = tt
 
-  site_given : (k : Site) (t : Sites) → SiteHas F k → SetHas F t → SetHas F (with_site k t)
+  pub site_given : (k : Site) (t : Sites) → SiteHas F k → SetHas F t → SetHas F (with_site k t)
   site_given k t h g f i = put_at k f tt (find site_cmp (Function f) t) (eq_by_cmp site_cmp (Function f) k) refl h (g f)
       (subst (λ o. IsTrue (is_some o)) (find-put site_cmp sites_total (Function f) k tt t) i)
 
@@ -79,7 +79,7 @@ module _ (F : FunctionId → Type 0) where
       let both = both_true (is_some (value_at s k)) (are_valued s ks) a in
       sites_have s h ks (with_site k t) both.1 (site_given k t (valued_has s h k both.0) g)
 
-  no_site : SetHas F []
+  pub no_site : SetHas F []
   no_site f i = cc
 
   variable_has : (n : ℕ) (x : CertVariable) (xs : List CertVariable) (s u : State) (b : Bool) → is_variable_there n s x
@@ -101,7 +101,7 @@ module _ (F : FunctionId → Type 0) where
       (variables_have n xs (defined_as x.identifier (with_sites x.sites []) s) u v) e
 
   module _ (identifiers : ℕ) (ids : List FunctionId) (known : (f : FunctionId) → is_created ids f ≡ true → F f) where
-    site_has : (k : Site) → is_site_there identifiers ids k ≡ true → SiteHas F k
+    pub site_has : (k : Site) → is_site_there identifiers ids k ≡ true → SiteHas F k
     site_has (Function f) e = known f e
     site_has k e = tt
 

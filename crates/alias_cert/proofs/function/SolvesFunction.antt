@@ -43,7 +43,7 @@ module _ (env : Environment) (f : HirFunction) (is_function_expression : Bool) (
   nothing : List (Option BlockEffects)
   nothing = replicate (length f.body.blocks) None
 
-  laws : FlowLaws StateProper Extends (numbered (context_of env f is_function_expression))
+  pub laws : FlowLaws StateProper Extends (numbered (context_of env f is_function_expression))
       (replicate (length f.body.blocks) None)
   laws = pass_laws (context_of env f is_function_expression) fits.entry (replicate (length f.body.blocks) None)
       (length-replicate (length f.body.blocks) None)

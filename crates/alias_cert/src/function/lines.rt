@@ -65,7 +65,7 @@ fn line_is(lines: &[CertBlock], block: BlockId, number: Option<usize>) -> bool
 }
 
 /// The number of a block's line, if it has one.
-pub(crate) fn number_at(numbers: &[Option<usize>], block: usize) -> Option<usize>
+pub fn number_at(numbers: &[Option<usize>], block: usize) -> Option<usize>
     ensures { result ≡ slice_index_or numbers.now block None }
 {
     match numbers.get(block) {
