@@ -68,8 +68,8 @@ class Walk {
  * only a fallthrough names stays as an empty unreachable one, as in the React Compiler.
  * @param {number} entry
  * @param {Map<number, Block>} blocks
- * @returns {{blocks: Map<number, Block>, isAll: boolean}} isAll: each block that was walked can be reached, so they stay
- *   in this order however often they are walked
+ * @returns {{blocks: Map<number, Block>, isAll: boolean}} isAll: each block that was walked can be reached, so that
+ *   another walk gives the same order
  */
 function reversePostorderBlocks(entry, blocks) {
   const walk = new Walk(blocks);
