@@ -3,9 +3,10 @@
 /**
  * What the plugin adds to ESLint's own time: bench/plugin.js [FILE..]
  *
- * Of each file, or of two made ones of 1,000 lines (143 small functions; 50 components), it prints in milliseconds the
- * processor time of the main thread that a run with the recommended rules takes beyond one without rules: of the first
- * file of a process, and of a file after others (the least and the middle of ROUNDS=12). Without the built addon units
+ * Of each file, or of two made ones of 1,000 lines (143 small functions; 50 components), it prints in milliseconds what a
+ * run with the recommended rules takes beyond one without rules: by the clock, and in brackets of the processor, of the
+ * main thread and of all (which infer, compile and collect meanwhile). That of the first file of a process, and of a file
+ * after others (the least and the middle of ROUNDS=12). Without the built addon units
  * are made and nothing is inferred, and it says so. NODE_PATH=/usr/share/nodejs where Debian has ESLint.
  */
 const fs = require('fs');
@@ -53,15 +54,26 @@ const MADE = {
   components: `import {useState, useMemo, useCallback, useEffect} from 'react';\n\n${many(50, component)}`,
 };
 
-/** Processor time of this thread, in milliseconds: that of others, which compile and collect, isn't in it. */
-const processor = () => Number(fs.readFileSync(`/proc/self/task/${process.pid}/schedstat`, 'latin1').split(' ')[0]) / 1e6;
+/** Milliseconds by each clock: on the wall, of the processor for this thread, and of it for all. */
+function clocks() {
+  const {user, system} = process.cpuUsage();
+  const main = Number(fs.readFileSync(`/proc/self/task/${process.pid}/schedstat`, 'latin1').split(' ')[0]) / 1e6;
+  return [Number(process.hrtime.bigint()) / 1e6, main, (user + system) / 1000];
+}
+
+/** @param {Array<number>} a @param {Array<number>} b */
+const beyond = (a, b) => a.map((x, i) => x - b[i]);
 
 /** Where the addon isn't built, nothing is said of units. */
 function withoutInference() {
   const {ADDON} = require(path.join(PLUGIN, 'parts.js'));
   if (fs.existsSync(ADDON)) return false;
   require(path.join(PLUGIN, 'inference.js'));
-  require.cache[path.join(PLUGIN, 'inference.js')].exports = {lint: units => units.map(() => ({status: 0, text: 'lints 0\n'}))};
+  const linting = () => {
+    let count = 0;
+    return {put: () => count++, answers: () => Array.from({length: count}, () => ({status: 0, text: 'lints 0\n'}))};
+  };
+  require.cache[path.join(PLUGIN, 'inference.js')].exports = {linting};
   return true;
 }
 
@@ -72,18 +84,19 @@ function measured(text) {
   const linter = new Linter();
   for (const [name, rule] of Object.entries(plugin.rules)) linter.defineRule(`jirrambeo/${name}`, rule);
   const timed = rules => {
-    const begun = processor();
+    const begun = clocks();
     const [fatal] = linter.verify(text, {...OPTIONS, rules}, {filename: 'file.jsx'}).filter(one => one.fatal);
     if (fatal) throw new Error(fatal.message);
-    return processor() - begun;
+    return beyond(clocks(), begun);
   };
   const bare = () => timed({});
   const full = () => timed(plugin.configs.recommended.rules);
   for (let i = 0; i < 3; i++) bare();
-  const first = full() - bare();
+  const first = beyond(full(), bare());
   for (let i = 0; i < 4; i++) full();
-  const later = Array.from({length: ROUNDS}, () => full() - bare()).sort((a, b) => a - b);
-  return {isBare, first, least: later[0], middle: later[ROUNDS >> 1]};
+  const rounds = Array.from({length: ROUNDS}, () => beyond(full(), bare()));
+  const later = first.map((_, clock) => rounds.map(round => round[clock]).sort((a, b) => a - b));
+  return {isBare, first, least: later.map(all => all[0]), middle: later.map(all => all[ROUNDS >> 1])};
 }
 
 if (process.argv[2] === '--one') {
@@ -94,7 +107,8 @@ if (process.argv[2] === '--one') {
   for (const [name, text] of Object.entries(texts)) {
     const {stdout} = spawnSync(process.execPath, [__filename, '--one'], {input: text, encoding: 'utf8', stdio: ['pipe', 'pipe', 'inherit']});
     const {isBare, first, least, middle} = JSON.parse(stdout);
-    const told = [['first file', first], ['after others, least', least], ['middle', middle]].map(([what, ms]) => `${what} ${Number(ms).toFixed(0)}`);
+    const told = [['first file', first], ['after others, least', least], ['middle', middle]].map(([what, [wall, main, all]]) => (
+      `${what} ${wall.toFixed(0)} (${main.toFixed(0)}, ${all.toFixed(0)})`));
     console.log(`${name}, ${text.split('\n').length - 1} lines: ${told.join(', ')}${isBare ? ' (without the inference)' : ''}`);
   }
 }

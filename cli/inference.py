@@ -21,7 +21,8 @@ ENDED = 10  # the status where a process ended without an answer, as where memor
 
 def addon_digest():
     """A digest of all that the addon is made of."""
-    sources = [os.path.join(HOST, 'addon.c'), os.path.join(HERE, 'hosts', 'c', 'jirrambeo.h')]
+    own = sorted(glob.glob(os.path.join(HOST, '*.[ch]')))
+    sources = [*own, os.path.join(HERE, 'hosts', 'c', 'jirrambeo.h')]
     return digest_now(LIBRARY) + digest_of(sources)
 
 

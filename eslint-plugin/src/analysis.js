@@ -8,7 +8,7 @@
  */
 const path = require('path');
 const {FRONTEND} = require('./parts.js');
-const {lint} = require('./inference.js');
+const {linting} = require('./inference.js');
 const {unitsOfProgram, isIncompatible, reports, sourceMap, Positions} = require(path.join(FRONTEND, 'index.js'));
 
 /** Categories of this plugin's own: what isn't analysed, and a call by which a function can't be. */
@@ -78,10 +78,12 @@ const mayReportOthers = ast => ast.body.some(s => s.type === 'ImportDeclaration'
 
 /** @param {{ast: object, text: string}} sourceCode @param {boolean} isAll @returns {Array<Found>} */
 function analysed({ast, text}, isAll) {
+  const calls = linting();
+  const each = ({unit}) => unit && calls.put(unit);
   let made;
   try {
     const others = isAll || mayReportOthers(ast) ? 'nested' : 'none';
-    made = unitsOfProgram(ast, text, {offsets: 'utf16', as: 'bytes', others, config: {validate_no_impure_functions_in_render: true}});
+    made = unitsOfProgram(ast, text, {offsets: 'utf16', as: 'bytes', others, each, config: {validate_no_impure_functions_in_render: true}});
   } catch (error) {
     if (!(error instanceof SyntaxError)) throw error;
     return [{category: UNSUPPORTED, message: `This file isn't analysed: ${sentence(error.message)}`, loc: {start: {line: 1, column: 0}}}];
@@ -91,7 +93,7 @@ function analysed({ast, text}, isAll) {
   const units = made.filter(one => one.unit).map(one => one.unit);
   if (units.length === 0) return refused;
   const positions = new Positions(text, 'utf16');
-  const answers = lint(units);
+  const answers = calls.answers();
   return once([...refused, ...units.flatMap((unit, i) => foundIn(unit, answers[i], positions))]);
 }
 

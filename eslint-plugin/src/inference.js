@@ -10,15 +10,23 @@ const {ADDON, HOST} = require('./parts.js');
 const MISSING = 'eslint-plugin-jirrambeo: the inference isn\'t there. `hosts/build` makes it in a checkout of Jirrambeo; a package has it for Linux on x86-64';
 
 /**
- * What `lint` says of each unit.
- * @param {Array<object>} units
+ * What `lint` says of units, which are told one by one: each is inferred on another thread while the next is made.
  * @param {string} [addon] where it is
- * @returns {Array<Answer>}
  */
-function lint(units, addon = ADDON) {
-  if (!fs.existsSync(addon)) throw new Error(MISSING);
-  const {run} = require(HOST);
-  return units.map(unit => run('lint', unit));
+function linting(addon = ADDON) {
+  let calls = null;
+  return {
+    /** @param {Buffer} unit */
+    put(unit) {
+      if (calls === null) {
+        if (!fs.existsSync(addon)) throw new Error(MISSING);
+        calls = require(HOST).begin('lint');
+      }
+      calls.put(unit);
+    },
+    /** @returns {Array<Answer>} of each unit */
+    answers: () => (calls === null ? [] : calls.answers()),
+  };
 }
 
-module.exports = {lint};
+module.exports = {linting};

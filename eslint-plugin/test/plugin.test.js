@@ -5,7 +5,7 @@ const assert = require('node:assert');
 const {eslint, skip, plugin, PARSER_OPTIONS, linterOf, messages, given: parser} = require('./data.js');
 const {analysis, wantAll} = require('../src/analysis.js');
 const {parse} = require('../../frontend/src/parse.js');
-const {lint} = require('../src/inference.js');
+const {linting} = require('../src/inference.js');
 
 const PROPS = 'function C(props) {\n  props.n = 1;\n  return <b>{props.n}</b>;\n}\n';
 
@@ -143,5 +143,5 @@ test('@typescript-eslint/parser', {skip: skip || (parser('@typescript-eslint/par
 });
 
 test('without the inference a sentence says what to do', () => {
-  assert.throws(() => lint([{}], '/nowhere'), /the inference isn't there\. `hosts\/build` makes it/);
+  assert.throws(() => linting('/nowhere').put(Buffer.from('{}')), /the inference isn't there\. `hosts\/build` makes it/);
 });

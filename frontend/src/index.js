@@ -40,6 +40,7 @@ const {Positions} = require('./positions.js');
  * @property {boolean} [compiler] the React Compiler's own way of lowering, where this front end has a better one
  * @property {object} [config] of the unit
  * @property {'bytes'} [as] units are Buffers of their JSON, which is faster where they are only handed on
+ * @property {(made: Made) => void} [each] is told of each as soon as it is made
  */
 
 /**
@@ -104,6 +105,7 @@ function unitsOfProgram(ast, text, options = {}) {
       if (!(error instanceof Refused)) throw error;
       made.refused = {reason: error.reason, message: error.message, ...positions.position(error.start)};
     }
+    if (options.each) options.each(made);
     return made;
   });
 }

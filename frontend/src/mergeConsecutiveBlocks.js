@@ -4,6 +4,14 @@
  * the React Compiler do it.
  *
  * @typedef {import('./HIR.js').Block} Block
+ *
+ * @typedef {object} Frame a block of which not all that follows is walked yet
+ * @property {number} id
+ * @property {boolean} isUsed
+ * @property {?number} behind the block behind its statement, which comes first
+ * @property {Array<number>} next its successors, of which the last comes first
+ * @property {number} left how many of them
+ * @property {boolean} isFirst
  */
 const {successors, mapBlocks} = require('./HIR.js');
 
@@ -17,6 +25,7 @@ class Walk {
     this.usedFallthroughs = new Set();
     /** @type {Array<number>} postorder */
     this.order = [];
+    /** @type {Array<Frame>} */
     this.stack = [];
   }
 
@@ -28,26 +37,26 @@ class Walk {
     if (isUsed) used.add(id);
     if (wasVisited && (wasUsed || !isUsed)) return;
     const {terminal} = this.blocks.get(id);
-    const next = [];
-    if (terminal.fallthrough != null) {
-      if (isUsed) this.usedFallthroughs.add(terminal.fallthrough);
-      next.push([terminal.fallthrough, false]);
-    }
-    for (const s of successors(terminal).reverse()) next.push([s, isUsed]);
-    this.stack.push({id, next, at: 0, isFirst: !wasVisited});
+    const behind = terminal.fallthrough ?? null;
+    if (behind !== null && isUsed) this.usedFallthroughs.add(behind);
+    const next = successors(terminal);
+    this.stack.push({id, isUsed, behind, next, left: next.length, isFirst: !wasVisited});
   }
 
   /** An explicit stack: functions of thousands of blocks would overflow the machine's. */
   run(entry) {
+    const {stack} = this;
     this.open(entry, true);
-    while (this.stack.length > 0) {
-      const frame = this.stack.at(-1);
-      if (frame.at < frame.next.length) {
-        const [id, isUsed] = frame.next[frame.at++];
-        this.open(id, isUsed);
-      } else {
+    while (stack.length > 0) {
+      const frame = stack[stack.length - 1];
+      if (frame.behind !== null) {
+        const {behind} = frame;
+        frame.behind = null;
+        this.open(behind, false);
+      } else if (frame.left > 0) this.open(frame.next[--frame.left], frame.isUsed);
+      else {
         if (frame.isFirst) this.order.push(frame.id);
-        this.stack.pop();
+        stack.pop();
       }
     }
     return this.order.reverse();
@@ -59,6 +68,8 @@ class Walk {
  * only a fallthrough names stays as an empty unreachable one, as in the React Compiler.
  * @param {number} entry
  * @param {Map<number, Block>} blocks
+ * @returns {{blocks: Map<number, Block>, isAll: boolean}} isAll: each block that was walked can be reached, so that
+ *   another walk gives the same order
  */
 function reversePostorderBlocks(entry, blocks) {
   const walk = new Walk(blocks);
@@ -70,26 +81,45 @@ function reversePostorderBlocks(entry, blocks) {
       out.set(id, {id, instructions: [], terminal: {kind: 'Unreachable'}, phis: [], preds: new Set()});
     }
   }
-  return out;
+  return {blocks: out, isAll: walk.used.size === walk.visited.size};
 }
 
 const NEVER_THROWS = new Set(['Primitive', 'ArrayExpression', 'ObjectExpression']);
 
-/** Ways to a handler from what can't throw are none. @param {Map<number, Block>} blocks */
-function pruneMaybeThrows(entry, blocks) {
+/** Ways to a handler from what can't throw are none. Says whether there was one. @param {Map<number, Block>} blocks */
+function prune(blocks) {
+  let isAny = false;
   for (const block of blocks.values()) {
     const t = block.terminal;
     if (t.kind === 'MaybeThrow' && block.instructions.every(i => NEVER_THROWS.has(i.value.kind))) {
       block.terminal = {kind: 'Goto', block: t.continuation};
+      isAny = true;
     }
   }
-  const left = reversePostorderBlocks(entry, blocks);
-  for (const block of left.values()) {
+  return isAny;
+}
+
+/**
+ * A loop whose test isn't reached is none, and neither is a `try` whose handler isn't. Says whether there was one.
+ * @param {Map<number, Block>} blocks
+ */
+function cut(blocks) {
+  let isAny = false;
+  for (const block of blocks.values()) {
     const t = block.terminal;
-    if (t.kind === 'DoWhile' && !left.has(t.test)) block.terminal = {kind: 'Goto', block: t.loop_block};
-    if (t.kind === 'Try' && !left.has(t.handler)) block.terminal = {kind: 'Goto', block: t.block};
+    if (t.kind === 'DoWhile' && !blocks.has(t.test)) block.terminal = {kind: 'Goto', block: t.loop_block};
+    else if (t.kind === 'Try' && !blocks.has(t.handler)) block.terminal = {kind: 'Goto', block: t.block};
+    else continue;
+    isAny = true;
   }
-  return reversePostorderBlocks(entry, left);
+  return isAny;
+}
+
+/** The blocks that are left, in order. @param {number} entry @param {Map<number, Block>} all */
+function pruneMaybeThrows(entry, all) {
+  const first = reversePostorderBlocks(entry, all);
+  const second = prune(first.blocks) || !first.isAll ? reversePostorderBlocks(entry, first.blocks) : first;
+  return cut(second.blocks) || !second.isAll ? reversePostorderBlocks(entry, second.blocks).blocks : second.blocks;
 }
 
 /** @param {Map<number, Block>} blocks */
@@ -98,19 +128,25 @@ function markPredecessors(blocks) {
   for (const block of blocks.values()) for (const s of successors(block.terminal)) blocks.get(s).preds.add(block.id);
 }
 
+/** The blocks behind statements. @param {Map<number, Block>} blocks @returns {Set<number>} */
+function fallthroughs(blocks) {
+  const behind = new Set();
+  for (const {terminal} of blocks.values()) if (terminal.fallthrough != null) behind.add(terminal.fallthrough);
+  return behind;
+}
+
 /** A block whose one predecessor goes only to it is that block's end, unless it follows a statement. */
 function joined(entry, blocks) {
   const kept = new Map();
   const merged = new Map();
   const root = id => {
     let now = id;
-    while (merged.has(now)) now = merged.get(now);
+    for (let next = merged.get(now); next !== undefined; next = merged.get(now)) now = next;
     return now;
   };
-  const behind = new Set([...blocks.values()].map(b => b.terminal.fallthrough).filter(id => id != null));
+  const behind = fallthroughs(blocks);
   for (const block of blocks.values()) {
-    const [pred] = block.preds;
-    const before = block.preds.size === 1 ? kept.get(root(pred)) : null;
+    const before = block.preds.size === 1 ? kept.get(root(block.preds.values().next().value)) : null;
     if (before && before.terminal.kind === 'Goto' && before.terminal.block === block.id && !behind.has(block.id) &&
         block.id !== entry) {
       for (const i of block.instructions) before.instructions.push(i);
@@ -118,7 +154,7 @@ function joined(entry, blocks) {
       merged.set(block.id, before.id);
     } else kept.set(block.id, block);
   }
-  for (const block of kept.values()) mapBlocks(block.terminal, root);
+  if (merged.size > 0) for (const block of kept.values()) mapBlocks(block.terminal, root);
   return kept;
 }
 
@@ -129,7 +165,7 @@ function joined(entry, blocks) {
  */
 function mergeConsecutiveBlocks(entry, all) {
   if (all.size === 1 && successors(all.get(entry).terminal).length === 0) return all;
-  const blocks = pruneMaybeThrows(entry, reversePostorderBlocks(entry, all));
+  const blocks = pruneMaybeThrows(entry, all);
   markPredecessors(blocks);
   const kept = joined(entry, blocks);
   markPredecessors(kept);

@@ -63,3 +63,13 @@ test('with `others: none` components and hooks are left, wherever they stand', (
   assert.deepStrictEqual(names('none'), ['useX', 'Inner']);
   assert.deepStrictEqual(unitsOf(source, {others: 'none'}), unitsOf(source).filter(one => one.kind !== 'other'));
 });
+
+test('each is told of as soon as it is made, before the next is looked at', () => {
+  const told = [];
+  const made = unitsOf('function f() {}\nfunction* g() {}\nfunction useX() { return useState(0); }\n', {each: one => told.push(one)});
+  assert.deepStrictEqual(told, made);
+  const stopped = () => unitsOf('function f() {}\nfunction g() {}\n', {each({name}) {
+    throw new Error(name);
+  }});
+  assert.throws(stopped, /^Error: f$/);
+});

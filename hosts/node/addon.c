@@ -1,26 +1,17 @@
-/* The library as an addon for Node, over Node-API: the two functions below, which index.js makes the commands of.
+/* The library as an addon for Node, over Node-API: the functions below, which index.js makes the commands of.
  *
  *   run(words, input)        does what the words ask for on the bytes of `input`, and gives [status, text]
  *   runAsync(words, input)   the same on a thread of libuv's pool; gives a promise
+ *   begin(words)             calls that run on threads of their own while the caller goes on (calls.c)
+ *   put(calls, input)        one more of them
+ *   answers(calls)           [status, text] of each of them, in their order, once all have ended
  *
- * `words` is a string and `input` a Uint8Array; a text is a Buffer. Else both throw a TypeError. Nothing is kept between calls, so any number of environments
+ * `words` is a string and `input` a Uint8Array; a text is a Buffer. Else they throw a TypeError. Nothing is kept between calls, so any number of environments
  * (worker threads) may load this at once. */
-#include "jirrambeo.h"
-#define NAPI_VERSION 8
-#include <node_api.h>
+#include "call.h"
 #include <pthread.h>
 
 enum { MOST_WORDS = 4096, STACK = 1 << 29, SHALLOW = 24 };
-
-/* A call, and what came of it. `words` ends with a zero byte. */
-typedef struct {
-    char *words;
-    const uint8_t *input;
-    size_t input_length;
-    uint8_t *text;
-    size_t text_length;
-    uint8_t status;
-} Call;
 
 static void *perform(void *given) {
     Call *call = (Call *)given;
@@ -45,7 +36,7 @@ static int is_deep(const uint8_t *input, size_t length) {
 
 /* Performs the call, and one of a deep input on a stack of its own: neither the main thread's stack nor that of a worker or of the pool is long for certain.
  * The stack is addresses alone as far as it isn't used. Where there is no such thread memory ran out. */
-static void perform_anywhere(Call *call) {
+void perform_anywhere(Call *call) {
     pthread_t thread;
     pthread_attr_t attributes;
     if (!is_deep(call->input, call->input_length)) {
@@ -67,13 +58,17 @@ static void release(Call *call) {
     jirrambeo_free(call->text);
 }
 
-static napi_value type_error(napi_env env, const char *message) {
+napi_value type_error(napi_env env, const char *message) {
     napi_throw_type_error(env, "ERR_INVALID_ARG_TYPE", message);
     return NULL;
 }
 
-/* The words of an argument in a block of the heap. Without such words it throws, and gives null. */
-static char *words_of(napi_env env, napi_value given) {
+napi_value other_error(napi_env env, const char *message) {
+    napi_throw_error(env, NULL, message);
+    return NULL;
+}
+
+char *words_of(napi_env env, napi_value given) {
     napi_valuetype type;
     size_t length;
     if (napi_typeof(env, given, &type) != napi_ok || type != napi_string || napi_get_value_string_utf8(env, given, NULL, 0, &length) != napi_ok ||
@@ -84,7 +79,7 @@ static char *words_of(napi_env env, napi_value given) {
     char *words = (char *)malloc(length + 1);
     if (words == NULL || napi_get_value_string_utf8(env, given, words, length + 1, &length) != napi_ok) {
         free(words);
-        napi_throw_error(env, NULL, "memory ran out");
+        other_error(env, "memory ran out");
         return NULL;
     }
     if (strlen(words) != length) {
@@ -95,25 +90,31 @@ static char *words_of(napi_env env, napi_value given) {
     return words;
 }
 
-/* Reads the two arguments. Says whether it could; where it couldn't it threw. */
-static int read_arguments(napi_env env, napi_callback_info info, napi_value arguments[2], Call *call) {
-    size_t count = 2;
+int read_input(napi_env env, napi_value given, Call *call) {
     bool is_array = false;
     napi_typedarray_type type;
     void *input = NULL;
-    memset(call, 0, sizeof *call);
-    if (napi_get_cb_info(env, info, &count, arguments, NULL, NULL) != napi_ok || count < 2 || napi_is_typedarray(env, arguments[1], &is_array) != napi_ok ||
-        !is_array || napi_get_typedarray_info(env, arguments[1], &type, &call->input_length, &input, NULL, NULL) != napi_ok || type != napi_uint8_array) {
+    if (napi_is_typedarray(env, given, &is_array) != napi_ok || !is_array ||
+        napi_get_typedarray_info(env, given, &type, &call->input_length, &input, NULL, NULL) != napi_ok || type != napi_uint8_array) {
         type_error(env, "the input is a Uint8Array");
         return 0;
     }
     call->input = input == NULL ? (const uint8_t *)"" : (const uint8_t *)input;
+    return 1;
+}
+
+/* Reads the two arguments. Says whether it could; where it couldn't it threw. */
+static int read_arguments(napi_env env, napi_callback_info info, napi_value arguments[2], Call *call) {
+    size_t count = 2;
+    memset(call, 0, sizeof *call);
+    if (napi_get_cb_info(env, info, &count, arguments, NULL, NULL) != napi_ok || !read_input(env, arguments[1], call)) {
+        return 0;
+    }
     call->words = words_of(env, arguments[0]);
     return call->words != NULL;
 }
 
-/* [status, text] of a call that ended. */
-static napi_value answer(napi_env env, const Call *call) {
+napi_value answer(napi_env env, const Call *call) {
     napi_value pair, status, text;
     if (napi_create_array_with_length(env, 2, &pair) != napi_ok || napi_create_uint32(env, call->status, &status) != napi_ok ||
         napi_create_buffer_copy(env, call->text == NULL ? 0 : call->text_length, call->text, NULL, &text) != napi_ok ||
@@ -192,20 +193,17 @@ static napi_value run_async(napi_env env, napi_callback_info info) {
     Work *work = work_of(&call);
     if (work == NULL) {
         release(&call);
-        napi_throw_error(env, NULL, "memory ran out");
-        return NULL;
+        return other_error(env, "memory ran out");
     }
     if (napi_create_string_utf8(env, "jirrambeo", NAPI_AUTO_LENGTH, &name) != napi_ok ||
         napi_create_async_work(env, NULL, name, on_pool, on_end, work, &work->work) != napi_ok) {
         release_work(work);
-        napi_throw_error(env, NULL, "the call can't be queued");
-        return NULL;
+        return other_error(env, "the call can't be queued");
     }
     if (napi_create_promise(env, &work->deferred, &promise) != napi_ok || napi_queue_async_work(env, work->work) != napi_ok) {
         napi_delete_async_work(env, work->work);
         release_work(work);
-        napi_throw_error(env, NULL, "the call can't be queued");
-        return NULL;
+        return other_error(env, "the call can't be queued");
     }
     return promise;
 }
@@ -214,8 +212,11 @@ static napi_value initialise(napi_env env, napi_value exports) {
     napi_property_descriptor functions[] = {
         {"run", NULL, run, NULL, NULL, NULL, napi_enumerable, NULL},
         {"runAsync", NULL, run_async, NULL, NULL, NULL, napi_enumerable, NULL},
+        {"begin", NULL, begin, NULL, NULL, NULL, napi_enumerable, NULL},
+        {"put", NULL, put, NULL, NULL, NULL, napi_enumerable, NULL},
+        {"answers", NULL, answers, NULL, NULL, NULL, napi_enumerable, NULL},
     };
-    napi_define_properties(env, exports, 2, functions);
+    napi_define_properties(env, exports, sizeof functions / sizeof *functions, functions);
     return exports;
 }
 

@@ -134,6 +134,14 @@ export function made(seed: number | bigint, size: number): Counts;
 /** What words ask for that single spaces part, as the program answers them. */
 export function run(words: string, input?: Unit): {status: number, text: string};
 
+/** Calls of the same words on threads of their own, so that the caller goes on; each input is copied. */
+export interface Calls {
+  put(input: Unit): void;
+  /** Of each, in their order, once all have ended. It is asked for once, and nothing is put in after. */
+  answers(): Array<{status: number, text: string}>;
+}
+export function begin(words: string): Calls;
+
 /* The same on the thread pool, and so beside the thread that calls. The unit is copied. */
 
 export function inferAsync(unit: Unit): Promise<Inference>;

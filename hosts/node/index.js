@@ -89,7 +89,22 @@ async function runAsync(words, input = '') {
   return {status, text: text.toString()};
 }
 
-const exported = {JirrambeoError, run, runAsync};
+/**
+ * Calls of the same words that run on threads of their own while the caller goes on.
+ * @param {string} words
+ */
+function begin(words) {
+  if (typeof words !== 'string') throw new TypeError('the words are a string');
+  const calls = addon.begin(words);
+  return {
+    put(input) {
+      addon.put(calls, bytesOf(input, 'the input'));
+    },
+    answers: () => addon.answers(calls).map(([status, text]) => ({status, text: text.toString()})),
+  };
+}
+
+const exported = {JirrambeoError, run, runAsync, begin};
 for (const [name, [asked, read]] of Object.entries(COMMANDS)) {
   exported[name] = (...given) => {
     const [words, input] = asked(...given);

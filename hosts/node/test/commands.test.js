@@ -96,7 +96,15 @@ test('other arguments are TypeErrors', {skip}, async () => {
   for (const seed of [-1, 0.5, 2 ** 60, -1n, 2n ** 64n, '1']) assert.throws(() => wrong.made(seed, 1), TypeError);
   assert.throws(() => wrong.run(1, panel), TypeError);
   assert.throws(() => wrong.run('infer\0', panel), TypeError);
-  const {run, runAsync} = require(path.join(TOP, 'hosts/lib/jirrambeo.node'));
+  assert.throws(() => wrong.begin(1), TypeError);
+  assert.throws(() => wrong.begin('infer').put(1), TypeError);
+  const {run, runAsync, begin, put, answers} = require(path.join(TOP, 'hosts/lib/jirrambeo.node'));
+  for (const given of [[], [1], ['infer\0'], ['x'.repeat(5000)]]) assert.throws(() => begin(...given), TypeError);
+  for (const given of [undefined, null, 1, {}, Buffer.alloc(0), begin]) {
+    assert.throws(() => put(given, Buffer.alloc(0)), TypeError);
+    assert.throws(() => answers(given), TypeError);
+  }
+  for (const given of [undefined, 'text', new Float64Array(1)]) assert.throws(() => put(begin('infer'), given), TypeError);
   for (const call of [run, runAsync]) {
     for (const given of [[], ['infer'], [1, Buffer.alloc(0)], ['infer', 'text'], ['infer', new Float64Array(1)], ['x'.repeat(5000), Buffer.alloc(0)]]) {
       assert.throws(() => call(...given), TypeError);

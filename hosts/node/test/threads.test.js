@@ -13,6 +13,45 @@ test('8 calls at once', {skip}, async () => {
   for (const found of await Promise.all(Array.from({length: 8}, () => jirrambeo.certifyAsync(panel)))) assert.deepStrictEqual(found, wanted);
 });
 
+test('calls on threads of their own: each answer is that of its call', {skip}, () => {
+  const units = [panel, Buffer.from('['), Buffer.from('{}'), Buffer.from('['.repeat(200))];
+  for (const words of ['infer', 'lint', 'certify', 'nothing']) {
+    for (const count of [0, 1, 2, 40]) {
+      const inputs = Array.from({length: count}, (_, i) => units[i % units.length]);
+      const calls = jirrambeo.begin(words);
+      for (const input of inputs) calls.put(input);
+      assert.deepStrictEqual(calls.answers(), inputs.map(input => jirrambeo.run(words, input)));
+      assert.throws(() => calls.answers(), /the answers were asked for/);
+      assert.throws(() => calls.put(panel), /the answers were asked for/);
+    }
+  }
+});
+
+test('what was put in may be written after, and several are begun at once', {skip}, () => {
+  const all = Array.from({length: 5}, () => jirrambeo.begin('infer'));
+  const unit = Buffer.from(panel);
+  for (const calls of all) calls.put(unit);
+  unit.fill(0);
+  const wanted = [jirrambeo.run('infer', panel)];
+  for (const calls of all) assert.deepStrictEqual(calls.answers(), wanted);
+});
+
+test('calls whose answers nobody asks for grow nothing', {skip: skip || (process.env.JIRRAMBEO_FEW ? 'few calls are asked for' : false)}, async () => {
+  const begun = async count => {
+    for (let i = 0; i < count; i++) {
+      const calls = jirrambeo.begin('infer');
+      for (let k = 0; k < 4; k++) calls.put(panel);
+      if (i % 2 === 0) calls.answers();
+      if (i % 50 === 0) await new Promise(resolve => setTimeout(resolve, 0)); // finalizers run between tasks
+    }
+  };
+  await begun(1000);
+  const before = process.memoryUsage().rss;
+  await begun(5000);
+  const grown = process.memoryUsage().rss - before;
+  assert.ok(grown < 32 << 20, `${grown} bytes`);
+});
+
 test('the input may be written once an asynchronous call has begun', {skip}, async () => {
   const unit = Buffer.from(panel);
   const found = jirrambeo.inferAsync(unit);
@@ -47,7 +86,8 @@ test('workers end in the middle of calls', {skip}, async () => {
   const start = `const {parentPort, workerData: {index, panel}} = require('worker_threads'); const j = require(index);`;
   const onPool = `${start} for (let i = 0; i < 200; i++) j.certifyAsync(panel); parentPort.postMessage(1);`;
   const inLine = `${start} parentPort.postMessage(1); setImmediate(function go() { for (let i = 0; i < 50; i++) j.infer(panel); setImmediate(go); });`;
-  for (let i = 0; i < 10; i++) await Promise.all([ended(onPool, i), ended(inLine, i), ended(onPool, 0)]);
+  const onThreads = `${start} const calls = j.begin('certify'); for (let i = 0; i < 200; i++) calls.put(panel); parentPort.postMessage(1); setInterval(() => calls, 1);`;
+  for (let i = 0; i < 10; i++) await Promise.all([ended(onPool, i), ended(inLine, i), ended(onPool, 0), ended(onThreads, i), ended(onThreads, 0)]);
   assert.ok(jirrambeo.infer(panel).ranges.length > 0);
 });
 
