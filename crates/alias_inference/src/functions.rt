@@ -7,7 +7,6 @@ ghost use Rattle.alias_rules.specs.Fitting.{function_fits};
 ghost use Rattle.alias_rules.specs.Nesting.{times};
 ghost use Rattle.alias_nested.specs.Analysis.{analysis, most_levels, analysed, is_free, IsPassFault};
 ghost use Rattle.alias_nested.specs.Answers.{AnalysedWith, Analyses, AnalysesInto, AnalysesExactly, AnalysesExactlyInto};
-ghost use Rattle.alias_nested.specs.Faults.{IsNamedFault};
 ghost use Rattle.alias_nested.specs.Order.{below_innermost_first, numbers, functions_of, KeepsToOrder};
 ghost use Rattle.alias_nested.specs.Refusals.{AnalysisRefused, Leaves};
 ghost use Rattle.alias_answer_laws.specs.answers.Applies.{NestedLackApply};
@@ -54,7 +53,6 @@ pub fn analyse_functions_certified<P: InnerPasses, F: FnMut(&HirFunction, &Envir
     ensures once { (k : ℕ) → times (numbers (below_innermost_first most_levels func.old env.old)) k ≤ 1 }
     ensures faults { P.faults passes.old ≤ P.faults passes.new }
     ensures failed { IsPassFault result → HasFailed (P.faults passes.old) (P.faults passes.new) (P.at_last passes.new) }
-    ensures last { IfErr result (λ e. IsNamedFault (P.failed_last passes.new) env.new e) }
     ensures operands { (x : _) → result ≢ Err (EffectsNotInferred x) }
     ensures applies { NestedLackApply env.old → (i : _) (report : _) → result ≢ Err (UnreplacedApply i report) }
     ensures blames { HaveFaces (length env.old.identifiers) env.old.functions → IfErr result (λ e. BlamesRightly (unit_with func.old env.old) e) }
@@ -85,7 +83,6 @@ pub fn analyse_functions<P: InnerPasses, F: FnMut(&HirFunction, &Environment)>(
     ensures once { (k : ℕ) → times (numbers (below_innermost_first most_levels func.old env.old)) k ≤ 1 }
     ensures faults { P.faults passes.old ≤ P.faults passes.new }
     ensures failed { IsPassFault result → HasFailed (P.faults passes.old) (P.faults passes.new) (P.at_last passes.new) }
-    ensures last { IfErr result (λ e. IsNamedFault (P.failed_last passes.new) env.new e) }
     ensures operands { (x : _) → result ≢ Err (EffectsNotInferred x) }
     ensures applies { NestedLackApply env.old → (i : _) (report : _) → result ≢ Err (UnreplacedApply i report) }
     ensures blames { HaveFaces (length env.old.identifiers) env.old.functions → IfErr result (λ e. BlamesRightly (unit_with func.old env.old) e) }

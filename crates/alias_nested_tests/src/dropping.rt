@@ -1,5 +1,5 @@
 //! A pass that changes functions: it drops the last instruction that the first block lists.
-ghost use Rattle.std.specs.Prelude.{◌≡◌, [], true, false, IfOk, ⊥};
+ghost use Rattle.std.specs.Prelude.{◌≡◌, [], true, false, IfOk};
 ghost use Rattle.alias_inner_passes.specs.Passes.{Keeps};
 ghost use Rattle.alias_rules.specs.Fitting.{function_fits};
 ghost use Rattle.alias_nested_tests.specs.Dropping.{with_first, first_or, IsFront};
@@ -66,8 +66,6 @@ impl InnerPasses for DropLast {
     ghost faults = { λ _. 0 };
 
     ghost at_last = { λ _. false };
-
-    ghost failed_last = { λ _ _ _. ⊥ };
 
     ghost keeps_all = { false };
 

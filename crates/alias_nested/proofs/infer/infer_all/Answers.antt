@@ -2,7 +2,6 @@ use Rattle.alias_nested.specs.Analysis.{analysis}
 use Rattle.alias_nested.specs.Units.{root_analysed}
 use Rattle.alias_nested.proofs.Keeping.{pruned_fits}
 use Rattle.alias_nested.proofs.Ranging.{then_ranged, at_summary}
-use Rattle.alias_nested.proofs.Faulting.{unfailed_result}
 use Rattle.alias_nested.proofs.infer.infer_all.Goals as goal
 
 pub infer_root-requires : goal.infer_root-requires
@@ -16,7 +15,3 @@ returns-clause-ranged g c =
     let l = c.in_ok-analyse_kept.ensures.run fs a in
     then_ranged _ (root_analysed c.args.func.now) (analysis c.analyse_kept.new.env l.0) l.1 (after l.0))
     c.infer_root.ensures.ranged
-
-pub returns-clause-last : goal.returns-clause-last
-returns-clause-last g c = unfailed_result (g.P.InnerPasses.failed_last c.analyse_kept.new.passes) c.infer_root.new.env
-    c.infer_root.result c.infer_root.ensures.no_fault
