@@ -1,0 +1,3 @@
+pub mod same
+pub mod steps
+pub mod flow

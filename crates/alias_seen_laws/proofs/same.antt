@@ -1,0 +1,4 @@
+pub mod Identifiers
+pub mod Writing
+pub mod Calling
+pub mod Signing
