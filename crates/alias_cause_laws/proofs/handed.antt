@@ -7,4 +7,5 @@ pub mod Summarizing
 pub mod Finding
 pub mod Capturing
 pub mod Looking
+pub mod Solving
 pub mod HandingOut

@@ -3,4 +3,5 @@ pub mod Tables
 pub mod Spans
 pub mod Captures
 pub mod Seen
+pub mod Solving
 pub mod HandedOut

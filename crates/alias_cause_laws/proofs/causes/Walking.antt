@@ -70,6 +70,7 @@ use Rattle.alias_cause_laws.proofs.causes.Passes.{NamesLess, PassesRan}
 pub record Link (u : Environment) (id : FunctionId) (x : Analysed) (new : List Identifier) : Type 0 where
   pub func : HirFunction
   pub slot : slice_get u.functions id.0 ≡ Some func
+  pub expression : x.is_function_expression ≡ true
   pub ran : PassesRan u func true x.env x.func
   pub solved : x.solved ≡ numbered id ran.end.solved
   pub left : reset (summarized ran.ranged.summary ran.ranged.after.0).context ran.ranged.after.1.identifiers ≡ new
@@ -240,6 +241,7 @@ module _ (u : Environment) where
         link = record {
           func = g;
           slot = slot;
+          expression = refl;
           ran = record { fits = fits; same = same; less = less; end = e; ended = ended; ranged = r; ran = ran };
           solved = refl;
           left = refl;

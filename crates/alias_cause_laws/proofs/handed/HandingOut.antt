@@ -14,6 +14,7 @@ use Rattle.alias_inferred_laws.proofs.inferred.Rooting.{root_begun}
 use Rattle.alias_cause_laws.proofs.handed.Capturing.{created_summarized}
 use Rattle.alias_cause_laws.proofs.handed.Carrying.{none_carry_more}
 use Rattle.alias_cause_laws.proofs.handed.Looking.{each_looks}
+use Rattle.alias_cause_laws.proofs.handed.Solving.{each_solves_over}
 use Rattle.alias_cause_laws.proofs.handed.Spanning.{params_stay}
 use Rattle.alias_cause_laws.proofs.handed.Tabling.{declare_as_given}
 use Rattle.alias_cause_laws.specs.handed.HandedOut.{IsHandedOut, IsInferredInOrder}
@@ -44,6 +45,7 @@ handed_out u a rules is solve = record {
   params = params_stay u a rules is;
   captures = created_summarized u a rules is;
   looks = looks_as_handed u a rules is;
+  over = each_solves_over u a rules is (looks_as_handed u a rules is) solve;
 }
 
 -- what a call hands out that infers the unit
