@@ -6,14 +6,17 @@
  * Of each file, or of two made ones of 1,000 lines (143 small functions; 50 components), it prints in milliseconds what a
  * run with the recommended rules takes beyond one without rules: by the clock, and in brackets of the processor, of the
  * main thread and of all (which infer, compile and collect meanwhile). That of the first file of a process, and of a file
- * after others (the least and the middle of ROUNDS=12). Without the built addon units
- * are made and nothing is inferred, and it says so. NODE_PATH=/usr/share/nodejs where Debian has ESLint.
+ * after others (the least and the middle of ROUNDS=12); and what it takes to load the plugin, which is in none of them. The
+ * plugin is what `npm pack` makes of it. Without the built addon it is the checkout's, units are made and nothing is
+ * inferred, and it says so. NODE_PATH=/usr/share/nodejs where Debian has ESLint.
  */
 const fs = require('fs');
+const os = require('os');
 const path = require('path');
-const {spawnSync} = require('child_process');
+const {execFileSync, spawnSync} = require('child_process');
 
-const PLUGIN = path.join(__dirname, '../eslint-plugin/src');
+const CHECKOUT = path.join(__dirname, '../eslint-plugin');
+const {ADDON} = require(path.join(CHECKOUT, 'src/parts.js'));
 const ROUNDS = Number(process.env.ROUNDS || 12);
 const OPTIONS = {parserOptions: {ecmaVersion: 2020, sourceType: 'module', ecmaFeatures: {jsx: true}}};
 
@@ -64,23 +67,26 @@ function clocks() {
 /** @param {Array<number>} a @param {Array<number>} b */
 const beyond = (a, b) => a.map((x, i) => x - b[i]);
 
-/** Where the addon isn't built, nothing is said of units. */
-function withoutInference() {
-  const {ADDON} = require(path.join(PLUGIN, 'parts.js'));
-  if (fs.existsSync(ADDON)) return false;
-  require(path.join(PLUGIN, 'inference.js'));
+/** Where the addon isn't built, nothing is said of units. @param {string} folder of the plugin */
+function withoutInference(folder) {
+  if (folder !== CHECKOUT) return false;
+  const inference = path.join(CHECKOUT, 'src/inference.js');
+  require(inference);
   const linting = () => {
     let count = 0;
     return {put: () => count++, answers: () => Array.from({length: count}, () => ({status: 0, text: 'lints 0\n'}))};
   };
-  require.cache[path.join(PLUGIN, 'inference.js')].exports = {linting};
+  require.cache[inference].exports = {linting};
   return true;
 }
 
-function measured(text) {
+/** @param {string} text @param {string} folder of the plugin */
+function measured(text, folder) {
   const {Linter} = /** @type {any} */ (require('eslint'));
-  const isBare = withoutInference();
-  const plugin = /** @type {any} */ (require(path.join(PLUGIN, 'index.js')));
+  const isBare = withoutInference(folder);
+  const begun = clocks();
+  const plugin = /** @type {any} */ (require(path.join(folder, 'src/index.js')));
+  const loading = beyond(clocks(), begun);
   const linter = new Linter();
   for (const [name, rule] of Object.entries(plugin.rules)) linter.defineRule(`jirrambeo/${name}`, rule);
   const timed = rules => {
@@ -96,19 +102,37 @@ function measured(text) {
   for (let i = 0; i < 4; i++) full();
   const rounds = Array.from({length: ROUNDS}, () => beyond(full(), bare()));
   const later = first.map((_, clock) => rounds.map(round => round[clock]).sort((a, b) => a - b));
-  return {isBare, first, least: later.map(all => all[0]), middle: later.map(all => all[ROUNDS >> 1])};
+  return {isBare, loading, first, least: later.map(all => all[0]), middle: later.map(all => all[ROUNDS >> 1])};
 }
 
-if (process.argv[2] === '--one') {
-  process.stdout.write(JSON.stringify(measured(fs.readFileSync(0, 'utf8'))));
-} else {
-  const files = process.argv.slice(2);
-  const texts = files.length > 0 ? Object.fromEntries(files.map(file => [file, fs.readFileSync(file, 'utf8')])) : MADE;
-  for (const [name, text] of Object.entries(texts)) {
-    const {stdout} = spawnSync(process.execPath, [__filename, '--one'], {input: text, encoding: 'utf8', stdio: ['pipe', 'pipe', 'inherit']});
-    const {isBare, first, least, middle} = JSON.parse(stdout);
-    const told = [['first file', first], ['after others, least', least], ['middle', middle]].map(([what, [wall, main, all]]) => (
+/** The texts, each with its name. @param {Array<string>} files */
+function texts(files) {
+  return files.length > 0 ? Object.fromEntries(files.map(file => [file, fs.readFileSync(file, 'utf8')])) : MADE;
+}
+
+/** A line for each file. @param {Array<string>} files @param {string} folder of the plugin */
+function print(files, folder) {
+  for (const [name, text] of Object.entries(texts(files))) {
+    const {stdout} = spawnSync(process.execPath, [__filename, '--one', folder], {input: text, encoding: 'utf8', stdio: ['pipe', 'pipe', 'inherit']});
+    const {isBare, loading, first, least, middle} = JSON.parse(stdout);
+    const told = [['first file', first], ['after others, least', least], ['middle', middle], ['loading', loading]].map(([what, [wall, main, all]]) => (
       `${what} ${wall.toFixed(0)} (${main.toFixed(0)}, ${all.toFixed(0)})`));
     console.log(`${name}, ${text.split('\n').length - 1} lines: ${told.join(', ')}${isBare ? ' (without the inference)' : ''}`);
   }
 }
+
+/** Has the plugin packed into a folder of its own for a while, where its addon is built. @param {(folder: string) => void} run */
+function packed(run) {
+  if (!fs.existsSync(ADDON)) return run(CHECKOUT);
+  const folder = fs.mkdtempSync(path.join(os.tmpdir(), 'plugin-'));
+  try {
+    execFileSync(process.execPath, [path.join(CHECKOUT, 'pack.js'), '--into', folder]);
+    run(folder);
+  } finally {
+    fs.rmSync(folder, {recursive: true});
+  }
+}
+
+const [what, ...more] = process.argv.slice(2);
+if (what === '--one') process.stdout.write(JSON.stringify(measured(fs.readFileSync(0, 'utf8'), more[0])));
+else packed(folder => print(process.argv.slice(2), folder));

@@ -48,6 +48,13 @@ def standing():
     return digest(crates_in_order(LIBRARY)), digest(crates_in_order())
 
 
+def forget_libraries():
+    """Removes the libraries that stand in crates/*/out: rt ci puts back those of an earlier run, and these may be of
+    other sources than it passes over."""
+    for name in os.listdir(CRATES):
+        shutil.rmtree(os.path.join(CRATES, name, 'out', 'rlib'), ignore_errors=True)
+
+
 def note_passed(over):
     """Notes that rt ci passed over the sources of these digests, if they are there still: it leaves what it proved in
     crates/*/out, and the program where a build puts it."""

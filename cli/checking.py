@@ -11,9 +11,9 @@ from cli.saying import say
 from cli.program import answer, run
 
 
-def options(words):
-    parser = argparse.ArgumentParser(prog='jirrambeo check',
-                                     description=__doc__,
+def options(words, name='check', says=__doc__):
+    parser = argparse.ArgumentParser(prog='jirrambeo ' + name,
+                                     description=says,
                                      formatter_class=argparse.RawDescriptionHelpFormatter)
     parser.add_argument('unit', metavar='UNIT.json', help='a file, or - for standard input')
     parser.add_argument('certificate', metavar='CERTIFICATE', help='a file, or - for standard input, but not for both')
@@ -33,19 +33,25 @@ def joined(unit, certificate):
     return unit.replace(b'\n', b'\r') + b'\n' + certificate
 
 
+def both(given):
+    """The bytes of the unit and of the certificate, or None where they can't be read, which is said."""
+    if given.unit == given.certificate == '-':
+        say("the unit and the certificate can't both be read from standard input")
+        return None
+    try:
+        return read(given.unit), read(given.certificate)
+    except OSError as error:
+        say('%s: %s' % (error.filename, error.strerror))
+        return None
+
+
 def check(words):
     """Prints whether the certificate is accepted. Answers the exit status."""
     if not words:
         return run(['check'])
-    given = options(words)
-    if given.unit == given.certificate == '-':
-        say("the unit and the certificate can't both be read from standard input")
+    read_of = both(options(words))
+    if read_of is None:
         return 2
-    try:
-        data = joined(read(given.unit), read(given.certificate))
-    except OSError as error:
-        say('%s: %s' % (error.filename, error.strerror))
-        return 2
-    status, text = answer(['check'], data)
+    status, text = answer(['check'], joined(*read_of))
     sys.stdout.buffer.write(text)
     return status

@@ -57,7 +57,7 @@ class Command:
         return ([head] if wide else []) + ['%-*s  %s' % (WIDTH, '' if wide else head, self.says)]
 
 
-WIDTH = 34
+WIDTH = 35
 ON_SOURCE = (
     Command('lint', 'FILE..', 'what its code does wrong, as frames of the source, JSON, SARIF or for GitHub',
             part('linting', 'lint')),
@@ -69,6 +69,8 @@ ON_UNITS = (
     Command('infer', '< UNIT', 'effects, mutable ranges, summaries and reports', program, ''),
     Command('certify', '< UNIT', 'the same, and what it can be checked by', program, ''),
     Command('check', 'UNIT CERTIFICATE', 'whether that is a certificate of the unit', part('checking', 'check')),
+    Command('brief', '< UNIT', 'what infer writes, and what its loops need besides', program, ''),
+    Command('verify', 'UNIT CERTIFICATE', 'whether each line is the one that follows', part('verifying', 'verify')),
     Command('lint', '< UNIT', 'the reports, with the instructions that they come from', None),
     Command('explain', 'FUNCTION [IDENTIFIER] < UNIT', 'why a range ends where it does, or all of a function', program,
             r'(root|%s)( %s)?' % (NUMBER, NUMBER)),
@@ -77,7 +79,7 @@ ON_UNITS = (
     Command('made', 'SEED SIZE', 'how much is inferred of a made unit', program, r'%s ([1-9]\d{0,2}|1000)' % NUMBER))
 BESIDES = (
     Command('build', '', 'proves and builds the program', build, ''),
-    Command('--help', '', 'this; lint, view, playground, units and check have a --help of theirs', help_of_all, ''),
+    Command('--help', '', 'this; lint, view, playground, units, check and verify have one of theirs', help_of_all, ''),
     Command('--version', '', 'name and version', version, ''))
 PARTS = (('On source (JavaScript, TypeScript, Flow annotations, JSX):', ON_SOURCE),
          ('On a unit (JSON: docs/FORMAT.md):', ON_UNITS), ('Besides:', BESIDES))

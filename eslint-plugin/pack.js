@@ -1,36 +1,45 @@
 'use strict';
 /**
- * Copies into `vendor` what a package holds besides its own sources, and with `--clear` takes it away again, so that a checkout goes on with
- * its own: `npm pack` runs both.
+ * Puts into `vendor` what a package holds besides its own sources, and with `--clear` takes it away again, so that a checkout
+ * goes on with its own: `npm pack` runs both. With `--into FOLDER` the package is laid out in a folder that is there.
  */
 const fs = require('fs');
 const path = require('path');
+const bundle = require('./bundle.js');
 
 const TOP = path.join(__dirname, '..');
-const VENDOR = path.join(__dirname, 'vendor');
-const FROM = {
-  frontend: 'frontend/src',
-  'node/index.js': 'hosts/node/index.js', 'node/index.d.ts': 'hosts/node/index.d.ts', 'node/answers.js': 'hosts/node/answers.js',
-  'node/lines.js': 'hosts/node/lines.js', 'node/refusals.js': 'hosts/node/refusals.js', 'node/package.json': 'hosts/node/package.json',
-  'node/jirrambeo.node': 'hosts/lib/jirrambeo.node',
-};
+const ADDON = path.join(TOP, 'hosts/lib/jirrambeo.node');
 
-const LICENSE = path.join(__dirname, 'LICENSE');
-
-function clear() {
-  fs.rmSync(VENDOR, {recursive: true, force: true});
-  fs.rmSync(LICENSE, {force: true});
+/** @param {string} folder */
+function clear(folder) {
+  fs.rmSync(path.join(folder, 'vendor'), {recursive: true, force: true});
+  fs.rmSync(path.join(folder, 'LICENSE'), {force: true});
 }
 
-function copy() {
-  const missing = Object.values(FROM).find(from => !fs.existsSync(path.join(TOP, from)));
-  if (missing) {
-    console.error(`eslint-plugin: ${missing} isn't there: hosts/build makes it`);
+/** @param {string} folder */
+function fill(folder) {
+  const vendor = path.join(folder, 'vendor');
+  fs.mkdirSync(vendor);
+  fs.copyFileSync(path.join(TOP, 'LICENSE'), path.join(folder, 'LICENSE'));
+  fs.copyFileSync(ADDON, path.join(vendor, 'jirrambeo.node'));
+  bundle.write(path.join(vendor, 'frontend.js'));
+}
+
+/** What npm packs of the folder itself. @param {string} folder */
+function layOut(folder) {
+  for (const name of ['src', 'package.json']) fs.cpSync(path.join(__dirname, name), path.join(folder, name), {recursive: true});
+  fill(folder);
+}
+
+/** @param {Array<string>} words */
+function run([what, folder]) {
+  if (what !== '--clear' && !fs.existsSync(ADDON)) {
+    console.error(`eslint-plugin: ${ADDON} isn't there: hosts/build makes it`);
     process.exit(1);
   }
-  fs.copyFileSync(path.join(TOP, 'LICENSE'), LICENSE);
-  for (const [to, from] of Object.entries(FROM)) fs.cpSync(path.join(TOP, from), path.join(VENDOR, to), {recursive: true});
+  if (what === '--into') return layOut(folder);
+  clear(__dirname);
+  if (what !== '--clear') fill(__dirname);
 }
 
-clear();
-if (process.argv[2] !== '--clear') copy();
+run(process.argv.slice(2));

@@ -164,12 +164,12 @@ DAMAGES = [
 ]
 
 
-def damaged(text, r):
-    """The certificate, damaged once."""
+def damaged(text, r, damages=None):
+    """The certificate, damaged once, in one of these ways."""
     lines = text.split(b'\n')
     if lines[-1:] == [b'']:
         lines.pop()
-    lines = r.choice(DAMAGES)(lines, r) if lines else lines
+    lines = r.choice(damages or DAMAGES)(lines, r) if lines else lines
     return b'\n'.join(lines) + r.choice([b'\n', b'\n', b''])
 
 

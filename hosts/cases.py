@@ -3,8 +3,9 @@
 Each is the words, the input, the status and the text: the worked examples of alias_rows but those in which a stream
 fails, which no host has; what `infer` is to write of each of examples/; and, where the proved program is given, what
 it writes of the units of both, and of one whose text is long, for every command. Each certificate that `certify` then
-writes has to be accepted by `check`, which is also asked about those of examples/ with a damage: without the first
-line of a kind, with another number in that line, and without its first byte. `--few` leaves out the long ones, for a
+writes has to be accepted by `check`, and each that `brief` writes by `verify`; both are also asked about those of
+examples/ with a damage: without the first line of a kind, with another number in that line, and without its first
+byte. `--few` leaves out the long ones, for a
 slow machine as valgrind's.
 
 The file has for each run four numbers of 4 bytes, the lowest first: the status, and the lengths of words, input and
@@ -23,6 +24,7 @@ from cli.checking import joined  # noqa: E402
 
 MOST = 1 << 20  # the longest input that every command is asked about
 FEW = 4096  # the inputs of a few runs are shorter
+CHECKED = {b'certify': b'check', b'brief': b'verify'}  # by which command what another writes is to be accepted
 
 
 def read(*path):
@@ -80,7 +82,7 @@ def answered(program, words, data):
 
 def asked_of(program, inputs):
     """What the program writes of these inputs for every command that reads a unit alone."""
-    asked = (b'infer', b'certify', b'lint', b'plain', b'explain root 0', b'explain root 2', b'explain 0 1',
+    asked = (b'infer', b'certify', b'brief', b'lint', b'plain', b'explain root 0', b'explain root 2', b'explain 0 1',
              b'explain root', b'explain 0')
     for words in asked:
         for data in inputs:
@@ -89,10 +91,10 @@ def asked_of(program, inputs):
 
 def accepted_of(program, certified):
     """What the program says of the certificates that it wrote."""
-    for unit, certificate in certified:
-        run = answered(program, b'check', joined(unit, certificate))
+    for words, unit, certificate in certified:
+        run = answered(program, CHECKED[words], joined(unit, certificate))
         if run[2] != 0:
-            sys.exit('hosts: what certify writes is refused: %r of %r' % (run[3], unit[:200]))
+            sys.exit('hosts: what %s writes is refused: %r of %r' % (words.decode(), run[3], unit[:200]))
         yield run
 
 
@@ -111,13 +113,14 @@ def damaged(certificate):
 def runs_of(program, runs):
     """What the program writes of the units of these runs."""
     # of which the text is long
-    units = {data for words, data, _, _ in runs if data and len(data) <= MOST and words != b'check'} | {loops(30)}
+    units = {data for words, data, _, _ in runs if data and len(data) <= MOST and words not in CHECKED.values()}
+    units.add(loops(30))
     told = list(asked_of(program, sorted(units)))
-    certified = [(data, text) for words, data, status, text in told if words == b'certify' and status == 0]
+    certified = [(words, data, text) for words, data, status, text in told if words in CHECKED and status == 0]
     shown = {data for _, data, _, _ in examples()}
     told += accepted_of(program, certified)
     told += [
-        answered(program, b'check', joined(unit, other)) for unit, text in certified if unit in shown
+        answered(program, CHECKED[words], joined(unit, other)) for words, unit, text in certified if unit in shown
         for other in damaged(text)
     ]
     return told

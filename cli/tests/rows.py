@@ -10,7 +10,7 @@ import re
 import sys
 
 TOP = os.path.dirname(os.path.dirname(os.path.dirname(os.path.abspath(__file__))))
-INFERRED = ('infer', 'certify')
+INFERRED = ('infer', 'certify', 'brief')
 Example = collections.namedtuple('Example', 'name words input status lines fails each piece')
 
 # Parts that no example can show, each with the reason.
@@ -25,6 +25,7 @@ HIDDEN = {
     ('answer of plain', 'TooMany'): 'a table of 2^32 entries does not fit into an input',
     ('bad line of a certificate', 'report'): 'it may hold any text, and no form comes behind it',
     ('fault of a certificate', '12'): 'a table of 2^32 entries does not fit into an input',
+    ('fault of a brief certificate', '12'): 'a table of 2^32 entries does not fit into an input',
     ('cause', 'nocause'): 'no range of a unit that is inferred ends so',
     ('category', 'Invariant'): 'its reports come with a refusal, which prints none',
     ('category', 'Todo'): 'its reports come with a refusal, which prints none',
@@ -139,6 +140,9 @@ def families():
     yield 'line of a certificate', lines_of_certificates()
     yield 'bad line of a certificate', lines_of_certificates() + ['none of these']
     yield 'fault of a certificate', first_column('| Fault | Line behind', r'(\d+)')
+    yield 'line of a brief certificate', ['value', 'variable', 'temporary', 'none of a state']
+    yield 'fault of a brief certificate', first_column('| Line | Comes where | Example, of', r'`refused Rejected (\d+)')
+    yield 'what follows instead', ['a line', 'nothing']
     yield 'count of made', first_column('| Line | Counts |', r'`(\w+)`')
     yield 'failing stream', ['read', 'write', 'each read', 'each write', 'each prefix']
 
@@ -290,6 +294,12 @@ def shown_of_plainness(lines):
     yield from [('answer of plain', 'plain')] if words == ['plain'] else [('condition of plain', words[4])]
 
 
+def shown_of_beyond(lines):
+    """What loops add to the lines of an inference."""
+    words = {line.split(' ')[0] for line in lines} & {'value', 'variable', 'temporary'}
+    yield from (('line of a brief certificate', word) for word in words or ['none of a state'])
+
+
 def word_of(line):
     """The form of a line of a certificate."""
     word = line.split(' ')[0]
@@ -311,9 +321,11 @@ def shown_of_refusal(example):
         word = word_of(example.input.split('\n')[int(words[2])])
         yield 'bad line of a certificate', word if word in lines_of_certificates() else 'none of these'
     elif example.status == 13:
-        yield 'fault of a certificate', words[2]
+        yield 'fault of a %scertificate' % ('brief ' if example.words == 'verify' else ''), words[2]
     elif example.status == 15:
         yield 'answer of plain', words[2]
+    elif example.status == 16:
+        yield 'what follows instead', 'a line' if len(words) > 3 else 'nothing'
 
 
 def shown_of_streams(example):
@@ -327,6 +339,7 @@ def shown_of_streams(example):
 def shown_of_answer(example, command):
     if command in INFERRED:
         yield from shown_of_inference(example, unit_of(example))
+        yield from shown_of_beyond(example.lines) if command == 'brief' else []
     elif command == 'lint':
         yield from shown_of_lints(example.lines)
     elif command == 'explain':

@@ -6,10 +6,8 @@
  * @typedef {{start: Point, end?: Point}} Loc
  * @typedef {{category: string, message: string, loc: Loc}} Found
  */
-const path = require('path');
-const {FRONTEND} = require('./parts.js');
 const {linting} = require('./inference.js');
-const {unitsOfProgram, isIncompatible, reports, sourceMap, Positions} = require(path.join(FRONTEND, 'index.js'));
+const {unitsOfProgram, isIncompatible, reports, sourceMap, Positions} = require('./frontend.js');
 
 /** Categories of this plugin's own: what isn't analysed, and a call by which a function can't be. */
 const UNSUPPORTED = 'Unsupported';
@@ -51,10 +49,10 @@ function refusalOf(text, unit, positions) {
   return {category: UNSUPPORTED, loc, message: `This function isn't analysed: ${line}.`};
 }
 
-/** @param {Buffer} bytes of a unit @param {{status: number, text: string}} answer @returns {Array<Found>} */
-function foundIn(bytes, {status, text}, positions) {
+/** @param {import('./inference.js').Codes} codes of a unit @param {{status: number, text: string}} answer @returns {Array<Found>} */
+function foundIn(codes, {status, text}, positions) {
   if (status === 0 && !text.startsWith('lint ')) return [];
-  const unit = JSON.parse(bytes.toString());
+  const unit = JSON.parse(codes.bytes().toString());
   if (status !== 0) return [refusalOf(text, unit, positions)];
   const lines = text.split('\n').filter(line => line.startsWith('lint '));
   return reports(lines, unit, positions).map(report => ({category: report.category, message: messageOf(report), loc: locOf(report.range)}));
@@ -83,7 +81,7 @@ function analysed({ast, text}, isAll) {
   let made;
   try {
     const others = isAll || mayReportOthers(ast) ? 'nested' : 'none';
-    made = unitsOfProgram(ast, text, {offsets: 'utf16', as: 'bytes', others, each, config: {validate_no_impure_functions_in_render: true}});
+    made = unitsOfProgram(ast, text, {offsets: 'utf16', as: 'codes', others, each, config: {validate_no_impure_functions_in_render: true}});
   } catch (error) {
     if (!(error instanceof SyntaxError)) throw error;
     return [{category: UNSUPPORTED, message: `This file isn't analysed: ${sentence(error.message)}`, loc: {start: {line: 1, column: 0}}}];

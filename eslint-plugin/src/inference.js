@@ -3,9 +3,10 @@
  * What the inference says of units, by the addon, in this process.
  *
  * @typedef {{status: number, text: string}} Answer
+ * @typedef {{codes: Int32Array, texts: () => Buffer, lines: () => Buffer, bytes: () => Buffer}} Codes of a unit, as the front end has them
  */
 const fs = require('fs');
-const {ADDON, HOST} = require('./parts.js');
+const {ADDON} = require('./parts.js');
 
 const MISSING = 'eslint-plugin-jirrambeo: the inference isn\'t there. `hosts/build` makes it in a checkout of Jirrambeo; a package has it for Linux on x86-64';
 
@@ -14,18 +15,20 @@ const MISSING = 'eslint-plugin-jirrambeo: the inference isn\'t there. `hosts/bui
  * @param {string} [addon] where it is
  */
 function linting(addon = ADDON) {
+  let library = null;
   let calls = null;
   return {
-    /** @param {Buffer} unit */
+    /** @param {Codes} unit */
     put(unit) {
       if (calls === null) {
         if (!fs.existsSync(addon)) throw new Error(MISSING);
-        calls = require(HOST).begin('lint');
+        library = require(addon);
+        calls = library.begin('lint');
       }
-      calls.put(unit);
+      library.putCodes(calls, unit.codes, unit.texts(), unit.lines());
     },
     /** @returns {Array<Answer>} of each unit */
-    answers: () => (calls === null ? [] : calls.answers()),
+    answers: () => (calls === null ? [] : library.answers(calls).map(([status, text]) => ({status, text: text.toString()}))),
   };
 }
 

@@ -5,10 +5,12 @@ const path = require('path');
 
 const VENDOR = path.join(__dirname, '../vendor');
 const TOP = path.join(__dirname, '../..');
-const isPacked = fs.existsSync(path.join(VENDOR, 'frontend'));
+const SCRIPT = path.join(VENDOR, 'frontend.js');
+const isPacked = fs.existsSync(SCRIPT);
 
-const FRONTEND = isPacked ? path.join(VENDOR, 'frontend') : path.join(TOP, 'frontend/src');
-const HOST = isPacked ? path.join(VENDOR, 'node') : path.join(TOP, 'hosts/node');
-const ADDON = isPacked ? path.join(VENDOR, 'node/jirrambeo.node') : path.join(TOP, 'hosts/lib/jirrambeo.node');
+/** The one script of a pack. @type {?string} */
+const BUNDLE = isPacked ? SCRIPT : null;
+const MODULES = path.join(TOP, 'frontend/src');
+const ADDON = isPacked ? path.join(VENDOR, 'jirrambeo.node') : path.join(TOP, 'hosts/lib/jirrambeo.node');
 
-module.exports = {FRONTEND, HOST, ADDON};
+module.exports = {BUNDLE, MODULES, ADDON};

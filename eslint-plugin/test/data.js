@@ -39,15 +39,15 @@ const plugin = /** @type {any} */ (require('../src/index.js'));
 const PARSER_OPTIONS = {ecmaVersion: 2020, sourceType: 'module', ecmaFeatures: {jsx: true}};
 
 /** A linter with all rules, in the old form or the new. */
-function linterOf() {
+function linterOf(from = plugin) {
   const linter = new eslint.Linter({configType: 'eslintrc'});
-  for (const [name, rule] of Object.entries(plugin.rules)) linter.defineRule(`jirrambeo/${name}`, rule);
+  for (const [name, rule] of Object.entries(from.rules)) linter.defineRule(`jirrambeo/${name}`, rule);
   return linter;
 }
 
-/** @param {string} text @param {object} [rules] @param {object} [more] of the configuration */
-function messages(text, rules = plugin.configs.recommended.rules, more = {}) {
-  return linterOf().verify(text, {parserOptions: PARSER_OPTIONS, rules, ...more}, {filename: 'file.js'});
+/** @param {string} text @param {object} [rules] @param {object} [more] of the configuration @param {any} [from] another one */
+function messages(text, rules = plugin.configs.recommended.rules, more = {}, from = plugin) {
+  return linterOf(from).verify(text, {parserOptions: PARSER_OPTIONS, rules, ...more}, {filename: 'file.js'});
 }
 
 module.exports = {eslint, skip, plugin, PARSER_OPTIONS, linterOf, messages, given, FIXTURES: path.join(__dirname, 'fixtures')};

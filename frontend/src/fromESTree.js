@@ -145,11 +145,14 @@ function isESTree(ast) {
 
 /**
  * @param {*} ast a program, or a file of one
+ * @param {(statement: *) => boolean} [isRead] statements that aren't stay as they are
  * @returns {{type: string, program: Node}}
  */
-function fromESTree(ast) {
+function fromESTree(ast, isRead = () => true) {
   const program = ast.type === 'File' ? ast.program : ast;
-  return {type: 'File', program: turned(program)};
+  const body = program.body.filter(one => !isDirective(one)).map(one => (isRead(one) ? turned(one) : one));
+  const directives = program.body.filter(isDirective).map(directive);
+  return {type: 'File', program: {type: 'Program', ...placeOf(program), body, directives}};
 }
 
 module.exports = {fromESTree, isESTree};

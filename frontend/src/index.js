@@ -26,6 +26,7 @@ const {compile, emit} = require('./compile.js');
 const {children} = require('./syntax.js');
 const {Refused} = require('./refused.js');
 const {Positions} = require('./positions.js');
+const {passedOver, startOf} = require('./passedOver.js');
 
 /**
  * @typedef {object} Options
@@ -39,7 +40,8 @@ const {Positions} = require('./positions.js');
  *   unless it is false
  * @property {boolean} [compiler] the React Compiler's own way of lowering, where this front end has a better one
  * @property {object} [config] of the unit
- * @property {'bytes'} [as] units are Buffers of their JSON, which is faster where they are only handed on
+ * @property {'bytes'|'codes'} [as] units are Buffers of their JSON, or what the addon makes its bytes of (codes.js), which
+ *   is faster where they are only handed on
  * @property {(made: Made) => void} [each] is told of each as soon as it is made
  */
 
@@ -56,9 +58,10 @@ function unitsOf(text, options = {}) {
  * The names of a file, and its functions that get units.
  * @param {object} file a Babel tree
  * @param {Options} options
+ * @param {(statement: object) => boolean} [isRead] those of other statements are left out
  */
-function functionsOf(file, options) {
-  const names = resolveNames(file.program);
+function functionsOf(file, options, isRead) {
+  const names = resolveNames(file.program, isRead);
   markInlined(names, call => options.dropMemo !== false && memoName(names, call) === 'useMemo');
   return {names, functions: findFunctions(file, names)};
 }
@@ -68,6 +71,18 @@ function deepest(top) {
   let level = [top];
   for (let next = level; next.length > 0; next = level.flatMap(children)) level = next;
   return level[0];
+}
+
+/**
+ * The same, of either form of trees: with `none` but those of statements in which a component or hook may stand.
+ * @param {any} ast @param {string} text @param {Options} options
+ */
+function functionsOfProgram(ast, text, options) {
+  const program = ast.type === 'File' ? ast.program : ast;
+  const left = options.others === 'none' ? passedOver(program.body, text) : new Set();
+  if (left.size > 0 && left.size === program.body.length) return {names: null, functions: []};
+  const isRead = statement => !left.has(startOf(statement));
+  return functionsOf(isESTree(ast) ? fromESTree(program, isRead) : {program}, options, isRead);
 }
 
 /** What goes out of the machine's stack is no program that can be read. */
@@ -81,6 +96,13 @@ function guarded(ast, run) {
   }
 }
 
+/** A unit in the form that is asked for. @param {import('./codes.js').Codes} codes @param {Options['as']} as */
+function formed(codes, as) {
+  if (as === 'codes') return codes.unwritten();
+  const bytes = codes.taken();
+  return as === 'bytes' ? bytes : JSON.parse(bytes.toString());
+}
+
 /**
  * @param {object} ast a tree of Babel's parser, or of ESTree (espree, acorn, @typescript-eslint/parser, Babel's with
  *   its `estree` plugin): a program, or a file of one. Its nodes have `start` and `end`, or `range`. It isn't changed
@@ -89,7 +111,7 @@ function guarded(ast, run) {
  * @returns {Array<Made>} one for each outermost function, and for components and hooks in those that are neither
  */
 function unitsOfProgram(ast, text, options = {}) {
-  const {names, functions} = guarded(ast, () => functionsOf(isESTree(ast) ? fromESTree(ast) : ast.type === 'File' ? ast : {program: ast}, options));
+  const {names, functions} = guarded(ast, () => functionsOfProgram(ast, text, options));
   const positions = new Positions(text, options.offsets);
   const offset = positions.toOffset();
   const wanted = options.others === 'none' ? functions.filter(({kind}) => kind !== 'Other') : functions;
@@ -98,8 +120,7 @@ function unitsOfProgram(ast, text, options = {}) {
     const made = {name, kind: /** @type {Made['kind']} */ (kind.toLowerCase()), at: positions.position(func.node.start)};
     try {
       const {root} = compile(names, func, kind, options);
-      const bytes = emit(root, {config: options.config, compiler: options.compiler, offset});
-      made.unit = options.as === 'bytes' ? bytes : JSON.parse(bytes.toString());
+      made.unit = formed(emit(root, {config: options.config, compiler: options.compiler, offset}), options.as);
     } catch (given) {
       const error = given instanceof RangeError ? new Refused('it is nested too deeply', deepest(func.node)) : given;
       if (!(error instanceof Refused)) throw error;

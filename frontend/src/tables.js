@@ -6,17 +6,17 @@ const {SHAPES} = require('./ObjectShape.js');
 /** On how many levels the types of a well-formed unit may be nested. */
 const TYPE_LEVELS = 32;
 
-/** The JSON of shapes, as it was made first: here and for the React Compiler. @type {Array<Map<string, Uint8Array>>} */
+/** The JSON of shapes, as it was made first: here and for the React Compiler. @type {Array<Map<string, string>>} */
 const shapeTexts = [new Map(), new Map()];
 
 /** @param {string} id @param {boolean} asCompiler */
 function shapeText(id, asCompiler) {
   const texts = shapeTexts[Number(asCompiler)];
   let text = texts.get(id);
-  if (!text) {
+  if (text === undefined) {
     const {hook, signature: own, asCompiler: theirs} = SHAPES.get(id);
     const signature = asCompiler && theirs || own;
-    text = Buffer.from(JSON.stringify({id, ...(hook && {hook}), ...(signature && {signature})}));
+    text = JSON.stringify({id, ...(hook && {hook}), ...(signature && {signature})});
     texts.set(id, text);
   }
   return text;
@@ -27,7 +27,8 @@ class Tables {
     /** @type {Map<import('./HIR.js').Ident, number>} */
     this.idents = new Map();
     this.declarations = new Map(); // from a variable to its first version
-    this.types = []; // as the JSON has them
+    /** @type {Array<string>} their JSON */
+    this.types = [];
     /** @type {Map<?string, number>} numbers of object types, by their shapes */
     this.objects = new Map();
     /** @type {Map<string, number>} of types without parts, by their kinds */
@@ -74,8 +75,12 @@ class Tables {
     if (t.kind !== 'Function' && t.kind !== 'Phi') return this.numberOfType(this.plain, t.kind, t);
     let number = this.others.get(t);
     if (number === undefined) {
-      const value = this.typeValue(t);
-      number = this.numberOfType(this.made, JSON.stringify(value), t);
+      const text = JSON.stringify(this.typeValue(t));
+      number = this.made.get(text);
+      if (number === undefined) {
+        number = this.types.push(text) - 1;
+        this.made.set(text, number);
+      }
       this.others.set(t, number);
     }
     return number;
@@ -88,7 +93,7 @@ class Tables {
   numberOfType(known, key, type) {
     let number = known.get(key);
     if (number === undefined) {
-      number = this.types.push(this.typeValue(type)) - 1;
+      number = this.types.push(JSON.stringify(this.typeValue(type))) - 1;
       known.set(key, number);
     }
     return number;

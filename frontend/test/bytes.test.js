@@ -1,9 +1,9 @@
 'use strict';
-/** Units as the bytes of their JSON, and functions that are left out. */
+/** Units as the bytes of their JSON, or as the codes of these, and functions that are left out. */
 const test = require('node:test');
 const assert = require('node:assert');
 const {unitsOf} = require('../src/index.js');
-const {Bytes, ascii} = require('../src/bytes.js');
+const {Codes, ascii} = require('../src/codes.js');
 
 const SOURCES = [
   'function f(a, {b, [a.k]: c = 1, ...d}, [e, , ...g]) { switch (a) { case 1: return b; default: return [c, , ...d]; } }',
@@ -16,6 +16,20 @@ const SOURCES = [
 /** @type {Array<import('../src/index.js').Options>} */
 const OPTIONS = [{}, {offsets: 'utf16'}, {others: 'root', compiler: true}];
 
+/** The JSON for which codes stand, by the lines that the addon is handed (hosts/node/codes.c). */
+function written(unit) {
+  const [texts, strings] = [unit.texts(), unit.lines()].map(lines => lines.toString().split('\n'));
+  const codes = [...unit.codes];
+  let out = '';
+  for (let code = codes.shift(); code !== undefined; code = codes.shift()) {
+    if (code >= 0) out += code;
+    else if (code <= -5) out += texts[-5 - code];
+    else if (code >= -2) out += `[${codes.splice(0, code === -2 ? 3 : 2).join()}]`;
+    else out += code === -3 ? `"${strings[codes.shift()]}"` : strings[codes.shift()];
+  }
+  return Buffer.from(out);
+}
+
 for (const source of SOURCES) {
   for (const options of OPTIONS) {
     test(`bytes are the JSON of the unit: ${source.slice(0, 50)} ${JSON.stringify(options)}`, () => {
@@ -24,6 +38,9 @@ for (const source of SOURCES) {
       assert.ok(made.unit, JSON.stringify(made.refused));
       assert.ok(Buffer.isBuffer(asBytes.unit));
       assert.strictEqual(asBytes.unit.toString(), JSON.stringify(made.unit));
+      const [{unit: codes}] = unitsOf(source, {...options, as: 'codes'});
+      assert.ok(codes.bytes().equals(asBytes.unit));
+      assert.ok(written(codes).equals(asBytes.unit));
     });
   }
 }
@@ -40,7 +57,7 @@ test('what is refused once all is lowered is refused as bytes, and the next func
 
 test('numbers, texts and room', () => {
   const numbers = [0, 7, 9, 10, 99, 100, 999, 1000, 12345, 99999, 100000, 1234567, 99999999, 123456789, 1000000000, 0x7fffffff];
-  const out = Bytes.make();
+  const out = new Codes([]);
   for (let i = 0; i < 200; i++) {
     for (const n of numbers) {
       out.number(n);
@@ -50,7 +67,7 @@ test('numbers, texts and room', () => {
   out.pair(1, 23);
   out.triple(4, 567, 8);
   out.text(ascii('{"a":'));
-  out.json({b: 'ü"𝒳\ud800'});
+  out.json(JSON.stringify({b: 'ü"𝒳\ud800'}));
   out.quoted('name');
   const text = out.taken().toString();
   assert.strictEqual(text, `${numbers.map(n => `${n},`).join('').repeat(200)}[1,23][4,567,8]{"a":${JSON.stringify({b: 'ü"𝒳\ud800'})}"name"`);

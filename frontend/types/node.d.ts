@@ -4,6 +4,7 @@ declare module 'fs';
 declare module 'os';
 declare module 'path';
 declare module 'readline';
+declare module 'vm';
 declare module 'node:assert';
 declare module 'node:child_process';
 declare module 'node:fs';

@@ -58,6 +58,10 @@ static void *all_commands(void *length) {
     jirrambeo_check(input, unit_length, certificate, certificate_length, &text, &text_length);
     jirrambeo_free(text);
     jirrambeo_free(certificate);
+    jirrambeo_call("brief", input, unit_length, &certificate, &certificate_length);
+    jirrambeo_verify(input, unit_length, certificate, certificate_length, &text, &text_length);
+    jirrambeo_free(text);
+    jirrambeo_free(certificate);
     return NULL;
 }
 

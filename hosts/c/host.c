@@ -1,4 +1,4 @@
-/* What the program does, in this process: host WORD.. < unit.json; and host check UNIT.json CERTIFICATE, which reads two files in place of one input. */
+/* What the program does, in this process: host WORD.. < unit.json; and host check|verify UNIT.json CERTIFICATE, which reads two files in place of one input. */
 #include "jirrambeo.h"
 #include <stdio.h>
 
@@ -63,11 +63,11 @@ static uint8_t run_words(int count, char **words, uint8_t **text, size_t *text_l
     return status;
 }
 
-static uint8_t check_files(const char *unit_path, const char *certificate_path, uint8_t **text, size_t *text_length) {
+static uint8_t run_files(const char *line, const char *unit_path, const char *certificate_path, uint8_t **text, size_t *text_length) {
     size_t unit_length = 0, certificate_length = 0;
     uint8_t *unit = read_file(unit_path, &unit_length), *certificate = read_file(certificate_path, &certificate_length);
     int is_read = unit != NULL && certificate != NULL;
-    uint8_t status = is_read ? jirrambeo_check(unit, unit_length, certificate, certificate_length, text, text_length) : 7;
+    uint8_t status = is_read ? jirrambeo_call_with(line, unit, unit_length, certificate, certificate_length, text, text_length) : 7;
     free(certificate);
     free(unit);
     return status;
@@ -76,8 +76,8 @@ static uint8_t check_files(const char *unit_path, const char *certificate_path, 
 int main(int count, char **words) {
     size_t text_length = 0;
     uint8_t *text = NULL;
-    int is_of_files = count == 4 && strcmp(words[1], "check") == 0;
-    uint8_t status = is_of_files ? check_files(words[2], words[3], &text, &text_length) : run_words(count, words, &text, &text_length);
+    int is_of_files = count == 4 && (strcmp(words[1], "check") == 0 || strcmp(words[1], "verify") == 0);
+    uint8_t status = is_of_files ? run_files(words[1], words[2], words[3], &text, &text_length) : run_words(count, words, &text, &text_length);
     if (text != NULL && (fwrite(text, 1, text_length, stdout) != text_length || fflush(stdout) != 0)) {
         status = 8;
     }

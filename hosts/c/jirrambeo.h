@@ -30,7 +30,8 @@ enum {
     JIRRAMBEO_REJECTED = 13,      /* the certificate isn't one of the unit */
     JIRRAMBEO_NOT_HERE = 14,      /* the identifier doesn't stand in that function */
     JIRRAMBEO_PLAIN_REFUSED = 15, /* it isn't known whether the unit is plain */
-    JIRRAMBEO_NULL = 255          /* of jirrambeo_call and jirrambeo_check alone: a pointer is null that must not be */
+    JIRRAMBEO_DIFFERS = 16,       /* a line of the certificate isn't the one that follows */
+    JIRRAMBEO_NULL = 255          /* of jirrambeo_call, _check and _verify alone: a pointer is null that must not be */
 };
 
 /* Does what the words of `line` ask for, which single spaces part ("infer", "explain root 8", "made 1 100"), on `input`. Returns the status, sets
@@ -119,19 +120,19 @@ static inline uint8_t jirrambeo_call(const char *line, const uint8_t *input, siz
     return is_whole ? status : jirrambeo_call_in_block(line, input, input_length, text, text_length);
 }
 
-/* Whether a certificate is accepted for a unit: jirrambeo_call of "check", whose input is the unit, a newline and the certificate, which this puts together. The
- * first newline ends the unit, so each of the unit's own becomes '\r', which means the same in JSON. The certificate is what "certify" writes, or what anybody
- * says in its place. The input is a block of this call's, for which JIRRAMBEO_MEMORY may come too. JIRRAMBEO_NULL comes where `text` or `text_length` is null,
- * or `unit` or `certificate` is though it has a length. */
-static inline uint8_t jirrambeo_check(const uint8_t *unit, size_t unit_length, const uint8_t *certificate, size_t certificate_length, uint8_t **text,
-                                      size_t *text_length) {
+/* jirrambeo_call of a line that reads a unit, a newline and a certificate, which this puts together. The first newline ends the unit, so each of the unit's own
+ * becomes '\r', which means the same in JSON. The input is a block of this call's, for which JIRRAMBEO_MEMORY may come too. JIRRAMBEO_NULL comes where `line`,
+ * `text` or `text_length` is null, or `unit` or `certificate` is though it has a length. */
+static inline uint8_t jirrambeo_call_with(const char *line, const uint8_t *unit, size_t unit_length, const uint8_t *certificate, size_t certificate_length,
+                                          uint8_t **text, size_t *text_length) {
     if (text != NULL) {
         *text = NULL;
     }
     if (text_length != NULL) {
         *text_length = 0;
     }
-    if (text == NULL || text_length == NULL || (unit == NULL && unit_length > 0) || (certificate == NULL && certificate_length > 0)) {
+    int has_room = line != NULL && text != NULL && text_length != NULL;
+    if (!has_room || (unit == NULL && unit_length > 0) || (certificate == NULL && certificate_length > 0)) {
         return JIRRAMBEO_NULL;
     }
     size_t length = unit_length + 1 + certificate_length;
@@ -146,12 +147,24 @@ static inline uint8_t jirrambeo_check(const uint8_t *unit, size_t unit_length, c
     if (certificate_length > 0) {
         memcpy(input + unit_length + 1, certificate, certificate_length);
     }
-    uint8_t status = jirrambeo_call("check", input, length, text, text_length);
+    uint8_t status = jirrambeo_call(line, input, length, text, text_length);
     free(input);
     return status;
 }
 
-/* Gives back a text of jirrambeo_call or jirrambeo_check, or null. */
+/* Whether a certificate is accepted for a unit: "check". The certificate is what "certify" writes, or what anybody says in its place. */
+static inline uint8_t jirrambeo_check(const uint8_t *unit, size_t unit_length, const uint8_t *certificate, size_t certificate_length, uint8_t **text,
+                                      size_t *text_length) {
+    return jirrambeo_call_with("check", unit, unit_length, certificate, certificate_length, text, text_length);
+}
+
+/* Whether each line of a certificate is the one that follows for a unit: "verify". The certificate is what "brief" writes, or what anybody says in its place. */
+static inline uint8_t jirrambeo_verify(const uint8_t *unit, size_t unit_length, const uint8_t *certificate, size_t certificate_length, uint8_t **text,
+                                       size_t *text_length) {
+    return jirrambeo_call_with("verify", unit, unit_length, certificate, certificate_length, text, text_length);
+}
+
+/* Gives back a text of jirrambeo_call, jirrambeo_check or jirrambeo_verify, or null. */
 static inline void jirrambeo_free(uint8_t *text) { free(text); }
 
 #ifdef __cplusplus

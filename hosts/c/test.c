@@ -94,14 +94,20 @@ static void read_runs(const char *path) {
     fclose(file);
 }
 
-/* The call of a run: that of `check` by the parts of its input, where it has both. */
+static int is_of_two(const struct run *run) { return strcmp(run->line, "check") == 0 || strcmp(run->line, "verify") == 0; }
+
+/* The call of a run: that of `check` or `verify` by the parts of its input, where it has both. */
 static uint8_t called(const struct run *run, uint8_t **text, size_t *length) {
-    const uint8_t *cut = strcmp(run->line, "check") == 0 ? memchr(run->input, '\n', run->input_length) : NULL;
+    const uint8_t *cut = is_of_two(run) ? memchr(run->input, '\n', run->input_length) : NULL;
     if (cut == NULL) {
         return jirrambeo_call(run->line, run->input, run->input_length, text, length);
     }
     size_t unit_length = (size_t)(cut - run->input);
-    return jirrambeo_check(run->input, unit_length, cut + 1, run->input_length - unit_length - 1, text, length);
+    size_t certificate_length = run->input_length - unit_length - 1;
+    if (strcmp(run->line, "check") == 0) {
+        return jirrambeo_check(run->input, unit_length, cut + 1, certificate_length, text, length);
+    }
+    return jirrambeo_verify(run->input, unit_length, cut + 1, certificate_length, text, length);
 }
 
 static int is_as_ever(const struct run *run, uint8_t status, const uint8_t *text, size_t length) {
@@ -126,19 +132,22 @@ static void once(const struct run *run) {
     has_no_addresses = 1;
     same(run);
     has_no_addresses = 0;
-    int is_long = strcmp(run->line, "check") != 0 && run->text_length > 4096 + 2 * (run->input_length <= 16777216 ? run->input_length : 0);
+    int is_long = !is_of_two(run) && run->text_length > 4096 + 2 * (run->input_length <= 16777216 ? run->input_length : 0);
     expect(archive_calls == 1 + is_long, "a text without addresses");
     long_texts += is_long;
 }
 
-/* What `certify` writes of a unit is accepted, also of a unit with newlines. */
+/* What `certify` and `brief` write of a unit is accepted, also of a unit with newlines. */
 static void accepted(const struct run *run) {
     uint8_t *text;
     size_t length;
-    if (strcmp(run->line, "certify") != 0 || run->status != JIRRAMBEO_DONE) {
+    int is_certificate = strcmp(run->line, "certify") == 0, is_brief = strcmp(run->line, "brief") == 0;
+    if ((!is_certificate && !is_brief) || run->status != JIRRAMBEO_DONE) {
         return;
     }
-    expect(jirrambeo_check(run->input, run->input_length, run->text, run->text_length, &text, &length) == JIRRAMBEO_DONE, "a certificate is accepted");
+    uint8_t status = is_brief ? jirrambeo_verify(run->input, run->input_length, run->text, run->text_length, &text, &length)
+                              : jirrambeo_check(run->input, run->input_length, run->text, run->text_length, &text, &length);
+    expect(status == JIRRAMBEO_DONE, "a certificate is accepted");
     expect(length > 9 && memcmp(text, "accepted ", 9) == 0, "what is said of a certificate that is accepted");
     jirrambeo_free(text);
 }
@@ -196,6 +205,10 @@ static void nulls(void) {
     expect(jirrambeo_check(NULL, 0, NULL, 0, &text, &length) == JIRRAMBEO_NOT_JSON && length == 16, "a null unit and certificate without lengths");
     jirrambeo_free(text);
     expect(jirrambeo_check(bytes("{\n}"), 3, NULL, 0, &text, &length) == JIRRAMBEO_NOT_UNIT, "a newline of a unit doesn't end it");
+    jirrambeo_free(text);
+    expect(jirrambeo_call_with(NULL, bytes("{}"), 2, NULL, 0, &text, &length) == JIRRAMBEO_NULL && text == NULL && length == 0, "a null line of two inputs");
+    expect(jirrambeo_verify(NULL, 2, NULL, 0, &text, &length) == JIRRAMBEO_NULL && text == NULL && length == 0, "a null unit with a length, to verify");
+    expect(jirrambeo_verify(bytes("{\n}"), 3, NULL, 0, &text, &length) == JIRRAMBEO_NOT_UNIT, "a newline of a unit that is verified");
     jirrambeo_free(text);
 }
 
@@ -259,7 +272,7 @@ int main(int count, char **words) {
         once(&runs[i]);
         accepted(&runs[i]);
     }
-    static const char *const commands[] = {"infer", "certify", "lint", "explain", "plain", "check", "made"};
+    static const char *const commands[] = {"infer", "certify", "brief", "lint", "explain", "plain", "check", "verify", "made"};
     long failed = 0;
     for (size_t i = 0; i < sizeof commands / sizeof *commands; ++i) {
         failed += failures_of(commands[i], atol(words[3]));

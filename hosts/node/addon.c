@@ -4,9 +4,10 @@
  *   runAsync(words, input)   the same on a thread of libuv's pool; gives a promise
  *   begin(words)             calls that run on threads of their own while the caller goes on (calls.c)
  *   put(calls, input)        one more of them
+ *   putCodes(calls, codes, texts, strings)   the same, whose input the front end's codes stand for (codes.c)
  *   answers(calls)           [status, text] of each of them, in their order, once all have ended
  *
- * `words` is a string and `input` a Uint8Array; a text is a Buffer. Else they throw a TypeError. Nothing is kept between calls, so any number of environments
+ * `words` is a string and `input` a Uint8Array, as `texts` and `strings` are; `codes` is an Int32Array; a text is a Buffer. Else they throw a TypeError. Nothing is kept between calls, so any number of environments
  * (worker threads) may load this at once. */
 #include "call.h"
 #include <pthread.h>
@@ -214,6 +215,7 @@ static napi_value initialise(napi_env env, napi_value exports) {
         {"runAsync", NULL, run_async, NULL, NULL, NULL, napi_enumerable, NULL},
         {"begin", NULL, begin, NULL, NULL, NULL, napi_enumerable, NULL},
         {"put", NULL, put, NULL, NULL, NULL, napi_enumerable, NULL},
+        {"putCodes", NULL, put_codes, NULL, NULL, NULL, napi_enumerable, NULL},
         {"answers", NULL, answers, NULL, NULL, NULL, napi_enumerable, NULL},
     };
     napi_define_properties(env, exports, sizeof functions / sizeof *functions, functions);

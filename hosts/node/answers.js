@@ -154,6 +154,18 @@ function certificate(text) {
   return {functions: found, ...rest(lines), text};
 }
 
+/** @param {string} text @returns {any} */
+function brief(text) {
+  const lines = new Lines(text);
+  const found = functions(lines, (_, name) => ({
+    name,
+    blocks: blocks(lines, () => ({beyond: {values: lines.all('value', siteValue), variables: lines.all('variable', variable)}})),
+    temporaries: lines.all('temporary', temporary),
+    summary: lines.all('summary', effect),
+  }));
+  return {functions: found, ...rest(lines), text};
+}
+
 /** @param {Line} line */
 function lint(line) {
   const [fn, block, place] = [line.fn(), line.number(), line.word()];
@@ -222,4 +234,4 @@ function counts(text) {
   return found;
 }
 
-module.exports = {inference, certificate, lints, explanation, explanations, plainness, accepted, counts};
+module.exports = {inference, certificate, brief, lints, explanation, explanations, plainness, accepted, counts};

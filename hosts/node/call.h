@@ -34,9 +34,28 @@ char *words_of(napi_env env, napi_value given);
 /* Sets the input of a call to the bytes of an argument. Says whether they are bytes; it throws where they aren't. */
 int read_input(napi_env env, napi_value given, Call *call);
 
-/* Of calls.c: begin(words), put(calls, input) and answers(calls). */
+typedef struct {
+    const uint8_t *at;
+    size_t length;
+} Bytes;
+
+/* A unit as codes, with the lines that they name; where these begin codes.c finds. */
+typedef struct {
+    const int32_t *codes;
+    size_t length;
+    Bytes texts, strings;
+    size_t *texts_begin, texts_count, *strings_begin, strings_count;
+} Codes;
+
+typedef enum { WRITTEN, WRONG_CODES, NO_MEMORY } Outcome;
+
+/* Writes what the codes stand for into a block of the heap, behind so many bytes in front. There is a block where it was written. */
+Outcome write_codes(Codes *given, size_t front, uint8_t **block, size_t *length);
+
+/* Of calls.c: begin(words), put(calls, input), putCodes(calls, codes, texts, strings) and answers(calls). */
 napi_value begin(napi_env env, napi_callback_info info);
 napi_value put(napi_env env, napi_callback_info info);
+napi_value put_codes(napi_env env, napi_callback_info info);
 napi_value answers(napi_env env, napi_callback_info info);
 
 #endif

@@ -150,6 +150,13 @@ static Calls *calls_of(napi_env env, size_t wanted, napi_value *arguments, napi_
     return (Calls *)calls;
 }
 
+/* Puts in the call of an item behind which its input stands. */
+static void put_item(Calls *calls, Item *item, size_t length) {
+    item->next = NULL;
+    item->call = (Call){.words = calls->words, .input = item->input, .input_length = length};
+    append(calls, item);
+}
+
 napi_value put(napi_env env, napi_callback_info info) {
     napi_value arguments[2];
     Call call = {0};
@@ -161,12 +168,45 @@ napi_value put(napi_env env, napi_callback_info info) {
     if (item == NULL) {
         return other_error(env, "memory ran out");
     }
-    item->next = NULL;
-    item->call = call;
-    item->call.words = calls->words;
-    item->call.input = memcpy(item->input, call.input, call.input_length);
-    append(calls, item);
+    memcpy(item->input, call.input, call.input_length);
+    put_item(calls, item, call.input_length);
     return NULL;
+}
+
+/* Reads codes, texts and strings. Says whether they are such; it throws where they aren't. */
+static int read_codes(napi_env env, const napi_value arguments[3], Codes *given) {
+    bool is_array = false;
+    napi_typedarray_type type;
+    void *codes = NULL;
+    Call texts = {0}, strings = {0};
+    if (napi_is_typedarray(env, arguments[0], &is_array) != napi_ok || !is_array ||
+        napi_get_typedarray_info(env, arguments[0], &type, &given->length, &codes, NULL, NULL) != napi_ok || type != napi_int32_array) {
+        type_error(env, "the codes are an Int32Array");
+        return 0;
+    }
+    if (!read_input(env, arguments[1], &texts) || !read_input(env, arguments[2], &strings)) {
+        return 0;
+    }
+    given->codes = (const int32_t *)codes;
+    given->texts = (Bytes){texts.input, texts.input_length};
+    given->strings = (Bytes){strings.input, strings.input_length};
+    return 1;
+}
+
+napi_value put_codes(napi_env env, napi_callback_info info) {
+    napi_value arguments[4];
+    Codes given = {0};
+    uint8_t *block = NULL;
+    size_t length = 0;
+    Calls *calls = calls_of(env, 4, arguments, info);
+    if (calls == NULL || !read_codes(env, arguments + 1, &given)) {
+        return NULL;
+    }
+    switch (write_codes(&given, offsetof(Item, input), &block, &length)) {
+    case WRITTEN: put_item(calls, (Item *)block, length); return NULL;
+    case WRONG_CODES: return type_error(env, "the codes are those of the front end");
+    default: return other_error(env, "memory ran out");
+    }
 }
 
 napi_value answers(napi_env env, napi_callback_info info) {

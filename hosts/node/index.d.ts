@@ -79,6 +79,17 @@ export interface Certificate extends Inference {
   /** As the program writes it, which `check` reads. */
   text: string;
 }
+export interface BriefFunction extends InferredFunction {
+  /** With what each is entered with beyond what arrives over edges to later blocks. */
+  blocks: Array<Block & {beyond: State}>;
+  /** Of a function that has edges to earlier blocks. */
+  temporaries: CertifiedFunction['temporaries'];
+}
+export interface Brief extends Inference {
+  functions: Array<BriefFunction>;
+  /** As the program writes it, which `verify` reads. */
+  text: string;
+}
 export interface Lint extends Report {
   function: FunctionName;
   block: number;
@@ -116,7 +127,7 @@ export class JirrambeoError extends Error {
   readonly line: string;
   /** The word behind `refused`; `Memory` where it ran out. */
   readonly refusal: string;
-  /** What stands behind that word, by names: {pointer, rule}, {function, instruction, identifier} and so on. */
+  /** What stands behind that word, by names: {pointer, rule}, {function, instruction, identifier}, {line, follows} and so on. */
   readonly data: Readonly<Record<string, any>>;
 }
 
@@ -126,6 +137,10 @@ export function infer(unit: Unit): Inference;
 export function certify(unit: Unit): Certificate;
 /** Whether the certificate is one of the unit: what `certify` gave, its text, or what anybody says in its place. */
 export function check(unit: Unit, certificate: Uint8Array | string | Certificate): {functions: number};
+/** What `infer` gives, with what `verify` needs of loops. */
+export function brief(unit: Unit): Brief;
+/** Whether each line is the one that follows: of what `brief` gave, of its text, or of what anybody says in its place. */
+export function verify(unit: Unit, text: Uint8Array | string | Brief): {functions: number};
 export function lint(unit: Unit): Array<Lint>;
 export function explain(unit: Unit, fn: FunctionName, identifier: number): Explanation;
 export function explainFunction(unit: Unit, fn: FunctionName): Array<{identifier: number} & Explanation>;
@@ -147,6 +162,8 @@ export function begin(words: string): Calls;
 export function inferAsync(unit: Unit): Promise<Inference>;
 export function certifyAsync(unit: Unit): Promise<Certificate>;
 export function checkAsync(unit: Unit, certificate: Uint8Array | string | Certificate): Promise<{functions: number}>;
+export function briefAsync(unit: Unit): Promise<Brief>;
+export function verifyAsync(unit: Unit, text: Uint8Array | string | Brief): Promise<{functions: number}>;
 export function lintAsync(unit: Unit): Promise<Array<Lint>>;
 export function explainAsync(unit: Unit, fn: FunctionName, identifier: number): Promise<Explanation>;
 export function explainFunctionAsync(unit: Unit, fn: FunctionName): Promise<Array<{identifier: number} & Explanation>>;

@@ -45,7 +45,7 @@ function seedOf(given) {
   throw new TypeError('the seed is a whole number or a bigint, from 0 and below 2^64');
 }
 
-/** A unit and its certificate, as `check` reads them: the first newline ends the unit, and those in it become returns. */
+/** A unit and its certificate, as `check` and `verify` read them: the first newline ends the unit, and those in it become returns. */
 function joined(unit, certificate) {
   const isObject = certificate !== null && typeof certificate === 'object' && typeof certificate.text === 'string';
   const [first, second] = [bytesOf(unit, 'a unit'), bytesOf(isObject ? certificate.text : certificate, 'a certificate', false)];
@@ -68,6 +68,8 @@ const COMMANDS = {
   infer: [unit => ['infer', bytesOf(unit, 'a unit')], answers.inference],
   certify: [unit => ['certify', bytesOf(unit, 'a unit')], answers.certificate],
   check: [(unit, certificate) => ['check', joined(unit, certificate)], answers.accepted],
+  brief: [unit => ['brief', bytesOf(unit, 'a unit')], answers.brief],
+  verify: [(unit, text) => ['verify', joined(unit, text)], answers.accepted],
   lint: [unit => ['lint', bytesOf(unit, 'a unit')], answers.lints],
   explain: [(unit, fn, identifier) => [`explain ${functionOf(fn)} ${numberOf(identifier, 'the identifier', U32)}`, bytesOf(unit, 'a unit')],
     answers.explanation],

@@ -15,6 +15,7 @@ const MEANS = {
   13: 'the certificate isn\'t one of the unit',
   14: 'the identifier doesn\'t stand in the function',
   15: 'it isn\'t known whether the unit is plain',
+  16: 'this line of the certificate isn\'t the one that follows',
 };
 
 /** What stands behind the number of a rule of units, or of a fault of a certificate, where it isn't `function` alone. */
@@ -54,6 +55,7 @@ function dataOf(line, name) {
     case 'Words': case 'NotJson': case 'TooLong': case 'NotHere': return {};
     case 'NotUnit': return {pointer: line.quoted(), rule: line.word()};
     case 'BadLine': return {line: line.number()};
+    case 'Differs': return {line: line.number(), follows: line.isAtEnd() ? null : line.rest()};
     case 'Unfit': {
       const rule = line.number();
       return {rule, ...fields(line, FIT[rule] || ['function'])};

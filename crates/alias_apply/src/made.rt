@@ -16,10 +16,15 @@ pub(crate) enum Made {
 }
 
 /// The identifiers that an instruction has made, in the order in which it made them.
-#[derive(Drop)]
 pub struct MadeIdentifiers {
     alloc: Global,
     made: Made,
+}
+
+impl Drop for MadeIdentifiers {
+    fn drop(self) {
+        let MadeIdentifiers { alloc: _, made: _ } = self;
+    }
 }
 
 impl Model for MadeIdentifiers {

@@ -1,1 +1,3 @@
 mod Lines
+mod Listing
+mod Verified

@@ -1,1 +1,4 @@
+pub mod Briefs
 pub mod Differences
+pub mod Saying
+pub mod Verifying

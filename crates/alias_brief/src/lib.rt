@@ -1,6 +1,9 @@
-//! The first line in which a text differs from the one that is expected.
+//! Brief certificates: the text that follows for a unit, and whether a text is one that follows from what it says.
 #![tactic(auto)]
 
+pub mod briefs;
+pub mod calls;
 pub mod difference;
+pub mod saying;
 
-pub use difference::{Difference, first_difference};
+pub use calls::{VerifyFault, brief, verify};

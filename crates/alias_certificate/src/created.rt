@@ -11,10 +11,15 @@ use std::collections::BTreeSet;
 use std::marker::Model;
 
 /// The functions that a function creates. A look-up takes logarithmic time.
-#[derive(Drop)]
 pub struct CreatedFunctions {
     ids: List<FunctionId>,
     numbers: BTreeSet<u32>,
+}
+
+impl Drop for CreatedFunctions {
+    fn drop(self) {
+        let CreatedFunctions { ids: _, numbers: _ } = self;
+    }
 }
 
 impl Model for CreatedFunctions {

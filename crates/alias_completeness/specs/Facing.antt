@@ -15,10 +15,9 @@ use Rattle.alias_hir.specs.declared.hir.ParamPattern.{ParamPattern}
 use Rattle.alias_hir.specs.declared.hir.ParamPattern.TheVariants as param
 use Rattle.alias_hir.specs.declared.place.Place.{Place}
 use Rattle.alias_calls.specs.Summaries.{same_id, plain_params, last_spread}
-use Rattle.alias_completeness.specs.Calling.{IsCallable}
 use Rattle.alias_completeness.specs.Fitting.{again_left, among_both}
 use Rattle.alias_completeness.specs.Going.{all_both}
-use Rattle.alias_completeness.specs.Summarizing.{IsSummary, IsNoParam, IsNotRest}
+use Rattle.alias_completeness.specs.Callable.{IsSummary, IsNoParam, IsNotRest, IsCallable}
 
 not_repeated : (o : Option FunctionId) (r : Option ℕ) → repeated o r ≡ Ok tt → r ≡ None
 not_repeated o None h = refl

@@ -4,7 +4,7 @@ ghost use Rattle.std.specs.Prelude.{◌≡◌, Option, Ok};
 ghost use Rattle.alias_base.specs.declared.ids.FunctionId.{FunctionId};
 ghost use Rattle.alias_rules.specs.function_rules.Rules.{places_distinct};
 ghost use Rattle.alias_range_pass.specs.Passes.{Ranged, range_pass};
-ghost use Rattle.alias_completeness.specs.Summarizing.{IsSummary};
+ghost use Rattle.alias_completeness.specs.Callable.{IsSummary};
 
 use alias_hir::env::Environment;
 use alias_hir::hir::HirFunction;

@@ -11,10 +11,18 @@ use alias_hir::value::ObjectPropertyOrSpread;
 use std::alloc::{AllocError, Global};
 
 /// The values that are known to be frozen, and for each identifier that stands for a spread of a pattern that spread.
-#[derive(Drop)]
 pub struct Candidates {
     pub frozen: NumberSet,
     pub spreads: NumberMap<u32>,
+}
+
+impl Drop for Candidates {
+    fn drop(self) {
+        let Candidates {
+            frozen: _,
+            spreads: _,
+        } = self;
+    }
 }
 
 /// Notes that the value is frozen.

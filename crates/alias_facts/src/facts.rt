@@ -10,7 +10,6 @@ use alias_hir::hir::HirFunction;
 use std::alloc::{AllocError, Global};
 
 /// What is known of a function before its instructions are stepped.
-#[derive(Drop)]
 pub struct FunctionFacts {
     /// The declarations that it hoists, each with the place that reads it first.
     pub hoisted: Hoisted,
@@ -18,6 +17,16 @@ pub struct FunctionFacts {
     pub spreads: Spreads,
     /// What the handlers of its `Try`s bind.
     pub handlers: Handlers,
+}
+
+impl Drop for FunctionFacts {
+    fn drop(self) {
+        let FunctionFacts {
+            hoisted: _,
+            spreads: _,
+            handlers: _,
+        } = self;
+    }
 }
 
 /// What is known of the function. The one error is out of memory.

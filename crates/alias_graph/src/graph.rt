@@ -21,12 +21,22 @@ use std::marker::Model;
 ///
 /// All links stand in one list, and a node has the slots of its own. After an `Err` a link may be there
 /// that no node has. What walks write while they run is kept for the next walk, and is no part of the value.
-#[derive(Drop)]
 pub struct AliasGraph {
     pub(crate) alloc: Global,
     pub(crate) nodes: NodeMap,
     pub(crate) links: List<StoredLink>,
     pub(crate) scratch: Scratch,
+}
+
+impl Drop for AliasGraph {
+    fn drop(self) {
+        let AliasGraph {
+            alloc: _,
+            nodes: _,
+            links: _,
+            scratch: _,
+        } = self;
+    }
 }
 
 impl Model for AliasGraph {

@@ -7,10 +7,15 @@ use crate::types::Pending;
 use std::alloc::{AllocError, Global};
 
 /// The links that a walk has yet to follow, and what it has seen. Each walk takes over the room of the one before.
-#[derive(Drop)]
 pub(crate) struct Scratch {
     pub(crate) stack: Vec<Pending>,
     pub(crate) seen: SeenTable,
+}
+
+impl Drop for Scratch {
+    fn drop(self) {
+        let Scratch { stack: _, seen: _ } = self;
+    }
 }
 
 impl Scratch {

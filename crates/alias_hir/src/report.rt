@@ -22,10 +22,16 @@ pub enum ErrorCategory {
 }
 
 /// A span that a report points at, with what is said of it.
-#[derive(Drop, PartialEq)]
+#[derive(PartialEq)]
 pub struct Label {
     pub span: Span,
     pub text: Option<Text>,
+}
+
+impl Drop for Label {
+    fn drop(self) {
+        let Label { span: _, text: _ } = self;
+    }
 }
 
 /// An interned report as effects name it. Reports that say the same of one identifier have one identity; each
@@ -37,19 +43,38 @@ pub struct ReportId {
 }
 
 /// An interned report, of which it is not known yet whether it is recorded, with the identifier that it is about.
-#[derive(Drop)]
 pub struct Interned {
     pub identifier: IdentifierId,
     pub report: Report,
 }
 
+impl Drop for Interned {
+    fn drop(self) {
+        let Interned {
+            identifier: _,
+            report: _,
+        } = self;
+    }
+}
+
 /// A report.
-#[derive(Drop, PartialEq)]
+#[derive(PartialEq)]
 pub struct Report {
     pub category: ErrorCategory,
     pub message: Text,
     pub help: Option<Text>,
     pub labels: List<Label>,
+}
+
+impl Drop for Report {
+    fn drop(self) {
+        let Report {
+            category: _,
+            message: _,
+            help: _,
+            labels: _,
+        } = self;
+    }
 }
 
 impl TryClone for Label {

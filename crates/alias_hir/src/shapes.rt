@@ -9,12 +9,21 @@ use std::collections::BTreeMap;
 use std::marker::Model;
 
 /// Shapes in their order. To find one by its name it has an index of their names, which is no part of its value.
-#[derive(Drop)]
 pub struct Shapes {
     entries: List<Shape>,
     /// For each name the slot of the first shape that has it.
     slots: BTreeMap<String, usize>,
     alloc: Global,
+}
+
+impl Drop for Shapes {
+    fn drop(self) {
+        let Shapes {
+            entries: _,
+            slots: _,
+            alloc: _,
+        } = self;
+    }
 }
 
 impl Model for Shapes {

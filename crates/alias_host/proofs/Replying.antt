@@ -3,15 +3,15 @@ use Rattle.std.proofs.Common.{ℕ, ◌≡◌, List, [], Option, Some, None, fals
 use Rattle.alias_stream.specs.Streams.{Adds, HasFailed}
 use Rattle.alias_run.specs.declared.command.Command.{Command}
 use Rattle.alias_run.specs.declared.command.Command.TheVariants.{Infer, Certify, Check, Lint, Explain, ExplainFunction}
-use Rattle.alias_run.specs.declared.command.Command.TheVariants.{Plain, Made, Help, Version}
+use Rattle.alias_run.specs.declared.command.Command.TheVariants.{Brief, Verify, Plain, Made, Help, Version}
 use Rattle.alias_run.specs.declared.status.Status.{Status}
 use Rattle.alias_run.specs.declared.status.Status.TheVariants.{Done, Words, NotJson, NotUnit, Unfit, BadLine, Rejected}
-use Rattle.alias_run.specs.declared.status.Status.TheVariants.{PlainRefused, Refused, NotHere, ReadFault, WriteFault}
-use Rattle.alias_run.specs.declared.status.Status.TheVariants.{TooLong, Memory}
+use Rattle.alias_run.specs.declared.status.Status.TheVariants.{Differs, PlainRefused, Refused, NotHere, ReadFault}
+use Rattle.alias_run.specs.declared.status.Status.TheVariants.{WriteFault, TooLong, Memory}
 use Rattle.alias_run.specs.declared.answer.Answer.{Answer}
 use Rattle.alias_run.specs.declared.query.Query.{Query}
-use Rattle.alias_run.specs.declared.query.Query.TheVariants.{Inference, Acceptance, Lints, Explanation}
-use Rattle.alias_run.specs.declared.query.Query.TheVariants.{FunctionExplanation, Plainness}
+use Rattle.alias_run.specs.declared.query.Query.TheVariants.{Inference, Acceptance, BriefText, Verification, Lints}
+use Rattle.alias_run.specs.declared.query.Query.TheVariants.{Explanation, FunctionExplanation, Plainness}
 use Rattle.alias_run.specs.Findings.{IsFound, IsRead}
 use Rattle.alias_run.specs.Runs.{IsRun, IsHeadline, IsComplete, IsAccepting}
 use Rattle.alias_run.specs.Statuses.{status_code}
@@ -35,6 +35,7 @@ unread q known F unfailing (NotUnit pointer rule) i r = r
 unread q known F unfailing (Unfit fault) i r = r
 unread q known F unfailing (BadLine number) i r = r
 unread q known F unfailing (Rejected fault) i r = r
+unread q known F unfailing (Differs number line) i r = r
 unread q known F unfailing (PlainRefused fault) i r = r
 unread q known F unfailing (Refused error) i r = r
 unread q known F unfailing NotHere i r = r
@@ -50,6 +51,8 @@ found known F unfailing None status i f = f
 found known F unfailing (Some Infer) status i f = unread Inference known F unfailing status i f
 found known F unfailing (Some Certify) status i f = unread Inference known F unfailing status i f
 found known F unfailing (Some Check) status i f = unread Acceptance known F unfailing status i f
+found known F unfailing (Some Brief) status i f = unread BriefText known F unfailing status i f
+found known F unfailing (Some Verify) status i f = unread Verification known F unfailing status i f
 found known F unfailing (Some Lint) status i f = unread Lints known F unfailing status i f
 found known F unfailing (Some (Explain function identifier)) status i f =
     unread (Explanation function identifier) known F unfailing status i f
@@ -84,6 +87,7 @@ module _ (asked : Option Command) (input : List ℕ) (F : Type 0) (unfailing : F
   replies (Unfit fault) i r h c = whole (Unfit fault) i r.0 r.1 h c
   replies (BadLine number) i r h c = whole (BadLine number) i r.0 r.1 h c
   replies (Rejected fault) i r h c = whole (Rejected fault) i r.0 r.1 h c
+  replies (Differs number line) i r h c = whole (Differs number line) i r.0 r.1 h c
   replies (PlainRefused fault) i r h c = whole (PlainRefused fault) i r.0 r.1 h c
   replies (Refused error) i r h c = whole (Refused error) i r.0 r.1 h c
   replies NotHere i r h c = whole NotHere i r.0 r.1 h c
@@ -181,6 +185,8 @@ never_read_fault known None i f = let e : ReadFault ≡ Words = f.0 in cc
 never_read_fault known (Some Infer) i f = f.0
 never_read_fault known (Some Certify) i f = f.0
 never_read_fault known (Some Check) i f = f.0
+never_read_fault known (Some Brief) i f = f.0
+never_read_fault known (Some Verify) i f = f.0
 never_read_fault known (Some Lint) i f = f.0
 never_read_fault known (Some (Explain function identifier)) i f = f.0
 never_read_fault known (Some (ExplainFunction function)) i f = f.0
@@ -199,6 +205,7 @@ module _ (asked : Option Command) (input text : List ℕ) where
   unfailing_code (Unfit fault) a = (λ e. omega (arith, e), λ e. omega (arith, e))
   unfailing_code (BadLine number) a = (λ e. omega (arith, e), λ e. omega (arith, e))
   unfailing_code (Rejected fault) a = (λ e. omega (arith, e), λ e. omega (arith, e))
+  unfailing_code (Differs number line) a = (λ e. omega (arith, e), λ e. omega (arith, e))
   unfailing_code (PlainRefused fault) a = (λ e. omega (arith, e), λ e. omega (arith, e))
   unfailing_code (Refused error) a = (λ e. omega (arith, e), λ e. omega (arith, e))
   unfailing_code NotHere a = (λ e. omega (arith, e), λ e. omega (arith, e))

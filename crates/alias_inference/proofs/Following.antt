@@ -1,5 +1,5 @@
 -- What follows of the answers of calls that infer a unit, or analyse its nested functions.
-use Rattle.std.proofs.Common.{◌≡◌, ◌≢◌, ◌∙◌, Bool, List, [], length, refl, sym, ap, subst}
+use Rattle.std.proofs.Common.{◌≡◌, ◌≢◌, ◌∙◌, Bool, List, [], refl, sym, ap, subst}
 use Rattle.std.specs.Prelude.{true, false, Result, Ok, Err, IfOk, IfErr, IsOkAnd, ⊤}
 use Rattle.alias_base.specs.declared.ids.IdentifierId.{IdentifierId}
 use Rattle.alias_base.specs.declared.ids.InstructionId.{InstructionId}
@@ -12,13 +12,13 @@ use Rattle.alias_hir.specs.declared.report.Report.{Report}
 use Rattle.alias_rules.specs.Fitting.{function_fits}
 use Rattle.alias_rules.specs.Functions.{rules_hold}
 use Rattle.alias_effects.specs.declared.solved.Solved.{Solved}
+use Rattle.alias_answer_laws.specs.answers.Applies.{InstructionsLackApply}
 use Rattle.alias_answer_laws.specs.answers.KnownUnitLaws.{no_call_says}
 use Rattle.alias_answer_laws.specs.answers.UnitLaws.{no_call_answers}
 use Rattle.alias_cause_laws.proofs.causes.Caused.{each_has_cause}
 use Rattle.alias_cause_laws.specs.causes.Causes.{EachHasCause}
 use Rattle.alias_cause_laws.proofs.handed.HandingOut.{inferred_in_order}
 use Rattle.alias_cause_laws.specs.handed.HandedOut.{IsInferredInOrder}
-use Rattle.alias_completeness.specs.summaries.Faces.{HaveFaces}
 use Rattle.alias_nested.specs.Analysis.{analysis, analysed, most_levels, is_free}
 use Rattle.alias_nested.specs.Answers.{AnalysedWith, Analyses, AnalysesInto, AnalysesExactly, AnalysesExactlyInto}
 use Rattle.alias_nested.specs.Units.{UnitAnalysis, unit_analysed, InfersUnit}
@@ -26,6 +26,8 @@ use Rattle.alias_nested.specs.declared.infer.Inferred.{Inferred}
 use Rattle.alias_cause_laws.proofs.nested.Ranging.{nested_are_ranged}
 use Rattle.alias_answer_laws.proofs.refusals.Refusing.{never_unknown}
 use Rattle.alias_unit_completeness.specs.Complete.{unit_caused, nested_caused_alone, analyses_blame, into_blame}
+use Rattle.alias_unit_completeness.specs.Complete.{never_unreplaced}
+use Rattle.alias_unit_completeness.specs.Below.{EachBelow, SummaryIsInOrder}
 use Rattle.alias_unit_completeness.specs.Refusals.{IsCaused, BlamesRightly, BlamesNoPlain, blames_no_plain}
 use Rattle.alias_inference.specs.Inferences.{unit_with, NestedAreRangedIn}
 
@@ -111,21 +113,43 @@ module _ (keeps_all : Bool) (f : HirFunction) (env : Environment) where
       (subst (λ (z : Result ⊤ InferError). AnalysesInto (AnalysedWith keeps_all most_levels f (analysis env [])) z
       after) q h refl)
 
--- the functions of the table have faces
+-- no instruction of the functions below carries an Apply
+module _ (keeps_all : Bool) (f : HirFunction) (env : Environment) (fits : function_fits f env ≡ true)
+    (none : EachBelow InstructionsLackApply env f) where
+  left_comes_of_none : (i : InstructionId) (report : Report)
+      → AnalysedWith keeps_all most_levels f (analysis env []) (Err (UnreplacedApply i report)) → ⊥
+  left_comes_of_none i report h = never_false
+      (never_unreplaced (unit_with f env) fits none keeps_all (UnreplacedApply i report) h)
+
+  pub certified_applies : (r : Result (List Solved) InferError) (after : Environment)
+      → Analyses (AnalysedWith keeps_all most_levels f (analysis env [])) r after
+      → (i : InstructionId) (report : Report) → r ≢ Err (UnreplacedApply i report)
+  certified_applies r after h i report = λ q. left_comes_of_none i report
+      (subst (λ (z : Result (List Solved) InferError).
+      Analyses (AnalysedWith keeps_all most_levels f (analysis env [])) z after) q h refl)
+
+  pub into_applies : (r : Result ⊤ InferError) (after : Environment)
+      → AnalysesInto (AnalysedWith keeps_all most_levels f (analysis env [])) r after
+      → (i : InstructionId) (report : Report) → r ≢ Err (UnreplacedApply i report)
+  into_applies r after h i report = λ q. left_comes_of_none i report
+      (subst (λ (z : Result ⊤ InferError). AnalysesInto (AnalysedWith keeps_all most_levels f (analysis env [])) z
+      after) q h refl)
+
+-- the summaries of the functions below are in order
 module _ (f : HirFunction) (env : Environment) (fits : function_fits f env ≡ true)
-    (faces : HaveFaces (length env.identifiers) env.functions) where
+    (ordered : EachBelow SummaryIsInOrder env f) where
   pub certified_blames : (keeps_all : Bool) (r : Result (List Solved) InferError) (after : Environment)
       → Analyses (AnalysedWith keeps_all most_levels f (analysis env [])) r after
       → IfErr r (λ e. BlamesRightly (unit_with f env) e)
   certified_blames keeps_all (Ok x) after h = tt
   certified_blames keeps_all (Err e) after h =
-      analyses_blame (unit_with f env) fits faces keeps_all (Err e) after h e refl
+      analyses_blame (unit_with f env) fits ordered keeps_all (Err e) after h e refl
 
   pub into_blames : (keeps_all : Bool) (r : Result ⊤ InferError) (after : Environment)
       → AnalysesInto (AnalysedWith keeps_all most_levels f (analysis env [])) r after
       → IfErr r (λ e. BlamesRightly (unit_with f env) e)
   into_blames keeps_all (Ok x) after h = tt
-  into_blames keeps_all (Err e) after h = into_blame (unit_with f env) fits faces keeps_all (Err e) after h e refl
+  into_blames keeps_all (Err e) after h = into_blame (unit_with f env) fits ordered keeps_all (Err e) after h e refl
 
   -- over passes that keep everything
   caused_alone : {A : Type 0} (r : Result A InferError) (e : InferError) → r ≡ Err e
@@ -133,7 +157,7 @@ module _ (f : HirFunction) (env : Environment) (fits : function_fits f env ≡ t
       → ((x : IdentifierId) → r ≢ Err (EffectsNotInferred x)) → analysed most_levels f (analysis env []) ≡ Err e
       → IsCaused (unit_with f env) e
   caused_alone r e is apply operand h =
-      nested_caused_alone (unit_with f env) fits faces e h (λ i report same. apply i report (is ∙ ap Err same))
+      nested_caused_alone (unit_with f env) fits ordered e h (λ i report same. apply i report (is ∙ ap Err same))
       (λ x same. operand x (is ∙ ap Err same))
 
   pub certified_complete : (r : Result (List Solved) InferError) (after : Environment)

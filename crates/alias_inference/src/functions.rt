@@ -7,11 +7,12 @@ ghost use Rattle.alias_rules.specs.Fitting.{function_fits};
 ghost use Rattle.alias_rules.specs.Nesting.{times};
 ghost use Rattle.alias_nested.specs.Analysis.{analysis, most_levels, analysed, is_free, IsPassFault};
 ghost use Rattle.alias_nested.specs.Answers.{AnalysedWith, Analyses, AnalysesInto, AnalysesExactly, AnalysesExactlyInto};
+ghost use Rattle.alias_nested.specs.Faults.{IsNamedFault};
 ghost use Rattle.alias_nested.specs.Order.{below_innermost_first, numbers, functions_of, KeepsToOrder};
 ghost use Rattle.alias_nested.specs.Refusals.{AnalysisRefused, Leaves};
-ghost use Rattle.alias_answer_laws.specs.answers.Applies.{NestedLackApply};
-ghost use Rattle.alias_completeness.specs.summaries.Faces.{HaveFaces};
+ghost use Rattle.alias_answer_laws.specs.answers.Applies.{InstructionsLackApply};
 ghost use Rattle.alias_fitting_laws.specs.pruning.Pruning.{SlotsKept};
+ghost use Rattle.alias_unit_completeness.specs.Below.{EachBelow, SummaryIsInOrder};
 ghost use Rattle.alias_unit_completeness.specs.Refusals.{BlamesRightly, IsCaused};
 ghost use Rattle.alias_inference.specs.Inferences.{unit_with};
 
@@ -26,12 +27,12 @@ use std::alloc::Global;
 /// Analyses the functions below a function, innermost first, as `alias_nested::analyse_functions_certified` does it,
 /// with all that is ensured there.
 ///
-/// Besides: that an operand has no effect is never answered, nor that an `Apply` is left where no instruction of a
-/// nested function carried one at the call. Where the functions of the table have faces, so that each may be called, a
-/// function that a refusal blames for what it does isn't plain in the table as it was handed in, and one that isn't
-/// settled isn't forward, whatever the passes of the caller change; and where these keep everything, and no `Apply` was
-/// carried, each refusal has its cause there. A function has a face whose own places are distinct, whose returned place
-/// is in the table, and whose summary, if it has one, is in order; what else the table holds doesn't matter.
+/// Besides: that an operand has no effect is never answered, nor that an `Apply` is left where no instruction of the
+/// functions below `func` carried one at the call. Where each summary that these have at the call is in order, a function
+/// that a refusal blames for what it does isn't plain in the table as it was handed in, and one that isn't settled isn't
+/// forward, whatever the passes of the caller change; and where these keep everything, and no `Apply` was carried, each
+/// refusal has its cause there. A function of which nothing is inferred has no summary, and its instructions carry
+/// nothing; of functions that aren't below `func` nothing is asked.
 pub fn analyse_functions_certified<P: InnerPasses, F: FnMut(&HirFunction, &Environment)>(
     alloc: Global,
     func: &mut HirFunction,
@@ -53,10 +54,11 @@ pub fn analyse_functions_certified<P: InnerPasses, F: FnMut(&HirFunction, &Envir
     ensures once { (k : ℕ) → times (numbers (below_innermost_first most_levels func.old env.old)) k ≤ 1 }
     ensures faults { P.faults passes.old ≤ P.faults passes.new }
     ensures failed { IsPassFault result → HasFailed (P.faults passes.old) (P.faults passes.new) (P.at_last passes.new) }
+    ensures last { IfErr result (λ e. IsNamedFault (P.failed_last passes.new) env.new e) }
     ensures operands { (x : _) → result ≢ Err (EffectsNotInferred x) }
-    ensures applies { NestedLackApply env.old → (i : _) (report : _) → result ≢ Err (UnreplacedApply i report) }
-    ensures blames { HaveFaces (length env.old.identifiers) env.old.functions → IfErr result (λ e. BlamesRightly (unit_with func.old env.old) e) }
-    ensures complete { P.keeps_all ≡ true → HaveFaces (length env.old.identifiers) env.old.functions → NestedLackApply env.old → IfErr result (λ e. is_free e ≡ false → IsCaused (unit_with func.old env.old) e) }
+    ensures applies { EachBelow InstructionsLackApply env.old func.old → (i : _) (report : _) → result ≢ Err (UnreplacedApply i report) }
+    ensures blames { EachBelow SummaryIsInOrder env.old func.old → IfErr result (λ e. BlamesRightly (unit_with func.old env.old) e) }
+    ensures complete { P.keeps_all ≡ true → EachBelow SummaryIsInOrder env.old func.old → EachBelow InstructionsLackApply env.old func.old → IfErr result (λ e. is_free e ≡ false → IsCaused (unit_with func.old env.old) e) }
 {
     alias_nested::analyse_functions_certified(alloc, func, env, passes, debug_logger)
 }
@@ -83,10 +85,11 @@ pub fn analyse_functions<P: InnerPasses, F: FnMut(&HirFunction, &Environment)>(
     ensures once { (k : ℕ) → times (numbers (below_innermost_first most_levels func.old env.old)) k ≤ 1 }
     ensures faults { P.faults passes.old ≤ P.faults passes.new }
     ensures failed { IsPassFault result → HasFailed (P.faults passes.old) (P.faults passes.new) (P.at_last passes.new) }
+    ensures last { IfErr result (λ e. IsNamedFault (P.failed_last passes.new) env.new e) }
     ensures operands { (x : _) → result ≢ Err (EffectsNotInferred x) }
-    ensures applies { NestedLackApply env.old → (i : _) (report : _) → result ≢ Err (UnreplacedApply i report) }
-    ensures blames { HaveFaces (length env.old.identifiers) env.old.functions → IfErr result (λ e. BlamesRightly (unit_with func.old env.old) e) }
-    ensures complete { P.keeps_all ≡ true → HaveFaces (length env.old.identifiers) env.old.functions → NestedLackApply env.old → IfErr result (λ e. is_free e ≡ false → IsCaused (unit_with func.old env.old) e) }
+    ensures applies { EachBelow InstructionsLackApply env.old func.old → (i : _) (report : _) → result ≢ Err (UnreplacedApply i report) }
+    ensures blames { EachBelow SummaryIsInOrder env.old func.old → IfErr result (λ e. BlamesRightly (unit_with func.old env.old) e) }
+    ensures complete { P.keeps_all ≡ true → EachBelow SummaryIsInOrder env.old func.old → EachBelow InstructionsLackApply env.old func.old → IfErr result (λ e. is_free e ≡ false → IsCaused (unit_with func.old env.old) e) }
 {
     alias_nested::analyse_functions(alloc, func, env, passes, debug_logger)
 }

@@ -7,6 +7,7 @@ ghost use Rattle.alias_rules.specs.Fitting.{function_fits};
 ghost use Rattle.alias_cause_laws.specs.causes.Causes.{EachHasCause};
 ghost use Rattle.alias_cause_laws.specs.handed.HandedOut.{IsInferredInOrder};
 ghost use Rattle.alias_nested.specs.Analysis.{is_free, IsPassFault};
+ghost use Rattle.alias_nested.specs.Faults.{NamesItsPass};
 ghost use Rattle.alias_nested.specs.Roots.{RootIsCovered, RootCoversHeap, RootHasCauses, RootListsFlows};
 ghost use Rattle.alias_nested.specs.Units.{unit_analysed, InfersUnit};
 ghost use Rattle.alias_unit_completeness.specs.Refusals.{IsCaused, BlamesNoPlain};
@@ -43,6 +44,7 @@ pub fn infer_unit<P: InnerPasses>(
     ensures flows { IfOk result (λ i. IsOkAnd (unit_analysed unit) (λ a. RootListsFlows a.functions i)) }
     ensures faults { P.faults passes.old ≤ P.faults passes.new }
     ensures failed { IsPassFault result → HasFailed (P.faults passes.old) (P.faults passes.new) (P.at_last passes.new) }
+    ensures last { IfErr result (λ e. NamesItsPass (P.failed_last passes.new) e) }
     ensures complete { IfErr result (λ e. is_free e ≡ false → IsCaused unit e) }
     ensures plain { IfErr result (λ e. is_free e ≡ false → BlamesNoPlain unit e) }
     ensures applies { (i : _) (report : _) → result ≢ Err (UnreplacedApply i report) }

@@ -332,7 +332,8 @@ keeps_itself below id q f g old mid new c s n = record {
   ends = λ e h m. inr (names_it id q e n h m);
 }
 
-set_within : (xs : List HirFunction) (k : ℕ) (x : HirFunction) → k < length xs → slice_get (slice_set xs k x) k ≡ Some x
+pub set_within : (xs : List HirFunction) (k : ℕ) (x : HirFunction) → k < length xs → slice_get (slice_set xs k x) k
+    ≡ Some x
 set_within [] k x h = absurd (omega arith)
 set_within (y ∷ ys) zero x h = refl
 set_within (y ∷ ys) (suc k) x h = set_within ys k x (omega arith)
@@ -378,7 +379,7 @@ module _ (n : ℕ) (id : FunctionId) (f g stand_in : HirFunction) (old out after
   abbrev below : List FunctionId
   below = below_innermost_first n f old
 
-  below_is : below_innermost_first n f out ≡ below
+  pub below_is : below_innermost_first n f out ≡ below_innermost_first n f old
   below_is = order_stays old.functions out.functions n (created_functions f)
       (λ k h. ap created_by_slot (taken_at k
       (λ e. not_both (is_among (numbers below) id.0) (subst (λ z. is_among (numbers below) z ≡ true) e h) apart)))

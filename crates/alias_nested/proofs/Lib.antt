@@ -4,6 +4,7 @@ pub mod Counting
 pub mod Creating
 pub mod Ending
 pub mod Evolving
+pub mod Faulting
 pub mod Faultless
 pub mod Finished
 pub mod InOrder

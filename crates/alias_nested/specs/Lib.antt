@@ -3,6 +3,7 @@ pub mod Answers
 pub mod Refusals
 pub mod Created
 pub mod Order
+pub mod Faults
 pub mod Fitting
 pub mod Annotating
 pub mod Slots

@@ -1,5 +1,5 @@
 //! The functions below a function, innermost first.
-ghost use Rattle.std.specs.Prelude.{◌≡◌, ℕ, ◌<◌, ◌≤◌, true, false, [], ◌∷◌, ◌++◌, Some, IfOk, length, map, slice_get};
+ghost use Rattle.std.specs.Prelude.{◌≡◌, ℕ, ◌<◌, ◌≤◌, true, false, [], ◌∷◌, ◌++◌, Some, IfOk, IfErr, length, map, slice_get};
 ghost use Rattle.alias_base.specs.failures.Failures.{HasFailed};
 ghost use Rattle.alias_rules.specs.function_rules.Rules.{is_among};
 ghost use Rattle.alias_rules.specs.Fitting.{function_fits};
@@ -8,6 +8,7 @@ ghost use Rattle.alias_nested.specs.Analysis.{analysis, most_levels, analysed, A
 ghost use Rattle.alias_nested.specs.Answers.{TakenAnalysed, SlotAnalysed, AnalysedWith, Analyses, AnalysesInto, AnalysesExactly, AnalysesExactlyInto};
 ghost use Rattle.alias_nested.specs.Fitting.{EnvironmentPruned};
 ghost use Rattle.alias_nested.specs.Order.{below_innermost_first, slot_innermost_first, numbers, functions_of, Notes, KeepsToOrder, KeepsToOrderWith};
+ghost use Rattle.alias_nested.specs.Faults.{IsNamedFault, IsFaultWithin};
 ghost use Rattle.alias_nested.specs.Refusals.{TakenRefused, SlotRefused, AnalysisRefused, Leaves, LeadsToOne, LeadsToOneWith};
 ghost use Rattle.alias_nested.specs.Slots.{emptied};
 ghost use Rattle.alias_nesting_laws.specs.Slots.{with_function};
@@ -46,6 +47,7 @@ fn analyse_created<P: InnerPasses, F: FnMut(&HirFunction, &Environment)>(
     ensures noted { IfOk result (λ _. Notes (below_innermost_first levels func.now env.old) solved.old solved.new) }
     ensures faults { P.faults passes.old ≤ P.faults passes.new }
     ensures failed { IsPassFault result → HasFailed (P.faults passes.old) (P.faults passes.new) (P.at_last passes.new) }
+    ensures last { IfErr result (λ e. IsNamedFault (P.failed_last passes.new) env.new e) }
 {
     if levels == 0 {
         return Ok(());
@@ -79,6 +81,7 @@ fn analyse_slot<P: InnerPasses, F: FnMut(&HirFunction, &Environment)>(
     ensures noted { IfOk result (λ _. Notes (slot_innermost_first levels id env.old) solved.old solved.new) }
     ensures faults { P.faults passes.old ≤ P.faults passes.new }
     ensures failed { IsPassFault result → HasFailed (P.faults passes.old) (P.faults passes.new) (P.at_last passes.new) }
+    ensures last { IfErr result (λ e. IsNamedFault (P.failed_last passes.new) env.new e) }
 {
     let mut func = take_out(alloc, id, env);
     let answer = analyse_taken(
@@ -115,6 +118,7 @@ fn analyse_taken<P: InnerPasses, F: FnMut(&HirFunction, &Environment)>(
     ensures noted { IfOk result (λ _. Notes (below_innermost_first levels func.old env.old ++ id ∷ []) solved.old solved.new) }
     ensures faults { P.faults passes.old ≤ P.faults passes.new }
     ensures failed { IsPassFault result → HasFailed (P.faults passes.old) (P.faults passes.new) (P.at_last passes.new) }
+    ensures last { IfErr result (λ e. IsFaultWithin (P.failed_last passes.new) (below_innermost_first levels func.old env.old) id func.new env.new e) }
 {
     analyse_created(alloc, levels, func, env, passes, debug_logger, solved)?;
     infer_function(alloc, id, func, env, passes, debug_logger, solved)
@@ -135,6 +139,7 @@ pub(crate) fn analyse_kept<P: InnerPasses>(
     ensures kept { EnvironmentPruned env.old env.new }
     ensures faults { P.faults passes.old ≤ P.faults passes.new }
     ensures failed { IsPassFault result → HasFailed (P.faults passes.old) (P.faults passes.new) (P.at_last passes.new) }
+    ensures last { IfErr result (λ e. IsNamedFault (P.failed_last passes.new) env.new e) }
 {
     let mut no_logger = |_func: &HirFunction, _env: &Environment| {};
     analyse_created(
@@ -162,8 +167,9 @@ pub(crate) fn analyse_kept<P: InnerPasses>(
 /// leaves the environment in which that pass was refused, with its function and those around it back in their slots: what was
 /// found of the functions before it in the order stays. Those behind it are unchanged, but for the effects of their context
 /// places. `PassFault` names its function and the pass that failed on it, where all that comes before went well, and comes only
-/// where the count of the passes' faults rose, or stands at its last value: beside the same environment, what that pass may
-/// change stays. `Memory` is out of memory, which can come at any time.
+/// where the count of the passes' faults rose, or stands at its last value: this pass failed last, and what it left of
+/// the function stands in that one's slot. Beside the same environment, what that pass may change stays. `Memory` is out
+/// of memory, which can come at any time.
 pub fn analyse_functions_certified<P: InnerPasses, F: FnMut(&HirFunction, &Environment)>(
     alloc: Global,
     func: &mut HirFunction,
@@ -185,6 +191,7 @@ pub fn analyse_functions_certified<P: InnerPasses, F: FnMut(&HirFunction, &Envir
     ensures once { (k : ℕ) → times (numbers (below_innermost_first most_levels func.old env.old)) k ≤ 1 }
     ensures faults { P.faults passes.old ≤ P.faults passes.new }
     ensures failed { IsPassFault result → HasFailed (P.faults passes.old) (P.faults passes.new) (P.at_last passes.new) }
+    ensures last { IfErr result (λ e. IsNamedFault (P.failed_last passes.new) env.new e) }
 {
     let mut solved = List::new(alloc);
     analyse_created(
@@ -221,6 +228,7 @@ pub fn analyse_functions<P: InnerPasses, F: FnMut(&HirFunction, &Environment)>(
     ensures once { (k : ℕ) → times (numbers (below_innermost_first most_levels func.old env.old)) k ≤ 1 }
     ensures faults { P.faults passes.old ≤ P.faults passes.new }
     ensures failed { IsPassFault result → HasFailed (P.faults passes.old) (P.faults passes.new) (P.at_last passes.new) }
+    ensures last { IfErr result (λ e. IsNamedFault (P.failed_last passes.new) env.new e) }
 {
     analyse_functions_certified(alloc, func, env, passes, debug_logger)?;
     Ok(())

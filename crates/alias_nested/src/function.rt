@@ -6,6 +6,7 @@ ghost use Rattle.alias_hir.specs.declared.error.InferError.TheVariants.{PassFaul
 ghost use Rattle.alias_rules.specs.Fitting.{function_fits};
 ghost use Rattle.alias_range_pass.specs.Passes.{range_pass, PassGives};
 ghost use Rattle.alias_nested.specs.Analysis.{naming, analysis, effects_analysed, Accounts, LeadsWith, IsPassFault};
+ghost use Rattle.alias_nested.specs.Faults.{IsFaultOf};
 ghost use Rattle.alias_nested.specs.Answers.{IsPassed, Completed, FunctionAnalysed};
 ghost use Rattle.alias_nested.specs.Fitting.{FunctionKept, SummaryFits};
 ghost use Rattle.alias_nested.specs.Order.{SameInSlots, Names, Notes};
@@ -87,6 +88,7 @@ fn called<P: InnerPasses>(
     ensures passed { IsPassed P.keeps_all (func.old, env.old) (func.new, env.new) }
     ensures faults { P.faults passes.old ≤ P.faults passes.new }
     ensures failed { result ≡ Err PassStop.Failed → HasFailed (P.faults passes.old) (P.faults passes.new) (P.at_last passes.new) }
+    ensures last { result ≡ Err PassStop.Failed → P.failed_last passes.new pass func.new }
 {
     match pass {
         Pass::DeadCodeElimination => passes.dead_code_elimination(alloc, func, env),
@@ -114,6 +116,7 @@ fn run_pass<P: InnerPasses>(
     ensures names { Names id result }
     ensures faults { P.faults passes.old ≤ P.faults passes.new }
     ensures failed { IsPassFault result → HasFailed (P.faults passes.old) (P.faults passes.new) (P.at_last passes.new) }
+    ensures last { IfErr result (λ e. IsFaultOf (P.failed_last passes.new) id func.new e) }
 {
     match called(alloc, pass, func, env, passes) {
         Ok(()) => Ok(()),
@@ -153,6 +156,7 @@ fn complete<P: InnerPasses, F: FnMut(&HirFunction, &Environment)>(
     ensures names { Names id result }
     ensures faults { P.faults passes.old ≤ P.faults passes.new }
     ensures failed { IsPassFault result → HasFailed (P.faults passes.old) (P.faults passes.new) (P.at_last passes.new) }
+    ensures last { IfErr result (λ e. IsFaultOf (P.failed_last passes.new) id func.new e) }
 {
     run_pass(alloc, id, Pass::DeadCodeElimination, func, env, passes)?;
     let summary = infer_ranges(alloc, id, func, env)?;
@@ -195,6 +199,7 @@ pub(crate) fn infer_function<P: InnerPasses, F: FnMut(&HirFunction, &Environment
     ensures names { Names id result }
     ensures faults { P.faults passes.old ≤ P.faults passes.new }
     ensures failed { IsPassFault result → HasFailed (P.faults passes.old) (P.faults passes.new) (P.at_last passes.new) }
+    ensures last { IfErr result (λ e. IsFaultOf (P.failed_last passes.new) id func.new e) }
 {
     infer_effects(alloc, id, func, env, solved)?;
     complete(alloc, id, func, env, passes, debug_logger)

@@ -1,9 +1,10 @@
 //! The inference of a unit.
-ghost use Rattle.std.specs.Prelude.{◌≡◌, ◌≤◌, true, [], IfOk, IsOkAnd, OnOk};
+ghost use Rattle.std.specs.Prelude.{◌≡◌, ◌≤◌, true, [], IfOk, IfErr, IsOkAnd, OnOk};
 ghost use Rattle.alias_base.specs.failures.Failures.{HasFailed};
 ghost use Rattle.alias_rules.specs.Fitting.{function_fits};
 ghost use Rattle.alias_validate.specs.Reports.{with_errors};
 ghost use Rattle.alias_nested.specs.Analysis.{analysis, Accounts, IsPassFault};
+ghost use Rattle.alias_nested.specs.Faults.{IsNamedFault, NamesItsPass};
 ghost use Rattle.alias_nested.specs.Roots.{RootIsCovered, RootCoversHeap, RootHasCauses, RootListsFlows, IsRanged};
 ghost use Rattle.alias_nested.specs.Units.{root_analysed, all_analysed, unit_analysed, RootLeads, InfersUnit};
 
@@ -73,6 +74,7 @@ fn infer_all<P: InnerPasses>(
     ensures ranged { OnOk result ((fs : _) → Accounts fs solved.old → IsOkAnd (all_analysed func.old (analysis env.old fs)) IsRanged) }
     ensures faults { P.faults passes.old ≤ P.faults passes.new }
     ensures failed { IsPassFault result → HasFailed (P.faults passes.old) (P.faults passes.new) (P.at_last passes.new) }
+    ensures last { IfErr result (λ e. IsNamedFault (P.failed_last passes.new) env.new e) }
 {
     analyse_kept(alloc, func, env, passes, solved)?;
     infer_root(alloc, func, env, solved)
@@ -99,7 +101,7 @@ fn take_reports(alloc: Global, env: &mut Environment) -> List<Report>
 ///
 /// A refusal is the first in this order, and names its function: those of `infer_effects_certified`, or `TooMany`, where no
 /// number is left for a position of the alias graph. `PassFault` comes only where the count of the passes' faults
-/// rose, or stands at its last value; `Memory` is out of memory, which can come at any time.
+/// rose, or stands at its last value, and names the pass that failed last; `Memory` is out of memory, which can come at any time.
 pub fn infer_unit<P: InnerPasses>(
     alloc: Global,
     unit: Checked,
@@ -114,6 +116,7 @@ pub fn infer_unit<P: InnerPasses>(
     ensures flows { IfOk result (λ i. IsOkAnd (unit_analysed unit) (λ a. RootListsFlows a.functions i)) }
     ensures faults { P.faults passes.old ≤ P.faults passes.new }
     ensures failed { IsPassFault result → HasFailed (P.faults passes.old) (P.faults passes.new) (P.at_last passes.new) }
+    ensures last { IfErr result (λ e. NamesItsPass (P.failed_last passes.new) e) }
 {
     let Unit {
         mut function,

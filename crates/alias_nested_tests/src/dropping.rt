@@ -67,6 +67,8 @@ impl InnerPasses for DropLast {
 
     ghost at_last = { λ _. false };
 
+    ghost failed_last = { λ _ _ _. ⊥ };
+
     ghost keeps_all = { false };
 
     fn dead_code_elimination(

@@ -2,8 +2,9 @@
 
 use alias_base::{List, Text};
 use alias_run::{
-    Answer, Detail, Outcome, print_accepted, print_explanation, print_function_explanation,
-    print_inferred, print_lints, print_plainness, print_refusal, run_alias,
+    Answer, Detail, Outcome, print_accepted, print_brief, print_explanation,
+    print_function_explanation, print_inferred, print_lints, print_plainness, print_refusal,
+    print_verified, run_alias,
 };
 use alias_stream::{MemorySink, MemorySource};
 use std::alloc::{AllocError, Global};
@@ -90,6 +91,8 @@ fn printed(alloc: Global, words: &str, outcome: &Outcome) -> Result<Text, AllocE
         Answer::Nothing => print_refusal(alloc, &outcome.status),
         Answer::Inferred(inferred) => print_inferred(alloc, inferred, detail_of(words)),
         Answer::Accepted(accepted) => print_accepted(alloc, accepted),
+        Answer::Briefed(text) => print_brief(alloc, text),
+        Answer::Verified(functions) => print_verified(alloc, *functions),
         Answer::Linted(lints) => print_lints(alloc, lints.as_slice()),
         Answer::Explained(explanation) => print_explanation(alloc, explanation),
         Answer::FunctionExplained(explained) => {

@@ -20,19 +20,19 @@ use Rattle.alias_read.specs.declared.fault.TextFault.{TextFault}
 use Rattle.alias_read.specs.declared.fault.TextFault.TheVariants as text
 use Rattle.alias_run.specs.declared.command.Command.{Command}
 use Rattle.alias_run.specs.declared.command.Command.TheVariants.{Infer, Certify, Check, Lint, Explain, ExplainFunction}
-use Rattle.alias_run.specs.declared.command.Command.TheVariants.{Plain, Made, Help, Version}
+use Rattle.alias_run.specs.declared.command.Command.TheVariants.{Brief, Verify, Plain, Made, Help, Version}
 use Rattle.alias_run.specs.declared.status.Status.{Status}
 use Rattle.alias_run.specs.declared.status.Status.TheVariants.{Done, Words, NotJson, NotUnit, Unfit, BadLine, Rejected}
-use Rattle.alias_run.specs.declared.status.Status.TheVariants.{PlainRefused, Refused, NotHere, ReadFault, WriteFault}
-use Rattle.alias_run.specs.declared.status.Status.TheVariants.{TooLong, Memory}
+use Rattle.alias_run.specs.declared.status.Status.TheVariants.{Differs, PlainRefused, Refused, NotHere, ReadFault}
+use Rattle.alias_run.specs.declared.status.Status.TheVariants.{WriteFault, TooLong, Memory}
 use Rattle.alias_text.specs.declared.detail.Detail.{Detail}
 use Rattle.alias_text.specs.declared.detail.Detail.TheVariants as detail
 use Rattle.alias_run.specs.declared.answer.Answer.{Answer}
-use Rattle.alias_run.specs.declared.answer.Answer.TheVariants.{Nothing, Inferred, Accepted, Linted, Explained}
-use Rattle.alias_run.specs.declared.answer.Answer.TheVariants.{FunctionExplained, Decided}
+use Rattle.alias_run.specs.declared.answer.Answer.TheVariants.{Nothing, Inferred, Accepted, Briefed, Verified}
+use Rattle.alias_run.specs.declared.answer.Answer.TheVariants.{Linted, Explained, FunctionExplained, Decided}
 use Rattle.alias_run.specs.declared.query.Query.{Query}
-use Rattle.alias_run.specs.declared.query.Query.TheVariants.{Inference, Acceptance, Lints, Explanation}
-use Rattle.alias_run.specs.declared.query.Query.TheVariants.{FunctionExplanation, Plainness}
+use Rattle.alias_run.specs.declared.query.Query.TheVariants.{Inference, Acceptance, BriefText, Verification, Lints}
+use Rattle.alias_run.specs.declared.query.Query.TheVariants.{Explanation, FunctionExplanation, Plainness}
 use Rattle.alias_run.specs.declared.outcome.Outcome.{Outcome}
 use Rattle.alias_rules.specs.Functions.{rules_hold, checks}
 use Rattle.alias_rules.specs.function_rules.Fault.{is_memory}
@@ -45,7 +45,7 @@ use Rattle.alias_run.specs.Inferences.{solved_tell}
 use Rattle.alias_cause_laws.proofs.handed.HandingOut.{handed_out}
 use Rattle.alias_certified_laws.proofs.checked.InOrder.{answer_in_order}
 use Rattle.alias_run.specs.Runs.{IsRun, IsInferredOf, IsAnsweredOf, IsUnitOf, ArePartsOf, IsDone, IsHeadline}
-use Rattle.alias_run.specs.Runs.{IsSolvedAsSaid, IsAcceptedOfInput}
+use Rattle.alias_run.specs.Runs.{IsSolvedAsSaid, IsAcceptedOfInput, IsVerifiedOfInput}
 use Rattle.alias_run.specs.Statuses.{text_status, unit_status, write_status}
 use Rattle.alias_run.specs.Texts.{text_of, answer_text}
 
@@ -99,6 +99,8 @@ not_unfit : (q : Query) (certificate : List ℕ) (u : HirUnit) (fault : UnitFaul
     → IsAnswered q certificate u (Unfit fault) a → ⊥
 not_unfit Inference certificate u fault a h = h
 not_unfit Acceptance certificate u fault a h = h.2
+not_unfit BriefText certificate u fault a h = ⊎_elim (λ x. x) (λ y. y.2) h
+not_unfit Verification certificate u fault a h = h
 not_unfit Lints certificate u fault a h = ⊎_elim (λ x. x) (λ y. y.2) h
 not_unfit (Explanation f id) certificate u fault a h = ⊎_elim (λ x. x) (λ y. y.2) h
 not_unfit (FunctionExplanation f) certificate u fault a h = ⊎_elim (λ x. x) (λ y. y.2) h
@@ -108,6 +110,8 @@ memory_answered : (q : Query) (certificate : List ℕ) (u : HirUnit) (a : Answer
     → a ≡ Nothing
 memory_answered Inference certificate u a h = h
 memory_answered Acceptance certificate u a h = h
+memory_answered BriefText certificate u a h = h
+memory_answered Verification certificate u a h = h
 memory_answered Lints certificate u a h = h
 memory_answered (Explanation f id) certificate u a h = h
 memory_answered (FunctionExplanation f) certificate u a h = h
@@ -119,7 +123,7 @@ answered_checked q certificate u (Unfit fault) a k h = absurd (not_unfit q certi
 answered_checked q certificate u Memory a k h = memory_answered q certificate u a h
 answered_checked q certificate u status a k h = (k, h)
 
-rules_passed : (r : Result ⊤ UnitFault) (u v : HirUnit) → (r >>= (λ _. Ok u)) ≡ Ok v → (r ≡ Ok tt) × (u ≡ v)
+pub rules_passed : (r : Result ⊤ UnitFault) (u v : HirUnit) → (r >>= (λ _. Ok u)) ≡ Ok v → (r ≡ Ok tt) × (u ≡ v)
 rules_passed (Ok tt) u v h = let same : u ≡ v = cc in (refl, same)
 rules_passed (Err e) u v h = cc
 
@@ -129,7 +133,7 @@ judged_answered q certificate u v status a h k =
     let p = rules_passed (rules_hold u) u v h in
     answered_checked q certificate u status a p.0 (subst (λ z. IsAnswered q certificate z status a) (sym p.1) k)
 
-rules_refused : (r : Result ⊤ UnitFault) (u : HirUnit) (e : UnitFault)
+pub rules_refused : (r : Result ⊤ UnitFault) (u : HirUnit) (e : UnitFault)
     → ◌≡◌ {A = Result HirUnit UnitFault} (r >>= (λ _. Ok u)) (Err e) → r ≡ Err e
 rules_refused (Ok tt) u e h = cc
 rules_refused (Err z) u e h = let same : z ≡ e = cc in ap (λ (x : UnitFault). Err x) same
@@ -168,6 +172,8 @@ judged_fault q parts e status o is s h =
 not_read : (q : Query) (certificate : List ℕ) (u : HirUnit) (a : Answer) → IsAnswered q certificate u ReadFault a → ⊥
 not_read Inference certificate u a h = h
 not_read Acceptance certificate u a h = h.2
+not_read BriefText certificate u a h = ⊎_elim (λ x. x) (λ y. y.2) h
+not_read Verification certificate u a h = h
 not_read Lints certificate u a h = ⊎_elim (λ x. x) (λ y. y.2) h
 not_read (Explanation f id) certificate u a h = ⊎_elim (λ x. x) (λ y. y.2) h
 not_read (FunctionExplanation f) certificate u a h = ⊎_elim (λ x. x) (λ y. y.2) h
@@ -176,6 +182,8 @@ not_read Plainness certificate u a h = h
 not_long : (q : Query) (certificate : List ℕ) (u : HirUnit) (a : Answer) → IsAnswered q certificate u TooLong a → ⊥
 not_long Inference certificate u a h = h
 not_long Acceptance certificate u a h = h.2
+not_long BriefText certificate u a h = ⊎_elim (λ x. x) (λ y. y.2) h
+not_long Verification certificate u a h = h
 not_long Lints certificate u a h = ⊎_elim (λ x. x) (λ y. y.2) h
 not_long (Explanation f id) certificate u a h = ⊎_elim (λ x. x) (λ y. y.2) h
 not_long (FunctionExplanation f) certificate u a h = ⊎_elim (λ x. x) (λ y. y.2) h
@@ -191,6 +199,7 @@ read_bytes q known failed bytes (NotUnit pointer rule) i a l h = (bytes, a, l, h
 read_bytes q known failed bytes (Unfit fault) i a l h = (bytes, a, l, h)
 read_bytes q known failed bytes (BadLine number) i a l h = (bytes, a, l, h)
 read_bytes q known failed bytes (Rejected fault) i a l h = (bytes, a, l, h)
+read_bytes q known failed bytes (Differs number line) i a l h = (bytes, a, l, h)
 read_bytes q known failed bytes (PlainRefused e) i a l h = (bytes, a, l, h)
 read_bytes q known failed bytes (Refused e) i a l h = (bytes, a, l, h)
 read_bytes q known failed bytes NotHere i a l h = (bytes, a, l, h)
@@ -247,6 +256,8 @@ solved_as_said : (text : List ℕ) (u : HirUnit) (a : Answer) → rules_hold u �
 solved_as_said text u (Accepted x) k h = (h.0, h.1, answer_in_order h.0.functions u (Ok x) k h.2)
 solved_as_said text u Nothing k h = h.2
 solved_as_said text u (Inferred x) k h = h.2
+solved_as_said text u (Briefed t) k h = h.2
+solved_as_said text u (Verified count) k h = h.2
 solved_as_said text u (Linted ls) k h = h.2
 solved_as_said text u (Explained e) k h = h.2
 solved_as_said text u (FunctionExplained xs) k h = h.2
@@ -290,6 +301,8 @@ module _ (known : Option (List ℕ)) (read_failed : Type 0) where
   memory_alone (Some Infer) i f = f
   memory_alone (Some Certify) i f = f
   memory_alone (Some Check) i f = f
+  memory_alone (Some Brief) i f = f
+  memory_alone (Some Verify) i f = f
   memory_alone (Some Lint) i f = f
   memory_alone (Some (Explain g id)) i f = f
   memory_alone (Some (ExplainFunction g)) i f = f
@@ -302,6 +315,8 @@ module _ (known : Option (List ℕ)) (read_failed : Type 0) where
       → ⊥
   not_written Inference certificate u a h = h
   not_written Acceptance certificate u a h = h.2
+  not_written BriefText certificate u a h = ⊎_elim (λ x. x) (λ y. y.2) h
+  not_written Verification certificate u a h = h
   not_written Lints certificate u a h = ⊎_elim (λ x. x) (λ y. y.2) h
   not_written (Explanation f id) certificate u a h = ⊎_elim (λ x. x) (λ y. y.2) h
   not_written (FunctionExplanation f) certificate u a h = ⊎_elim (λ x. x) (λ y. y.2) h
@@ -313,6 +328,8 @@ module _ (known : Option (List ℕ)) (read_failed : Type 0) where
   no_write_fault (Some Infer) a f = not_written Inference (parts_of Inference f.0).1 f.3.0 a f.3.2.1
   no_write_fault (Some Certify) a f = not_written Inference (parts_of Inference f.0).1 f.3.0 a f.3.2.1
   no_write_fault (Some Check) a f = not_written Acceptance (parts_of Acceptance f.0).1 f.3.0 a f.3.2.1
+  no_write_fault (Some Brief) a f = not_written BriefText (parts_of BriefText f.0).1 f.3.0 a f.3.2.1
+  no_write_fault (Some Verify) a f = not_written Verification (parts_of Verification f.0).1 f.3.0 a f.3.2.1
   no_write_fault (Some Lint) a f = not_written Lints (parts_of Lints f.0).1 f.3.0 a f.3.2.1
   no_write_fault (Some (Explain g id)) a f =
       not_written (Explanation g id) (parts_of (Explanation g id) f.0).1 f.3.0 a f.3.2.1
@@ -339,6 +356,8 @@ module _ (known : Option (List ℕ)) (read_failed write_failed : Type 0) (held h
       → Adds held (answer_text printed Done a) held' → IsInferredOf (IsUnitOf known) printed held held' a
   done_read printed Nothing f t = f.3.2.1
   done_read printed (Accepted x) f t = f.3.2.1
+  done_read printed (Briefed text) f t = f.3.2.1
+  done_read printed (Verified count) f t = f.3.2.1
   done_read printed (Linted ls) f t = f.3.2.1
   done_read printed (Explained e) f t = f.3.2.1
   done_read printed (FunctionExplained xs) f t = f.3.2.1
@@ -361,6 +380,8 @@ module _ (known : Option (List ℕ)) (read_failed write_failed : Type 0) (held h
       → IsInferredOf (λ u. u ≡ made) detail.Counts held held' a
   done_made made Nothing f t = f.1
   done_made made (Accepted x) f t = f.1
+  done_made made (Briefed text) f t = f.1
+  done_made made (Verified count) f t = f.1
   done_made made (Linted ls) f t = f.1
   done_made made (Explained e) f t = f.1
   done_made made (FunctionExplained xs) f t = f.1
@@ -388,6 +409,21 @@ module _ (known : Option (List ℕ)) (read_failed write_failed : Type 0) (held h
       let text = (parts_of Acceptance f.0).1 in
       (j.0, text, known_parts Acceptance known f.0 j.0 f.1 j.1, j.2.0, j.2.1, solved_as_said text j.0 a j.2.0 j.2.1, t)
 
+  done_verified : (a : Answer) → IsRead Verification known read_failed Done a
+      → Adds held (answer_text detail.Infer Done a) held' → IsVerifiedOfInput known held held' a
+  done_verified (Verified count) f t =
+      let j = f.3 in
+      let text = (parts_of Verification f.0).1 in
+      (j.0, text, known_parts Verification known f.0 j.0 f.1 j.1, j.2.0, j.2.1, t)
+  done_verified Nothing f t = f.3.2.1
+  done_verified (Inferred x) f t = f.3.2.1
+  done_verified (Accepted x) f t = f.3.2.1
+  done_verified (Briefed text) f t = f.3.2.1
+  done_verified (Linted ls) f t = f.3.2.1
+  done_verified (Explained e) f t = f.3.2.1
+  done_verified (FunctionExplained xs) f t = f.3.2.1
+  done_verified (Decided p) f t = f.3.2.1
+
   done : (asked : Option Command) (i : Answer) → IsFound asked known read_failed Done i
       → Adds held (text_of asked Done i) held' → IsDone asked known held held' i
   unfolding IsFound
@@ -395,6 +431,8 @@ module _ (known : Option (List ℕ)) (read_failed write_failed : Type 0) (held h
   done (Some Infer) i f a = done_read detail.Infer i f a
   done (Some Certify) i f a = done_read detail.Certify i f a
   done (Some Check) i f a = done_checked i f a
+  done (Some Brief) i f a = done_asked BriefText i f a
+  done (Some Verify) i f a = done_verified i f a
   done (Some Lint) i f a = done_asked Lints i f a
   done (Some (Explain g id)) i f a = done_asked (Explanation g id) i f a
   done (Some (ExplainFunction g)) i f a = done_asked (FunctionExplanation g) i f a

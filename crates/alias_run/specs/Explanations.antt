@@ -2,8 +2,8 @@
 use Rattle.std.specs.Prelude.{ℕ, List, [], codes}
 use Rattle.alias_run.specs.declared.status.Status.{Status}
 use Rattle.alias_run.specs.declared.status.Status.TheVariants.{Done, Words, NotJson, NotUnit, Unfit, BadLine, Rejected}
-use Rattle.alias_run.specs.declared.status.Status.TheVariants.{PlainRefused, Refused, NotHere, ReadFault, WriteFault}
-use Rattle.alias_run.specs.declared.status.Status.TheVariants.{TooLong, Memory}
+use Rattle.alias_run.specs.declared.status.Status.TheVariants.{Differs, PlainRefused, Refused, NotHere, ReadFault}
+use Rattle.alias_run.specs.declared.status.Status.TheVariants.{WriteFault, TooLong, Memory}
 
 -- what is wrong, and what to look at
 abbrev pub explanation : Status → List ℕ
@@ -17,6 +17,8 @@ explanation (Unfit fault) = codes
 explanation (BadLine number) = codes
     "the line of this number of the certificate isn't in the grammar: see docs/FORMAT.md, Certificates"
 explanation (Rejected fault) = codes "the certificate isn't one of the unit: see docs/FORMAT.md, Certificates"
+explanation (Differs number line) = codes
+    "the line of this number of the certificate isn't the one that follows: see docs/FORMAT.md, Brief certificates"
 explanation (PlainRefused fault) = codes "it isn't known whether the unit is plain: see docs/FORMAT.md, Statuses"
 explanation NotHere = codes
     "the identifier doesn't stand in that function, or is of its context: see docs/FORMAT.md, Statuses"

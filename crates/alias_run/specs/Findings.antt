@@ -12,17 +12,20 @@ use Rattle.alias_read.specs.declared.fault.TextFault.TheVariants as text
 use Rattle.alias_stream.specs.Streams.{IsAllOf, IsAtEnd, IfKnown}
 use Rattle.alias_run.specs.declared.command.Command.{Command}
 use Rattle.alias_run.specs.declared.command.Command.TheVariants.{Infer, Certify, Check, Lint, Explain, ExplainFunction}
-use Rattle.alias_run.specs.declared.command.Command.TheVariants.{Plain, Made, Help, Version}
+use Rattle.alias_run.specs.declared.command.Command.TheVariants.{Brief, Verify, Plain, Made, Help, Version}
 use Rattle.alias_run.specs.declared.query.Query.{Query}
-use Rattle.alias_run.specs.declared.query.Query.TheVariants.{Inference, Acceptance, Lints, Explanation}
-use Rattle.alias_run.specs.declared.query.Query.TheVariants.{FunctionExplanation, Plainness}
+use Rattle.alias_run.specs.declared.query.Query.TheVariants.{Inference, Acceptance, BriefText, Verification, Lints}
+use Rattle.alias_run.specs.declared.query.Query.TheVariants.{Explanation, FunctionExplanation, Plainness}
 use Rattle.alias_run.specs.declared.status.Status.{Status}
 use Rattle.alias_run.specs.declared.status.Status.TheVariants.{Done, Words, NotJson, NotUnit, Unfit, BadLine, Rejected}
-use Rattle.alias_run.specs.declared.status.Status.TheVariants.{PlainRefused, Refused, NotHere, ReadFault, WriteFault}
-use Rattle.alias_run.specs.declared.status.Status.TheVariants.{TooLong, Memory}
+use Rattle.alias_run.specs.declared.status.Status.TheVariants.{Differs, PlainRefused, Refused, NotHere, ReadFault}
+use Rattle.alias_run.specs.declared.status.Status.TheVariants.{WriteFault, TooLong, Memory}
 use Rattle.alias_run.specs.declared.answer.Answer.{Answer}
-use Rattle.alias_run.specs.declared.answer.Answer.TheVariants.{Nothing, Inferred, Accepted, Linted, Explained}
-use Rattle.alias_run.specs.declared.answer.Answer.TheVariants.{FunctionExplained, Decided}
+use Rattle.alias_run.specs.declared.answer.Answer.TheVariants.{Nothing, Inferred, Accepted, Briefed, Verified}
+use Rattle.alias_run.specs.declared.answer.Answer.TheVariants.{Linted, Explained, FunctionExplained, Decided}
+use Rattle.alias_brief.specs.Verifying.{brief_of, verified, IsVerified}
+use Rattle.alias_brief.specs.declared.calls.VerifyFault.TheVariants as verify
+use Rattle.alias_effects.specs.declared.solved.Solved.{Solved}
 use Rattle.alias_cert.specs.Units.{unit_checked, Accepts}
 use Rattle.alias_cert_text.specs.Certificates.{certificate_of_text}
 use Rattle.alias_cert_text.specs.Input.{input_parts}
@@ -103,6 +106,30 @@ IsAccepted text u (BadLine number) a = (certificate_of_text text ≡ Err (text_f
 IsAccepted text u Memory a = a ≡ Nothing
 IsAccepted text u status a = (c : Certificate) × (certificate_of_text text ≡ Ok c) × IsAcceptedOf c u status a
 
+-- the text that follows for a unit from what solutions of its functions say: a number may be wanting for it. That
+-- nothing else is ever wrong, where the solutions are those of the inference, is open
+abbrev pub IsBriefedOf : List Solved → HirUnit → Status → Answer → Type 0
+IsBriefedOf solved u Done (Briefed text) = brief_of solved u ≡ Ok text
+IsBriefedOf solved u (Refused (error.TooMany which)) a =
+    (brief_of solved u ≡ Err (check_fault.TooMany which)) × (a ≡ Nothing)
+IsBriefedOf solved u (Rejected fault) a = (brief_of solved u ≡ Err fault) × (a ≡ Nothing)
+IsBriefedOf solved u Memory a = a ≡ Nothing
+IsBriefedOf solved u status a = ⊥
+
+-- so it is of what is inferred of a unit, and of that unit
+abbrev pub IsBriefedAs : HirUnit → UnitInference → Status → Answer → Type 0
+IsBriefedAs u i status a = IsBriefedOf i.solved u status a
+
+-- whether a text is exactly the one that follows for a unit from what the text itself says: it is, and of each function
+-- the entry states solve the flow; or this is the first fault of it
+abbrev pub IsVerifiedAs : List ℕ → HirUnit → Status → Answer → Type 0
+IsVerifiedAs text u Done (Verified count) = IsVerified text u count
+IsVerifiedAs text u (BadLine number) a = (verified text u ≡ Err (verify.BadLine number)) × (a ≡ Nothing)
+IsVerifiedAs text u (Rejected fault) a = (verified text u ≡ Err (verify.Rejected fault)) × (a ≡ Nothing)
+IsVerifiedAs text u (Differs number line) a = (verified text u ≡ Err (verify.Differs number line)) × (a ≡ Nothing)
+IsVerifiedAs text u Memory a = a ≡ Nothing
+IsVerifiedAs text u status a = ⊥
+
 -- the reports of what was inferred, in order, each with its place
 abbrev pub IsLintedOf : UnitInference → Status → Answer → Type 0
 IsLintedOf i Done (Linted ls) = (lints_of i.unit ≡ Ok ls) × (reports_of ls ≡ i.reports)
@@ -117,6 +144,10 @@ IsOfInference IsSo u status a = IsRefusedAs u status a ⊎ ((i : UnitInference) 
 -- what it hands out has these reports
 abbrev pub IsLinted : HirUnit → Status → Answer → Type 0
 IsLinted u status a = IsOfInference IsLintedOf u status a
+
+-- what follows from what it hands out is this text
+abbrev pub IsBriefed : HirUnit → Status → Answer → Type 0
+IsBriefed u status a = IsOfInference (IsBriefedAs u) u status a
 
 -- a range that is explained has a cause, or no end at all
 abbrev pub HasCause : RangeExplanation → Type 0
@@ -185,10 +216,17 @@ IsDecided u (PlainRefused fault) a = (answer_of (unit_end u) ≡ Err fault) × T
 IsDecided u Memory a = a ≡ Nothing
 IsDecided u status a = ⊥
 
+-- where the text that follows is asked for, these bytes are those of the unit once more, which is read twice
+abbrev pub IsReadAgain : Query → List ℕ → HirUnit → Type 0
+IsReadAgain BriefText again u = UnitReading again u
+IsReadAgain q text u = Unit {0}
+
 -- what a unit that is well formed leads to, by what is asked about it, where this text is to be its certificate
 abbrev pub IsAnswered : Query → List ℕ → HirUnit → Status → Answer → Type 0
 IsAnswered Inference certificate u status a = IsInferred u status a
 IsAnswered Acceptance certificate u status a = IsAccepted certificate u status a
+IsAnswered BriefText again u status a = IsBriefed u status a
+IsAnswered Verification text u status a = IsVerifiedAs text u status a
 IsAnswered Lints certificate u status a = IsLinted u status a
 IsAnswered (Explanation f id) certificate u status a = IsExplained f id u status a
 IsAnswered (FunctionExplanation f) certificate u status a = IsFunctionExplained f u status a
@@ -205,9 +243,11 @@ abbrev pub IsFit : HirUnit → Status → Answer → Type 0
 IsFit u status a = (rules_hold u ≡ Ok tt) × IsInferred u status a × EndsInferred status
 
 -- the parts of the whole input: where a certificate is asked about, the unit before the first newline and the
--- certificate behind it; else the unit alone
+-- certificate behind it; else the unit alone, or twice, where it is read twice
 abbrev pub parts_of : Query → List ℕ → List ℕ × List ℕ
 parts_of Acceptance bytes = input_parts bytes
+parts_of BriefText bytes = (bytes, bytes)
+parts_of Verification bytes = input_parts bytes
 parts_of q bytes = (bytes, [])
 
 -- what the unit's part of the input leads to: it is no JSON, or JSON of no unit, or that of one
@@ -235,6 +275,8 @@ IsFound None known failed status a = (status ≡ Words) × (a ≡ Nothing)
 IsFound (Some Infer) known failed status a = IsRead Inference known failed status a
 IsFound (Some Certify) known failed status a = IsRead Inference known failed status a
 IsFound (Some Check) known failed status a = IsRead Acceptance known failed status a
+IsFound (Some Brief) known failed status a = IsRead BriefText known failed status a
+IsFound (Some Verify) known failed status a = IsRead Verification known failed status a
 IsFound (Some Lint) known failed status a = IsRead Lints known failed status a
 IsFound (Some (Explain f id)) known failed status a = IsRead (Explanation f id) known failed status a
 IsFound (Some (ExplainFunction f)) known failed status a = IsRead (FunctionExplanation f) known failed status a
@@ -251,6 +293,7 @@ Leaves (NotUnit pointer rule) left = IsAtEnd left
 Leaves (Unfit fault) left = IsAtEnd left
 Leaves (BadLine number) left = IsAtEnd left
 Leaves (Rejected fault) left = IsAtEnd left
+Leaves (Differs number line) left = IsAtEnd left
 Leaves (PlainRefused fault) left = IsAtEnd left
 Leaves (Refused error) left = IsAtEnd left
 Leaves NotHere left = IsAtEnd left

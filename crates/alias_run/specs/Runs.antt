@@ -10,11 +10,13 @@ use Rattle.alias_text.specs.declared.detail.Detail.{Detail}
 use Rattle.alias_text.specs.declared.detail.Detail.TheVariants as detail
 use Rattle.alias_run.specs.declared.command.Command.{Command}
 use Rattle.alias_run.specs.declared.command.Command.TheVariants.{Infer, Certify, Check, Lint, Explain, ExplainFunction}
-use Rattle.alias_run.specs.declared.command.Command.TheVariants.{Plain, Made, Help, Version}
+use Rattle.alias_run.specs.declared.command.Command.TheVariants.{Brief, Verify, Plain, Made, Help, Version}
 use Rattle.alias_run.specs.declared.status.Status.{Status}
 use Rattle.alias_run.specs.declared.status.Status.TheVariants.{Done, WriteFault, Memory}
 use Rattle.alias_run.specs.declared.answer.Answer.{Answer}
-use Rattle.alias_run.specs.declared.answer.Answer.TheVariants.{Nothing, Inferred, Accepted}
+use Rattle.alias_run.specs.declared.answer.Answer.TheVariants.{Nothing, Inferred, Accepted, Verified}
+use Rattle.alias_brief.specs.Verifying.{IsVerified}
+use Rattle.alias_cert_text.specs.check_lines.CheckLines.{accepted_text as functions_accepted}
 use Rattle.alias_nested.specs.Analysis.{Analysed, SolvesItsFlow}
 use Rattle.alias_nested.specs.Units.{unit_analysed}
 use Rattle.alias_nested.specs.declared.infer.Inferred.{Inferred as UnitInference}
@@ -23,8 +25,8 @@ use Rattle.alias_cert_text.specs.Certificates.{certificate_of_text}
 use Rattle.alias_certificate.specs.declared.certificate.Certificate.{Certificate}
 use Rattle.alias_certified_laws.specs.checked.Handed.{IsAcceptedInOrder}
 use Rattle.alias_run.specs.declared.query.Query.{Query}
-use Rattle.alias_run.specs.declared.query.Query.TheVariants.{Acceptance, Lints, Explanation, FunctionExplanation}
-use Rattle.alias_run.specs.declared.query.Query.TheVariants.{Plainness}
+use Rattle.alias_run.specs.declared.query.Query.TheVariants.{Acceptance, BriefText, Verification, Lints, Explanation}
+use Rattle.alias_run.specs.declared.query.Query.TheVariants.{FunctionExplanation, Plainness}
 use Rattle.alias_plainness.specs.Plainness.{IsPlainUnit}
 use Rattle.alias_run.specs.Findings.{greatest_input, parts_of, EndsUnblamed, EndsAccepted, EndsInferred, Settles}
 use Rattle.alias_run.specs.Findings.{IsFound, Infers, IsAnswered}
@@ -88,6 +90,15 @@ IsAcceptedOfInput known held held' a =
     × IsAnswered Acceptance certificate u Done a × IsSolvedAsSaid certificate u a
     × Adds held (answer_text detail.Infer Done a) held'
 
+-- Where a text was accepted as the one that follows: the unit and the text are those that were read; the unit is well
+-- formed; the text is exactly the one that follows for the unit from the entry states that the text itself says, which
+-- solve the flow of each of its functions, so many; and the sink got their number.
+abbrev pub IsVerifiedOfInput : Option (List ℕ) → Option (List ℕ) → Option (List ℕ) → Answer → Type 0
+IsVerifiedOfInput known held held' (Verified count) =
+    (u : HirUnit) × (text : List ℕ) × ArePartsOf Verification known u text × (rules_hold u ≡ Ok tt)
+    × IsVerified text u count × Adds held (functions_accepted count) held'
+IsVerifiedOfInput known held held' a = ⊥
+
 -- What status Done means, by the command: the unit that was read was inferred, or the one that was made; or the sink
 -- got what the program tells of itself.
 abbrev pub IsDone : Option Command → Option (List ℕ) → Option (List ℕ) → Option (List ℕ) → Answer → Type 0
@@ -95,6 +106,8 @@ IsDone None known held held' a = ⊥
 IsDone (Some Infer) known held held' a = IsInferredOf (IsUnitOf known) detail.Infer held held' a
 IsDone (Some Certify) known held held' a = IsInferredOf (IsUnitOf known) detail.Certify held held' a
 IsDone (Some Check) known held held' a = IsAcceptedOfInput known held held' a
+IsDone (Some Brief) known held held' a = IsAnsweredOf BriefText known held held' a
+IsDone (Some Verify) known held held' a = IsVerifiedOfInput known held held' a
 IsDone (Some Lint) known held held' a = IsAnsweredOf Lints known held held' a
 IsDone (Some (Explain f id)) known held held' a = IsAnsweredOf (Explanation f id) known held held' a
 IsDone (Some (ExplainFunction f)) known held held' a = IsAnsweredOf (FunctionExplanation f) known held held' a

@@ -6,11 +6,11 @@ use Rattle.alias_text.specs.Results.{result_text}
 use Rattle.alias_text.specs.Fitting.{IfCertify}
 use Rattle.alias_nested.specs.declared.infer.Inferred.{Inferred as UnitInference}
 use Rattle.alias_run.specs.declared.answer.Answer.{Answer}
-use Rattle.alias_run.specs.declared.answer.Answer.TheVariants.{Nothing, Inferred, Accepted, Linted, Explained}
-use Rattle.alias_run.specs.declared.answer.Answer.TheVariants.{FunctionExplained, Decided}
+use Rattle.alias_run.specs.declared.answer.Answer.TheVariants.{Nothing, Inferred, Accepted, Briefed, Verified}
+use Rattle.alias_run.specs.declared.answer.Answer.TheVariants.{Linted, Explained, FunctionExplained, Decided}
 use Rattle.alias_run.specs.declared.command.Command.{Command}
 use Rattle.alias_run.specs.declared.command.Command.TheVariants.{Infer, Certify, Check, Lint, Explain, ExplainFunction}
-use Rattle.alias_run.specs.declared.command.Command.TheVariants.{Plain, Made, Help, Version}
+use Rattle.alias_run.specs.declared.command.Command.TheVariants.{Brief, Verify, Plain, Made, Help, Version}
 use Rattle.alias_run.specs.declared.status.Status.{Status}
 use Rattle.alias_cert.specs.declared.check.Accepted.{Accepted as AcceptedUnit}
 use Rattle.alias_cert_text.specs.check_lines.CheckLines.{accepted_text as functions_accepted}
@@ -30,6 +30,9 @@ commands_text =
     ++ codes "  jirrambeo certify < unit.json   writes also what a checker of it needs\n"
     ++ codes "  jirrambeo check                 reads a unit, a newline and what certify writes of it,\n"
     ++ codes "                                  and writes whether that is a certificate of the unit\n"
+    ++ codes "  jirrambeo brief < unit.json     writes what infer writes, and what loops need besides\n"
+    ++ codes "  jirrambeo verify                reads a unit, a newline and what brief writes of it,\n"
+    ++ codes "                                  and writes whether each line is the one that follows\n"
     ++ codes "  jirrambeo lint < unit.json      writes each report with the place that it comes from\n"
     ++ codes "  jirrambeo explain <function> <identifier> < unit.json\n"
     ++ codes "                                  writes why a range ends where it does\n"
@@ -62,6 +65,7 @@ statuses_text =
     ++ codes "  13  the certificate isn't one of the unit\n"
     ++ codes "  14  the identifier doesn't stand in that function\n"
     ++ codes "  15  it isn't known whether the unit is plain\n"
+    ++ codes "  16  a line of the certificate isn't the one that follows\n"
     ++ codes "\n"
     ++ codes "docs/FORMAT.md describes units, what is written of them, and refusals.\n"
 
@@ -86,6 +90,8 @@ abbrev pub answer_text : Detail → Status → Answer → List ℕ
 answer_text printed status Nothing = refusal_line status
 answer_text printed status (Inferred i) = inferred_text printed i
 answer_text printed status (Accepted a) = accepted_text a
+answer_text printed status (Briefed text) = text
+answer_text printed status (Verified count) = functions_accepted count
 answer_text printed status (Linted ls) = lints_text ls
 answer_text printed status (Explained e) = explanation_text e
 answer_text printed status (FunctionExplained xs) = function_text xs
@@ -97,6 +103,8 @@ text_of None status a = refusal_line status
 text_of (Some Infer) status a = answer_text detail.Infer status a
 text_of (Some Certify) status a = answer_text detail.Certify status a
 text_of (Some Check) status a = answer_text detail.Infer status a
+text_of (Some Brief) status a = answer_text detail.Infer status a
+text_of (Some Verify) status a = answer_text detail.Infer status a
 text_of (Some Lint) status a = answer_text detail.Infer status a
 text_of (Some (Explain f id)) status a = answer_text detail.Infer status a
 text_of (Some (ExplainFunction f)) status a = answer_text detail.Infer status a

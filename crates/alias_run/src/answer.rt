@@ -1,5 +1,5 @@
 //! What a run answers.
-use alias_base::List;
+use alias_base::{List, Text};
 use alias_cert::Accepted;
 use alias_explain::{Explanation, IdentifierExplanation};
 use alias_lint::Lint;
@@ -15,6 +15,10 @@ pub enum Answer {
     Inferred(Inferred),
     /// The unit whose certificate is accepted, with what is solved of its functions.
     Accepted(Accepted),
+    /// The text of what was inferred of a unit, with what a verifier of each line needs.
+    Briefed(Text),
+    /// How many functions a unit has, where the text is exactly the one that follows for it.
+    Verified(usize),
     /// The reports on a unit, each with the place that it comes from.
     Linted(List<Lint>),
     /// Why a range ends where it does.

@@ -7,10 +7,13 @@ ghost use Rattle.alias_rules.specs.Fitting.{function_fits};
 ghost use Rattle.alias_stream.specs.Streams.{HasFailed};
 ghost use Rattle.alias_made.specs.Units.{made_unit as unit_of};
 ghost use Rattle.alias_run.specs.Commands.{reads, IsSized};
-ghost use Rattle.alias_run.specs.Findings.{parts_of, IsFound, IsRead, IsJudged, IsChecked, IsAnswered, IsInferred, IsInference, IsAccepted, IsAcceptedOf, IsLinted, IsLintedOf, IsExplained, IsExplainedOf, IsFunctionExplained, IsFunctionExplainedOf, IsDecided, IsFit, Leaves};
+ghost use Rattle.alias_hir.specs.declared.env.Unit.{Unit as HirUnit};
+ghost use Rattle.alias_read.specs.Units.{UnitReading};
+ghost use Rattle.alias_run.specs.Findings.{parts_of, IsFound, IsRead, IsJudged, IsChecked, IsAnswered, IsReadAgain, IsInferred, IsInference, IsAccepted, IsAcceptedOf, IsBriefed, IsLinted, IsLintedOf, IsExplained, IsExplainedOf, IsFunctionExplained, IsFunctionExplainedOf, IsDecided, IsFit, Leaves};
 
 use crate::answer::Answer;
 use crate::command::Command;
+use crate::following::{brief_inferred, verify_checked};
 use crate::outcome::{Outcome, done, ended};
 use crate::query::Query;
 use crate::status::Status;
@@ -72,6 +75,19 @@ fn accept_checked(alloc: Global, unit: Checked, text: &[u8]) -> Outcome
     match read_certificate(alloc, text) {
         Ok(certificate) => accept_certificate(alloc, unit, &certificate),
         Err(fault) => ended(Status::from(fault)),
+    }
+}
+
+/// The text that follows from what is inferred of a unit, whose bytes these are.
+fn brief_checked(alloc: Global, unit: Checked, again: &[u8]) -> Outcome
+    requires { UnitReading again.now unit }
+    ensures { IsBriefed unit result.status result.answer }
+{
+    // Looked at for what the clause of `unit` says: the unit is well formed.
+    let _unit = unit.unit();
+    match inference_of(alloc, unit) {
+        Ok(inferred) => brief_inferred(alloc, again, inferred),
+        Err(status) => ended(status),
     }
 }
 
@@ -166,13 +182,17 @@ fn decide_checked(alloc: Global, unit: Checked) -> Outcome
     }
 }
 
-/// What a unit that is well formed leads to, by what is asked about it, where the text is to be its certificate.
+/// What a unit that is well formed leads to, by what is asked about it, where the text is to be its certificate, or spells the
+/// unit once more.
 fn answer(alloc: Global, query: Query, unit: Checked, certificate: &[u8]) -> Outcome
+    requires { IsReadAgain query certificate.now unit }
     ensures { IsAnswered query certificate.now unit result.status result.answer }
 {
     match query {
         Query::Inference => infer_checked(alloc, unit),
         Query::Acceptance => accept_checked(alloc, unit, certificate),
+        Query::BriefText => brief_checked(alloc, unit, certificate),
+        Query::Verification => verify_checked(alloc, unit, certificate),
         Query::Lints => lint_checked(alloc, unit),
         Query::Explanation {
             function,
@@ -185,6 +205,7 @@ fn answer(alloc: Global, query: Query, unit: Checked, certificate: &[u8]) -> Out
 
 /// What a unit leads to.
 fn judge_unit(alloc: Global, query: Query, unit: Unit, certificate: &[u8]) -> Outcome
+    requires { IsReadAgain query certificate.now unit }
     ensures { IsChecked query certificate.now unit result.status result.answer }
 {
     match check_unit(alloc, unit) {
@@ -193,18 +214,20 @@ fn judge_unit(alloc: Global, query: Query, unit: Unit, certificate: &[u8]) -> Ou
     }
 }
 
-/// The bytes of the unit in the whole input, and those of what is to be its certificate.
+/// The bytes of the unit in the whole input, and those of what is to be its certificate, or those of the unit once more.
 fn parts_of(query: Query, bytes: &[u8]) -> (&[u8], &[u8])
     ensures { (result.0.now, result.1.now) ≡ parts_of query bytes.now }
 {
     match query {
-        Query::Acceptance => unit_and_certificate(bytes),
+        Query::Acceptance | Query::Verification => unit_and_certificate(bytes),
+        Query::BriefText => (bytes, bytes),
         _ => (bytes, &[]),
     }
 }
 
 /// What the unit's part of the input leads to.
 fn judge(alloc: Global, query: Query, unit: &[u8], certificate: &[u8]) -> Outcome
+    requires { (u : HirUnit) → UnitReading unit.now u → IsReadAgain query certificate.now u }
     ensures { IsJudged query (unit.now, certificate.now) result.status result.answer }
 {
     match read_unit(alloc, unit) {
@@ -259,6 +282,8 @@ pub(crate) fn find<S: Source>(alloc: Global, asked: Option<Command>, source: &mu
         None => ended(Status::Words),
         Some(Command::Infer | Command::Certify) => ask_source(alloc, Query::Inference, source),
         Some(Command::Check) => ask_source(alloc, Query::Acceptance, source),
+        Some(Command::Brief) => ask_source(alloc, Query::BriefText, source),
+        Some(Command::Verify) => ask_source(alloc, Query::Verification, source),
         Some(Command::Lint) => ask_source(alloc, Query::Lints, source),
         Some(
             Command::Explain {

@@ -4,6 +4,7 @@
 pub mod answer;
 pub mod command;
 mod finding;
+mod following;
 pub mod outcome;
 pub mod query;
 mod run;
@@ -23,6 +24,6 @@ pub use query::Query;
 pub use run::run_alias;
 pub use status::Status;
 pub use text::{
-    print_accepted, print_explanation, print_function_explanation, print_inferred, print_lints,
-    print_plainness, print_refusal,
+    print_accepted, print_brief, print_explanation, print_function_explanation, print_inferred,
+    print_lints, print_plainness, print_refusal, print_verified,
 };

@@ -8,6 +8,10 @@ pub enum Query {
     Inference,
     /// Whether what follows it in the input is a certificate of it.
     Acceptance,
+    /// The text of what is inferred of it, with what a verifier of each line needs. The unit is read twice for it.
+    BriefText,
+    /// Whether what follows it in the input is exactly the text that follows from what that says itself.
+    Verification,
     /// The reports on it, each with the place that it comes from.
     Lints,
     /// Why the range of an identifier ends where it does. `None` is the root.

@@ -1,9 +1,10 @@
 //! How a run ends.
 ghost use Rattle.std.specs.Prelude.{◌≡◌};
 ghost use Rattle.alias_run.specs.Explanations.{explanation};
-ghost use Rattle.alias_run.specs.Statuses.{status_code, read_status, text_status, unit_status, cert_status, check_status, infer_status, explain_status, plain_status, write_status};
+ghost use Rattle.alias_run.specs.Statuses.{status_code, read_status, text_status, unit_status, cert_status, check_status, brief_status, verify_status, infer_status, explain_status, plain_status, write_status};
 
 use alias_base::Text;
+use alias_brief::VerifyFault;
 use alias_cert_text::CertFault;
 use alias_certificate::CheckFault;
 use alias_explain::ExplainFault;
@@ -32,6 +33,9 @@ pub enum Status {
     BadLine(usize),
     /// The certificate isn't accepted, for this reason first.
     Rejected(CheckFault),
+    /// The line of the certificate with this number, from 1, is the first that differs from what follows, and this line
+    /// follows there: an empty one, where nothing does.
+    Differs { number: usize, line: Text },
     /// It isn't known whether the unit is plain.
     PlainRefused(PlainFault),
     /// The inference refuses the unit.
@@ -68,6 +72,7 @@ impl Status {
             Status::Rejected(_) => 13,
             Status::NotHere => 14,
             Status::PlainRefused(_) => 15,
+            Status::Differs { .. } => 16,
         }
     }
 
@@ -92,6 +97,9 @@ impl Status {
             }
             Status::Rejected(_) => {
                 "the certificate isn't one of the unit: see docs/FORMAT.md, Certificates"
+            }
+            Status::Differs { .. } => {
+                "the line of this number of the certificate isn't the one that follows: see docs/FORMAT.md, Brief certificates"
             }
             Status::PlainRefused(_) => {
                 "it isn't known whether the unit is plain: see docs/FORMAT.md, Statuses"
@@ -169,6 +177,31 @@ impl From<CheckFault> for Status {
             CheckFault::Memory(_) => Status::Memory,
             rejected => Status::Rejected(rejected),
         }
+    }
+}
+
+/// The status of a text that isn't the one that follows for a unit.
+impl From<VerifyFault> for Status {
+    ghost from_gives = { λ fault status. status ≡ verify_status fault };
+
+    fn from(fault: VerifyFault) -> Status {
+        match fault {
+            VerifyFault::BadLine(number) => Status::BadLine(number),
+            VerifyFault::Rejected(rejected) => Status::Rejected(rejected),
+            VerifyFault::Differs { number, line } => Status::Differs { number, line },
+            VerifyFault::Memory(_) => Status::Memory,
+        }
+    }
+}
+
+/// The status of a unit for which no text follows: a number that is wanting is told as the inference tells it.
+pub(crate) fn brief_status(fault: CheckFault) -> Status
+    ensures { result ≡ brief_status fault }
+{
+    match fault {
+        CheckFault::TooMany { which } => Status::Refused(InferError::TooMany { which }),
+        CheckFault::Memory(_) => Status::Memory,
+        rejected => Status::Rejected(rejected),
     }
 }
 

@@ -13,6 +13,9 @@ jirrambeo infers what code may alias, freeze and write.
   jirrambeo certify < unit.json   writes also what a checker of it needs
   jirrambeo check                 reads a unit, a newline and what certify writes of it,
                                   and writes whether that is a certificate of the unit
+  jirrambeo brief < unit.json     writes what infer writes, and what loops need besides
+  jirrambeo verify                reads a unit, a newline and what brief writes of it,
+                                  and writes whether each line is the one that follows
   jirrambeo lint < unit.json      writes each report with the place that it comes from
   jirrambeo explain <function> <identifier> < unit.json
                                   writes why a range ends where it does
@@ -45,6 +48,7 @@ It ends with one of these statuses:
   13  the certificate isn't one of the unit
   14  the identifier doesn't stand in that function
   15  it isn't known whether the unit is plain
+  16  a line of the certificate isn't the one that follows
 
 docs/FORMAT.md describes units, what is written of them, and refusals.
 ";

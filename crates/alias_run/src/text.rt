@@ -3,7 +3,8 @@ ghost use Rattle.std.specs.Prelude.{◌≡◌, ◌++◌, OnOk, IfOk};
 ghost use Rattle.alias_question_text.specs.lints.Explanations.{explanation_text, function_text};
 ghost use Rattle.alias_question_text.specs.lints.Lints.{lints_text};
 ghost use Rattle.alias_question_text.specs.plain.Lines.{plainness_text};
-ghost use Rattle.alias_run.specs.Statuses.{refusal_line};
+ghost use Rattle.alias_cert_text.specs.check_lines.CheckLines.{accepted_text as functions_accepted};
+ghost use Rattle.alias_run.specs.Statuses.{spaced_line, differs_text, refusal_line};
 ghost use Rattle.alias_text.specs.Fitting.{AreFitting, IfCertify};
 ghost use Rattle.alias_run.specs.Texts.{inferred_text, accepted_text, answer_text, text_of, IsCertificateOf, IsReadBack, IsCertifying};
 
@@ -23,9 +24,31 @@ use alias_plain::laws::Plainness;
 use alias_question_text::lints::{push_explanation, push_function_explanation, push_lints};
 use alias_question_text::plain::{push_plain_refusal, push_plainness};
 use alias_text::Detail;
+use alias_text::effects::push_spaced;
 use alias_text::refusals::{push_not_unit, push_refusal, push_unfit};
 use alias_text::results::push_result;
 use std::alloc::{AllocError, Global};
+
+/// Appends a blank and the line, where there is one.
+fn push_spaced_line(out: &mut Text, line: &str) -> Result<(), AllocError>
+    ensures { OnOk result (out.new ≡ out.old ++ spaced_line line.now) }
+{
+    if line.is_empty() {
+        return Ok(());
+    }
+    out.push_str(" ")?;
+    out.push_str(line)
+}
+
+/// Appends the line of a certificate that differs from what follows: the number of the line, and what follows there.
+fn push_differs(out: &mut Text, number: usize, line: &str) -> Result<(), AllocError>
+    ensures { OnOk result (out.new ≡ out.old ++ differs_text number line.now) }
+{
+    out.push_str("refused Differs")?;
+    push_spaced(out, number as u64)?;
+    push_spaced_line(out, line)?;
+    out.push_str("\n")
+}
 
 /// Appends the line that a run with this status writes, where nothing was inferred: none where the status writes
 /// none. An `Err` is out of memory, and leaves what was appended before it.
@@ -39,6 +62,7 @@ pub fn push_refusal_line(alloc: Global, out: &mut Text, status: &Status) -> Resu
         Status::Unfit(fault) => push_unfit(out, *fault),
         Status::BadLine(number) => push_bad_line(out, *number),
         Status::Rejected(fault) => push_rejected(out, fault),
+        Status::Differs { number, line } => push_differs(out, *number, line.as_str()),
         Status::PlainRefused(fault) => push_plain_refusal(out, fault),
         Status::Refused(error) => push_refusal(out, error),
         Status::NotHere => out.push_str("refused NotHere\n"),
@@ -106,6 +130,22 @@ pub fn print_accepted(alloc: Global, accepted: &Accepted) -> Result<Text, AllocE
     Ok(out)
 }
 
+/// What is inferred of a unit, with what a verifier of each line needs, as docs/FORMAT.md describes it: a copy.
+pub fn print_brief(alloc: Global, text: &Text) -> Result<Text, AllocError>
+    ensures { IfOk result (λ t. t ≡ text.now) }
+{
+    Text::from_str(alloc, text.as_str())
+}
+
+/// How many functions a unit has, where each line is the one that follows, as docs/FORMAT.md describes it.
+pub fn print_verified(alloc: Global, functions: usize) -> Result<Text, AllocError>
+    ensures { IfOk result (λ t. t ≡ functions_accepted functions) }
+{
+    let mut out = Text::new(alloc);
+    push_accepted(&mut out, functions)?;
+    Ok(out)
+}
+
 /// The reports on a unit, each with the place that it comes from, as docs/FORMAT.md describes them.
 pub fn print_lints(alloc: Global, lints: &[Lint]) -> Result<Text, AllocError>
     ensures { IfOk result (λ t. t ≡ lints_text lints.now) }
@@ -154,6 +194,8 @@ fn print_outcome(alloc: Global, outcome: &Outcome, detail: Detail) -> Result<Tex
         Answer::Nothing => print_refusal(alloc, &outcome.status),
         Answer::Inferred(inferred) => print_inferred(alloc, inferred, detail),
         Answer::Accepted(accepted) => print_accepted(alloc, accepted),
+        Answer::Briefed(text) => print_brief(alloc, text),
+        Answer::Verified(functions) => print_verified(alloc, *functions),
         Answer::Linted(lints) => print_lints(alloc, lints.as_slice()),
         Answer::Explained(explanation) => print_explanation(alloc, explanation),
         Answer::FunctionExplained(explained) => {
@@ -178,6 +220,8 @@ pub(crate) fn text_of(
         Some(Command::Certify) => print_outcome(alloc, outcome, Detail::Certify),
         Some(
             Command::Check
+            | Command::Brief
+            | Command::Verify
             | Command::Lint
             | Command::Explain { .. }
             | Command::ExplainFunction { .. }

@@ -13,10 +13,18 @@ use std::alloc::{AllocError, Global};
 use std::marker::Model;
 
 /// Effects in the order in which they came, no two of one key, and their keys in the same order.
-#[derive(Drop)]
 pub struct InternedEffects {
     effects: AliasingEffects,
     keys: IndexSet<EffectKey>,
+}
+
+impl Drop for InternedEffects {
+    fn drop(self) {
+        let InternedEffects {
+            effects: _,
+            keys: _,
+        } = self;
+    }
 }
 
 impl Model for InternedEffects {

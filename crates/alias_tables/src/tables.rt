@@ -23,13 +23,24 @@ use std::marker::Model;
 
 /// What the steps of effects add to: the interned effect of each key, temporaries, interned reports, and the context
 /// places that were found to be only read.
-#[derive(Drop)]
 pub struct Tables {
     alloc: Global,
     first: InternedEffects,
     temporaries: Temporaries,
     reports: InternedReports,
     reads: ContextReads,
+}
+
+impl Drop for Tables {
+    fn drop(self) {
+        let Tables {
+            alloc: _,
+            first: _,
+            temporaries: _,
+            reports: _,
+            reads: _,
+        } = self;
+    }
 }
 
 /// What tables hold, each by value.

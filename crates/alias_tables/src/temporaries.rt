@@ -11,17 +11,27 @@ use std::collections::BTreeMap;
 use std::marker::Model;
 
 /// A temporary: what it stands for, and its place.
-#[derive(Drop)]
 pub struct Temporary {
     pub key: TempKey,
     pub place: Place,
 }
 
+impl Drop for Temporary {
+    fn drop(self) {
+        let Temporary { key: _, place: _ } = self;
+    }
+}
+
 /// Temporaries in the order in which they came, no two of one key, and the slot of each key among them.
-#[derive(Drop)]
 pub struct Temporaries {
     items: List<Temporary>,
     slots: BTreeMap<TempKey, usize>,
+}
+
+impl Drop for Temporaries {
+    fn drop(self) {
+        let Temporaries { items: _, slots: _ } = self;
+    }
 }
 
 impl Model for Temporaries {

@@ -70,7 +70,7 @@ created_there (y ∷ is) (suc n) x c e h =
     omega arith
 
 -- and it is one of those that the function creates
-created_among : (g : HirFunction) (i : InstructionId) (x : Instruction) (c : FunctionId)
+pub created_among : (g : HirFunction) (i : InstructionId) (x : Instruction) (c : FunctionId)
     → slice_get g.instructions i.0 ≡ Some x → created x.value ≡ Some c → is_among (created_in g) c.0 ≡ true
 created_among g i x c e makes = there_among (created_in g) c.0 (created_there g.instructions i.0 x c e makes)
 
@@ -88,7 +88,8 @@ module _ (env : Environment) where
 
   -- the numbers of these nested functions fit
   module _ (These : ℕ → Type 0)
-      (nested : (k : ℕ) (g : HirFunction) → These k → slice_get env.functions k ≡ Some g → numbers_fit env g ≡ Ok tt) where
+      (nested : (k : ℕ) (g : HirFunction) → These k → slice_get env.functions k ≡ Some g
+      → numbers_fit env g ≡ Ok tt) where
     context_in : (o : Option HirFunction) → ((g : HirFunction) → o ≡ Some g → numbers_fit env g ≡ Ok tt)
         → AllByRecursion (InTable env) (option_map_or (λ (g : HirFunction). g.context) o [])
     context_in None h = tt
@@ -179,13 +180,13 @@ module _ (func : HirFunction) (env : Environment) (fit : Fitted func env) where
   abbrev pub IsBelow : ℕ → Type 0
   IsBelow k = is_among fit.below k ≡ true
 
-  closed : Closed env [] (created_in func) fit.below
+  pub closed : Closed env [] (created_in func) fit.below
   closed = tree_closed env 63 [] (created_in func) fit.below fit.tree
 
-  below_fit : (k : ℕ) (g : HirFunction) → IsBelow k → slice_get env.functions k ≡ Some g → numbers_fit env g ≡ Ok tt
+  pub below_fit : (k : ℕ) (g : HirFunction) → IsBelow k → slice_get env.functions k ≡ Some g → numbers_fit env g ≡ Ok tt
   below_fit k g h e = sym (ap (of_function Numbers env k) e) ∙ fit.rule_below Numbers refl k h
 
-  created_below : (k : ℕ) (g : HirFunction) → IsBelow k → slice_get env.functions k ≡ Some g → (j : ℕ)
+  pub created_below : (k : ℕ) (g : HirFunction) → IsBelow k → slice_get env.functions k ≡ Some g → (j : ℕ)
       → is_among (created_in g) j ≡ true → IsBelow j
   created_below k g h e j made = closed.closed k h refl j
       (subst (λ (o : Option HirFunction). is_among (created_of o) j ≡ true) (sym e) made)

@@ -1,9 +1,12 @@
+pub mod Below
 pub mod Refusals
 pub mod Counted
 pub mod Answering
 pub mod Moments
 pub mod Beginning
+pub mod Standing
 pub mod Walking
 pub mod Turning
+pub mod Replacing
 pub mod Passing
 pub mod Complete

@@ -43,9 +43,8 @@ use Rattle.alias_nested.specs.Analysis.{slot_analysed, analysed}
 use Rattle.alias_nested.specs.Created.{created_functions}
 use Rattle.alias_nested.specs.Annotating.{context_annotated, summarized, reset_at, reset, annotated}
 use Rattle.alias_nested.specs.Slots.{emptied}
-use Rattle.alias_completeness.specs.Calling.{AreCallable}
 use Rattle.alias_completeness.specs.Going.{all_both}
-use Rattle.alias_completeness.specs.Summarizing.{IsSummary}
+use Rattle.alias_completeness.specs.Callable.{IsSummary, AreCallable}
 use Rattle.alias_completeness.specs.summaries.Faces.{HasPlaces, HasFace, HaveFaces, faces_callable, same_ids, SameOwn}
 use Rattle.alias_completeness.specs.summaries.Faces.{same_own_then, places_alike, faces_alike, Stays, stays_then}
 use Rattle.alias_completeness.specs.summaries.Faces.{mutations_stay, PlacedStays, function_stays, captured_own}
@@ -346,7 +345,7 @@ analysis_holds n f a h = on_answer (Went a) Holds (analysed n f a) (λ b w. w.ho
 
 -- ---- a unit
 
-not_again : (o : Option FunctionId) (r : Option ℕ) → repeated o r ≡ Ok tt → repeated None r ≡ Ok tt
+pub not_again : (o : Option FunctionId) (r : Option ℕ) → repeated o r ≡ Ok tt → repeated None r ≡ Ok tt
 not_again o None h = refl
 not_again o (Some k) h = cc
 
@@ -355,7 +354,7 @@ pub asked : (b : Bool) (e : UnitFault) → (let r : Result ⊤ UnitFault = if b 
 asked true e h = refl
 asked false e h = cc
 
-returns_within : (env : Environment) (f : HirFunction) → numbers_fit env f ≡ Ok tt → f.returns.identifier.0
+pub returns_within : (env : Environment) (f : HirFunction) → numbers_fit env f ≡ Ok tt → f.returns.identifier.0
     < length env.identifiers
 returns_within env f h =
     let a = both_pass (all_pass (λ p. place_fits env (param_place p)) f.params) _ h in
@@ -385,8 +384,9 @@ all_faces n [] h = tt
 all_faces n (f ∷ fs) h = (h 0 f refl, all_faces n fs (λ k g e. h (suc k) g e))
 
 module _ (u : HirUnit) (rules : rules_hold u ≡ Ok tt) where
-  nested_face : (k : ℕ) (f : HirFunction) → slice_get u.env.functions k ≡ Some f → HasFace (length u.env.identifiers) f
-  nested_face k f e =
+  pub unit_faces : (k : ℕ) (f : HirFunction) → slice_get u.env.functions k ≡ Some f
+      → HasFace (length u.env.identifiers) f
+  unit_faces k f e =
       let p = parts_of_rules u rules in
       let uninferred : list_all function_is_uninferred u.env.functions ≡ true =
       (both_true _ (list_all function_is_uninferred u.env.functions) p.environment).1 in
@@ -403,7 +403,7 @@ module _ (u : HirUnit) (rules : rules_hold u ≡ Ok tt) where
 
   -- a unit that is well formed begins so
   pub unit_holds : Holds (analysis u.env [])
-  unit_holds = record { faces = all_faces (length u.env.identifiers) u.env.functions nested_face; moments = tt }
+  unit_holds = record { faces = all_faces (length u.env.identifiers) u.env.functions unit_faces; moments = tt }
 
 callable_answer : (r : Result Analysis InferError) (a : Analysis) → OnAnswer Holds r → r ≡ Ok a → AreCallable a.env
     × AllByRecursion BeganCallable a.functions

@@ -27,7 +27,7 @@ use Rattle.alias_nested.specs.Analysis.{named, naming, Analysis, analysis, effec
 use Rattle.alias_nested.specs.Analysis.{function_analysed}
 use Rattle.alias_nested.specs.Answers.{Only, Passed, Completed, CompletedWith, FunctionAnalysed}
 use Rattle.alias_nested.specs.Annotating.{annotated}
-use Rattle.alias_completeness.specs.Summarizing.{IsSummary}
+use Rattle.alias_completeness.specs.Callable.{IsSummary}
 use Rattle.alias_completeness.specs.summaries.Faces.{HasPlaces, SameOwn, same_own_then, places_alike, Stays, stays_then}
 use Rattle.alias_completeness.specs.summaries.KeptTables.{bound_to, tables_alike}
 use Rattle.alias_unit_completeness.specs.Answering.{Meets, AllMeet, meets_then, meets_naming, only_meets, then_meets}

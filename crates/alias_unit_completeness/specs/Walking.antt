@@ -1,12 +1,11 @@
 -- The analysis of the functions below a function is refused for the causes alone for which the passes of the unit's
 -- functions are, over tables that keep those of the unit.
-use Rattle.std.specs.Prelude.{◌≡◌, ◌⊎◌, ℕ, ◌+◌, ◌<◌, ◌≤◌, ◌==◌, nat_eq, Bool, true, false, cond, List, [], ◌∷◌, ◌++◌}
-use Rattle.std.specs.Prelude.{Option, Some, None, Ok, option_map, length, map, slice_get, slice_set, refl}
+use Rattle.std.specs.Prelude.{◌≡◌, ◌⊎◌, ℕ, ◌+◌, ◌≤◌, ◌==◌, nat_eq, Bool, true, false, cond, List, [], ◌∷◌, ◌++◌}
+use Rattle.std.specs.Prelude.{Option, Some, None, Ok, option_map, length, map, slice_get, refl}
 use Rattle.std.proofs.Common.{zero, suc, ap, sym, ◌∙◌, subst, inl, inr, arith}
 use Rattle.std.proofs.lemmas.Bool.{eqb-true}
-use Rattle.std.proofs.lemmas.List.{length-map, map-append}
+use Rattle.std.proofs.lemmas.List.{map-append}
 use Rattle.std.specs.List.{AllByRecursion, flat_map}
-use Rattle.std.specs.Option.{option_map_or}
 use Rattle.alias_base.specs.declared.ids.BlockId.{BlockId}
 use Rattle.alias_base.specs.declared.ids.FunctionId.{FunctionId}
 use Rattle.alias_base.specs.declared.ids.InstructionId.{InstructionId}
@@ -17,7 +16,6 @@ use Rattle.alias_hir.specs.declared.error.InferError.{InferError}
 use Rattle.alias_hir.specs.declared.hir.BasicBlock.{BasicBlock}
 use Rattle.alias_hir.specs.declared.hir.HirFunction.{HirFunction}
 use Rattle.alias_hir.specs.declared.hir.Instruction.{Instruction}
-use Rattle.alias_nested.proofs.Changing.{slots_stay}
 use Rattle.alias_nested.proofs.Counting.{numbers_innermost_first, listed_level}
 use Rattle.alias_nested.proofs.InOrder.{times_append}
 use Rattle.alias_nested.specs.Analysis.{Analysis, put_back}
@@ -26,151 +24,25 @@ use Rattle.alias_nested.specs.Created.{one_of, created_by, created_by_all, creat
 use Rattle.alias_nested.specs.Order.{created_by_slot, innermost_first, numbers}
 use Rattle.alias_nested.specs.Slots.{emptied}
 use Rattle.alias_nesting_laws.specs.PartLaws.{absent}
-use Rattle.alias_nesting_laws.specs.SlotLaws.{length_set, set_other}
 use Rattle.alias_nesting_laws.specs.Slots.{with_function}
-use Rattle.alias_answer_laws.proofs.order.Ordering.{neither, both_false, differs}
+use Rattle.alias_answer_laws.proofs.order.Ordering.{neither}
 use Rattle.alias_range_pass.specs.places.Keeping.{but_context}
 use Rattle.alias_rules.specs.Nesting.{created_in, created_of, created_at, times}
 use Rattle.alias_rules.specs.TreeLaws.{times_cons, times_both, counted}
 use Rattle.alias_validate.specs.Levels.{function_within, created_within, is_within}
 use Rattle.alias_visit.specs.Places.{created_places}
 use Rattle.alias_plainness.specs.Making.{number}
-use Rattle.alias_completeness.specs.Calling.{AreCallable}
 use Rattle.alias_completeness.specs.Fitting.{among_both}
 use Rattle.alias_completeness.specs.Going.{all_both}
-use Rattle.alias_completeness.specs.summaries.Faces.{HasPlaces, HasFace, HaveFaces, faces_callable, SameOwn}
-use Rattle.alias_completeness.specs.summaries.Faces.{context_ids, in_slot, places_alike, faces_alike, Stays}
-use Rattle.alias_completeness.specs.summaries.KeptTables.{TablesKept, tables_self, tables_then}
+use Rattle.alias_completeness.specs.summaries.Faces.{HasPlaces, HasFace, TheseHaveFaces, SameOwn}
+use Rattle.alias_completeness.specs.summaries.Faces.{context_ids, in_slot, places_alike, Stays}
 use Rattle.alias_completeness.specs.AgreeingFacts.{AgreesOn}
 use Rattle.alias_unit_completeness.specs.Beginning.{agrees_kept, self_once, created_there}
 use Rattle.alias_unit_completeness.specs.Answering.{AllMeet, meets_on, only_meets, then_meets, One, Taken, Found}
 use Rattle.alias_unit_completeness.specs.Answering.{InSlot, Below}
-use Rattle.alias_unit_completeness.specs.Moments.{set_face, found_face, stand_in, all_at}
-
--- ---- what stands while functions are out
-
-abbrev pub context_numbers : Option HirFunction → List ℕ
-context_numbers o = map number (option_map_or (λ (g : HirFunction). g.context) o [])
-
--- Of the environment of a unit: its tables are kept; the functions that aren't out have context places of the same
--- identifiers; and those that wait for their
--- analysis are the same but for the effects of these.
-pub record Stands (base : Environment) (out : List ℕ) (Waits : ℕ → Type 0) (env : Environment) : Type 0 where
-  pub tables : TablesKept base env
-  pub faces : HaveFaces (length env.identifiers) env.functions
-  pub count : length env.functions ≡ length base.functions
-  pub contexts : (k : ℕ) → is_among out k ≡ false → context_numbers (slice_get env.functions k)
-      ≡ context_numbers (slice_get base.functions k)
-  pub waiting : (k : ℕ) → is_among out k ≡ false → Waits k → option_map but_context (slice_get env.functions k)
-      ≡ option_map but_context (slice_get base.functions k)
-
-pub stands_self : (base : Environment) → HaveFaces (length base.identifiers) base.functions
-    → Stands base [] (λ k. Unit {0}) base
-stands_self base faces = record {
-  tables = tables_self base;
-  faces = faces;
-  count = refl;
-  contexts = λ k h. refl;
-  waiting = λ k h w. refl;
-}
-
--- fewer wait
-stands_fewer : (base : Environment) (out : List ℕ) (V W : ℕ → Type 0) (env : Environment) → ((k : ℕ) → W k → V k)
-    → Stands base out V env → Stands base out W env
-stands_fewer base out V W env f s = record {
-  tables = s.tables;
-  faces = s.faces;
-  count = s.count;
-  contexts = s.contexts;
-  waiting = λ k h w. s.waiting k h (f k w);
-}
-
-same_numbers : (o p : Option HirFunction) → option_map but_context p ≡ option_map but_context o → context_numbers p
-    ≡ context_numbers o
-same_numbers None None e = refl
-same_numbers None (Some g) e = cc
-same_numbers (Some f) None e = cc
-same_numbers (Some f) (Some g) e = context_ids f g (let same : but_context g ≡ but_context f = cc in same)
-
-as_many : (fs gs : List HirFunction) → map but_context gs ≡ map but_context fs → length gs ≡ length fs
-as_many fs gs e = sym (length-map gs but_context) ∙ ap length e ∙ length-map fs but_context
-
-stands_stays : (base : Environment) (out : List ℕ) (W : ℕ → Type 0) (env more : Environment) → Stands base out W env
-    → Stays env more → Stands base out W more
-stands_stays base out W env more s t = record {
-  tables = tables_then base env more s.tables t.tables;
-  faces = faces_alike (length env.identifiers) (length more.identifiers) env.functions more.functions t.functions
-      t.tables.longer s.faces;
-  count = as_many env.functions more.functions t.functions ∙ s.count;
-  contexts = λ k h. same_numbers (slice_get env.functions k) (slice_get more.functions k)
-      (slots_stay env more t.functions k) ∙ s.contexts k h;
-  waiting = λ k h w. slots_stay env more t.functions k ∙ s.waiting k h w;
-}
-
--- a function is taken out
-stands_out : (base : Environment) (id : FunctionId) (g : HirFunction) (out : List ℕ) (W : ℕ → Type 0)
-    (env : Environment) → slice_get env.functions id.0 ≡ Some g → Stands base out W env
-    → Stands base (id.0 ∷ out) W (with_function id (emptied g.returns) env)
-stands_out base id g out W env e s =
-    let n = length env.identifiers in
-    let other : (k : ℕ) → nat_eq k id.0 ≡ false → slice_get (slice_set env.functions id.0 (emptied g.returns)) k
-    ≡ slice_get env.functions k = λ k h. set_other env.functions id.0 k (emptied g.returns) (differs k id.0 h) in
-    record {
-      tables = record {
-        identifiers = s.tables.identifiers;
-        longer = s.tables.longer;
-        types = s.tables.types;
-        more_types = s.tables.more_types;
-        shapes = s.tables.shapes;
-        config = s.tables.config;
-      };
-      faces = set_face n env.functions id.0 (emptied g.returns)
-          (stand_in n g (found_face n env.functions id.0 g e s.faces)) s.faces;
-      count = length_set env.functions id.0 (emptied g.returns) ∙ s.count;
-      contexts = λ k h. let b = neither (nat_eq k id.0) (is_among out k) h in ap context_numbers (other k b.0)
-          ∙ s.contexts k b.1;
-      waiting = λ k h w. let b = neither (nat_eq k id.0) (is_among out k) h in
-          ap (λ (o : Option HirFunction). option_map but_context o) (other k b.0) ∙ s.waiting k b.1 w;
-    }
-
-put : (xs : List HirFunction) (k : ℕ) (g : HirFunction) → k < length xs → slice_get (slice_set xs k g) k ≡ Some g
-put [] k g h = absurd (omega arith)
-put (x ∷ xs) zero g h = refl
-put (x ∷ xs) (suc k) g h = put xs k g (omega arith)
-
-below_equal : (k n m : ℕ) → m ≡ n → k < n → k < m
-below_equal k n m e h = omega arith
-
--- and is put back
-stands_back : (base : Environment) (id : FunctionId) (g : HirFunction) (out : List ℕ) (W : ℕ → Type 0)
-    (env : Environment) → id.0 < length base.functions → map number g.context
-    ≡ context_numbers (slice_get base.functions id.0) → HasFace (length env.identifiers) g
-    → Stands base (id.0 ∷ out) W env → Stands base out (λ k. W k × (nat_eq k id.0 ≡ false)) (with_function id g env)
-stands_back base id g out W env there same face s = record {
-  tables = record {
-    identifiers = s.tables.identifiers;
-    longer = s.tables.longer;
-    types = s.tables.types;
-    more_types = s.tables.more_types;
-    shapes = s.tables.shapes;
-    config = s.tables.config;
-  };
-  faces = set_face (length env.identifiers) env.functions id.0 g face s.faces;
-  count = length_set env.functions id.0 g ∙ s.count;
-  contexts = λ k h.
-      elim (nat_eq k id.0) as (λ b. nat_eq k id.0 ≡ b → context_numbers (slice_get (slice_set env.functions id.0 g) k)
-      ≡ context_numbers (slice_get base.functions k)) [
-        | true ↦ λ e. subst (λ z. context_numbers (slice_get (slice_set env.functions id.0 g) z)
-            ≡ context_numbers (slice_get base.functions z)) (sym (eqb-true k id.0 e))
-            (ap context_numbers (put env.functions id.0 g
-            (below_equal id.0 (length base.functions) (length env.functions) s.count there)) ∙ same)
-        | false ↦ λ e. ap context_numbers (set_other env.functions id.0 k g (differs k id.0 e))
-            ∙ s.contexts k (both_false (nat_eq k id.0) (is_among out k) e h)
-      ] refl;
-  waiting = λ k h w. ap (λ (o : Option HirFunction). option_map but_context o)
-      (set_other env.functions id.0 k g (differs k id.0 w.1))
-      ∙ s.waiting k (both_false (nat_eq k id.0) (is_among out k) w.1 h) w.0;
-}
+use Rattle.alias_unit_completeness.specs.Moments.{all_at}
+use Rattle.alias_unit_completeness.specs.Standing.{context_numbers, Stands, stands_fewer, stands_stays, stands_out}
+use Rattle.alias_unit_completeness.specs.Standing.{stands_back, found_below}
 
 -- ---- functions that are analysed once
 
@@ -232,11 +104,6 @@ same_none [] (g ∷ gs) k e h = absurd (omega arith)
 same_none (f ∷ fs) [] k e h = refl
 same_none (f ∷ fs) (g ∷ gs) zero e h = cc
 same_none (f ∷ fs) (g ∷ gs) (suc k) e h = same_none fs gs k (omega arith) h
-
-found_below : (fs : List HirFunction) (k : ℕ) (f : HirFunction) → slice_get fs k ≡ Some f → k < length fs
-found_below [] k f e = cc
-found_below (x ∷ fs) zero f e = omega arith
-found_below (x ∷ fs) (suc k) f e = let h = found_below fs k f e in omega arith
 
 -- ---- what is analysed below a function
 
@@ -396,10 +263,10 @@ module _ (base : Environment) where
         inl (not_twice out below c.0 (tree.once c.0) there)
 
     -- over what a function's environment has become, more says of what the function names what the unit does
-    agrees_now : (n : ℕ) (f : HirFunction) (out : List ℕ) (V : ℕ → Type 0) (env : Environment)
-        → is_within (suc n) base f ≡ true → Tree base Own n out (created_in f) → Stands base out V env
+    agrees_now : (Faced : ℕ → Type 0) (n : ℕ) (f : HirFunction) (out : List ℕ) (V : ℕ → Type 0) (env : Environment)
+        → is_within (suc n) base f ≡ true → Tree base Own n out (created_in f) → Stands Faced base out V env
         → AgreesOn f base env
-    agrees_now n f out V env deep tree s =
+    agrees_now Faced n f out V env deep tree s =
         record {
           agrees = agrees_kept base env fit s.tables;
           contexts = λ i x found. of_created i x found (created x.value) refl;
@@ -422,23 +289,26 @@ pub record Turned (g : HirFunction) (a : Analysis) (s : HirFunction × Analysis)
   pub stays : Stays a.env s.1.env
 
 -- what a function leaves that is out of its slot
-record Left (base : Environment) (id : FunctionId) (out : List ℕ) (W : ℕ → Type 0) (t : HirFunction × Analysis) : Type
-    0 where
+record Left (Faced : ℕ → Type 0) (base : Environment) (id : FunctionId) (out : List ℕ) (W : ℕ → Type 0)
+    (t : HirFunction × Analysis) : Type 0 where
   contexts : map number t.0.context ≡ context_numbers (slice_get base.functions id.0)
   face : HasFace (length t.1.env.identifiers) t.0
-  stands : Stands base (id.0 ∷ out) W t.1.env
+  stands : Stands Faced base (id.0 ∷ out) W t.1.env
 
 module _ (E : InferError → Type 0) (one : One) (base : Environment) (fit : tables_fit base ≡ Ok tt)
-    (faces : HaveFaces (length base.identifiers) base.functions) (Own : ℕ → Type 0)
+    (Own Faced : ℕ → Type 0)
+    (places : (id : FunctionId) (f : HirFunction) → Own id.0 → slice_get base.functions id.0 ≡ Some f
+    → HasPlaces (length base.identifiers) f)
     (turns : (id : FunctionId) (f g : HirFunction) (a : Analysis) → Own id.0
-    → slice_get base.functions id.0 ≡ Some f → but_context g ≡ but_context f → AgreesOn f base a.env → AreCallable a.env
+    → slice_get base.functions id.0 ≡ Some f → but_context g ≡ but_context f → AgreesOn f base a.env
+    → TheseHaveFaces Faced (length a.env.identifiers) a.env.functions
     → HasPlaces (length a.env.identifiers) g → AllMeet E (Turned g a) (one id g a)) where
   abbrev AllStand : List ℕ → (ℕ → Type 0) → List FunctionId → Answers Analysis → Type 0
-  AllStand out W ids answers = AllMeet E (λ (b : Analysis). Stands base out (After W ids) b.env) answers
+  AllStand out W ids answers = AllMeet E (λ (b : Analysis). Stands Faced base out (After W ids) b.env) answers
 
   abbrev Goes : ℕ → Type 1
   Goes n = (f g : HirFunction) (out : List ℕ) (W : ℕ → Type 0) (a : Analysis) → but_context g ≡ but_context f
-      → is_within (suc n) base f ≡ true → Tree base Own n out (created_in f) → Stands base out W a.env
+      → is_within (suc n) base f ≡ true → Tree base Own n out (created_in f) → Stands Faced base out W a.env
       → Once out W (innermost_first n base.functions (created_functions f))
       → AllStand out W (innermost_first n base.functions (created_functions f)) (Below one n g a)
 
@@ -455,37 +325,36 @@ module _ (E : InferError → Type 0) (one : One) (base : Environment) (fit : tab
       once_slot = subst (Once (id.0 ∷ out) W) (sym same_order) (once_below base n id out W once)
 
       -- its own passes, once those below it are analysed
-      own_passes : (b : Analysis) → Stands base (id.0 ∷ out) (After W (ids_below base n id)) b.env
-          → AllMeet E (Left base id out (After W (ids_below base n id))) (one id g b)
+      own_passes : (b : Analysis) → Stands Faced base (id.0 ∷ out) (After W (ids_below base n id)) b.env
+          → AllMeet E (Left Faced base id out (After W (ids_below base n id))) (one id g b)
       own_passes b s =
           let V : ℕ → Type 0 = After W (ids_below base n id) in
           let agrees : AgreesOn slot.func base b.env =
-          agrees_now base fit Own n slot.func (id.0 ∷ out) V b.env deep below s in
-          let places : HasPlaces (length b.env.identifiers) g
+          agrees_now base fit Own Faced n slot.func (id.0 ∷ out) V b.env deep below s in
+          let there : HasPlaces (length b.env.identifiers) g
           = places_alike (length base.identifiers) (length b.env.identifiers) slot.func g
-          (in_slot slot.func g slot.same) s.tables.longer
-          (found_face (length base.identifiers) base.functions id.0 slot.func slot.at faces).places in
+          (in_slot slot.func g slot.same) s.tables.longer (places id slot.func here.own slot.at) in
           let turned : AllMeet E (Turned g b) (one id g b) =
-          turns id slot.func g b here.own slot.at slot.same agrees (faces_callable b.env s.faces) places in
-          λ r h. meets_on E (Turned g b) (Left base id out V) r
+          turns id slot.func g b here.own slot.at slot.same agrees s.faces there in
+          λ r h. meets_on E (Turned g b) (Left Faced base id out V) r
           (λ t k. record {
             contexts = k.own.context ∙ context_ids slot.func g slot.same ∙ sym (ap context_numbers slot.at);
             face = k.face;
-            stands = stands_stays base (id.0 ∷ out) V b.env t.1.env s k.stays;
+            stands = stands_stays Faced base (id.0 ∷ out) V b.env t.1.env s k.stays;
           }) (turned r h)
 
-      taken_goes : (a : Analysis) → Stands base (id.0 ∷ out) W a.env
-          → AllMeet E (Left base id out (After W (ids_below base n id))) (Taken one (Below one n) id g a)
+      taken_goes : (a : Analysis) → Stands Faced base (id.0 ∷ out) W a.env
+          → AllMeet E (Left Faced base id out (After W (ids_below base n id))) (Taken one (Below one n) id g a)
       taken_goes a s =
-          then_meets E (λ (b : Analysis). Stands base (id.0 ∷ out) (After W (ids_below base n id)) b.env)
-          (Left base id out (After W (ids_below base n id))) (Below one n g a) (one id g)
+          then_meets E (λ (b : Analysis). Stands Faced base (id.0 ∷ out) (After W (ids_below base n id)) b.env)
+          (Left Faced base id out (After W (ids_below base n id))) (Below one n g a) (one id g)
           (subst (λ ids. AllStand (id.0 ∷ out) W ids (Below one n g a)) same_order
           (goes slot.func g (id.0 ∷ out) W a slot.same deep below s once_slot)) own_passes
 
-    found_goes : (a : Analysis) → Stands base out W a.env → (o : Option HirFunction)
+    found_goes : (a : Analysis) → Stands Faced base out W a.env → (o : Option HirFunction)
         → slice_get a.env.functions id.0 ≡ o → AllStand out W (ids_of base n id) (Found one (Below one n) id a o)
-    found_goes a s None e = only_meets E (λ (b : Analysis). Stands base out (After W (ids_of base n id)) b.env)
-        (Ok a) (stands_fewer base out W (After W (ids_of base n id)) a.env (λ k h. h.0) s)
+    found_goes a s None e = only_meets E (λ (b : Analysis). Stands Faced base out (After W (ids_of base n id)) b.env)
+        (Ok a) (stands_fewer Faced base out W (After W (ids_of base n id)) a.env (λ k h. h.0) s)
     found_goes a s (Some g) e =
         let slot : InUnit base id.0 g = in_unit base id.0 g (slice_get base.functions id.0) refl
         (sym (ap (λ (o : Option HirFunction). option_map but_context o) e)
@@ -493,34 +362,35 @@ module _ (E : InferError → Type 0) (one : One) (base : Environment) (fit : tab
         let deep : is_within (suc n) base slot.func ≡ true =
         sym (ap (function_within (is_within (suc n) base)) slot.at) ∙ here.deep in
         let out_of : Analysis = record a { env = with_function id (emptied g.returns) a.env } in
-        then_meets E (Left base id out (After W (ids_below base n id)))
-        (λ (b : Analysis). Stands base out (After W (ids_of base n id)) b.env) (Taken one (Below one n) id g out_of)
-        _
-        (taken_goes g slot deep out_of (stands_out base id g out W a.env e s))
-        (λ t h. only_meets E (λ (b : Analysis). Stands base out (After W (ids_of base n id)) b.env) (Ok (put_back id t))
-        (stands_fewer base out (λ k. After W (ids_below base n id) k × (nat_eq k id.0 ≡ false))
+        then_meets E (Left Faced base id out (After W (ids_below base n id)))
+        (λ (b : Analysis). Stands Faced base out (After W (ids_of base n id)) b.env)
+        (Taken one (Below one n) id g out_of) _
+        (taken_goes g slot deep out_of (stands_out Faced base id g out W a.env e s))
+        (λ t h.
+        only_meets E (λ (b : Analysis). Stands Faced base out (After W (ids_of base n id)) b.env) (Ok (put_back id t))
+        (stands_fewer Faced base out (λ k. After W (ids_below base n id) k × (nat_eq k id.0 ≡ false))
         (After W (ids_of base n id)) (with_function id t.0 t.1.env) (fewer_after base n id out W once)
-        (stands_back base id t.0 out (After W (ids_below base n id)) t.1.env
+        (stands_back Faced base id t.0 out (After W (ids_below base n id)) t.1.env
         (found_below base.functions id.0 slot.func slot.at) h.contexts h.face h.stands)))
 
   each_goes : (n : ℕ) → Goes n → (ids : List FunctionId) (out : List ℕ)
-      → AllByRecursion (Branch base Own n out) ids → (W : ℕ → Type 0) (a : Analysis) → Stands base out W a.env
+      → AllByRecursion (Branch base Own n out) ids → (W : ℕ → Type 0) (a : Analysis) → Stands Faced base out W a.env
       → Once out W (flat_map (ids_of base n) ids)
       → AllStand out W (flat_map (ids_of base n) ids) (Each (InSlot one (Below one n)) ids a)
   each_goes n goes [] out branches W a s once =
-      only_meets E (λ (b : Analysis). Stands base out (After W []) b.env) (Ok a)
-      (stands_fewer base out W (After W []) a.env (λ k h. h.0) s)
+      only_meets E (λ (b : Analysis). Stands Faced base out (After W []) b.env) (Ok a)
+      (stands_fewer Faced base out W (After W []) a.env (λ k h. h.0) s)
   each_goes n goes (id ∷ ids) out branches W a s once =
-      then_meets E (λ (b : Analysis). Stands base out (After W (ids_of base n id)) b.env)
-      (λ (b : Analysis). Stands base out (After W (flat_map (ids_of base n) (id ∷ ids))) b.env)
+      then_meets E (λ (b : Analysis). Stands Faced base out (After W (ids_of base n id)) b.env)
+      (λ (b : Analysis). Stands Faced base out (After W (flat_map (ids_of base n) (id ∷ ids))) b.env)
       (InSlot one (Below one n) id a) (Each (InSlot one (Below one n)) ids)
       (found_goes n goes id out W (once_first out W (ids_of base n id) (flat_map (ids_of base n) ids) once) branches.0
       a s
       (slice_get a.env.functions id.0) refl)
       (λ b t r h. meets_on E (λ (c : Analysis).
-      Stands base out (After (After W (ids_of base n id)) (flat_map (ids_of base n) ids)) c.env)
-      (λ (c : Analysis). Stands base out (After W (flat_map (ids_of base n) (id ∷ ids))) c.env) r
-      (λ c k. stands_fewer base out (After (After W (ids_of base n id)) (flat_map (ids_of base n) ids))
+      Stands Faced base out (After (After W (ids_of base n id)) (flat_map (ids_of base n) ids)) c.env)
+      (λ (c : Analysis). Stands Faced base out (After W (flat_map (ids_of base n) (id ∷ ids))) c.env) r
+      (λ c k. stands_fewer Faced base out (After (After W (ids_of base n id)) (flat_map (ids_of base n) ids))
       (After W (flat_map (ids_of base n) (id ∷ ids))) c.env
       (λ j l. let p = among_append (ids_of base n id) (flat_map (ids_of base n) ids) j l.1 in ((l.0, p.0), p.1)) k)
       (each_goes n goes ids out branches.1 (After W (ids_of base n id)) b t
@@ -530,8 +400,8 @@ module _ (E : InferError → Type 0) (one : One) (base : Environment) (fit : tab
   pub goes : (n : ℕ) → Goes n
   unfolding Below innermost_first
   goes zero f g out W a same deep tree s once =
-      only_meets E (λ (b : Analysis). Stands base out (After W []) b.env) (Ok a)
-      (stands_fewer base out W (After W []) a.env (λ k h. h.0) s)
+      only_meets E (λ (b : Analysis). Stands Faced base out (After W []) b.env) (Ok a)
+      (stands_fewer Faced base out W (After W []) a.env (λ k h. h.0) s)
   goes (suc n) f g out W a same deep tree s once =
       let branches : AllByRecursion (Branch base Own n out) (created_functions f) =
       all_created (Branch base Own n out) f (λ i x c at makes.

@@ -11,11 +11,11 @@ const all = skip ? [] : runs();
 /** The function and the arguments that do what the words ask for; null where no function does. */
 function asked({words, input}) {
   const [word, ...rest] = words.split(' ');
-  if (['infer', 'certify', 'lint', 'plain'].includes(word)) return rest.length === 0 ? [word, input] : null;
+  if (['infer', 'certify', 'brief', 'lint', 'plain'].includes(word)) return rest.length === 0 ? [word, input] : null;
   const numbers = rest.map(w => (w === 'root' ? w : Number(w)));
-  if (word === 'check' && rest.length === 0) {
+  if ((word === 'check' || word === 'verify') && rest.length === 0) {
     const at = input.indexOf(10);
-    return at < 0 ? null : ['check', input.subarray(0, at), input.subarray(at + 1)];
+    return at < 0 ? null : [word, input.subarray(0, at), input.subarray(at + 1)];
   }
   if (rest.join(' ') !== numbers.join(' ') || numbers.some(n => !(n === 'root' || (Number.isSafeInteger(n) && n >= 0)))) return null;
   if (word === 'explain' && numbers.length === 2) return numbers[1] <= 2 ** 32 - 1 ? ['explain', input, ...numbers] : null;
@@ -52,7 +52,7 @@ test('what each function gives prints back as the text, and what it throws as th
     }
     assert.strictEqual(said, run.text, run.words);
   }
-  for (const name of ['infer', 'certify', 'lint', 'plain', 'check', 'explain', 'explainFunction', 'made']) assert.ok(counts[name] > 2, `${name}: ${counts[name]}`);
+  for (const name of ['infer', 'certify', 'brief', 'lint', 'plain', 'check', 'verify', 'explain', 'explainFunction', 'made']) assert.ok(counts[name] > 2, `${name}: ${counts[name]}`);
 });
 
 test('a unit is bytes, a string or an object', {skip}, () => {
@@ -75,6 +75,18 @@ test('a certificate is what certify gave, or its text', {skip}, () => {
   assert.throws(() => jirrambeo.check(unit, 'nonsense\n'), {status: 12, refusal: 'BadLine', data: {line: 1}});
 });
 
+test('each line is the one that follows, or the first is told that differs', {skip}, () => {
+  const unit = `${JSON.stringify(JSON.parse(panel.toString()), null, 1)}\n`; // with newlines
+  const brief = jirrambeo.brief(unit);
+  const {functions} = brief;
+  assert.deepStrictEqual(jirrambeo.verify(unit, brief), {functions: functions.length});
+  assert.deepStrictEqual(jirrambeo.verify(unit, Buffer.from(brief.text)), {functions: functions.length});
+  assert.throws(() => jirrambeo.verify(unit, ''), {name: 'JirrambeoError', status: 16, refusal: 'Differs', data: {line: 1, follows: 'function root'}});
+  const lines = brief.text.split('\n').length;
+  assert.throws(() => jirrambeo.verify(unit, `${brief.text}report x\n`), {status: 16, data: {line: lines, follows: null}});
+  assert.throws(() => jirrambeo.verify(unit, 'nonsense\n'), {status: 12, refusal: 'BadLine', data: {line: 1}});
+});
+
 test('a refusal has its status and its data', {skip}, async () => {
   assert.throws(() => jirrambeo.infer('{'), {name: 'JirrambeoError', status: 3, refusal: 'NotJson', line: 'refused NotJson', data: {}});
   assert.throws(() => jirrambeo.infer({}), {status: 4, refusal: 'NotUnit'});
@@ -86,8 +98,9 @@ test('a refusal has its status and its data', {skip}, async () => {
 test('other arguments are TypeErrors', {skip}, async () => {
   const wrong = /** @type {any} */ (jirrambeo);
   for (const unit of [undefined, null, 1, [], true, Symbol('unit'), new Uint16Array(2), new DataView(new ArrayBuffer(1))]) {
-    for (const name of ['infer', 'certify', 'lint', 'plain']) assert.throws(() => wrong[name](unit), TypeError);
+    for (const name of ['infer', 'certify', 'brief', 'lint', 'plain']) assert.throws(() => wrong[name](unit), TypeError);
     assert.throws(() => wrong.check(unit, ''), TypeError);
+    assert.throws(() => wrong.verify(unit, ''), TypeError);
     await assert.rejects(wrong.inferAsync(unit), TypeError);
   }
   for (const certificate of [undefined, null, 1, {}, []]) assert.throws(() => wrong.check(panel, certificate), TypeError);

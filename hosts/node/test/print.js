@@ -25,9 +25,10 @@ const report = r => `${r.category} ${quoted(r.message)} ${quoted(r.help)}${r.lab
 
 function* block(b) {
   yield `block ${b.id}`;
-  if (b.entry) {
-    for (const v of b.entry.values) yield `value ${site(v.site)} ${v.kind} ${v.reasons.join('+') || '-'}`;
-    for (const v of b.entry.variables) yield `variable ${v.identifier}${v.sites.map(s => ` ${site(s)}`).join('')}`;
+  const state = b.entry || b.beyond;
+  if (state) {
+    for (const v of state.values) yield `value ${site(v.site)} ${v.kind} ${v.reasons.join('+') || '-'}`;
+    for (const v of state.variables) yield `variable ${v.identifier}${v.sites.map(s => ` ${site(s)}`).join('')}`;
   }
   for (const {instruction, effects} of b.instructions) for (const e of effects) yield `${instruction} ${effect(e)}`;
   for (const e of b.end) yield `end ${effect(e)}`;
@@ -35,7 +36,7 @@ function* block(b) {
 
 const key = k => (k.kind === 'Rest' ? `Rest(${k.function})` : `Named(${k.into},${quoted(k.name)})`);
 
-/** The text of infer and of certify. */
+/** The text of infer, of certify and of brief. */
 function* inference(found) {
   for (const f of found.functions) {
     yield `function ${f.name}`;
@@ -81,14 +82,15 @@ function* counts(found) {
 }
 
 /** @type {Record<string, (found: any) => Iterable<string>>} */
-const PRINTS = {infer: inference, certify: inference, lint: lints, explain: explanation, explainFunction: explanations, plain, check: accepted, made: counts};
+const PRINTS = {infer: inference, certify: inference, lint: lints, explain: explanation, explainFunction: explanations, plain, check: accepted,
+  brief: inference, verify: accepted, made: counts};
 
 /** The text of what a command answered. @param {string} command @param {*} found */
 const print = (command, found) => [...PRINTS[command](found)].map(line => `${line}\n`).join('');
 
 /** The line of a refusal. */
 function refused({refusal, data}) {
-  const words = Object.entries(data).map(([name, value]) => (name === 'pointer' ? quoted(value) : value));
+  const words = Object.entries(data).filter(([, value]) => value !== null).map(([name, value]) => (name === 'pointer' ? quoted(value) : value));
   return ['refused', refusal, ...words].join(' ');
 }
 

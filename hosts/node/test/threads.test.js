@@ -5,6 +5,8 @@ const assert = require('node:assert');
 const path = require('node:path');
 const {Worker} = require('node:worker_threads');
 const {jirrambeo, skip, panel} = require('./data.js');
+const {unitsOf} = require('../../../frontend/src/index.js');
+const {moduleOf} = require('../../../frontend/src/parse.js');
 
 const INDEX = path.join(__dirname, '../index.js');
 
@@ -34,6 +36,50 @@ test('what was put in may be written after, and several are begun at once', {ski
   unit.fill(0);
   const wanted = [jirrambeo.run('infer', panel)];
   for (const calls of all) assert.deepStrictEqual(calls.answers(), wanted);
+});
+
+/** The addon itself, which takes units as codes too. */
+const given = () => require(path.join(__dirname, '../../lib/jirrambeo.node'));
+const SOURCE = `import {useState} from 'react';
+  function Card({items, "a b": c = -1, ...é}) { const [n, setN] = useState(c ?? 12345678); items.push(n); return <b ref={é.x} {...é}>{items.map(i => setN(i))}</b>; }
+  function useX(a) { try { for (const x of a) x.y = () => a; } catch (e) { return e.message; } return useState(a); }`;
+
+/** Whether the parser is there, which Debian has outside of what another Node looks at. */
+function hasParser() {
+  try {
+    return Boolean(moduleOf('@babel/parser'));
+  } catch {
+    return false;
+  }
+}
+
+test('units as codes are those as bytes', {skip: skip || (hasParser() ? false : 'the parser is not there')}, () => {
+  const addon = given();
+  for (const options of [{}, {compiler: true, others: /** @type {'root'} */ ('root')}]) {
+    const calls = addon.begin('infer');
+    const units = unitsOf(SOURCE, {...options, as: 'codes'}).map(one => one.unit);
+    for (const unit of units) addon.putCodes(calls, unit.codes, unit.texts(), unit.lines());
+    const wanted = unitsOf(SOURCE, {...options, as: 'bytes'}).map(({unit}) => jirrambeo.run('infer', unit));
+    assert.deepStrictEqual(addon.answers(calls).map(([status, text]) => ({status, text: text.toString()})), wanted);
+    assert.deepStrictEqual(wanted.map(one => one.status), [0, 0]);
+  }
+});
+
+test('what are no codes are refused', {skip}, () => {
+  const addon = given();
+  const calls = addon.begin('infer');
+  const none = Buffer.alloc(0);
+  const put = (codes, texts = '', strings = '') => addon.putCodes(calls, Int32Array.from(codes), Buffer.from(texts), Buffer.from(strings));
+  const wrong = [[-1], [-1, 1], [-2, 1, 2], [-2, 1, -2, 3], [-3], [-3, 1], [-4, -1], [-6], [-2147483648]];
+  for (const codes of wrong) assert.throws(() => put(codes, 'a', 'b'), /^TypeError: the codes are those of the front end$/);
+  assert.throws(() => addon.putCodes(calls, [1], none, none), /the codes are an Int32Array/);
+  assert.throws(() => addon.putCodes(calls, new Uint8Array(1), none, none), /the codes are an Int32Array/);
+  assert.throws(() => addon.putCodes(calls, new Int32Array(1), '', none), TypeError);
+  assert.throws(() => addon.putCodes(calls, new Int32Array(1)), TypeError);
+  const right = [[], [0, -5, 2147483647, -6, -1, 1, 2, -2, 3, 40, 500, -3, 0, -4, 1]];
+  for (const codes of right) put(codes, 'ab\ncd', 'x\n"é"');
+  const texts = ['', '0ab2147483647cd[1,2][3,40,500]"x""é"'];
+  assert.deepStrictEqual(addon.answers(calls).map(([status, text]) => ({status, text: text.toString()})), texts.map(text => jirrambeo.run('infer', text)));
 });
 
 test('calls whose answers nobody asks for grow nothing', {skip: skip || (process.env.JIRRAMBEO_FEW ? 'few calls are asked for' : false)}, async () => {

@@ -6,7 +6,7 @@ use std::{env, thread};
 
 /// Every call once. Answers how many there were.
 fn all(unit: &[u8]) -> usize {
-    let mut count = 8;
+    let mut count = 11;
     let inference = jirrambeo::infer(unit).expect("an inference");
     let certificate = jirrambeo::certify(unit).expect("a certificate");
     for entry in &inference.ranges {
@@ -21,6 +21,12 @@ fn all(unit: &[u8]) -> usize {
     assert_eq!(accepted.functions, inference.functions.len() as u64);
     let broken = jirrambeo::check(unit, &text.as_bytes()[1..]);
     assert_eq!(broken, Err(Refusal::BadLine { number: 1 }));
+    let brief = jirrambeo::brief(unit).expect("a brief certificate");
+    let text = brief.to_string();
+    let verified = jirrambeo::verify(unit, text.as_bytes()).expect("a text that follows");
+    assert_eq!(verified, accepted);
+    let cut = jirrambeo::verify(unit, &text.as_bytes()[..text.len() - 1]);
+    assert!(matches!(cut, Err(Refusal::Differs { .. })));
     let lints = jirrambeo::lint(unit).expect("lints");
     assert_eq!(lints.lints.len(), inference.reports.len());
     jirrambeo::plain(unit).expect("an answer");
@@ -29,6 +35,7 @@ fn all(unit: &[u8]) -> usize {
         "no identifier has this number"
     );
     assert!(inference == certificate.into());
+    assert_eq!(inference.functions.len(), brief.functions.len());
     count
 }
 

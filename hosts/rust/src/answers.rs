@@ -232,14 +232,14 @@ impl fmt::Display for Plainness {
     }
 }
 
-/// A certificate that is accepted: what [`check`](crate::check) answers.
+/// A certificate that is accepted: what [`check`](crate::check) and [`verify`](crate::verify) answer.
 #[derive(Clone, Copy, Debug, PartialEq, Eq, Hash)]
 pub struct Accepted {
     /// How many functions it has.
     pub functions: u64,
 }
 
-/// Reads the line that `jirrambeo check` writes.
+/// Reads the line that `jirrambeo check` and `verify` write.
 impl FromStr for Accepted {
     type Err = TextError;
 
@@ -251,7 +251,7 @@ impl FromStr for Accepted {
     }
 }
 
-/// The line that `jirrambeo check` writes.
+/// The line that `jirrambeo check` and `verify` write.
 impl fmt::Display for Accepted {
     fn fmt(&self, f: &mut fmt::Formatter<'_>) -> fmt::Result {
         writeln!(f, "accepted {}", self.functions)

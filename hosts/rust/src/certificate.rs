@@ -11,7 +11,7 @@ use crate::site::{SiteValue, Variable};
 use std::fmt;
 use std::str::FromStr;
 
-/// What a block is entered with.
+/// What a block is entered with, or, in a [`Brief`](crate::Brief), what it is entered with beyond what arrives.
 #[derive(Clone, Debug, Default, PartialEq, Eq, Hash)]
 pub struct State {
     /// The values of sites, by ascending sites.
@@ -112,13 +112,19 @@ impl From<CertifiedBlock> for Block {
     }
 }
 
+impl State {
+    pub(crate) fn read(lines: &mut Lines<'_>) -> Result<State, TextError> {
+        Ok(State {
+            values: lines.all("value", SiteValue::read)?,
+            variables: lines.all("variable", Variable::read)?,
+        })
+    }
+}
+
 impl CertifiedBlock {
     fn read(line: Line<'_>, lines: &mut Lines<'_>) -> Result<CertifiedBlock, TextError> {
         let id = read_id(line)?;
-        let entry = State {
-            values: lines.all("value", SiteValue::read)?,
-            variables: lines.all("variable", Variable::read)?,
-        };
+        let entry = State::read(lines)?;
         let (instructions, end) = read_effects(lines)?;
         Ok(CertifiedBlock {
             id,
@@ -156,7 +162,7 @@ impl TemporaryKey {
 }
 
 impl Temporary {
-    fn read(mut line: Line<'_>) -> Result<Temporary, TextError> {
+    pub(crate) fn read(mut line: Line<'_>) -> Result<Temporary, TextError> {
         let identifier = line.identifier()?;
         let key = TemporaryKey::read(line)?;
         Ok(Temporary { identifier, key })
@@ -211,6 +217,12 @@ impl fmt::Display for TemporaryKey {
     }
 }
 
+impl fmt::Display for Temporary {
+    fn fmt(&self, f: &mut fmt::Formatter<'_>) -> fmt::Result {
+        write!(f, "{} {}", self.identifier, self.key)
+    }
+}
+
 impl fmt::Display for State {
     fn fmt(&self, f: &mut fmt::Formatter<'_>) -> fmt::Result {
         self.values
@@ -234,7 +246,7 @@ impl fmt::Display for CertifiedFunction {
             .iter()
             .try_for_each(|effect| writeln!(f, "first {effect}"))?;
         for temporary in &self.temporaries {
-            writeln!(f, "temporary {} {}", temporary.identifier, temporary.key)?;
+            writeln!(f, "temporary {temporary}")?;
         }
         write_summary(f, &self.summary)
     }

@@ -1,7 +1,7 @@
 //! Jirrambeo in the caller's own process: what the code of a React component may alias, freeze and write, proved right.
 //!
-//! A unit is the JSON that docs/FORMAT.md describes. [`infer`] gives what is inferred of it as plain types, and [`certify`], [`check`], [`lint`],
-//! [`explain`], [`explain_function`] and [`plain`] do what the program's commands of these names do. Each call stands alone: nothing is kept between calls, and calls may
+//! A unit is the JSON that docs/FORMAT.md describes. [`infer`] gives what is inferred of it as plain types, and [`certify`], [`check`], [`brief`],
+//! [`verify`], [`lint`], [`explain`], [`explain_function`] and [`plain`] do what the program's commands of these names do. Each call stands alone: nothing is kept between calls, and calls may
 //! run side by side in any number of threads.
 //!
 //! ```no_run
@@ -30,6 +30,7 @@
 
 mod answers;
 mod archive;
+mod brief;
 mod certificate;
 mod check_fault;
 mod effect;
@@ -45,6 +46,7 @@ mod words;
 pub use answers::{
     Accepted, Cause, Counts, Explanation, FunctionExplanation, PathStep, Plainness,
 };
+pub use brief::{Brief, BriefBlock, BriefFunction};
 pub use certificate::{
     Certificate, CertifiedBlock, CertifiedFunction, State, Temporary, TemporaryKey,
 };
@@ -104,7 +106,28 @@ pub fn check(unit: &[u8], certificate: &[u8]) -> Result<Accepted, Refusal> {
     answer("check", &with_certificate(unit, certificate))
 }
 
-/// A unit and its certificate in one input, as `check` reads it. The first newline ends the unit, so those of the unit become carriage returns, which
+/// What is inferred of a unit, with what [`verify`] needs of its loops: the text is that of [`infer`], and longer where a function has edges back.
+///
+/// # Errors
+///
+/// As of [`infer`].
+pub fn brief(unit: &[u8]) -> Result<Brief, Refusal> {
+    answer("brief", unit)
+}
+
+/// Whether each line of a text is the one that follows for a unit, by one step of each block. The text is that of a [`Brief`], or what anybody says in its
+/// place. A yes means that the effects, summaries, ranges and reports are those of entry states that solve each function, which the text tells where it has
+/// edges back, and which are those of [`infer`] where it has none.
+///
+/// # Errors
+///
+/// Where the unit is none, breaks a rule or is too long together with the text; where the text isn't in its grammar ([`Refusal::BadLine`]), can't be
+/// followed ([`Refusal::Rejected`]) or has another line than follows ([`Refusal::Differs`]), and where memory runs out.
+pub fn verify(unit: &[u8], text: &[u8]) -> Result<Accepted, Refusal> {
+    answer("verify", &with_certificate(unit, text))
+}
+
+/// A unit and its certificate in one input, as `check` and `verify` read it. The first newline ends the unit, so those of the unit become carriage returns, which
 /// mean the same in JSON.
 fn with_certificate(unit: &[u8], certificate: &[u8]) -> Vec<u8> {
     let mut input: Vec<u8> = unit

@@ -40,6 +40,13 @@ pub enum Refusal {
     NotHere,
     /// 15: it isn't known whether the unit is plain.
     PlainRefused(PlainFault),
+    /// 16: a line of the certificate isn't the one that follows.
+    Differs {
+        /// The number of the first such line, from 1.
+        number: u64,
+        /// The line that follows there: none where the text that follows ends before it.
+        follows: Option<String>,
+    },
     /// The archive wrote what this crate can't read, which is an error of one of the two: not of the unit.
     Unreadable {
         /// The status of the run.
@@ -81,6 +88,7 @@ impl Refusal {
             "Unfit" => return UnitFault::read(*line).map(Refusal::Unfit),
             "PlainRefused" => return PlainFault::read(*line).map(Refusal::PlainRefused),
             "Rejected" => return CheckFault::read(*line).map(Refusal::Rejected),
+            "Differs" => return Refusal::read_difference(line),
             "Words" => Refusal::Words,
             "NotJson" => Refusal::NotJson,
             "TooLong" => Refusal::TooLong,
@@ -98,6 +106,16 @@ impl Refusal {
         Ok(refusal)
     }
 
+    /// The number of the line that differs, and the line that follows there, to the end.
+    fn read_difference(line: &mut Line<'_>) -> Result<Refusal, TextError> {
+        let number = line.number()?;
+        let follows = line.rest().map(str::to_owned);
+        if follows.as_deref() == Some("") {
+            return Err(line.error());
+        }
+        Ok(Refusal::Differs { number, follows })
+    }
+
     /// The status with which the program ends.
     #[must_use]
     pub fn status(&self) -> u8 {
@@ -113,6 +131,7 @@ impl Refusal {
             Refusal::Rejected(_) => 13,
             Refusal::NotHere => 14,
             Refusal::PlainRefused(_) => 15,
+            Refusal::Differs { .. } => 16,
             Refusal::Unreadable { status, .. } => *status,
         }
     }
@@ -134,6 +153,14 @@ impl Refusal {
             Refusal::Rejected(fault) => format!("refused Rejected {fault}\n"),
             Refusal::NotHere => "refused NotHere\n".to_owned(),
             Refusal::PlainRefused(fault) => format!("refused PlainRefused {fault}\n"),
+            Refusal::Differs {
+                number,
+                follows: Some(line),
+            } => format!("refused Differs {number} {line}\n"),
+            Refusal::Differs {
+                number,
+                follows: None,
+            } => format!("refused Differs {number}\n"),
         }
     }
 
@@ -157,6 +184,9 @@ impl Refusal {
                 "the identifier doesn't stand in that function, or is of its context"
             }
             Refusal::PlainRefused(_) => "it isn't known whether the unit is plain",
+            Refusal::Differs { .. } => {
+                "the line of this number of the certificate isn't the one that follows"
+            }
             Refusal::Unreadable { .. } => "the archive's text can't be read",
         }
     }
@@ -186,7 +216,7 @@ mod tests {
     use super::Refusal;
 
     /// A line of each form that docs/FORMAT.md has, with its status.
-    const LINES: [(u8, &str); 52] = [
+    const LINES: [(u8, &str); 56] = [
         (2, "Words"),
         (3, "NotJson"),
         (4, "NotUnit \"/root/a~1b\\\"\" Missing"),
@@ -239,6 +269,10 @@ mod tests {
         (14, "NotHere"),
         (15, "PlainRefused NotSettled root"),
         (15, "PlainRefused TooMany Diagnostics"),
+        (16, "Differs 19 range 1 1 7"),
+        (16, "Differs 23 reports 0"),
+        (16, "Differs 24"),
+        (16, "Differs 9 report Purity \"a  b \" - 1..2 -"),
     ];
 
     #[test]
@@ -275,6 +309,10 @@ mod tests {
             (13, "refused Rejected 9 root 0\n"),
             (13, "refused Rejected 11 root 0\n"),
             (13, "refused Rejected 12 Functions\n"),
+            (16, "refused Differs\n"),
+            (16, "refused Differs x\n"),
+            (16, "refused Differs 3 \n"),
+            (13, "refused Differs 3\n"),
             (2, ""),
         ] {
             assert!(Refusal::read(status, text).is_err(), "{text}");

@@ -1,7 +1,7 @@
 //! Calls on small inputs, and what is told of them.
 use jirrambeo::{
     Accepted, BlockId, Cause, CheckFault, Effect, FormatRule, FunctionName, IdentifierId,
-    InstructionId, Order, Refusal, certify, check, explain, infer, lint, made, run,
+    InstructionId, Order, Refusal, brief, certify, check, explain, infer, lint, made, run, verify,
 };
 
 /// The component of README.md.
@@ -105,6 +105,52 @@ fn a_certificate_that_is_none_is_told_by_its_line() {
         check(b"{}\n", b"x").map_err(|refusal| refusal.status()),
         Err(4)
     );
+}
+
+/// What `verify` says of the panel's text with this part for that one, which stands in it.
+fn verified_with(part: &str, other: &str) -> Result<Accepted, Refusal> {
+    let text = brief(PANEL).expect("the panel is inferred").to_string();
+    assert!(text.contains(part), "{part} in {text}");
+    verify(PANEL, text.replacen(part, other, 1).as_bytes())
+}
+
+#[test]
+fn a_line_that_differs_is_told_with_the_one_that_follows() {
+    let of_forward = brief(PANEL).expect("the panel is inferred").to_string();
+    let inferred = infer(PANEL).expect("the panel is inferred").to_string();
+    assert_eq!(of_forward, inferred);
+    assert_eq!(
+        verified_with("function", "function"),
+        Ok(Accepted { functions: 1 })
+    );
+    let lines = inferred.lines().count() as u64;
+    let first = Refusal::Differs {
+        number: 3,
+        follows: Some("0 Create 1 Mutable Other".to_owned()),
+    };
+    assert_eq!(
+        verified_with("0 Create 1 Mutable Other", "0 Create 1 Frozen Other"),
+        Err(first)
+    );
+    let last = |number, follows: Option<&str>| {
+        Err(Refusal::Differs {
+            number,
+            follows: follows.map(str::to_owned),
+        })
+    };
+    assert_eq!(
+        verified_with("reports 0\n", "reports 0"),
+        last(lines, Some("reports 0"))
+    );
+    assert_eq!(
+        verified_with("reports 0\n", "reports 0\nreport x\n"),
+        last(lines + 1, None)
+    );
+    assert_eq!(
+        verified_with("block 0\n", "blok 0\n"),
+        Err(Refusal::BadLine { number: 2 })
+    );
+    assert_eq!(verify(b"", b""), Err(Refusal::NotJson));
 }
 
 #[test]

@@ -1,7 +1,7 @@
 //! Does runs of the program again in this process: `JIRRAMBEO_CASES` names a file of them, which hosts/cases.py writes.
 use jirrambeo::{
-    FunctionId, FunctionName, IdentifierId, Refusal, certify, check, explain,
-    explain_function, infer, lint, made, plain, run,
+    FunctionId, FunctionName, IdentifierId, Refusal, brief, certify, check, explain,
+    explain_function, infer, lint, made, plain, run, verify,
 };
 use std::str::{self, FromStr};
 use std::{env, fs, thread};
@@ -65,11 +65,16 @@ fn printed_back(case: &Case) -> Option<Result<String, Refusal>> {
     Some(match words[..] {
         ["infer"] => text_of(infer(&case.input)),
         ["certify"] => text_of(certify(&case.input)),
+        ["brief"] => text_of(brief(&case.input)),
         ["lint"] => text_of(lint(&case.input)),
         ["plain"] => text_of(plain(&case.input)),
         ["check"] => {
             let cut = case.input.iter().position(|byte| *byte == b'\n')?;
             text_of(check(&case.input[..cut], &case.input[cut + 1..]))
+        }
+        ["verify"] => {
+            let cut = case.input.iter().position(|byte| *byte == b'\n')?;
+            text_of(verify(&case.input[..cut], &case.input[cut + 1..]))
         }
         ["explain", function, identifier] => {
             let identifier = IdentifierId(number_of(identifier)?);

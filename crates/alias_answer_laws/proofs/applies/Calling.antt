@@ -27,7 +27,7 @@ use Rattle.alias_rules.specs.RuleLaws.{parts_of_rules}
 use Rattle.alias_effects.specs.Inference.{pass_end, env_after}
 use Rattle.alias_effects.specs.declared.solved.Solved.{Solved}
 use Rattle.alias_inner_passes.specs.Passes.{NoneAdded, effects_in, instruction_effects, Keeps}
-use Rattle.alias_range_pass.specs.Passes.{range_pass}
+use Rattle.alias_range_pass.specs.Passes.{Ranged, range_pass}
 use Rattle.alias_range_pass.specs.Refusals.{has_apply}
 use Rattle.alias_nesting_laws.specs.PartLaws.{absent, not_both}
 use Rattle.alias_nesting_laws.specs.Slots.{with_function}
@@ -44,14 +44,14 @@ use Rattle.alias_nested.specs.Slots.{emptied}
 use Rattle.alias_answer_laws.specs.answers.Applies.{InstructionsLackApply, NestedLackApply, Leads}
 use Rattle.alias_answer_laws.specs.answers.Avoiding.{is_unreplaced, avoids_then, avoids_naming, named_alike}
 use Rattle.alias_answer_laws.specs.answers.FunctionLaws.{set_all, got_all, instructions_without_apply, BothLackApply}
-use Rattle.alias_answer_laws.specs.answers.FunctionLaws.{RangesPlain, ranges_plain}
+use Rattle.alias_answer_laws.specs.answers.FunctionLaws.{RangesPlain, ranges_plain, ranges_own}
 use Rattle.alias_answer_laws.specs.answers.PassLaws.{EndsPlain, pass_plain}
 use Rattle.alias_answer_laws.specs.answers.UnitLaws.{lacks_alike}
 
 -- ---- answers that may come
 
 -- each answer that may come has the property, and is no refusal since an Apply is left
-abbrev AllLead : {A : Type 0} → (A → Type 0) → Answers A → Type 0
+abbrev pub AllLead : {A : Type 0} → (A → Type 0) → Answers A → Type 0
 AllLead {A} P answers = (r : Result A InferError) → answers r → Leads P r
 
 only_leads : {A : Type 0} (P : A → Type 0) (stated : Result A InferError) → Leads P stated → AllLead P (Only stated)
@@ -186,6 +186,48 @@ module _ (keeps_all : Bool) where
       each_leads Nested (SlotAnalysed keeps_all (AnalysedWith keeps_all n))
       (λ id b m. found_leads (AnalysedWith keeps_all n) (analysed_leads n) id b (slice_get b.env.functions id.0)
       refl m) (created_functions f) a h
+
+-- ---- a function alone, whatever those below it carry
+
+abbrev OwnLacks : HirFunction × Environment → Type 0
+OwnLacks s = InstructionsLackApply s.0
+
+module _ (keeps_all : Bool) (id : FunctionId) where
+  passed_own : (pass : Pass) (old : HirFunction × Environment) → OwnLacks old
+      → AllLead OwnLacks (Passed keeps_all id pass old)
+  passed_own pass old h (Ok new) p = instructions_still old.0.instructions new.0.instructions p.keeps.added.effects h
+  passed_own pass old h (Err e) q = subst (λ (z : InferError). is_unreplaced z ≡ false) (sym q) refl
+
+  ranged_own : (s : HirFunction × Environment) → OwnLacks s
+      → Leads (λ (r : Ranged). OwnLacks r.after) (naming id (range_pass true s.0 s.1))
+  ranged_own s h = avoids_naming is_unreplaced (λ (r : Ranged). OwnLacks r.after) id (range_pass true s.0 s.1)
+      (λ e. (named_alike id e).0) (ranges_own true s.0 s.1 h)
+
+  completed_own : (s : HirFunction × Environment) → OwnLacks s → AllLead OwnLacks (Completed keeps_all id s)
+  completed_own s h =
+      then_leads OwnLacks OwnLacks (Passed keeps_all id DeadCodeElimination s) _ (passed_own DeadCodeElimination s h)
+      (λ dead d.
+      then_leads (λ (r : Ranged). OwnLacks r.after) OwnLacks (Only (naming id (range_pass true dead.0 dead.1))) _
+      (only_leads (λ (r : Ranged). OwnLacks r.after) (naming id (range_pass true dead.0 dead.1)) (ranged_own dead d))
+      (λ r q.
+      then_leads OwnLacks OwnLacks (Passed keeps_all id RewriteInstructionKindsBasedOnReassignment r.after) _
+      (passed_own RewriteInstructionKindsBasedOnReassignment r.after q) (λ kinds k.
+      then_leads OwnLacks OwnLacks (Passed keeps_all id InferReactiveScopeVariables kinds) _
+      (passed_own InferReactiveScopeVariables kinds k)
+      (λ scopes l. only_leads OwnLacks (Ok (annotated r.summary scopes)) l))))
+
+  -- where no instruction of the function carries Apply, its analysis doesn't say that one is left
+  pub function_own : (f : HirFunction) (a : Analysis) → InstructionsLackApply f
+      → AllLead (λ (s : HirFunction × Analysis). InstructionsLackApply s.0) (FunctionAnalysed keeps_all id f a)
+  function_own f a h =
+      let P : HirFunction × Analysis → Type 0 = λ s. InstructionsLackApply s.0 in
+      then_leads P P (Only (effects_analysed id f a)) (CompletedWith keeps_all id)
+      (only_leads P (effects_analysed id f a)
+      (avoids_then is_unreplaced EndsPlain P (naming id (pass_end a.env f true)) _
+      (avoids_naming is_unreplaced EndsPlain id (pass_end a.env f true) (λ e. (named_alike id e).0)
+      (pass_plain a.env f true)) (λ e p. instructions_without_apply e.solved f p h))) (λ s p.
+      then_leads OwnLacks P (Completed keeps_all id (s.0, s.1.env)) _ (completed_own (s.0, s.1.env) p)
+      (λ c q. only_leads P (Ok (c.0, analysis c.1 s.1.functions)) q))
 
 -- ---- the analysis of nested functions
 

@@ -224,11 +224,17 @@ surrounded_lacks : (o : Option (List AliasingEffect)) (table : Table) (t : Evalu
 surrounded_lacks None table t v env h = h
 surrounded_lacks (Some es) table t v env h = some_surrounded _ table t v env h
 
+placed_own : (is : List Instruction) (env : Environment) (id : InstructionId) (o : Option Instruction)
+    → slice_get is id.0 ≡ o → AllByRecursion LacksApply is → AllByRecursion LacksApply (placed_in is env id o).0
+placed_own is env id None e h = h
+placed_own is env id (Some i) e h = set_all LacksApply is id.0 (instruction_placed i env).0
+    (got_all LacksApply is id.0 i e h) h
+
 placed_lacks : (is : List Instruction) (env : Environment) (id : InstructionId) (o : Option Instruction)
     → slice_get is id.0 ≡ o → ListLacksApply (is, env) → ListLacksApply (placed_in is env id o)
 placed_lacks is env id None e h = h
 placed_lacks is env id (Some i) e h = (
-  set_all LacksApply is id.0 (instruction_placed i env).0 (got_all LacksApply is id.0 i e h.0) h.0,
+  placed_own is env id (Some i) e h.0,
   surrounded_lacks i.effects (table_of (assigned i env.identifiers) i) i.id i.value (env_assigned i env) h.1,
 )
 
@@ -247,6 +253,24 @@ blocks_lack : (b : Bool) (n k : ℕ) (s : Placed) → BothLackApply s → BothLa
 blocks_lack b zero k s h = h
 blocks_lack b (suc n) k s h = blocks_lack b n (k + 1) (block_placed b k s)
     (slot_lacks b k (option_map (λ (e : BlockId × BasicBlock). e.1) (slice_get s.0.body.blocks k)) s h)
+
+-- the function alone
+instructions_own : (ids : List InstructionId) (s : List Instruction × Environment) → AllByRecursion LacksApply s.0
+    → AllByRecursion LacksApply (instructions_placed ids s).0
+instructions_own [] s h = h
+instructions_own (id ∷ ids) s h = instructions_own ids (instruction_at s id)
+    (placed_own s.0 s.1 id (slice_get s.0 id.0) refl h)
+
+slot_own : (b : Bool) (k : ℕ) (o : Option BasicBlock) (s : Placed) → InstructionsLackApply s.0
+    → InstructionsLackApply (placed_at b k o s).0
+slot_own b k None s h = h
+slot_own b k (Some x) s h = instructions_own x.instructions (s.0.instructions, block_merged s.0 x s.1) h
+
+blocks_own : (b : Bool) (n k : ℕ) (s : Placed) → InstructionsLackApply s.0
+    → InstructionsLackApply (blocks_placed b n k s).0
+blocks_own b zero k s h = h
+blocks_own b (suc n) k s h = blocks_own b n (k + 1) (block_placed b k s)
+    (slot_own b k (option_map (λ (e : BlockId × BasicBlock). e.1) (slice_get s.0.body.blocks k)) s h)
 
 walks_lack : (r : Bool) (ms : List RecordedMutation) (w : Walked) → NestedLackApply w.1
     → NestedLackApply (after_mutations r ms w).1
@@ -276,6 +300,15 @@ ranges_plain b f env h n =
     (graph_listed l, env_reported (records b env) l env) n in
     blocks_lack b (length f.body.blocks) 0 (function_captured w.0 f, renders_done (records b env) l w)
     (h, rendered_lacks (records b env) l w walked))
+
+-- whatever the functions nested below carry
+pub ranges_own : (b : Bool) (f : HirFunction) (env : Environment) → InstructionsLackApply f
+    → Leads (λ (r : Ranged). InstructionsLackApply r.after.0) (range_pass b f env)
+ranges_own b f env h =
+    avoids_then is_unreplaced (Answered {A = Listing}) (λ (r : Ranged). InstructionsLackApply r.after.0) (recorded f) _
+    (listed_leads f h) (λ l p.
+    let w : Walked = mutations_done (records b env) l env in
+    blocks_own b (length f.body.blocks) 0 (function_captured w.0 f, renders_done (records b env) l w) h)
 
 -- where no instruction carries Apply, the range pass doesn't say that one is left
 pub none_left : (b : Bool) (f : HirFunction) (env : Environment) → InstructionsLackApply f

@@ -3,9 +3,11 @@ use Rattle.std.specs.Prelude.{◌≡◌, ℕ, ◌<◌, ◌≤◌, ◌+◌, Bool,
 use Rattle.std.specs.Prelude.{Some, None, Ok, map, length, slice_get, refl}
 use Rattle.std.proofs.Common.{zero, suc, ap, sym, ◌∙◌, subst, arith}
 use Rattle.std.specs.List.{AllByRecursion}
+use Rattle.alias_base.specs.declared.ids.FunctionId.{FunctionId}
 use Rattle.alias_base.specs.declared.ids.InstructionId.{InstructionId}
 use Rattle.alias_rules.specs.function_rules.Rules.{first_again, own_identifiers, repeated, places_distinct}
 use Rattle.alias_hir.specs.Parts.{param_place}
+use Rattle.alias_hir.specs.Values.{created}
 use Rattle.alias_hir.specs.declared.effect.AliasingEffect.{AliasingEffect}
 use Rattle.alias_hir.specs.declared.env.Environment.{Environment}
 use Rattle.alias_hir.specs.declared.hir.BasicBlock.{BasicBlock}
@@ -31,9 +33,8 @@ use Rattle.alias_range_pass.specs.summary.KeepingLaws.{walk_keeps}
 use Rattle.alias_range_pass.specs.summary.MarkedPlaces.{is_marked, captured, param_captured, function_captured}
 use Rattle.alias_range_pass.specs.summary.Walking.{Walked, start_origin, expanded, after_mutation, after_mutations}
 use Rattle.alias_range_pass.specs.summary.Walking.{mutation_start, env_reported, mutations_done}
-use Rattle.alias_completeness.specs.Calling.{IsCallable, AreCallable}
+use Rattle.alias_completeness.specs.Callable.{IsSummary, IsCallable, AreCallable, CreatesCallable}
 use Rattle.alias_completeness.specs.Facing.{callable}
-use Rattle.alias_completeness.specs.Summarizing.{IsSummary}
 use Rattle.alias_completeness.specs.summaries.KeptTables.{TablesKept, tables_self, tables_then, tables_alike}
 use Rattle.alias_completeness.specs.summaries.KeptTables.{bound_alike}
 
@@ -63,6 +64,18 @@ got P (y ∷ ys) (suc n) x e h = got P ys n x e h.1
 
 pub faces_callable : (env : Environment) → HaveFaces (length env.identifiers) env.functions → AreCallable env
 faces_callable env h = λ n f e. face_callable env f (got (HasFace (length env.identifiers)) env.functions n f e h)
+
+-- of those functions of a table whose numbers are these
+abbrev pub TheseHaveFaces : (ℕ → Type 0) → ℕ → List HirFunction → Type 0
+TheseHaveFaces These n fs = (k : ℕ) (f : HirFunction) → These k → slice_get fs k ≡ Some f → HasFace n f
+
+-- where those that a function creates are among them, they are callable
+pub faces_create : (env : Environment) (g : HirFunction) (These : ℕ → Type 0)
+    → TheseHaveFaces These (length env.identifiers) env.functions
+    → ((i : InstructionId) (x : Instruction) (c : FunctionId) → slice_get g.instructions i.0 ≡ Some x
+    → created x.value ≡ Some c → These c.0) → CreatesCallable env g
+faces_create env g These faces these i x c found makes h at =
+    face_callable env h (faces c.0 h (these i x c found makes) at)
 
 -- ---- the same places
 

@@ -54,7 +54,7 @@ use Rattle.alias_range_pass.specs.Passes.{records, Ranged, ranged, range_pass}
 use Rattle.alias_ranges.specs.laws.AnswerLaws.{recorded_is_listed, pass_is}
 use Rattle.alias_completeness.specs.Going.{all_both}
 use Rattle.alias_completeness.specs.Facing.{returns_apart}
-use Rattle.alias_completeness.specs.Summarizing.{IsReport, IsMark, IsFlow, IsSummary}
+use Rattle.alias_completeness.specs.Callable.{IsReport, IsMark, IsFlow, IsSummary}
 
 -- ---- what the effects of instructions record for the summary
 

@@ -1,4 +1,4 @@
-use Rattle.std.proofs.Common.{◌≡◌, ◌∙◌, ◌-◌, suc, [], ◌∷◌, Ok, Err, Some, refl, subst, drop, rules, arith}
+use Rattle.std.proofs.Common.{◌≡◌, ◌∙◌, ◌-◌, suc, [], ◌∷◌, Ok, Err, Some, inl, refl, subst, drop, rules, arith}
 use Rattle.std.specs.Prelude.{slice_get, slice_index_or}
 use Rattle.alias_base.specs.declared.ids.FunctionId.{FunctionId}
 use Rattle.alias_hir.specs.declared.error.InferError.{InferError}
@@ -22,6 +22,8 @@ use Rattle.alias_nested.proofs.Leading.{analysed_more, refused_more, leads_error
 use Rattle.alias_nesting_laws.specs.NestingLaws.{taken_out_fits}
 use Rattle.alias_nesting_laws.specs.SlotLaws.{created_exists}
 use Rattle.alias_fitting_laws.specs.pruning.PruningLaws.{function_through}
+use Rattle.alias_nested.specs.Faults.{IsNamedFault, IsFaultOf, IsFaultWithin}
+use Rattle.alias_nested.proofs.Faulting.{err_on, where_err, failed_below, slot_failed}
 use Rattle.alias_nested.proofs.analyse.+nested.Goals as goal
 
 pub analyse_created-returns-then-levels-eq0-clause-run : goal.analyse_created-returns-then-levels-eq0-clause-run
@@ -312,3 +314,47 @@ analyse_taken-returns-clause-kept g t c =
     c.infer_function.new.env
     (pruned_beside c.args.env.now c.analyse_created.new.env c.analyse_created.ensures.kept c.args.func.now
     c.requires.fits) c.infer_function.ensures.kept
+
+pub analyse_created-returns-in_err-created-clause-last : goal.analyse_created-returns-in_err-created-clause-last
+analyse_created-returns-in_err-created-clause-last g t c =
+    let e : InferError = Memory c.in_err-created.field-0.0 in
+    let same : c.from_residual.result ≡ Err e = search rules in
+    err_on (IsNamedFault (g.P.InnerPasses.failed_last c.args.passes.now) c.args.env.now) c.from_residual.result e same
+    tt
+
+pub analyse_created-returns-in_err-analyse_slot-clause-last :
+    goal.analyse_created-returns-in_err-analyse_slot-clause-last
+analyse_created-returns-in_err-analyse_slot-clause-last g t c =
+    let e : InferError = c.in_err-analyse_slot.field-0.0 in
+    let same : c.from_residual-in_err-analyse_slot.result ≡ Err e = search rules in
+    err_on (IsNamedFault (g.P.InnerPasses.failed_last c.analyse_slot.new.passes) c.analyse_slot.new.env)
+    c.from_residual-in_err-analyse_slot.result e same c.in_err-analyse_slot.ensures.last
+
+pub analyse_slot-returns-clause-last : goal.analyse_slot-returns-clause-last
+analyse_slot-returns-clause-last g t c =
+    let taken = c.take_out-func in
+    let done = c.analyse_taken-answer in
+    slot_failed c.args.levels c.args.id taken.result done.new.func (emptied taken.result.returns) c.args.env.now
+    taken.new.env done.new.env c.put_back.new.env taken.ensures.func
+    (c.requires.apart taken.result taken.ensures.func)
+    taken.ensures.env done.ensures.kept.prunes.count c.put_back.ensures
+    (g.P.InnerPasses.failed_last done.new.passes) done.result done.ensures.last
+
+pub analyse_taken-returns-in_err-analyse_created-clause-last :
+    goal.analyse_taken-returns-in_err-analyse_created-clause-last
+analyse_taken-returns-in_err-analyse_created-clause-last g t c =
+    let e : InferError = c.in_err-analyse_created.field-0.0 in
+    let same : c.from_residual.result ≡ Err e = search rules in
+    let last = g.P.InnerPasses.failed_last c.analyse_created.new.passes in
+    let below = below_innermost_first c.args.levels c.args.func.now c.args.env.now in
+    err_on (IsFaultWithin last below c.args.id c.args.func.now c.analyse_created.new.env) c.from_residual.result e same
+    (failed_below last below c.args.id c.args.func.now c.args.env.now c.analyse_created.new.env e
+    c.in_err-analyse_created.ensures.order c.in_err-analyse_created.ensures.last)
+
+pub analyse_taken-returns-clause-last : goal.analyse_taken-returns-clause-last
+analyse_taken-returns-clause-last g t c =
+    let last = g.P.InnerPasses.failed_last c.infer_function.new.passes in
+    let below = below_innermost_first c.args.levels c.args.func.now c.args.env.now in
+    where_err (IsFaultOf last c.args.id c.infer_function.new.func)
+    (IsFaultWithin last below c.args.id c.infer_function.new.func c.infer_function.new.env) c.infer_function.result
+    (λ e h. inl h) c.infer_function.ensures.last

@@ -6,6 +6,8 @@ use Rattle.alias_nested.specs.Order.{below_innermost_first}
 use Rattle.alias_nested.specs.Refusals.{AnalysisRefused}
 use Rattle.alias_nested.proofs.Answering.{into_error, exactly_error, leaves_error}
 use Rattle.alias_nested.proofs.Changing.{handed_on, handed_out}
+use Rattle.alias_nested.specs.Faults.{IsNamedFault}
+use Rattle.alias_nested.proofs.Faulting.{err_on}
 use Rattle.alias_nested.proofs.analyse.analyse_functions.Goals as goal
 
 pub returns-in_err-analyse_functions_certified-clause-answer :
@@ -51,3 +53,11 @@ returns-in_err-analyse_functions_certified-clause-order g c =
 pub returns-clause-order : goal.returns-clause-order
 returns-clause-order g c = handed_out (below_innermost_first 63 c.args.func.now c.args.env.now) _ tt c.args.env.now
     c.analyse_functions_certified.new.env c.in_ok-analyse_functions_certified.ensures.order
+
+pub returns-in_err-analyse_functions_certified-clause-last : goal.returns-in_err-analyse_functions_certified-clause-last
+returns-in_err-analyse_functions_certified-clause-last g c =
+    let e : InferError = c.in_err-analyse_functions_certified.field-0.0 in
+    let same : c.from_residual.result ≡ Err e = search rules in
+    err_on (IsNamedFault (g.P.InnerPasses.failed_last c.analyse_functions_certified.new.passes)
+    c.analyse_functions_certified.new.env) c.from_residual.result e same
+    c.in_err-analyse_functions_certified.ensures.last

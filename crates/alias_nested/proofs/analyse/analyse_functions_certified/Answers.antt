@@ -7,6 +7,8 @@ use Rattle.alias_nested.specs.Order.{below_innermost_first, functions_of}
 use Rattle.alias_nested.specs.Refusals.{AnalysisRefused}
 use Rattle.alias_nested.proofs.Answering.{analyses_error, analyses_exactly, leaves_error, refusal_answers}
 use Rattle.alias_nested.proofs.Changing.{handed_on, handed_out}
+use Rattle.alias_nested.specs.Faults.{IsNamedFault}
+use Rattle.alias_nested.proofs.Faulting.{err_on}
 use Rattle.alias_nested.proofs.InOrder.{once_below}
 use Rattle.alias_nested.proofs.Keeping.{pruned_fits}
 use Rattle.alias_nested.proofs.analyse.analyse_functions_certified.Goals as goal
@@ -84,3 +86,10 @@ pub returns-clause-functions : goal.returns-clause-functions
 returns-clause-functions g c = c.in_ok-analyse_created.ensures.noted
     ∙ ap (λ (ss : List Solved). functions_of ss ++ map Some (below_innermost_first 63 c.args.func.now c.args.env.now))
     c.new-solved.ensures
+
+pub returns-in_err-analyse_created-clause-last : goal.returns-in_err-analyse_created-clause-last
+returns-in_err-analyse_created-clause-last g c =
+    let e : InferError = c.in_err-analyse_created.field-0.0 in
+    let same : c.from_residual.result ≡ Err e = search rules in
+    err_on (IsNamedFault (g.P.InnerPasses.failed_last c.analyse_created.new.passes) c.analyse_created.new.env)
+    c.from_residual.result e same c.in_err-analyse_created.ensures.last

@@ -6,6 +6,8 @@ use Rattle.alias_nested.proofs.Answering.{completes, completes_refused, complete
 use Rattle.alias_nested.proofs.Answering.{third_refused}
 use Rattle.alias_nested.proofs.Changing.{names_on, passed_slots, annotated_slots}
 use Rattle.alias_nested.proofs.Keeping.{passed_pruned, range_pruned, more_pruned, annotated_pruned}
+use Rattle.alias_nested.specs.Faults.{IsFaultOf}
+use Rattle.alias_nested.proofs.Faulting.{err_on, unfailed}
 use Rattle.alias_nested.proofs.function.complete.Goals as goal
 
 pub returns-in_err-run_pass-clause-kept : goal.returns-in_err-run_pass-clause-kept
@@ -172,3 +174,32 @@ returns-in_err-run_pass-3-clause-run g c =
     c.infer_ranges.new.func c.run_pass-2.new.func c.run_pass-3.new.func c.infer_ranges.new.env c.run_pass-2.new.env
     c.run_pass-3.new.env c.in_ok-summary.summary e c.in_ok-summary.ensures.run c.run_pass-2.ensures.passed
     (c.in_err-run_pass-3.ensures.fault no) c.run_pass-3.ensures.passed)
+
+pub returns-in_err-run_pass-clause-last : goal.returns-in_err-run_pass-clause-last
+returns-in_err-run_pass-clause-last g c =
+    let e : InferError = c.in_err-run_pass.field-0.0 in
+    let same : c.from_residual.result ≡ Err e = search rules in
+    err_on (IsFaultOf (g.P.InnerPasses.failed_last c.run_pass.new.passes) c.args.id c.run_pass.new.func)
+    c.from_residual.result e same c.in_err-run_pass.ensures.last
+
+pub returns-in_err-summary-clause-last : goal.returns-in_err-summary-clause-last
+returns-in_err-summary-clause-last g c =
+    let e : InferError = c.in_err-summary.field-0.0 in
+    let same : c.from_residual-in_err-summary.result ≡ Err e = search rules in
+    let last = g.P.InnerPasses.failed_last c.run_pass.new.passes in
+    err_on (IsFaultOf last c.args.id c.infer_ranges.new.func) c.from_residual-in_err-summary.result e same
+    (unfailed last c.args.id c.infer_ranges.new.func e c.in_err-summary.ensures.no_fault)
+
+pub returns-in_err-run_pass-2-clause-last : goal.returns-in_err-run_pass-2-clause-last
+returns-in_err-run_pass-2-clause-last g c =
+    let e : InferError = c.in_err-run_pass-2.field-0.0 in
+    let same : c.from_residual-in_err-run_pass-2.result ≡ Err e = search rules in
+    err_on (IsFaultOf (g.P.InnerPasses.failed_last c.run_pass-2.new.passes) c.args.id c.run_pass-2.new.func)
+    c.from_residual-in_err-run_pass-2.result e same c.in_err-run_pass-2.ensures.last
+
+pub returns-in_err-run_pass-3-clause-last : goal.returns-in_err-run_pass-3-clause-last
+returns-in_err-run_pass-3-clause-last g c =
+    let e : InferError = c.in_err-run_pass-3.field-0.0 in
+    let same : c.from_residual-in_err-run_pass-3.result ≡ Err e = search rules in
+    err_on (IsFaultOf (g.P.InnerPasses.failed_last c.run_pass-3.new.passes) c.args.id c.run_pass-3.new.func)
+    c.from_residual-in_err-run_pass-3.result e same c.in_err-run_pass-3.ensures.last

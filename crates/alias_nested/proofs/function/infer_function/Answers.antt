@@ -8,6 +8,8 @@ use Rattle.alias_nested.specs.Order.{Notes}
 use Rattle.alias_nested.proofs.Changing.{names_on, always_ok}
 use Rattle.alias_nested.proofs.Keeping.{kept_pruned}
 use Rattle.alias_fitting_laws.specs.pruning.PruningLaws.{function_through}
+use Rattle.alias_nested.specs.Faults.{IsFaultOf}
+use Rattle.alias_nested.proofs.Faulting.{err_on, unfailed}
 use Rattle.alias_nested.proofs.function.infer_function.Goals as goal
 
 pub returns-in_err-infer_effects-clause-run : goal.returns-in_err-infer_effects-clause-run
@@ -60,3 +62,11 @@ returns-clause-slots g c = c.complete.ensures.slots ∙ c.infer_effects.ensures.
 pub returns-clause-noted : goal.returns-clause-noted
 returns-clause-noted g c = always_ok (Notes (c.args.id ∷ []) c.args.solved.now c.infer_effects.new.solved)
     c.complete.result c.in_ok-infer_effects.ensures.noted
+
+pub returns-in_err-infer_effects-clause-last : goal.returns-in_err-infer_effects-clause-last
+returns-in_err-infer_effects-clause-last g c =
+    let e : InferError = c.in_err-infer_effects.field-0.0 in
+    let same : c.from_residual.result ≡ Err e = search rules in
+    let last = g.P.InnerPasses.failed_last c.args.passes.now in
+    err_on (IsFaultOf last c.args.id c.infer_effects.new.func) c.from_residual.result e same
+    (unfailed last c.args.id c.infer_effects.new.func e c.in_err-infer_effects.ensures.no_fault)

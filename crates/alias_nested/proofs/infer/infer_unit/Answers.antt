@@ -5,6 +5,10 @@ use Rattle.alias_rules.specs.RuleLaws.{rules_make_function_fit}
 use Rattle.alias_nested.specs.Analysis.{Accounts}
 use Rattle.alias_nested.proofs.Ending.{unit_leads, unit_as}
 use Rattle.alias_nested.proofs.Ranging.{unit_covered, unit_covers_heap, unit_caused, unit_flows}
+use Rattle.std.proofs.Common.{◌≡◌, Err, rules}
+use Rattle.alias_hir.specs.declared.error.InferError.{InferError}
+use Rattle.alias_nested.specs.Faults.{NamesItsPass}
+use Rattle.alias_nested.proofs.Faulting.{err_on, names_its_pass}
 use Rattle.alias_nested.proofs.infer.infer_unit.Goals as goal
 
 pub infer_all-requires-clause-fits : goal.infer_all-requires-clause-fits
@@ -73,3 +77,11 @@ returns-clause-flows g c =
     _ c.infer_all.new.func c.infer_all.new.env l.1
     (ap (λ (e : Environment). e.identifiers) c.take_reports-reports.ensures.taken)
     (c.in_ok-summary.ensures.ranged [] none)
+
+pub returns-in_err-summary-clause-last : goal.returns-in_err-summary-clause-last
+returns-in_err-summary-clause-last g c =
+    let e : InferError = c.in_err-summary.field-0.0 in
+    let same : c.from_residual.result ≡ Err e = search rules in
+    let last = g.P.InnerPasses.failed_last c.infer_all.new.passes in
+    err_on (NamesItsPass last) c.from_residual.result e same
+    (names_its_pass last c.infer_all.new.env e c.in_err-summary.ensures.last)

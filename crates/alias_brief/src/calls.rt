@@ -1,0 +1,123 @@
+//! `brief` and `verify`: the text that follows for a unit, and whether a text is one that follows from what it says.
+ghost use Rattle.std.specs.Prelude.{◌≡◌, length, IfOk};
+ghost use Rattle.alias_base.specs.Answer.{Gives};
+ghost use Rattle.alias_cert.specs.function.Faults.{is_memory};
+ghost use Rattle.alias_brief.specs.Briefs.{brief_text};
+ghost use Rattle.alias_brief.specs.Differences.{first_difference};
+ghost use Rattle.alias_brief.specs.Verifying.{brief_of, text_fault_of, check_fault_of, compared_by, FollowsAs, Verifies, is_memory as verify_memory};
+ghost use Rattle.alias_brief.specs.declared.calls.VerifyFault.TheVariants.{Memory};
+
+use crate::briefs::push_brief;
+use crate::difference::first_difference;
+use crate::saying::said;
+use alias_base::Text;
+use alias_cert_text::{CertFault, read_certificate};
+use alias_certificate::{Certificate, CheckFault};
+use alias_effects::Solved;
+use alias_follow::{Followed, follow};
+use alias_rules::check::Checked;
+use std::alloc::{AllocError, Global};
+
+/// Why a text isn't the one that follows for a unit.
+#[derive(Drop)]
+pub enum VerifyFault {
+    /// The line of this number, from 1, is the first that isn't in the grammar of certificates.
+    BadLine(usize),
+    /// What the text gives can't be followed, for this reason first.
+    Rejected(CheckFault),
+    /// The line of this number, from 1, is the first that differs, and this line follows there: an empty one, where
+    /// nothing does.
+    Differs { number: usize, line: Text },
+    /// Out of memory, which can come at any growth.
+    Memory(AllocError),
+}
+
+impl From<AllocError> for VerifyFault {
+    ghost from_gives = { λ e fault. fault ≡ Memory e };
+
+    fn from(e: AllocError) -> VerifyFault {
+        VerifyFault::Memory(e)
+    }
+}
+
+impl From<CertFault> for VerifyFault {
+    ghost from_gives = { λ fault found. found ≡ text_fault_of fault };
+
+    fn from(fault: CertFault) -> VerifyFault {
+        match fault {
+            CertFault::BadLine { number } => VerifyFault::BadLine(number),
+            CertFault::Memory(e) => VerifyFault::Memory(e),
+        }
+    }
+}
+
+impl From<CheckFault> for VerifyFault {
+    ghost from_gives = { λ fault found. found ≡ check_fault_of fault };
+
+    fn from(fault: CheckFault) -> VerifyFault {
+        match fault {
+            CheckFault::Memory(e) => VerifyFault::Memory(e),
+            rejected => VerifyFault::Rejected(rejected),
+        }
+    }
+}
+
+/// The text of what follows for a unit.
+fn text_of(alloc: Global, followed: &Followed) -> Result<Text, AllocError>
+    ensures { IfOk result (λ text. text ≡ brief_text followed.now) }
+{
+    let mut text = Text::new(alloc);
+    push_brief(alloc, &mut text, followed)?;
+    Ok(text)
+}
+
+/// The text that follows for a unit that is well formed from the entry states and the temporaries of these solutions, as
+/// those of its inference. The unit is dropped on `Err`. Of what an inference hands out there is a text, unless no number is
+/// left for a report, or memory runs out.
+pub fn brief(alloc: Global, unit: Checked, solved: &[Solved]) -> Result<Text, CheckFault>
+    ensures { Gives is_memory (brief_of solved.now unit) result }
+{
+    let given = said(alloc, solved)?;
+    let followed = follow(alloc, unit, &given)?;
+    let text = text_of(alloc, &followed)?;
+    Ok(text)
+}
+
+/// How many functions the unit has, where the text is that of what follows for it.
+fn compare(alloc: Global, followed: &Followed, text: &[u8]) -> Result<usize, VerifyFault>
+    ensures { Gives verify_memory (compared_by (length followed.now.inferred.solved) (first_difference (brief_text followed.now) text.now)) result }
+{
+    let expected = text_of(alloc, followed)?;
+    match first_difference(expected.as_str(), text) {
+        None => Ok(followed.inferred.solved.len()),
+        Some(difference) => Err(VerifyFault::Differs {
+            number: difference.number,
+            line: Text::from_str(alloc, difference.line)?,
+        }),
+    }
+}
+
+/// How many functions the unit has, where the text is what follows for it from what is given of its functions.
+fn verify_given(
+    alloc: Global,
+    unit: Checked,
+    given: &Certificate,
+    text: &[u8],
+) -> Result<usize, VerifyFault>
+    ensures { FollowsAs given.now text.now unit result }
+{
+    let followed = follow(alloc, unit, given)?;
+    compare(alloc, &followed, text)
+}
+
+/// How many functions a unit that is well formed has, where the text is exactly the one that follows for it from the entry
+/// states and the temporaries that the text itself says: then these solve the flow of each function. The unit is dropped on
+/// `Err`.
+///
+/// Each reached block of a function steps once. docs/MODEL.md has the rules, and docs/FORMAT.md the text.
+pub fn verify(alloc: Global, unit: Checked, text: &[u8]) -> Result<usize, VerifyFault>
+    ensures { Verifies text.now unit result }
+{
+    let given = read_certificate(alloc, text)?;
+    verify_given(alloc, unit, &given, text)
+}

@@ -1,0 +1,5 @@
+pub mod Running
+pub mod Coming
+pub mod Levels
+pub mod Whole
+pub mod Telling

@@ -1,0 +1,4 @@
+pub mod lines
+pub mod function
+pub mod Functions
+pub mod Units

@@ -1,0 +1,3 @@
+pub mod Givens
+pub mod Faults
+pub mod Functions
