@@ -4,7 +4,8 @@
 #include <pthread.h>
 #include <unistd.h>
 
-enum { MOST_THREADS = 4 };
+/* What a thread is counted as where the collector is told how much stands outside its heap, in bytes. */
+enum { MOST_THREADS = 4, OF_A_THREAD = 1 << 16 };
 
 typedef struct Item {
     struct Item *next;
@@ -17,6 +18,7 @@ typedef struct {
     char *words;
     Item *first, *last, *waiting;
     uint32_t count;
+    int64_t told; /* how much the collector knows of, in bytes */
     pthread_mutex_t lock;
     pthread_cond_t change; /* a call was put in, or none will be */
     int is_closed, idle, threads;
@@ -90,16 +92,30 @@ static void end(Calls *calls, int wants_all) {
     }
 }
 
-static void finalize(napi_env env, void *given, void *hint) {
-    (void)env;
-    (void)hint;
-    Calls *calls = (Calls *)given;
-    end(calls, 0);
+/* Tells the collector that so much more stands outside its heap, or less. Without that it would leave calls whose answers nobody asks for, with their threads. */
+static void tell(napi_env env, Calls *calls, int64_t more) {
+    int64_t all;
+    if (napi_adjust_external_memory(env, more, &all) == napi_ok) {
+        calls->told += more;
+    }
+}
+
+/* Gives back all calls, which have ended. */
+static void clear(napi_env env, Calls *calls) {
     for (Item *item = calls->first, *next; item != NULL; item = next) {
         next = item->next;
         jirrambeo_free(item->call.text);
         free(item);
     }
+    calls->first = NULL;
+    tell(env, calls, -calls->told);
+}
+
+static void finalize(napi_env env, void *given, void *hint) {
+    (void)hint;
+    Calls *calls = (Calls *)given;
+    end(calls, 0);
+    clear(env, calls);
     pthread_cond_destroy(&calls->change);
     pthread_mutex_destroy(&calls->lock);
     free(calls->words);
@@ -151,10 +167,12 @@ static Calls *calls_of(napi_env env, size_t wanted, napi_value *arguments, napi_
 }
 
 /* Puts in the call of an item behind which its input stands. */
-static void put_item(Calls *calls, Item *item, size_t length) {
+static void put_item(napi_env env, Calls *calls, Item *item, size_t length) {
     item->next = NULL;
     item->call = (Call){.words = calls->words, .input = item->input, .input_length = length};
+    int threads = calls->threads;
     append(calls, item);
+    tell(env, calls, (int64_t)(sizeof *item + length) + (calls->threads - threads) * OF_A_THREAD);
 }
 
 napi_value put(napi_env env, napi_callback_info info) {
@@ -169,7 +187,7 @@ napi_value put(napi_env env, napi_callback_info info) {
         return other_error(env, "memory ran out");
     }
     memcpy(item->input, call.input, call.input_length);
-    put_item(calls, item, call.input_length);
+    put_item(env, calls, item, call.input_length);
     return NULL;
 }
 
@@ -203,7 +221,7 @@ napi_value put_codes(napi_env env, napi_callback_info info) {
         return NULL;
     }
     switch (write_codes(&given, offsetof(Item, input), &block, &length)) {
-    case WRITTEN: put_item(calls, (Item *)block, length); return NULL;
+    case WRITTEN: put_item(env, calls, (Item *)block, length); return NULL;
     case WRONG_CODES: return type_error(env, "the codes are those of the front end");
     default: return other_error(env, "memory ran out");
     }
@@ -228,5 +246,6 @@ napi_value answers(napi_env env, napi_callback_info info) {
             return NULL;
         }
     }
+    clear(env, calls);
     return list;
 }
