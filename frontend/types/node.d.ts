@@ -13,6 +13,8 @@ declare module 'node:os';
 declare module 'node:path';
 declare module 'node:readline';
 declare module 'node:test';
+declare module 'node:v8';
+declare module 'node:vm';
 declare module 'node:worker_threads';
 declare const process: any;
 declare const Buffer: any;

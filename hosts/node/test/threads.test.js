@@ -122,10 +122,12 @@ test('100,000 calls grow nothing', {skip: skip || (process.env.JIRRAMBEO_FEW ? '
     }
   };
   await calls(10000);
+  collect();
   const before = process.memoryUsage().rss;
   await calls(100000);
+  collect();
   const grown = process.memoryUsage().rss - before;
-  assert.ok(grown < 32 << 20, `${grown} bytes`); // the collector's own swing is below that; each call's text alone would be 200 MB
+  assert.ok(grown < 32 << 20, `${grown} bytes`); // each call's text alone would be 200 MB
 });
 
 /** Ends when the worker has. @param {string} code @param {number} after milliseconds, when it is ended, if it hasn't by itself */
