@@ -4,11 +4,12 @@
  * What the plugin adds to ESLint's own time: bench/plugin.js [FILE..]
  *
  * Of each file, or of two made ones of 1,000 lines (143 small functions; 50 components), it prints in milliseconds what a
- * run with the recommended rules takes beyond one without rules: by the clock, and in brackets of the processor, of the
- * main thread and of all (which infer, compile and collect meanwhile). That of the first file of a process, and of a file
- * after others (the least and the middle of ROUNDS=12); and what it takes to load the plugin, which is in none of them. The
- * plugin is what `npm pack` makes of it. Without the built addon it is the checkout's, units are made and nothing is
- * inferred, and it says so. NODE_PATH=/usr/share/nodejs where Debian has ESLint.
+ * run with the recommended rules takes beyond one with a rule that does nothing: by the clock, and in brackets of the
+ * processor, of the main thread and of all (which infer, compile and collect meanwhile). That of the first file of a
+ * process, in which ESLint's own code runs for the first time too: the middle of PROCESSES=8 with the rules beyond the
+ * middle of as many without, in turns. That of a file after others (the least and the middle of ROUNDS=12). And what it takes
+ * to load the plugin, which is in none of them. The plugin is what `npm pack` makes of it. Without the built addon it is the
+ * checkout's, units are made and nothing is inferred, and it says so. NODE_PATH=/usr/share/nodejs where Debian has ESLint.
  */
 const fs = require('fs');
 const os = require('os');
@@ -18,6 +19,7 @@ const {execFileSync, spawnSync} = require('child_process');
 const CHECKOUT = path.join(__dirname, '../eslint-plugin');
 const {ADDON} = require(path.join(CHECKOUT, 'src/parts.js'));
 const ROUNDS = Number(process.env.ROUNDS || 12);
+const PROCESSES = Number(process.env.PROCESSES || 8);
 const OPTIONS = {parserOptions: {ecmaVersion: 2020, sourceType: 'module', ecmaFeatures: {jsx: true}}};
 
 const small = i => `function helper${i}(list, key) {
@@ -80,8 +82,16 @@ function withoutInference(folder) {
   return true;
 }
 
-/** @param {string} text @param {string} folder of the plugin */
-function measured(text, folder) {
+/** The middle by each clock. @param {Array<Array<number>>} all */
+function middle(all) {
+  return all[0].map((_, clock) => all.map(one => one[clock]).sort((a, b) => a - b)[all.length >> 1]);
+}
+
+/**
+ * ESLint with the plugin: what loading that took, and a run with its rules and one with a rule that does nothing.
+ * @param {string} text @param {string} folder of the plugin
+ */
+function prepared(text, folder) {
   const {Linter} = /** @type {any} */ (require('eslint'));
   const isBare = withoutInference(folder);
   const begun = clocks();
@@ -89,35 +99,48 @@ function measured(text, folder) {
   const loading = beyond(clocks(), begun);
   const linter = new Linter();
   for (const [name, rule] of Object.entries(plugin.rules)) linter.defineRule(`jirrambeo/${name}`, rule);
+  linter.defineRule('nothing', {create: () => ({})});
   const timed = rules => {
     const begun = clocks();
     const [fatal] = linter.verify(text, {...OPTIONS, rules}, {filename: 'file.jsx'}).filter(one => one.fatal);
     if (fatal) throw new Error(fatal.message);
     return beyond(clocks(), begun);
   };
-  const bare = () => timed({});
-  const full = () => timed(plugin.configs.recommended.rules);
-  for (let i = 0; i < 3; i++) bare();
-  const first = beyond(full(), bare());
-  for (let i = 0; i < 4; i++) full();
-  const rounds = Array.from({length: ROUNDS}, () => beyond(full(), bare()));
-  const later = first.map((_, clock) => rounds.map(round => round[clock]).sort((a, b) => a - b));
-  return {isBare, loading, first, least: later.map(all => all[0]), middle: later.map(all => all[ROUNDS >> 1])};
+  return {isBare, loading, full: () => timed(plugin.configs.recommended.rules), bare: () => timed({nothing: 'error'})};
 }
+
+/** What a process measures: its first file with the rules or without, or files after others. */
+const MEASURES = {
+  full: ({full, loading, isBare}) => ({isBare, loading, first: full()}),
+  bare: ({bare}) => ({first: bare()}),
+  later({full, bare}) {
+    for (let i = 0; i < 5; i++) beyond(full(), bare());
+    const rounds = Array.from({length: ROUNDS}, () => beyond(full(), bare()));
+    return {least: rounds[0].map((_, clock) => Math.min(...rounds.map(round => round[clock]))), middle: middle(rounds)};
+  },
+};
 
 /** The texts, each with its name. @param {Array<string>} files */
 function texts(files) {
   return files.length > 0 ? Object.fromEntries(files.map(file => [file, fs.readFileSync(file, 'utf8')])) : MADE;
 }
 
+/** What a process of its own measures. @param {string} what @param {string} text @param {string} folder of the plugin */
+function measured(what, text, folder) {
+  const {stdout} = spawnSync(process.execPath, [__filename, '--one', what, folder], {input: text, encoding: 'utf8', stdio: ['pipe', 'pipe', 'inherit']});
+  return JSON.parse(stdout);
+}
+
 /** A line for each file. @param {Array<string>} files @param {string} folder of the plugin */
 function print(files, folder) {
   for (const [name, text] of Object.entries(texts(files))) {
-    const {stdout} = spawnSync(process.execPath, [__filename, '--one', folder], {input: text, encoding: 'utf8', stdio: ['pipe', 'pipe', 'inherit']});
-    const {isBare, loading, first, least, middle} = JSON.parse(stdout);
-    const told = [['first file', first], ['after others, least', least], ['middle', middle], ['loading', loading]].map(([what, [wall, main, all]]) => (
-      `${what} ${wall.toFixed(0)} (${main.toFixed(0)}, ${all.toFixed(0)})`));
-    console.log(`${name}, ${text.split('\n').length - 1} lines: ${told.join(', ')}${isBare ? ' (without the inference)' : ''}`);
+    const turns = Array.from({length: PROCESSES}, () => [measured('bare', text, folder), measured('full', text, folder)]);
+    const fulls = turns.map(([, full]) => full);
+    const first = beyond(middle(fulls.map(one => one.first)), middle(turns.map(([bare]) => bare.first)));
+    const later = measured('later', text, folder);
+    const told = Object.entries({'first file': first, 'after others, least': later.least, middle: later.middle, loading: middle(fulls.map(one => one.loading))})
+      .map(([what, [wall, main, all]]) => `${what} ${wall.toFixed(0)} (${main.toFixed(0)}, ${all.toFixed(0)})`);
+    console.log(`${name}, ${text.split('\n').length - 1} lines: ${told.join(', ')}${fulls[0].isBare ? ' (without the inference)' : ''}`);
   }
 }
 
@@ -133,6 +156,6 @@ function packed(run) {
   }
 }
 
-const [what, ...more] = process.argv.slice(2);
-if (what === '--one') process.stdout.write(JSON.stringify(measured(fs.readFileSync(0, 'utf8'), more[0])));
-else packed(folder => print(process.argv.slice(2), folder));
+const [asked, what, folder] = process.argv.slice(2);
+if (asked === '--one') process.stdout.write(JSON.stringify(MEASURES[what](prepared(fs.readFileSync(0, 'utf8'), folder))));
+else packed(made => print(process.argv.slice(2), made));
