@@ -14,7 +14,7 @@ use Rattle.alias_follow.specs.Units.{UnitFollowing, unit_followed}
 use Rattle.alias_unit_completeness.specs.Refusals.{IsForwardUnit}
 use Rattle.alias_brief.specs.Briefs.{brief_text}
 use Rattle.alias_brief.specs.Differences.{whole_lines, first_difference}
-use Rattle.alias_brief.specs.Verifying.{check_fault_of, text_fault_of, compared_by, compared, followed_so, read_so, verified}
+use Rattle.alias_brief.specs.Verifying.{check_fault_of, compared_by, compared, followed_so, read_so, verified}
 use Rattle.alias_brief.specs.declared.calls.VerifyFault.{VerifyFault}
 use Rattle.alias_forward_laws.specs.Forward.{inferred_text, IsInferredText, ForwardTextsAreInferred, IsFollowedAs}
 use Rattle.alias_forward_laws.specs.Forward.{ForwardUnitsFollow, InferredTextsAreAccepted}

@@ -1,8 +1,8 @@
 -- What follows for a forward function is what its effects pass ends with.
 use Rattle.std.proofs.Common.{◌≡◌, ℕ, ◌+◌, Bool, true, false, if◌then◌else◌, List, [], ◌∷◌, ◌++◌, length, get_or, set, replicate}
-use Rattle.std.proofs.Common.{Option, Some, None, Result, Ok, Err, is_some, zero, suc, refl, ap, sym, ◌∙◌, subst, arith}
+use Rattle.std.proofs.Common.{Option, Some, None, Result, Ok, Err, is_some, zero, suc, refl, ap, sym, ◌∙◌, arith}
 use Rattle.std.proofs.lemmas.List.{length-set, length-replicate}
-use Rattle.std.specs.Prelude.{slice_get, slice_index_or}
+use Rattle.std.specs.Prelude.{slice_index_or}
 use Rattle.std.specs.List.{AllByRecursion}
 use Rattle.alias_base.specs.Answer.{◌>>=◌}
 use Rattle.alias_base.specs.Find.{value_at}
@@ -15,8 +15,7 @@ use Rattle.alias_lattice.specs.JoinLaws.{state_laws}
 use Rattle.alias_lattice.specs.ProperStates.{StateProper}
 use Rattle.alias_lattice.specs.States.{State, empty_state, state_join, state_below}
 use Rattle.alias_flow.specs.Machine.{Rules, SolverState, VisitLog, End, FlowLaws, up}
-use Rattle.alias_flow.specs.Machine as end
-use Rattle.alias_flow.specs.Solutions.{goes_forward, IsForward}
+use Rattle.alias_flow.specs.Solutions.{IsForward}
 use Rattle.alias_flow.specs.check.Reached.{reached_marks}
 use Rattle.alias_flow.specs.declared.check.fault.Unsolved.{Unsolved}
 use Rattle.alias_flow.specs.declared.check.fault.Unsolved.TheVariants as unsolved
@@ -46,9 +45,9 @@ use Rattle.alias_follow.specs.declared.lines.entering.Unfollowed.TheVariants as 
 use Rattle.alias_follow.specs.function.Faults.{pass_fault, faulted}
 use Rattle.alias_follow.specs.function.Functions.{is_forward, followed_end, function_followed}
 use Rattle.alias_follow.specs.function.Givens.{kept, limit, lacking, tables_begun, entering}
-use Rattle.alias_follow.specs.lines.Entering.{entering_by, entered_by}
+use Rattle.alias_follow.specs.lines.Entering.{entered_by}
 use Rattle.alias_follow.specs.lines.First.{first_lines, line_at}
-use Rattle.alias_forward_laws.proofs.Passage.{marked_of, SameEnd, EndsBeside, solves, refuses, passes_as_rounds}
+use Rattle.alias_forward_laws.proofs.Passage.{marked_of, EndsBeside, solves, refuses, passes_as_rounds}
 
 -- ---- what is entered where nothing is given
 

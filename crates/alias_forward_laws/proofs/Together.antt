@@ -1,5 +1,5 @@
 -- A forward function is followed in step with its analysis.
-use Rattle.std.proofs.Common.{◌≡◌, Bool, true, false, List, [], ◌∷◌, ◌++◌, Option, Some, None, Result, Ok, Err, is_some, refl}
+use Rattle.std.proofs.Common.{◌≡◌, true, false, List, [], ◌∷◌, ◌++◌, Some, None, Result, Ok, Err, is_some, refl}
 use Rattle.std.proofs.Common.{map, ap, sym, ◌∙◌, subst}
 use Rattle.std.proofs.lemmas.List.{map-append}
 use Rattle.std.specs.List.{AllByRecursion}
@@ -12,11 +12,10 @@ use Rattle.alias_hir.specs.declared.error.InferError.{InferError}
 use Rattle.alias_hir.specs.declared.hir.HirFunction.{HirFunction}
 use Rattle.alias_flow.specs.Solutions.{goes_forward}
 use Rattle.alias_step.specs.block.Contexts.{context_of}
-use Rattle.alias_effects.specs.Inference.{pass_end, end_of, env_after}
+use Rattle.alias_effects.specs.Inference.{end_of, env_after}
 use Rattle.alias_effects.specs.Numbered.{numbered as as_flow}
 use Rattle.alias_effects.specs.Recording.{with_effects_of}
 use Rattle.alias_effects.specs.declared.output.PassEnd.{PassEnd}
-use Rattle.alias_effects.specs.declared.solved.Solved.{Solved}
 use Rattle.alias_range_pass.specs.Passes.{Ranged, range_pass}
 use Rattle.alias_nested.specs.Analysis.{named, naming, numbered, Analysed, Analysis, analysis, effects_analysed, completed}
 use Rattle.alias_nested.specs.Analysis.{completed_with, function_analysed}
@@ -28,9 +27,8 @@ use Rattle.alias_certificate.specs.declared.fault.CheckFault.{CheckFault}
 use Rattle.alias_cert.specs.Functions.{range_fault, ranging}
 use Rattle.alias_follow.specs.declared.function.follow.FunctionEnd.{FunctionEnd}
 use Rattle.alias_follow.specs.Functions.{FollowedFunction, Following, following, followed_function, effects_followed}
-use Rattle.alias_follow.specs.Functions.{nested_finished, nested_followed, RootFollowing, root_ended, root_finished}
+use Rattle.alias_follow.specs.Functions.{nested_finished, nested_followed, RootFollowing, root_finished}
 use Rattle.alias_follow.specs.Functions.{root_followed}
-use Rattle.alias_follow.specs.function.Functions.{function_followed}
 use Rattle.alias_follow.specs.function.Givens.{given_of}
 use Rattle.alias_forward_laws.proofs.Stepping.{IsBare, Ends, FollowsPass, follows, fails, follows_pass}
 

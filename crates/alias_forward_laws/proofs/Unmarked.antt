@@ -1,5 +1,5 @@
 -- In a forward unit no function below the root is marked.
-use Rattle.std.proofs.Common.{◌≡◌, ℕ, ◌+◌, ◌≤◌, Bool, true, false, if◌then◌else◌, List, [], ◌∷◌, Option, Some, None}
+use Rattle.std.proofs.Common.{◌≡◌, ℕ, ◌+◌, ◌≤◌, Bool, true, false, if◌then◌else◌, [], Option, Some, None}
 use Rattle.std.proofs.Common.{Result, Ok, Err, is_some, length, refl, ap, sym, ◌∙◌, subst, arith}
 use Rattle.std.specs.Prelude.{⊤, nat_le, slice_get}
 use Rattle.alias_base.specs.Answer.{◌>>=◌}
@@ -28,9 +28,8 @@ use Rattle.alias_range_pass.specs.Refusals.{unreplaced, none_unreplaced, listing
 use Rattle.alias_range_pass.specs.places.Keeping.{but_context}
 use Rattle.alias_range_pass.specs.summary.Summaries.{tracked}
 use Rattle.alias_rules.specs.Fitting.{function_fits}
-use Rattle.alias_rules.specs.Functions.{rules_hold, of_function}
+use Rattle.alias_rules.specs.Functions.{of_function}
 use Rattle.alias_rules.specs.Nesting.{created_in, created_at, times}
-use Rattle.alias_rules.specs.RuleLaws.{rules_make_function_fit}
 use Rattle.alias_rules.specs.declared.rules.Rule.TheVariants.{Distinct}
 use Rattle.alias_rules.specs.function_rules.Rules.{first_again, own_identifiers}
 use Rattle.alias_fitting_laws.specs.pruning.BelowLaws.{below_distinct}
@@ -43,15 +42,15 @@ use Rattle.alias_nested.specs.Order.{innermost_first}
 use Rattle.alias_nesting_laws.specs.FittingLaws.{Fitted, fitted}
 use Rattle.alias_answer_laws.proofs.order.Levels.{fits_within}
 use Rattle.alias_validate.specs.Levels.{is_within}
-use Rattle.alias_completeness.specs.summaries.Faces.{HasPlaces, TheseHaveFaces}
-use Rattle.alias_unit_completeness.specs.Answering.{Meets, AllMeet, Below}
+use Rattle.alias_completeness.specs.summaries.Faces.{HasPlaces}
+use Rattle.alias_unit_completeness.specs.Answering.{Meets, Below}
 use Rattle.alias_unit_completeness.specs.Beginning.{IsBelow, below_fit, nested_entry, root_entry}
 use Rattle.alias_unit_completeness.specs.Moments.{not_again, returns_within}
 use Rattle.alias_unit_completeness.specs.Passing.{IsUnsettled, forward_is_settled}
 use Rattle.alias_unit_completeness.specs.Refusals.{IsForwardUnit}
-use Rattle.alias_unit_completeness.specs.Standing.{Stands, stands_self}
+use Rattle.alias_unit_completeness.specs.Standing.{stands_self}
 use Rattle.alias_unit_completeness.specs.Turning.{turns_stated}
-use Rattle.alias_unit_completeness.specs.Walking.{After, Once, Tree, Turned, goes}
+use Rattle.alias_unit_completeness.specs.Walking.{Once, Tree, Turned, goes}
 use Rattle.alias_forward_laws.proofs.Walking.{IsApt, Marked, apt, unapt}
 
 -- ---- no range pass is unsettled

@@ -24,7 +24,7 @@ use Rattle.alias_certificate.specs.declared.fault.CheckFault.{CheckFault}
 use Rattle.alias_follow.specs.Functions.{Following, nested_followed}
 use Rattle.alias_follow.specs.Units.{each as each_followed, put_back as put_back_followed, taken_followed, found_followed}
 use Rattle.alias_follow.specs.Units.{slot_followed, below_followed}
-use Rattle.alias_unit_completeness.specs.Answering.{One, Taken, Found, InSlot, Below}
+use Rattle.alias_unit_completeness.specs.Answering.{Taken, Found, InSlot, Below}
 use Rattle.alias_unit_completeness.specs.Passing.{IsUnsettled}
 use Rattle.alias_forward_laws.proofs.Together.{Together, go, stop, InStep, WithFunction, nested_together}
 

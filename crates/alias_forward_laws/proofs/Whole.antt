@@ -2,7 +2,6 @@
 use Rattle.std.proofs.Common.{◌≡◌, true, List, [], ◌∷◌, Result, Ok, length, map, refl, ap, sym, ◌∙◌}
 use Rattle.std.proofs.lemmas.List.{length-map}
 use Rattle.std.specs.List.{AllByRecursion}
-use Rattle.alias_base.specs.Answer.{◌>>=◌}
 use Rattle.alias_hir.specs.declared.effect.AliasingEffect.{AliasingEffect}
 use Rattle.alias_hir.specs.declared.env.Environment.{Environment}
 use Rattle.alias_hir.specs.declared.env.Unit.{Unit as HirUnit}
@@ -18,13 +17,12 @@ use Rattle.alias_nested.specs.Units.{UnitAnalysis, all_analysed, root_analysed, 
 use Rattle.alias_nested.specs.declared.infer.Inferred.{Inferred}
 use Rattle.alias_certificate.specs.declared.certificate.CertFunction.{CertFunction}
 use Rattle.alias_certificate.specs.declared.fault.CheckFault.{CheckFault}
-use Rattle.alias_follow.specs.declared.function.follow.FunctionBeyond.{FunctionBeyond}
 use Rattle.alias_follow.specs.Functions.{FollowedFunction, Following, following, root_followed}
 use Rattle.alias_follow.specs.Units.{below_followed, all_followed, UnitFollowing, handed_out as as_followed, unit_followed}
 use Rattle.alias_unit_completeness.specs.Answering.{Below}
 use Rattle.alias_unit_completeness.specs.Refusals.{IsForwardUnit}
 use Rattle.alias_forward_laws.proofs.Stepping.{IsBare}
-use Rattle.alias_forward_laws.proofs.Together.{Together, go, stop, together_then, InStep, RootInStep, root_together}
+use Rattle.alias_forward_laws.proofs.Together.{Together, go, together_then, InStep, RootInStep, root_together}
 use Rattle.alias_forward_laws.proofs.Unmarked.{none_marked, root_forward, root_has_entry}
 use Rattle.alias_forward_laws.proofs.Walking.{Marked, Walked, marked, walked, below_walks}
 

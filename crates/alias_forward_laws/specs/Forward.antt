@@ -1,5 +1,5 @@
 -- Of a unit whose functions are all forward one text alone is accepted: that of what is inferred of it.
-use Rattle.std.specs.Prelude.{◌≡◌, ℕ, List, Result, Ok, length}
+use Rattle.std.specs.Prelude.{◌≡◌, ℕ, List, Ok, length}
 use Rattle.alias_hir.specs.declared.env.Unit.{Unit as HirUnit}
 use Rattle.alias_rules.specs.Functions.{rules_hold}
 use Rattle.alias_nested.specs.Analysis.{Analysed}
