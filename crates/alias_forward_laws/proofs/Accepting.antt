@@ -38,7 +38,8 @@ module _ (u : HirUnit) (text : List ℕ) (count : ℕ) where
   accepted_so : (s : Result UnitFollowing CheckFault) → Together UnitInStep (unit_analysed u) s
       → followed_so text s ≡ Ok count → IsInferredText u text
   accepted_so s (stop e d is so) h =
-      let no : ◌≡◌ {A = Result ℕ VerifyFault} (Err (check_fault_of d)) (Ok count) = sym (ap (followed_so text) so) ∙ h in cc
+      let no : ◌≡◌ {A = Result ℕ VerifyFault} (Err (check_fault_of d)) (Ok count) =
+      sym (ap (followed_so text) so) ∙ h in cc
   accepted_so s (go x y is so a) h =
       let passes : compared text y ≡ Ok count = sym (ap (followed_so text) so) ∙ h in
       let same : first_difference (brief_text y.followed) text ≡ None =

@@ -49,4 +49,5 @@ lines_same n (line ∷ lines) (other ∷ others) none =
 
 -- texts of the same lines are the same
 pub texts_same : (n : ℕ) (a b : List ℕ) → difference_from n (whole_lines a) (whole_lines b) ≡ None → a ≡ b
-texts_same n a b none = sym (text_joined a) ∙ ap joined (lines_same n (whole_lines a) (whole_lines b) none) ∙ text_joined b
+texts_same n a b none =
+    sym (text_joined a) ∙ ap joined (lines_same n (whole_lines a) (whole_lines b) none) ∙ text_joined b

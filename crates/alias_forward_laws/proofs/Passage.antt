@@ -1,4 +1,5 @@
--- Where all edges go forward, and each block is entered with what arrives, one pass over the blocks does what the rounds do.
+-- Where all edges go forward, and each block is entered with what arrives, one pass over the blocks does what the
+-- rounds do.
 use Rattle.std.proofs.Common.{◌≡◌, ℕ, ◌+◌, ◌<◌, ◌≤◌, ◌≢◌, ⊎_elim, inl, inr, Bool, true, false, if◌then◌else◌}
 use Rattle.std.proofs.Common.{List, [], ◌∷◌, ◌++◌, length, get_or, set, replicate, ext_get_or, Option, Some, None}
 use Rattle.std.proofs.Common.{Result, Ok, Err, zero, suc, refl, ap, sym, ◌∙◌, subst, arith, append-nil, append_assoc}
@@ -26,8 +27,10 @@ use Rattle.alias_flow.proofs.OneRound.{Ahead, skipped, moved, quiet, begun, inpu
 use Rattle.alias_flow.proofs.DirtyFlags.{solved_by_work_list, fault_by_work_list}
 use Rattle.alias_flow.proofs.check.Marks.{marked_within, rounds_length, reached_is_marked, marked_is_reached}
 use Rattle.alias_passage.specs.Passes.{back_edges, or_empty, Passing, passed, outcome_passed, entered}
-use Rattle.alias_passage.specs.Passes.{state_passed, block_passed, turn_passed, blocks_passed, passage_begun, flow_passed}
-use Rattle.alias_passage.proofs.Forward.{IsThere, forward_all, sends_long, sends_stay, sends_there, sends_other, sends_same}
+use Rattle.alias_passage.specs.Passes.{state_passed, block_passed, turn_passed, blocks_passed}
+use Rattle.alias_passage.specs.Passes.{passage_begun, flow_passed}
+use Rattle.alias_passage.proofs.Forward.{IsThere, forward_all, sends_long, sends_stay, sends_there}
+use Rattle.alias_passage.proofs.Forward.{sends_other, sends_same}
 
 -- ---- lists
 
@@ -74,7 +77,8 @@ module _ {P B T K C D : Type 0} {proper : P → Type 0} {join : P → P → P} {
 
   marks_long : length marks ≡ rules.blocks
   marks_long =
-      rounds_length rules.flow.edges rules.blocks rules.blocks (set (replicate rules.blocks false) rules.flow.entry true)
+      rounds_length rules.flow.edges rules.blocks rules.blocks
+      (set (replicate rules.blocks false) rules.flow.entry true)
       ∙ length-set (replicate rules.blocks false) rules.flow.entry true ∙ length-replicate rules.blocks false
 
   -- before the turn of i, where n blocks are left: what arrives at later blocks is what was sent to them, and earlier
@@ -182,7 +186,8 @@ module _ {P B T K C D : Type 0} {proper : P → Type 0} {join : P → P → P} {
           ap (λ o. state_passed join below empty rules enter unentered lacks i u (enter i (or_empty empty o)))
           (a.arriving i (omega arith) ∙ was)
           ∙ ap (state_passed join below empty rules enter unentered lacks i u) (enters i x)
-          ∙ ap (λ t. outcome_passed join below empty rules enter unentered lacks i came (rules.flow.step t i x)) a.tables
+          ∙ ap (λ t. outcome_passed join below empty rules enter unentered lacks i came (rules.flow.step t i x))
+          a.tables
 
       -- and the rounds visit it
       visits_so : work_list_visit join below rules w i ≡ work_list_outcome join below rules w i
@@ -283,7 +288,9 @@ module _ {P B T K C D : Type 0} {proper : P → Type 0} {join : P → P → P} {
         }
           where
             here : entry_at (set u.progress.entries i (Some x)) i ≡ Some x
-            here = let entries_long = a.entries_long in let inside : i < length u.progress.entries = omega (arith, entries_long, within) in
+            here =
+                let entries_long = a.entries_long in
+                let inside : i < length u.progress.entries = omega (arith, entries_long, within) in
                 get_or-set_same u.progress.entries i (Some x) None inside
 
       outcome_beside : (o : Outcome P T K C) → rules.flow.step w.tables i x ≡ o
@@ -306,12 +313,14 @@ module _ {P B T K C D : Type 0} {proper : P → Type 0} {join : P → P → P} {
     turn_if true m =
         let h = reached_has m in
         let dirty : is_dirty l w.progress i ≡ true = a.ahead.ahead i h.0 (omega arith) h.1 in
-        subst (λ t. RunsBeside (i + 1) n (if t then block_passed join below empty rules enter unentered lacks i u else Ok u)
+        subst (λ t. RunsBeside (i + 1) n
+        (if t then block_passed join below empty rules enter unentered lacks i u else Ok u)
         (work_list_turn join below rules w i)) (sym m)
         (subst (λ t. RunsBeside (i + 1) n (block_passed join below empty rules enter unentered lacks i u)
         (if t then work_list_visit join below rules w i else Going w)) (sym dirty) (visited_beside m h.0 h.1))
     turn_if false m =
-        subst (λ t. RunsBeside (i + 1) n (if t then block_passed join below empty rules enter unentered lacks i u else Ok u)
+        subst (λ t. RunsBeside (i + 1) n
+        (if t then block_passed join below empty rules enter unentered lacks i u else Ok u)
         (work_list_turn join below rules w i)) (sym m)
         (subst (λ t. RunsBeside (i + 1) n (Ok u) (if t then work_list_visit join below rules w i else Going w))
         (sym (unreached_quiet m)) (goes u w refl refl (skipped_beside m)))

@@ -1,5 +1,6 @@
 -- What follows for a forward function is what its effects pass ends with.
-use Rattle.std.proofs.Common.{◌≡◌, ℕ, ◌+◌, Bool, true, false, if◌then◌else◌, List, [], ◌∷◌, ◌++◌, length, get_or, set, replicate}
+use Rattle.std.proofs.Common.{◌≡◌, ℕ, ◌+◌, Bool, true, false, if◌then◌else◌, List, [], ◌∷◌, ◌++◌}
+use Rattle.std.proofs.Common.{length, get_or, set, replicate}
 use Rattle.std.proofs.Common.{Option, Some, None, Result, Ok, Err, is_some, zero, suc, refl, ap, sym, ◌∙◌, arith}
 use Rattle.std.proofs.lemmas.List.{length-set, length-replicate}
 use Rattle.std.specs.Prelude.{slice_index_or}
@@ -162,18 +163,22 @@ module _ (given : Option CertFunction) (id : Option FunctionId) (env : Environme
 
   function_is : function_followed given id env f b ≡ then_ends passing
   function_is = ap (λ t. tables_begun (kept t given) id env f >>= (λ tables.
-      faulted id env f.body.blocks (flow_passed state_join state_below empty_state rules (entering (kept t given) id env f)
+      faulted id env f.body.blocks (flow_passed state_join state_below empty_state rules
+      (entering (kept t given) id env f)
       unfollowed.State (lacking (limit t given)) (reached_marks rules) tables none)
       >>= (λ w. Ok (followed_end given id env f b w)))) ahead
 
   marks_long : length (reached_marks rules) ≡ length f.body.blocks
-  marks_long = rounds_length rules.flow.edges rules.blocks rules.blocks (set (replicate rules.blocks false) rules.flow.entry true)
+  marks_long =
+      rounds_length rules.flow.edges rules.blocks rules.blocks
+      (set (replicate rules.blocks false) rules.flow.entry true)
       ∙ length-set (replicate rules.blocks false) rules.flow.entry true ∙ length-replicate rules.blocks false
 
   both_end : (r : Result (Passing State Beyond TableLists BlockEffects) (Unsolved BlockRefusal Unfollowed))
-      (o : End (VisitLog State) TableLists BlockEffects BlockRefusal) → passing ≡ r → visits_end (context_of env f b) ≡ o
-      → EndsBeside state_laws laws forward empty_state enter unfollowed.State missing nothing_beyond (enters_bare env f id)
-      missing_none (tables_of env) r o → FollowsPass given id env f b
+      (o : End (VisitLog State) TableLists BlockEffects BlockRefusal) → passing ≡ r
+      → visits_end (context_of env f b) ≡ o
+      → EndsBeside state_laws laws forward empty_state enter unfollowed.State missing nothing_beyond
+      (enters_bare env f id) missing_none (tables_of env) r o → FollowsPass given id env f b
   both_end r o is so (solves u v passed solved same) =
       follows v (followed_end given id env f b u) (function_is ∙ ap then_ends (is ∙ passed))
       (ap (answer_of env f) (so ∙ solved) ∙ ap Ok (sym ends)) ends (record { forward = ahead; nothing = same.beyond })

@@ -60,7 +60,8 @@ module _ (u : HirUnit) (summary : List AliasingEffect) where
       ∙ ap (λ t. function_head s.function ++ found ++ temporary_lines t s.temporaries ++ lines) bare.forward
       ∙ ap (λ z. z ++ found ++ [] ++ lines) (sym (append-nil (function_head s.function)))
 
-  behind : (before rest : List FunctionBeyond) (b : FunctionBeyond) → slice_get (before ++ b ∷ rest) (length before) ≡ Some b
+  behind : (before rest : List FunctionBeyond) (b : FunctionBeyond) → slice_get (before ++ b ∷ rest) (length before)
+      ≡ Some b
   behind [] rest b = refl
   behind (x ∷ before) rest b = behind before rest b
 
@@ -91,5 +92,6 @@ module _ (u : HirUnit) (summary : List AliasingEffect) where
 pub brief_printed : (x : Followed) → length x.beyond ≡ length x.inferred.solved → AllByRecursion IsBare x.beyond
     → brief_text x
     ≡ inferred_text x.inferred
-brief_printed x long bare = ap (λ z. z ++ ranges_text x.inferred.unit.env.identifiers ++ reports_text x.inferred.reports)
+brief_printed x long bare =
+    ap (λ z. z ++ ranges_text x.inferred.unit.env.identifiers ++ reports_text x.inferred.reports)
     (functions_same x.inferred.unit x.inferred.summary [] x.beyond x.beyond 0 x.inferred.solved refl refl long bare)

@@ -17,7 +17,8 @@ use Rattle.alias_effects.specs.Numbered.{numbered as as_flow}
 use Rattle.alias_effects.specs.Recording.{with_effects_of}
 use Rattle.alias_effects.specs.declared.output.PassEnd.{PassEnd}
 use Rattle.alias_range_pass.specs.Passes.{Ranged, range_pass}
-use Rattle.alias_nested.specs.Analysis.{named, naming, numbered, Analysed, Analysis, analysis, effects_analysed, completed}
+use Rattle.alias_nested.specs.Analysis.{named, naming, numbered, Analysed, Analysis, analysis}
+use Rattle.alias_nested.specs.Analysis.{effects_analysed, completed}
 use Rattle.alias_nested.specs.Analysis.{completed_with, function_analysed}
 use Rattle.alias_nested.specs.Annotating.{annotated}
 use Rattle.alias_nested.specs.Finishing.{finished}
@@ -62,7 +63,8 @@ all_last A [] x a h = (h, tt)
 all_last A (y ∷ xs) x a h = (a.0, all_last A xs x a.1 h)
 
 -- one more function
-more_in_step : (env : Environment) (xs : List Analysed) (cs : List FollowedFunction) (x : Analysed) (y : FollowedFunction)
+more_in_step : (env : Environment) (xs : List Analysed) (cs : List FollowedFunction) (x : Analysed)
+    (y : FollowedFunction)
     → map (λ (z : Analysed). z.solved) xs ≡ map (λ (z : FollowedFunction). z.solved) cs
     → AllByRecursion (λ (z : FollowedFunction). IsBare z.beyond) cs → x.solved ≡ y.solved → IsBare y.beyond
     → InStep (analysis env (xs ++ x ∷ [])) (following env (cs ++ y ∷ []))
@@ -104,8 +106,8 @@ module _ (given : List CertFunction) (id : FunctionId) (f : HirFunction) where
         )
         (ap (λ r. naming id r >>= left) so) (ap (λ r. r >>= left_followed) is) (
           refl,
-          more_in_step (env_after env e.end) xs cs (own e.end) (followed_function (Some id) true f env e) solved bare refl
-              none,
+          more_in_step (env_after env e.end) xs cs (own e.end) (followed_function (Some id) true f env e) solved bare
+              refl none,
         )
     effects_so (fails x y is so) = stop (named id y) x (ap (λ r. naming id r >>= left) so)
         (ap (λ r. r >>= left_followed) is)
@@ -224,7 +226,8 @@ module _ (given : List CertFunction) (f : HirFunction) where
       → goes_forward (as_flow (context_of a.env f false)) ≡ true
       → Together RootInStep (root_analysed f a) (root_followed given f c)
   root_together a c h entry forward =
-      subst (λ (v : Environment). Together RootInStep (root_analysed f (analysis v a.functions)) (root_followed given f c))
+      subst (λ (v : Environment). Together RootInStep (root_analysed f (analysis v a.functions))
+      (root_followed given f c))
       (sym h.env)
       (root_so c.env a.functions c.functions h.solved h.bare
       (follows_pass (given_of given None) None c.env f false entry

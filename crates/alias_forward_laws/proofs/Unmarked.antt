@@ -13,7 +13,6 @@ use Rattle.alias_hir.specs.declared.error.HirError.{HirError}
 use Rattle.alias_hir.specs.declared.error.HirError.TheVariants as hir
 use Rattle.alias_hir.specs.declared.error.InferError.{InferError}
 use Rattle.alias_hir.specs.declared.error.InferError.TheVariants as error
-use Rattle.alias_hir.specs.declared.hir.Hir.{Hir}
 use Rattle.alias_hir.specs.declared.hir.HirFunction.{HirFunction}
 use Rattle.alias_flow.proofs.check.Solves.{is_forward}
 use Rattle.alias_flow.specs.Solutions.{goes_forward}
@@ -22,7 +21,6 @@ use Rattle.alias_graph.specs.recorded.BlockListings.{listed}
 use Rattle.alias_step.specs.block.Contexts.{context_of}
 use Rattle.alias_effects.specs.Inference.{pass_end}
 use Rattle.alias_effects.specs.Numbered.{numbered as as_flow}
-use Rattle.alias_effects.specs.Settling.{GoesForward}
 use Rattle.alias_range_pass.specs.Passes.{ranged, range_pass}
 use Rattle.alias_range_pass.specs.Refusals.{unreplaced, none_unreplaced, listing_or, positions_left, recorded}
 use Rattle.alias_range_pass.specs.places.Keeping.{but_context}
@@ -42,6 +40,7 @@ use Rattle.alias_nested.specs.Order.{innermost_first}
 use Rattle.alias_nesting_laws.specs.FittingLaws.{Fitted, fitted}
 use Rattle.alias_answer_laws.proofs.order.Levels.{fits_within}
 use Rattle.alias_validate.specs.Levels.{is_within}
+use Rattle.alias_completeness.specs.Grown.{forward_alike}
 use Rattle.alias_completeness.specs.summaries.Faces.{HasPlaces}
 use Rattle.alias_unit_completeness.specs.Answering.{Meets, Below}
 use Rattle.alias_unit_completeness.specs.Beginning.{IsBelow, below_fit, nested_entry, root_entry}
@@ -105,12 +104,6 @@ other_named id (error.UnreplacedApply instruction report) h = h
 other_named id (error.EffectsNotInferred identifier) h = h
 other_named id (error.PassFault f pass) h = h
 other_named id (error.Memory x) h = h
-
--- a function with the blocks of another goes forward where that one does
-forward_alike : (func other : HirFunction) (env more : Environment) (b : Bool) → other.body ≡ func.body
-    → GoesForward env func b → GoesForward more other b
-forward_alike func other env more b same forward =
-    subst (λ (body : Hir). GoesForward more (record other { body = body }) b) (sym same) forward
 
 -- ---- the functions below the root
 
@@ -195,7 +188,8 @@ module _ (u : HirUnit) (fits : function_fits u.function u.env ≡ true) (forward
     marked_turns r (unapt wrong) = absurd (wrong is_apt)
 
   -- the walk with marks never ends in one
-  pub none_marked : (e : InferError) → IsUnsettled e → Below Marked most_levels u.function (analysis u.env []) (Err e) → ⊥
+  pub none_marked : (e : InferError) → IsUnsettled e → Below Marked most_levels u.function (analysis u.env []) (Err e)
+      → ⊥
   none_marked e unsettled h =
       goes IsOther Marked u.env parts.tables Own NoneFaced (λ id f own at. own_places id.0 f own at)
       (λ id f g a own at same agrees faces places. marked_turns id f g a own at same places) most_levels u.function

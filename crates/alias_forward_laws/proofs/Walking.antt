@@ -22,7 +22,8 @@ use Rattle.alias_nesting_laws.specs.Slots.{with_function}
 use Rattle.alias_certificate.specs.declared.certificate.CertFunction.{CertFunction}
 use Rattle.alias_certificate.specs.declared.fault.CheckFault.{CheckFault}
 use Rattle.alias_follow.specs.Functions.{Following, nested_followed}
-use Rattle.alias_follow.specs.Units.{each as each_followed, put_back as put_back_followed, taken_followed, found_followed}
+use Rattle.alias_follow.specs.Units.{each as each_followed, put_back as put_back_followed, taken_followed}
+use Rattle.alias_follow.specs.Units.{found_followed}
 use Rattle.alias_follow.specs.Units.{slot_followed, below_followed}
 use Rattle.alias_unit_completeness.specs.Answering.{Taken, Found, InSlot, Below}
 use Rattle.alias_unit_completeness.specs.Passing.{IsUnsettled}
@@ -48,7 +49,8 @@ pub data Walked {A B : Type 0} (R : A → B → Type 0) (answers : Answers A) (r
   walked : answers r → Together R r s → Walked R answers r s
 
 module _ {A B X Y : Type 0} (R : A → B → Type 0) (Q : X → Y → Type 0) (first : Answers A) (more : A → Answers X)
-    (r : Result A InferError) (s : Result B CheckFault) (g : A → Result X InferError) (h : B → Result Y CheckFault) where
+    (r : Result A InferError) (s : Result B CheckFault) (g : A → Result X InferError)
+    (h : B → Result Y CheckFault) where
   on_walked : (x : A) (y : B) → first (Ok x) → r ≡ Ok x → s ≡ Ok y → Walked Q (more x) (g x) (h y)
       → Walked Q (Then first more) (r >>= g) (s >>= h)
   on_walked x y m is so (marked e u n) = marked e u (done x m n)
@@ -61,7 +63,8 @@ module _ {A B X Y : Type 0} (R : A → B → Type 0) (Q : X → Y → Type 0) (f
   walked_then (marked e u m) next = marked e u (refused e m refl)
   walked_then (walked m (go x y is so a)) next = on_walked x y (subst first is m) is so (next x y a)
   walked_then (walked m (stop e d is so)) next =
-      walked (refused e (subst first is m) (ap (λ z. z >>= g) is)) (stop e d (ap (λ z. z >>= g) is) (ap (λ z. z >>= h) so))
+      walked (refused e (subst first is m) (ap (λ z. z >>= g) is))
+      (stop e d (ap (λ z. z >>= g) is) (ap (λ z. z >>= h) so))
 
 -- ---- the walk
 
@@ -74,7 +77,8 @@ module _ (given : List CertFunction) where
   one_if id g a c h false u entry forward =
       marked (NotSettled None 0 not_settled_report) tt (unapt (λ p. let no : false ≡ true = sym entry ∙ p.entry in cc))
   one_if id g a c h true false entry forward =
-      marked (NotSettled None 0 not_settled_report) tt (unapt (λ p. let no : false ≡ true = sym forward ∙ p.forward in cc))
+      marked (NotSettled None 0 not_settled_report) tt
+      (unapt (λ p. let no : false ≡ true = sym forward ∙ p.forward in cc))
 
   one_walked : (id : FunctionId) (g : HirFunction) (a : Analysis) (c : Following) → InStep a c
       → Walked WithFunction (Marked id g a) (function_analysed id g a) (nested_followed given id g c)
@@ -97,7 +101,8 @@ module _ (given : List CertFunction) where
     set_in_step : (id : FunctionId) (f g : HirFunction) (a : Analysis) (c : Following) → f ≡ g → InStep a c
         → InStep (record a { env = with_function id f a.env }) (record c { env = with_function id g c.env })
     set_in_step id f g a c same h = record {
-      env = ap (λ (z : HirFunction). with_function id z a.env) same ∙ ap (λ (v : Environment). with_function id g v) h.env;
+      env = ap (λ (z : HirFunction). with_function id z a.env) same
+          ∙ ap (λ (v : Environment). with_function id g v) h.env;
       solved = h.solved;
       bare = h.bare;
     }
@@ -112,7 +117,8 @@ module _ (given : List CertFunction) where
         walked_then WithFunction InStep (Taken Marked (Below Marked n) id f out)
         (λ (s : HirFunction × Analysis). Only (Ok (put_back id s)))
         (taken_analysed (analysed n) id f out) (taken_followed given (below_followed given n) id f away)
-        (λ (s : HirFunction × Analysis). Ok (put_back id s)) (λ (s : HirFunction × Following). Ok (put_back_followed id s))
+        (λ (s : HirFunction × Analysis). Ok (put_back id s))
+        (λ (s : HirFunction × Following). Ok (put_back_followed id s))
         (taken_walks id f out away (set_in_step id (emptied f.returns) (emptied f.returns) a c refl h))
         (λ x y t. walked refl
         (go (put_back id x) (put_back_followed id y) refl refl (set_in_step id x.0 y.0 x.1 y.1 t.0 t.1)))
@@ -121,7 +127,8 @@ module _ (given : List CertFunction) where
         → Walked InStep (InSlot Marked (Below Marked n) id a) (slot_analysed (analysed n) id a)
         (slot_followed given (below_followed given n) id c)
     slot_walks id a c h =
-        subst (λ (v : Environment). Walked InStep (InSlot Marked (Below Marked n) id a) (slot_analysed (analysed n) id a)
+        subst (λ (v : Environment). Walked InStep (InSlot Marked (Below Marked n) id a)
+        (slot_analysed (analysed n) id a)
         (found_followed given (below_followed given n) id c (slice_get v.functions id.0))) h.env
         (found_walks id a c (slice_get a.env.functions id.0) h)
 

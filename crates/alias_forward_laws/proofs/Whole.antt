@@ -13,12 +13,14 @@ use Rattle.alias_rules.specs.Fitting.{function_fits}
 use Rattle.alias_rules.specs.Functions.{rules_hold}
 use Rattle.alias_rules.specs.RuleLaws.{rules_make_function_fit}
 use Rattle.alias_nested.specs.Analysis.{Analysis, analysis, most_levels, analysed}
-use Rattle.alias_nested.specs.Units.{UnitAnalysis, all_analysed, root_analysed, handed_out as as_inferred, unit_analysed}
+use Rattle.alias_nested.specs.Units.{UnitAnalysis, all_analysed, root_analysed, handed_out as as_inferred}
+use Rattle.alias_nested.specs.Units.{unit_analysed}
 use Rattle.alias_nested.specs.declared.infer.Inferred.{Inferred}
 use Rattle.alias_certificate.specs.declared.certificate.CertFunction.{CertFunction}
 use Rattle.alias_certificate.specs.declared.fault.CheckFault.{CheckFault}
 use Rattle.alias_follow.specs.Functions.{FollowedFunction, Following, following, root_followed}
-use Rattle.alias_follow.specs.Units.{below_followed, all_followed, UnitFollowing, handed_out as as_followed, unit_followed}
+use Rattle.alias_follow.specs.Units.{below_followed, all_followed, UnitFollowing, handed_out as as_followed}
+use Rattle.alias_follow.specs.Units.{unit_followed}
 use Rattle.alias_unit_completeness.specs.Answering.{Below}
 use Rattle.alias_unit_completeness.specs.Refusals.{IsForwardUnit}
 use Rattle.alias_forward_laws.proofs.Stepping.{IsBare}
@@ -75,7 +77,8 @@ module _ (given : List CertFunction) (u : HirUnit) (rules : rules_hold u ≡ Ok 
       together_then InStep RootInStep (analysed most_levels u.function (analysis u.env []))
       (below_followed given most_levels u.function (following u.env [])) (root_analysed u.function)
       (root_followed given u.function) below
-      (λ a c h. root_together given u.function a c h (root_has_entry u fits forward) (root_forward u fits forward a.env))
+      (λ a c h. root_together given u.function a c h (root_has_entry u fits forward)
+      (root_forward u fits forward a.env))
 
   -- whatever is given
   pub unit_together : Together UnitInStep (unit_analysed u) (unit_followed given u)

@@ -1,9 +1,10 @@
 //! That of a unit whose functions are all forward what `verify` accepts is what `infer` prints.
 
-ghost use Rattle.alias_forward_laws.specs.Forward.{ForwardTextsAreInferred, ForwardUnitsFollow, InferredTextsAreAccepted};
+ghost use Rattle.alias_forward_laws.specs.Forward.{ForwardTextsAreInferred, ForwardUnitsFollow};
+ghost use Rattle.alias_forward_laws.specs.Forward.{InferredTextsAreAccepted};
 
-/// Of a unit that is well formed and whose functions are all forward one text alone is accepted: that of what is inferred of
-/// it. Does nothing.
+/// Of a unit that is well formed and whose functions are all forward one text alone is accepted: that of what is
+/// inferred of it. Does nothing.
 pub fn forward_texts_law()
     ensures { ForwardTextsAreInferred }
 {}
