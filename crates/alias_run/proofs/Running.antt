@@ -46,6 +46,7 @@ use Rattle.alias_cause_laws.proofs.handed.HandingOut.{handed_out}
 use Rattle.alias_certified_laws.proofs.checked.InOrder.{answer_in_order}
 use Rattle.alias_run.specs.Runs.{IsRun, IsInferredOf, IsAnsweredOf, IsUnitOf, ArePartsOf, IsDone, IsHeadline}
 use Rattle.alias_run.specs.Runs.{IsSolvedAsSaid, IsAcceptedOfInput, IsVerifiedOfInput}
+use Rattle.alias_run.proofs.Verifying.{inferred_where_forward}
 use Rattle.alias_run.specs.Statuses.{text_status, unit_status, write_status}
 use Rattle.alias_run.specs.Texts.{text_of, answer_text}
 
@@ -414,7 +415,8 @@ module _ (known : Option (List ℕ)) (read_failed write_failed : Type 0) (held h
   done_verified (Verified count) f t =
       let j = f.3 in
       let text = (parts_of Verification f.0).1 in
-      (j.0, text, known_parts Verification known f.0 j.0 f.1 j.1, j.2.0, j.2.1, t)
+      let there = known_parts Verification known f.0 j.0 f.1 j.1 in
+      (j.0, text, there, j.2.0, j.2.1, inferred_where_forward text j.0 count j.2.0 j.2.1, t)
   done_verified Nothing f t = f.3.2.1
   done_verified (Inferred x) f t = f.3.2.1
   done_verified (Accepted x) f t = f.3.2.1

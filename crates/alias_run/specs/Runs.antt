@@ -16,6 +16,8 @@ use Rattle.alias_run.specs.declared.status.Status.TheVariants.{Done, WriteFault,
 use Rattle.alias_run.specs.declared.answer.Answer.{Answer}
 use Rattle.alias_run.specs.declared.answer.Answer.TheVariants.{Nothing, Inferred, Accepted, Verified}
 use Rattle.alias_brief.specs.Verifying.{IsVerified}
+use Rattle.alias_forward_laws.specs.Forward.{IsInferredText}
+use Rattle.alias_unit_completeness.specs.Refusals.{IsForwardUnit}
 use Rattle.alias_cert_text.specs.check_lines.CheckLines.{accepted_text as functions_accepted}
 use Rattle.alias_nested.specs.Analysis.{Analysed, SolvesItsFlow}
 use Rattle.alias_nested.specs.Units.{unit_analysed}
@@ -92,11 +94,12 @@ IsAcceptedOfInput known held held' a =
 
 -- Where a text was accepted as the one that follows: the unit and the text are those that were read; the unit is well
 -- formed; the text is exactly the one that follows for the unit from the entry states that the text itself says, which
--- solve the flow of each of its functions, so many; and the sink got their number.
+-- solve the flow of each of its functions, so many; where all edges of all functions go to later blocks, it is the text
+-- that is printed of what is inferred of the unit, and no other is accepted; and the sink got their number.
 abbrev pub IsVerifiedOfInput : Option (List ℕ) → Option (List ℕ) → Option (List ℕ) → Answer → Type 0
 IsVerifiedOfInput known held held' (Verified count) =
     (u : HirUnit) × (text : List ℕ) × ArePartsOf Verification known u text × (rules_hold u ≡ Ok tt)
-    × IsVerified text u count × Adds held (functions_accepted count) held'
+    × IsVerified text u count × (IsForwardUnit u → IsInferredText u text) × Adds held (functions_accepted count) held'
 IsVerifiedOfInput known held held' a = ⊥
 
 -- What status Done means, by the command: the unit that was read was inferred, or the one that was made; or the sink
