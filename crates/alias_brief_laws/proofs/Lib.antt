@@ -1,0 +1,16 @@
+pub mod Picking
+pub mod Values
+pub mod SitesAgain
+pub mod Variables
+pub mod Naming
+pub mod RaisedAgain
+pub mod Entered
+pub mod Marking
+pub mod PassedAgain
+pub mod Lines
+pub mod Temporaries
+pub mod FunctionAgain
+pub mod One
+pub mod Order
+pub mod Walking
+pub mod Whole
