@@ -1,10 +1,10 @@
 //! What follows for a unit, as lines.
-ghost use Rattle.std.specs.Prelude.{◌≡◌, ◌++◌, OnOk, codes, option_map, slice_get};
+ghost use Rattle.std.specs.Prelude.{◌≡◌, ◌++◌, OnOk, codes, option_map};
 ghost use Rattle.std.specs.List.{flat_map};
 ghost use Rattle.alias_text.specs.Certificates.{spaced_site};
 ghost use Rattle.alias_brief.specs.Briefs.{beyond_value, beyond_variable, beyond_lines, beyond_or, entry_text, blocks_from, found_text, temporary_lines, followed_text, function_text, functions_from, brief_text};
 
-use alias_base::Text;
+use alias_base::{List, Text};
 use alias_certificate::{Beyond, CertValue, CertVariable};
 use alias_effects::{BlockEntry, Solved};
 use alias_follow::{Followed, FunctionBeyond};
@@ -81,23 +81,16 @@ fn push_entry(
     push_block_lines(out, func, entry.block)
 }
 
-/// The item at a position, where there is one.
-fn item_at<T>(items: &[T], position: usize) -> Option<&T>
-    ensures { option_map (λ x. x.now) result ≡ slice_get items.now position }
-{
-    items.get(position)
-}
-
 fn push_entries(
     out: &mut Text,
     func: &HirFunction,
-    beyond: &[Beyond],
+    beyond: &List<Beyond>,
     entries: &[BlockEntry],
 ) -> Result<(), AllocError>
     ensures { OnOk result (out.new ≡ out.old ++ blocks_from func.now beyond.now 0 entries.now) }
 {
     for (position, entry) in entries.iter().enumerate() {
-        push_entry(out, func, item_at(beyond, position), entry)?;
+        push_entry(out, func, beyond.get(position), entry)?;
     }
     Ok(())
 }
@@ -112,7 +105,7 @@ fn push_found(
     ensures { OnOk result (out.new ≡ out.old ++ found_text (option_map (λ f. f.now) func.entry) beyond.now entries.now) }
 {
     match func {
-        Some(func) => push_entries(out, func, beyond.blocks.as_slice(), entries),
+        Some(func) => push_entries(out, func, &beyond.blocks, entries),
         None => Ok(()),
     }
 }
@@ -172,19 +165,12 @@ fn push_functions(
     unit: &Unit,
     summary: &[AliasingEffect],
     solved: &[Solved],
-    beyond: &[FunctionBeyond],
+    beyond: &List<FunctionBeyond>,
 ) -> Result<(), AllocError>
     ensures { OnOk result (out.new ≡ out.old ++ functions_from unit.now summary.now beyond.now 0 solved.now) }
 {
     for (position, of_function) in solved.iter().enumerate() {
-        push_function(
-            alloc,
-            out,
-            unit,
-            summary,
-            of_function,
-            item_at(beyond, position),
-        )?;
+        push_function(alloc, out, unit, summary, of_function, beyond.get(position))?;
     }
     Ok(())
 }
@@ -205,7 +191,7 @@ pub fn push_brief(alloc: Global, out: &mut Text, followed: &Followed) -> Result<
         unit,
         summary,
         inferred.solved.as_slice(),
-        followed.beyond.as_slice(),
+        &followed.beyond,
     )?;
     push_ranges(out, unit.env.identifiers.as_slice())?;
     push_reports(alloc, out, inferred.reports.as_slice())

@@ -12,4 +12,4 @@ loop-position-preserved c =
     λ b s. function_text c.args.unit.now c.args.summary.now s b in
     next_item text (functions_from c.args.unit.now c.args.summary.now c.args.beyond.now) c.args.beyond.now
     (λ i x xs. refl) c.args.solved.now c.loop-position.position _ _ _ _ _ c.loop-position-test.true
-    c.index-solved-position.is c.item_at.ensures c.loop-position.invariant c.in_ok-push_function.ensures
+    c.index-solved-position.is c.get.ensures c.loop-position.invariant c.in_ok-push_function.ensures
