@@ -10,7 +10,9 @@ pub mod PassedAgain
 pub mod Lines
 pub mod Temporaries
 pub mod FunctionAgain
+pub mod Names
 pub mod One
 pub mod Order
 pub mod Walking
 pub mod Whole
+pub mod Accepted

@@ -19,7 +19,7 @@ use Rattle.alias_nesting_laws.specs.Slots.{with_function}
 use Rattle.alias_fitting_laws.specs.pruning.PruningLaws.{function_through}
 use Rattle.alias_effects.proofs.Solving.{Numbers}
 use Rattle.alias_nested.specs.Created.{created_functions}
-use Rattle.alias_nested.specs.Fitting.{EnvironmentPruned}
+use Rattle.alias_nested.specs.Fitting.{FunctionKept, EnvironmentPruned}
 use Rattle.alias_nested.specs.Slots.{emptied}
 use Rattle.alias_nested.proofs.Creating.{created_is_among}
 use Rattle.alias_nested.proofs.Keeping.{kept_pruned, pruned_self, pruned_through, pruned_fits, pruned_beside}
@@ -31,8 +31,11 @@ use Rattle.alias_follow.specs.Functions.{FollowedFunction, Following, following,
 use Rattle.alias_follow.specs.Units.{each, put_back, taken_followed, found_followed, slot_followed, below_followed}
 use Rattle.alias_follow.specs.function.Givens.{given_of, blocks_given}
 use Rattle.alias_follow.specs.lines.Known.{AreLinesKnown}
+use Rattle.alias_brief_laws.specs.Names.{HasNames}
 use Rattle.alias_brief_laws.proofs.FunctionAgain.{IsTold, function_again}
-use Rattle.alias_brief_laws.proofs.One.{Taken, FollowedOne, followed_one, nested_again, one_kept, one_more, ok_same}
+use Rattle.alias_brief_laws.proofs.Names.{all_set, one_of, all_both, named_alike, named_still}
+use Rattle.alias_brief_laws.proofs.One.{Taken, FollowedOne, followed_one, nested_again, one_kept, one_more, one_contexts}
+use Rattle.alias_brief_laws.proofs.One.{ok_same}
 
 -- ---- what following keeps
 
@@ -41,16 +44,23 @@ pub record Went (a b : Following) : Type 0 where
   pub more : List FollowedFunction
   pub is : a.functions ++ more ≡ b.functions
   pub pruned : EnvironmentPruned a.env b.env
+  -- blocks keep their names
+  pub names : AllByRecursion HasNames a.env.functions
+      → AllByRecursion HasNames b.env.functions × AllByRecursion (λ (x : FollowedFunction). HasNames x.func) more
 
 went_self : (f : HirFunction) (a b : Following) → function_fits f a.env ≡ true → a ≡ b → Went a b
 went_self f a b fits is = subst (Went a) is
-    (record { more = []; is = append-nil a.functions; pruned = pruned_self f a.env fits })
+    (record { more = []; is = append-nil a.functions; pruned = pruned_self f a.env fits; names = λ n. (n, tt) })
 
 went_through : (a b c : Following) → Went a b → Went b c → Went a c
 went_through a b c p q = record {
   more = p.more ++ q.more;
   is = sym (append_assoc a.functions p.more q.more) ∙ ap (λ zs. zs ++ q.more) p.is ∙ q.is;
   pruned = pruned_through a.env b.env c.env p.pruned q.pruned;
+  names = λ n.
+      let i = p.names n in
+      let j = q.names i.0 in
+      (j.0, all_both (λ (x : FollowedFunction). HasNames x.func) p.more q.more i.1 j.1);
 }
 
 -- a function that was out of its slot
@@ -80,10 +90,6 @@ all_at : {X : Type 0} (p : X → Type 0) (xs : List X) → ((k : ℕ) (x : X) �
 all_at p [] h = tt
 all_at p (x ∷ xs) h = (h zero x refl, all_at p xs (λ k y e. h (suc k) y e))
 
--- no two blocks of the function have one name
-abbrev pub HasNames : HirFunction → Type 0
-HasNames f = IsDistinct same_block (keys_of f.body.blocks)
-
 module _ (given : List CertFunction)
     (known : (id : Option FunctionId) → AreLinesKnown (blocks_given (given_of given id))) where
   abbrev Goes : (HirFunction → Following → Result Following CheckFault) → Type 0
@@ -108,11 +114,10 @@ module _ (given : List CertFunction)
     one : FollowedOne given id f t.mid t.taken
     one = followed_one given id f t.mid t.taken t.went_own
 
-    own : FollowedFunction
+    abbrev own : FollowedFunction
     own = followed_function (Some id) true f t.mid.env one.end
 
     own_last : t.taken.1.functions ≡ t.mid.functions ++ own ∷ []
-    unfolding own
     own_last = one_more given id f t.mid t.taken one
 
     went_back : EnvironmentPruned a.env (put_back id t.taken).env
@@ -122,12 +127,29 @@ module _ (given : List CertFunction)
         (pruned_beside out.env t.mid.env went_mid.pruned f out_fits)
         (kept_pruned f t.mid.env t.taken.0 t.taken.1.env (one_kept given id f t.mid t.taken one (known (Some id)) mid_fits)))
 
+    kept : FunctionKept f t.mid.env t.taken.0 t.taken.1.env
+    kept = one_kept given id f t.mid t.taken one (known (Some id)) mid_fits
+
+    names_back : AllByRecursion HasNames a.env.functions
+        → AllByRecursion HasNames (put_back id t.taken).env.functions
+        × AllByRecursion (λ (x : FollowedFunction). HasNames x.func) (went_mid.more ++ own ∷ [])
+    unfolding IsDistinct
+    names_back n =
+        let own_names : HasNames f = one_of HasNames a.env.functions id.0 f n at in
+        let m = went_mid.names (all_set HasNames a.env.functions id.0 (emptied f.returns) n tt) in
+        let left = named_alike t.mid.env.functions t.taken.1.env.functions (one_contexts given id f t.mid t.taken one)
+        m.0 in (
+          all_set HasNames t.taken.1.env.functions id.0 t.taken.0 left (named_still f t.taken.0 kept.still own_names),
+          all_both (λ (x : FollowedFunction). HasNames x.func) went_mid.more (own ∷ []) m.1 (own_names, tt),
+        )
+
     taking_went : Went a b
     taking_went = subst (Went a) t.back (record {
       more = went_mid.more ++ own ∷ [];
       is = sym (append_assoc a.functions went_mid.more (own ∷ [])) ∙ ap (λ zs. zs ++ own ∷ []) went_mid.is
           ∙ sym own_last;
       pruned = went_back;
+      names = names_back;
     })
 
   module _ (below : HirFunction → Following → Result Following CheckFault) (goes : Goes below) (g : HirFunction) where

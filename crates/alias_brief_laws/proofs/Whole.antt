@@ -33,6 +33,7 @@ use Rattle.alias_nested.specs.Created.{created_functions}
 use Rattle.alias_nested.specs.Order.{innermost_first, numbers}
 use Rattle.alias_nested.specs.Units.{validated}
 use Rattle.alias_nested.proofs.Evolving.{passed_contexts}
+use Rattle.alias_nested.proofs.Keeping.{pruned_fits}
 use Rattle.alias_answer_laws.specs.order.Order.{nested_innermost_first}
 use Rattle.alias_answer_laws.proofs.order.Ordering.{went, Stands, Apart}
 use Rattle.alias_answer_laws.proofs.order.Solving.{root_apart}
@@ -55,12 +56,14 @@ use Rattle.alias_follow.specs.lines.Known.{AreLinesKnown}
 use Rattle.alias_brief_text_laws.specs.Telling.{told_block, told_blocks_from, told_blocks, told_temporaries, told_function}
 use Rattle.alias_brief_text_laws.specs.Telling.{told_if_known, told_from, told}
 use Rattle.alias_brief_laws.proofs.FunctionAgain.{IsTold, function_again}
+use Rattle.alias_brief_laws.specs.Names.{HasNames, BlocksHaveNames}
 use Rattle.alias_brief_laws.specs.Raising.{SaysBeyond}
+use Rattle.alias_brief_laws.proofs.Names.{all_both}
 use Rattle.alias_brief_laws.proofs.Lines.{AreTold, others_of}
 use Rattle.alias_brief_laws.proofs.One.{Taken, effects_left, ranging_ok, ok_same}
 use Rattle.alias_brief_laws.proofs.Order.{done, Done, goes_over}
 use Rattle.alias_brief_laws.proofs.Temporaries.{told_temporary}
-use Rattle.alias_brief_laws.proofs.Walking.{HasNames, below_went, numbers_of, below_again}
+use Rattle.alias_brief_laws.proofs.Walking.{Went, below_went, numbers_of, below_again}
 
 -- ---- names
 
@@ -159,15 +162,20 @@ module _ (u : HirUnit) (summary : List AliasingEffect) where
       ∙ first_given xs ys z apart.1
 
   -- the blocks of a function that is there
+  behind : (ms : List Beyond) (k : ℕ) → slice_get ms (suc k) ≡ slice_get (others_of ms) k
+  behind [] k = refl
+  behind (m ∷ ms) k = refl
+
   next_at : (all ms : List Beyond) (n : ℕ) → ((k : ℕ) → slice_get all (n + k) ≡ slice_get ms k) → (k : ℕ)
       → slice_get all ((n + 1) + k) ≡ slice_get (others_of ms) k
   next_at all ms n at k =
       let next : (n + 1) + k ≡ n + suc k = omega arith in
       ap (slice_get all) next ∙ at (suc k) ∙ behind ms k
-    where
-      behind : (ms : List Beyond) (k : ℕ) → slice_get ms (suc k) ≡ slice_get (others_of ms) k
-      behind [] k = refl
-      behind (m ∷ ms) k = refl
+
+  says_beyond : (g : HirFunction) (e : BlockEntry) (m : Beyond) (o : Option Beyond) → o ≡ Some m
+      → SaysBeyond (told_block g o e) m
+  says_beyond g e m o is = subst (λ z. SaysBeyond (told_block g z e) m) (sym is)
+      (record { values = refl; variables = refl })
 
   are_told : (g : HirFunction) (all ms : List Beyond) (n : ℕ) → ((k : ℕ) → slice_get all (n + k) ≡ slice_get ms k)
       → (es : List BlockEntry) → AreTold (told_blocks_from g all n es) ms es
@@ -175,14 +183,9 @@ module _ (u : HirUnit) (summary : List AliasingEffect) where
   are_told g all ms n at (e ∷ es) =
       let here : n ≡ n + 0 = omega arith in (
         refl,
-        λ m is. says m (slice_get all n) (ap (slice_get all) here ∙ at 0 ∙ is),
+        λ m is. says_beyond g e m (slice_get all n) (ap (slice_get all) here ∙ at 0 ∙ is),
         are_told g all (others_of ms) (n + 1) (next_at all ms n at) es,
       )
-    where
-      says : {g : HirFunction} {e : BlockEntry} (m : Beyond) (o : Option Beyond) → o ≡ Some m
-          → SaysBeyond (told_block g o e) m
-      says {g = g} {e = e} m o is = subst (λ z. SaysBeyond (told_block g z e) m) (sym is)
-          (record { values = refl; variables = refl })
 
   blocks_told : (o : Option HirFunction) (g : HirFunction) → o ≡ Some g → (b : FunctionBeyond) (es : List BlockEntry)
       → AreTold (told_blocks o b es) b.blocks es
@@ -197,3 +200,216 @@ module _ (u : HirUnit) (summary : List AliasingEffect) where
     blocks = blocks_told (function_of u (name_of x)) g there x.beyond x.solved.entries;
     temporaries = λ loops. ap (λ b. told_temporaries b x.solved.temporaries) loops;
   }
+
+-- ---- the parts of a unit
+
+-- what follows a function's effects at the root
+after_effects : HirFunction → Following → Result FunctionEnd CheckFault → Result RootFollowing CheckFault
+after_effects f a r = (r >>= (λ e. Ok (effects_left None false f a e))) >>= root_finished
+
+root_again : (given also : List CertFunction) (f : HirFunction) (a : Following) (r : RootFollowing) (e : FunctionEnd)
+    → root_followed given f a ≡ Ok r → function_followed (given_of given None) None a.env f false ≡ Ok e
+    → function_followed (given_of also None) None a.env f false ≡ Ok e → root_followed also f a ≡ Ok r
+unfolding after_effects
+root_again given also f a r e h was again = ap (after_effects f a) (again ∙ sym was) ∙ h
+
+-- what the range pass and both validations of the root leave of functions
+record Left (env : Environment) (r : RootFollowing) (fs : List FollowedFunction) : Type 0 where
+  functions : r.following.functions ≡ fs
+  contexts : map but_context r.following.env.functions ≡ map but_context env.functions
+
+root_left : (g : HirFunction) (env : Environment) (fs : List FollowedFunction) (r : RootFollowing)
+    → root_finished (g, following env fs) ≡ Ok r → Left env r fs
+root_left g env fs r h =
+    let w = went (ranging None (root_ended g env)) (λ (q : List AliasingEffect × (HirFunction × Environment)).
+    Ok (record { summary = q.0; func = q.1.0; following = following q.1.1 fs })) r h in
+    let v = went (range_pass false g env) (λ (p : Ranged).
+    validated p.after.0 p.after.1 >>= (λ (more : Environment).
+    let z : List AliasingEffect × (HirFunction × Environment) = (p.summary, (p.after.0, more)) in Ok z)) w.0
+    (ranging_ok None (root_ended g env) w.0 w.1) in
+    let p : Ranged = v.0 in
+    let x = went (validated p.after.0 p.after.1) (λ (more : Environment).
+    let z : List AliasingEffect × (HirFunction × Environment) = (p.summary, (p.after.0, more)) in Ok z) w.0 v.2 in
+    let y = went (with_reassigned p.after.1 (reassigned_reports p.after.1 p.after.0))
+    (λ (m : Environment). Ok (with_reports m (frozen_reports m p.after.0))) x.0 x.1 in
+    let z = went (reassigned_reports p.after.1 p.after.0) (λ (rs : List Report). Ok (with_reports p.after.1 rs)) y.0
+    y.1 in
+    let first : with_reports p.after.1 z.0 ≡ y.0 = ok_same (with_reports p.after.1 z.0) y.0 z.2 in
+    let second : with_reports y.0 (frozen_reports y.0 p.after.0) ≡ x.0 =
+    ok_same (with_reports y.0 (frozen_reports y.0 p.after.0)) x.0 y.2 in
+    let third : ◌≡◌ {A = List AliasingEffect × (HirFunction × Environment)} (p.summary, (p.after.0, x.0)) w.0 =
+    ok_same (p.summary, (p.after.0, x.0)) w.0 x.2 in
+    let last : record { summary = w.0.0; func = w.0.1.0; following = following w.0.1.1 fs } ≡ r =
+    ok_same (record { summary = w.0.0; func = w.0.1.0; following = following w.0.1.1 fs }) r w.2 in
+    let same : r.following.env.functions ≡ p.after.1.functions =
+    ap (λ (q : RootFollowing). q.following.env.functions) (sym last)
+    ∙ ap (λ (q : List AliasingEffect × (HirFunction × Environment)). q.1.1.functions) (sym third)
+    ∙ ap (λ (q : Environment). q.functions) (sym second) ∙ ap (λ (q : Environment). q.functions) (sym first) in
+    let leaves : PassLeaves false g env p = pass_leaves false g env p v.1 in
+    record {
+      functions = ap (λ (q : RootFollowing). q.following.functions) (sym last);
+      contexts = ap (map but_context) same ∙ ap (λ (q : Environment). q.functions) leaves.kept.rest;
+    }
+
+-- the functions below the root, the root, and what came of it
+record Parts (given : List CertFunction) (u : HirUnit) (x : UnitFollowing) : Type 0 where
+  nested : Following
+  below : below_followed given most_levels u.function (following u.env []) ≡ Ok nested
+  end : FunctionEnd
+  ended : function_followed (given_of given None) None nested.env u.function false ≡ Ok end
+  root : RootFollowing
+  went_root : root_followed given u.function nested ≡ Ok root
+  functions : root.following.functions ≡ nested.functions ++ followed_function None false u.function nested.env end ∷ []
+  count : length root.following.env.functions ≡ length nested.env.functions
+  out : handed_out root ≡ x
+
+parts : (given : List CertFunction) (u : HirUnit) (x : UnitFollowing) → unit_followed given u ≡ Ok x → Parts given u x
+parts given u x h =
+    let w = went (all_followed given u.function (following u.env [])) (λ (r : RootFollowing). Ok (handed_out r)) x h in
+    let v = went (below_followed given most_levels u.function (following u.env [])) (root_followed given u.function) w.0
+    w.1 in
+    let a : Following = v.0 in
+    let y = went (effects_followed given None false u.function a) root_finished w.0 v.2 in
+    let z = went (function_followed (given_of given None) None a.env u.function false)
+    (λ e. Ok (effects_left None false u.function a e)) y.0 y.1 in
+    let e : FunctionEnd = z.0 in
+    let is : effects_left None false u.function a e ≡ y.0 = ok_same (effects_left None false u.function a e) y.0 z.2 in
+    let left = root_left (with_effects_of e.end.solved u.function) (env_after a.env e.end)
+    (a.functions ++ followed_function None false u.function a.env e ∷ []) w.0 (ap root_finished is ∙ y.2) in
+    record {
+      nested = a;
+      below = v.1;
+      end = e;
+      ended = z.1;
+      root = w.0;
+      went_root = v.2;
+      functions = left.functions;
+      count = count_alike a.env.functions w.0.following.env.functions
+          (left.contexts ∙ passed_contexts a.env e.end);
+      out = ok_same (handed_out w.0) x w.2;
+    }
+
+-- ---- the whole
+
+get_there : {X : Type 0} (xs : List X) (k : ℕ) → k < length xs → (x : X) × (slice_get xs k ≡ Some x)
+get_there [] k h = absurd (omega arith)
+get_there (x ∷ xs) zero h = (x, refl)
+get_there (x ∷ xs) (suc k) h = get_there xs k (omega arith)
+
+named_at : {X : Type 0} (p : X → Type 0) (all xs ys : List X) (x : X) → AllByRecursion p all → all ≡ xs ++ x ∷ ys → p x
+named_at p [] xs ys x a e = no_end (p x) xs ys x e
+named_at p (z ∷ all) [] ys x a e = let same : z ≡ x = cc in subst p same a.0
+named_at p (z ∷ all) (w ∷ xs) ys x a e = let rest : all ≡ xs ++ x ∷ ys = cc in named_at p all xs ys x a.1 rest
+
+module _ (given : List CertFunction) (u : HirUnit) (x : UnitFollowing) (rules : rules_hold u ≡ Ok tt)
+    (known : (id : Option FunctionId) → AreLinesKnown (blocks_given (given_of given id)))
+    (named : BlocksHaveNames u)
+    (h : unit_followed given u ≡ Ok x) where
+  p : Parts given u x
+  p = parts given u x h
+
+  abbrev nested : Following
+  nested = p.nested
+
+  abbrev own : FollowedFunction
+  own = followed_function None false u.function nested.env p.end
+
+  functions_are : x.functions ≡ nested.functions ++ own ∷ []
+  functions_are = ap (λ (z : UnitFollowing). z.functions) (sym p.out) ∙ p.functions
+
+  abbrev order : List FunctionId
+  order = nested_innermost_first u
+
+  over : Done u.env.functions [] (following u.env []) nested (innermost_first most_levels u.env.functions (created_functions u.function))
+  over = goes_over given u.env.functions most_levels u.function [] (following u.env []) nested
+      (record { count = refl; slots = λ k free. refl }) (root_apart u rules) p.below
+
+  names : map name_of x.functions ≡ map Some order ++ None ∷ []
+  names = ap (map name_of) functions_are ∙ map-append name_of nested.functions (own ∷ [])
+      ∙ ap (λ ns. ns ++ None ∷ []) over.functions
+
+  split_names : (xs ys : List FollowedFunction) (z : FollowedFunction) → x.functions ≡ xs ++ z ∷ ys
+      → map Some order ++ None ∷ [] ≡ map name_of xs ++ name_of z ∷ map name_of ys
+  split_names xs ys z split = sym names ∙ ap (map name_of) split ∙ map-append name_of xs (z ∷ ys)
+
+  once : (j : ℕ) → times (numbers order) j ≤ 1
+  once j = let o = (root_apart u rules).once j in let none : times [] j ≡ 0 = refl in omega arith
+
+  abbrev handed : HirUnit
+  handed = x.followed.inferred.unit
+
+  count : length handed.env.functions ≡ length u.env.functions
+  count = ap (λ (z : UnitFollowing). length z.followed.inferred.unit.env.functions) (sym p.out) ∙ p.count
+      ∙ over.stands.count
+
+  there : (xs ys : List FollowedFunction) (z : FollowedFunction) (n : Option FunctionId) → name_of z ≡ n
+      → x.functions ≡ xs ++ z ∷ ys → (g : HirFunction) × (function_of handed n ≡ Some g)
+  there xs ys z None is split = (handed.function, refl)
+  there xs ys z (Some id) is split =
+      let at : map Some order ++ None ∷ [] ≡ map name_of xs ++ Some id ∷ map name_of ys =
+      split_names xs ys z split ∙ ap (λ n. map name_of xs ++ n ∷ map name_of ys) is in
+      let lt : id.0 < length u.env.functions = (root_apart u rules).there id.0
+      (counted_in order (map name_of xs) (map name_of ys) id at) in
+      get_there handed.env.functions id.0 (subst (λ k. id.0 < k) (sym count) lt)
+
+  abbrev again : List CertFunction
+  again = (told x.followed).functions
+
+  solved_is : x.followed.inferred.solved ≡ map (λ (z : FollowedFunction). z.solved) x.functions
+  solved_is = subst (λ (w : UnitFollowing). w.followed.inferred.solved
+      ≡ map (λ (z : FollowedFunction). z.solved) w.functions) p.out refl
+
+  beyond_is : x.followed.beyond ≡ map (λ (z : FollowedFunction). z.beyond) x.functions
+  beyond_is = subst (λ (w : UnitFollowing). w.followed.beyond ≡ map (λ (z : FollowedFunction). z.beyond) w.functions)
+      p.out refl
+
+  again_is : again ≡ map (told_of handed x.followed.inferred.summary) x.functions
+  again_is =
+      (λ i. told_from handed x.followed.inferred.summary (beyond_is i) 0 (solved_is i))
+      ∙ told_all handed x.followed.inferred.summary (map (λ (z : FollowedFunction). z.beyond) x.functions) 0
+      x.functions (λ k. refl)
+
+  tells : (xs ys : List FollowedFunction) (z : FollowedFunction) → x.functions ≡ xs ++ z ∷ ys
+      → IsTold (given_of again (name_of z)) z.solved z.beyond
+  tells xs ys z split =
+      let g = there xs ys z (name_of z) refl split in
+      is_told handed x.followed.inferred.summary z g.0 (given_of again (name_of z)) g.1
+      (ap (λ cs. given_of cs (name_of z)) (again_is ∙ ap (map (told_of handed x.followed.inferred.summary)) split)
+      ∙ first_given handed x.followed.inferred.summary xs ys z
+      (front_unlike order once (map name_of xs) (map name_of ys) (name_of z) (split_names xs ys z split)))
+
+  fits : function_fits u.function u.env ≡ true
+  fits = rules_make_function_fit u rules
+
+  went_nested : Went (following u.env []) nested
+  went_nested = below_went given known most_levels u.function (following u.env []) nested fits p.below
+
+  fits_nested : function_fits u.function nested.env ≡ true
+  fits_nested = pruned_fits u.env nested.env went_nested.pruned u.function fits
+
+  all_named : AllByRecursion (λ (z : FollowedFunction). HasNames z.func) x.functions
+  all_named = subst (AllByRecursion (λ (z : FollowedFunction). HasNames z.func))
+      (sym (functions_are ∙ ap (λ zs. zs ++ own ∷ []) (sym went_nested.is)))
+      (all_both (λ (z : FollowedFunction). HasNames z.func) went_nested.more (own ∷ [])
+      (went_nested.names named.nested).1 (named.root, tt))
+
+  at : (xs ys : List FollowedFunction) (z : FollowedFunction) → x.functions ≡ xs ++ z ∷ ys → HasNames z.func
+  at xs ys z split = named_at (λ (w : FollowedFunction). HasNames w.func) x.functions xs ys z all_named split
+
+  below_too : below_followed again most_levels u.function (following u.env []) ≡ Ok nested
+  below_too = below_again given known again x.functions at tells most_levels u.function (following u.env []) nested fits
+      p.below (record { rest = own ∷ []; is = functions_are })
+
+  root_too : root_followed again u.function nested ≡ Ok p.root
+  root_too =
+      let t = tells nested.functions [] own functions_are in
+      root_again given again u.function nested p.root p.end p.went_root p.ended
+      (function_again None nested.env u.function false
+      (numbers_of given known u.function nested.env (at nested.functions [] own functions_are) fits_nested)
+      (given_of given None) (given_of again None) p.end
+      (record { said = t.said; is = t.is; blocks = t.blocks; temporaries = t.temporaries }) (known None) p.ended)
+
+  pub unit_again : unit_followed again u ≡ Ok x
+  unit_again =
+      ap (λ r. r >>= root_followed again u.function >>= (λ (s : RootFollowing). Ok (handed_out s))) below_too
+      ∙ ap (λ r. r >>= (λ (s : RootFollowing). Ok (handed_out s))) root_too ∙ ap Ok p.out

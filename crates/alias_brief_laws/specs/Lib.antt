@@ -1,1 +1,3 @@
 pub mod Raising
+pub mod Names
+pub mod Accepted

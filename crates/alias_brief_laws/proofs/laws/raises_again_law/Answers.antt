@@ -1,5 +1,4 @@
-use Rattle.alias_brief_laws.proofs.Marking.{beyond_here}
-use Rattle.alias_brief_laws.proofs.PassedAgain.{pass_ends}
+use Rattle.alias_brief_laws.proofs.FunctionAgain.{function_again}
 use Rattle.alias_brief_laws.proofs.RaisedAgain.{raises_again}
 use Rattle.alias_brief_laws.proofs.laws.raises_again_law.Goals as goal
 
