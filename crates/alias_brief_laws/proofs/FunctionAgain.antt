@@ -14,6 +14,7 @@ use Rattle.alias_lattice.specs.ProperLaws.{proper-empty_state}
 use Rattle.alias_lattice.specs.ProperStates.{StateProper}
 use Rattle.alias_lattice.specs.States.{State, empty_state, state_join, state_below}
 use Rattle.alias_flow.specs.Machine.{Rules}
+use Rattle.alias_flow.specs.Runs.{solver_state}
 use Rattle.alias_tables.specs.Tables.{TableLists}
 use Rattle.alias_tables.specs.write_back.WriteBack.{tables_of}
 use Rattle.alias_step.specs.declared.block.faults.BlockRefusal.{BlockRefusal}
@@ -29,7 +30,7 @@ use Rattle.alias_certificate.specs.declared.fault.CheckFault.{CheckFault}
 use Rattle.alias_cert.specs.function.Temporaries.{temporaries_stated}
 use Rattle.alias_cert.proofs.Running.{after}
 use Rattle.alias_cert.proofs.function.SolvesFunction.{laws}
-use Rattle.alias_passage.specs.Passes.{Passing, flow_passed}
+use Rattle.alias_passage.specs.Passes.{Passing, passage_begun, flow_passed}
 use Rattle.alias_follow.specs.declared.function.follow.FunctionBeyond.{FunctionBeyond}
 use Rattle.alias_follow.specs.declared.function.follow.FunctionEnd.{FunctionEnd}
 use Rattle.alias_follow.specs.declared.lines.entering.Unfollowed.{Unfollowed}
@@ -136,7 +137,7 @@ module _ (id : Option FunctionId) (env : Environment) (f : HirFunction) (b : Boo
 
     run : Ends state_join state_below empty_state rules unfollowed.State (lacking (Some count)) (marks None id env f b)
         state_laws (laws env f b fits) proper-empty_state (entering given id env f)
-        (λ q x s m h is. (enters_at q x s m h is).is_proper) tables 0 rules.blocks _ w
+        (λ q x s m h is. (enters_at q x s m h is).is_proper) tables 0 rules.blocks (solver_state (passage_begun state_join rules) tables nothing) w
     run = pass_ends state_join state_below empty_state rules unfollowed.State (lacking (Some count))
         (marks None id env f b) state_laws (laws env f b fits) proper-empty_state (entering given id env f)
         (λ q x s m h is. (enters_at q x s m h is).is_proper) tables w lacks_none passed

@@ -49,6 +49,15 @@ low_like : (n : ℕ) (key : TempKey) (ts : List Temporary) (x : Temporary) → A
 low_like n key [] x a h = cc
 low_like n key (t ∷ ts) x a h = low_if n t x (temp_like key ts) (same_temp t.key key) h a.0 (low_like n key ts x a.1)
 
+-- one more, and then the others
+then_more : {X : Type 0} (xs ys zs us : List X) (k : X) → ys ≡ xs ++ k ∷ [] → us ≡ ys ++ zs → us ≡ xs ++ k ∷ zs
+then_more xs ys zs us k one rest = rest ∙ ap (λ z. z ++ zs) one ∙ append_assoc xs (k ∷ []) zs
+
+longer_by : (n : ℕ) (xs ys : List Temporary) (k : Temporary) → ys ≡ xs ++ k ∷ [] → n + length ys ≡ (n + length xs) + 1
+longer_by n xs ys k is =
+    let long : length ys ≡ length xs + 1 = ap length is ∙ length-append xs (k ∷ []) in
+    omega arith
+
 -- one more temporary, which is told so
 pub record OneMore (c : CertTemporary) (t u : TableLists) (n : ℕ) : Type 0 where
   pub new : Temporary
@@ -128,8 +137,7 @@ module _ (function : Option FunctionId) (env : Environment) where
       let one = named_so c t a.was (is_key_there (next t) (length env.functions) c.key)
       (c.identifier.0 == next t) refl low a.first in
       let longer : next a.was ≡ next t + 1 =
-      ap (λ ts. length env.identifiers + length ts) one.is
-      ∙ ap (λ n. length env.identifiers + n) (length-append t.temporaries (one.new ∷ [])) ∙ omega arith in
+      longer_by (length env.identifiers) t.temporaries a.was.temporaries one.new one.is in
       let number = one.number in
       let low_next : AreLow (next a.was) a.was.temporaries = subst (AreLow (next a.was)) (sym one.is)
       (low_appended (next a.was) t.temporaries one.new (lower (next t) (next a.was) t.temporaries (omega arith) low)
@@ -137,7 +145,7 @@ module _ (function : Option FunctionId) (env : Environment) where
       let rest = all_more cs a.was u low_next a.then_is in
       record {
         new = one.new ∷ rest.new;
-        is = rest.is ∙ ap (λ ts. ts ++ rest.new) one.is ∙ append_assoc t.temporaries (one.new ∷ []) rest.new;
+        is = then_more t.temporaries a.was.temporaries rest.new u.temporaries one.new one.is rest.is;
         told = λ i. one.told i ∷ rest.told i;
       }
 

@@ -43,7 +43,6 @@ use Rattle.alias_text.specs.Results.{function_of}
 use Rattle.alias_certificate.specs.declared.beyond.Beyond.{Beyond}
 use Rattle.alias_certificate.specs.declared.certificate.CertFunction.{CertFunction}
 use Rattle.alias_certificate.specs.declared.fault.CheckFault.{CheckFault}
-use Rattle.alias_certificate_laws.specs.text.Certifying.{cert_temporary}
 use Rattle.alias_cert.specs.Functions.{ranging, same_name}
 use Rattle.alias_follow.specs.Functions.{FollowedFunction, Following, following, followed_function, effects_followed}
 use Rattle.alias_follow.specs.Functions.{root_ended, RootFollowing, root_finished, root_followed}
@@ -88,7 +87,7 @@ counted_in (k ∷ ids) [] ys j e =
     let itself : nat_eq j.0 j.0 ≡ true = grind (arith, nat_tests) in
     let one : cond (nat_eq k.0 j.0) 1 0 ≡ 1 =
     ap (λ (z : FunctionId). cond (nat_eq z.0 j.0) 1 0) same ∙ ap (λ b. cond b 1 0) itself in
-    omega arith
+    omega (arith, c, one)
 counted_in (k ∷ ids) (x ∷ xs) ys j e =
     let rest : map Some ids ++ None ∷ [] ≡ xs ++ Some j ∷ ys = cc in
     let more = counted_in ids xs ys j rest in
@@ -103,7 +102,7 @@ unlike_if k j ids true is once more =
     let c : times (numbers (k ∷ ids)) j.0 ≡ cond (nat_eq k.0 j.0) 1 0 + times (numbers ids) j.0 =
     times_cons k.0 (numbers ids) j.0 in
     let one : cond (nat_eq k.0 j.0) 1 0 ≡ 1 = ap (λ b. cond b 1 0) is in
-    absurd (omega arith)
+    absurd (omega (arith, once, more, c, one))
 
 unlike_first : (k : FunctionId) (ids : List FunctionId) (n : Option FunctionId) (xs ys : List (Option FunctionId))
     → ((j : ℕ) → times (numbers (k ∷ ids)) j ≤ 1) → map Some ids ++ None ∷ [] ≡ xs ++ n ∷ ys
@@ -129,6 +128,9 @@ front_unlike (k ∷ ids) once (x ∷ xs) ys n e =
     )
 
 -- ---- what is told
+
+from_zero : (k : ℕ) → 0 + k ≡ k
+from_zero k = omega arith
 
 module _ (u : HirUnit) (summary : List AliasingEffect) where
   abbrev told_of : FollowedFunction → CertFunction
@@ -190,7 +192,7 @@ module _ (u : HirUnit) (summary : List AliasingEffect) where
   blocks_told : (o : Option HirFunction) (g : HirFunction) → o ≡ Some g → (b : FunctionBeyond) (es : List BlockEntry)
       → AreTold (told_blocks o b es) b.blocks es
   blocks_told o g is b es = subst (λ z. AreTold (told_blocks z b es) b.blocks es) (sym is)
-      (are_told g b.blocks b.blocks 0 (λ k. refl) es)
+      (are_told g b.blocks b.blocks 0 (λ k. ap (slice_get b.blocks) (from_zero k)) es)
 
   is_told : (x : FollowedFunction) (g : HirFunction) (o : Option CertFunction)
       → function_of u (name_of x) ≡ Some g → o ≡ Some (told_of x) → IsTold o x.solved x.beyond
@@ -367,7 +369,8 @@ module _ (given : List CertFunction) (u : HirUnit) (x : UnitFollowing) (rules : 
   again_is =
       (λ i. told_from handed x.followed.inferred.summary (beyond_is i) 0 (solved_is i))
       ∙ told_all handed x.followed.inferred.summary (map (λ (z : FollowedFunction). z.beyond) x.functions) 0
-      x.functions (λ k. refl)
+      x.functions
+      (λ k. ap (slice_get (map (λ (z : FollowedFunction). z.beyond) x.functions)) (from_zero k))
 
   tells : (xs ys : List FollowedFunction) (z : FollowedFunction) → x.functions ≡ xs ++ z ∷ ys
       → IsTold (given_of again (name_of z)) z.solved z.beyond
