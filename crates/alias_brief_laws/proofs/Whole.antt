@@ -85,7 +85,7 @@ counted_in (k ∷ ids) [] ys j e =
     let c : times (numbers (k ∷ ids)) j.0 ≡ cond (nat_eq k.0 j.0) 1 0 + times (numbers ids) j.0 =
     times_cons k.0 (numbers ids) j.0 in
     let itself : nat_eq j.0 j.0 ≡ true = grind (arith, nat_tests) in
-    let one : cond (nat_eq k.0 j.0) 1 0 ≡ 1 =
+    let one : ◌≡◌ {A = ℕ} (cond (nat_eq k.0 j.0) 1 0) 1 =
     ap (λ (z : FunctionId). cond (nat_eq z.0 j.0) 1 0) same ∙ ap (λ b. cond b 1 0) itself in
     omega (arith, c, one)
 counted_in (k ∷ ids) (x ∷ xs) ys j e =
@@ -101,7 +101,7 @@ unlike_if k j ids false is once more = refl
 unlike_if k j ids true is once more =
     let c : times (numbers (k ∷ ids)) j.0 ≡ cond (nat_eq k.0 j.0) 1 0 + times (numbers ids) j.0 =
     times_cons k.0 (numbers ids) j.0 in
-    let one : cond (nat_eq k.0 j.0) 1 0 ≡ 1 = ap (λ b. cond b 1 0) is in
+    let one : ◌≡◌ {A = ℕ} (cond (nat_eq k.0 j.0) 1 0) 1 = ap (λ b. cond b 1 0) is in
     absurd (omega (arith, once, more, c, one))
 
 unlike_first : (k : FunctionId) (ids : List FunctionId) (n : Option FunctionId) (xs ys : List (Option FunctionId))
