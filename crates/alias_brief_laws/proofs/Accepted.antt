@@ -29,11 +29,11 @@ known_of [] id h = tt
 known_of (c ∷ cs) id h = first_known c (given_of cs id) (same_name c.function id) h.0 (known_of cs id h.1)
 
 pub briefs_are_followed : BriefsAreFollowed
-briefs_are_followed given u x rules named known h = unit_again given u x rules (λ id. known_of given id known) named h
+briefs_are_followed given u x rules known h = unit_again given u x rules (λ id. known_of given id known) h
 
 pub briefs_are_accepted : BriefsAreAccepted
-briefs_are_accepted solved u x rules named known h reads =
+briefs_are_accepted solved u x rules known h reads =
     let text = brief_text x.followed in
     ap (read_so text u) reads
-    ∙ ap (followed_so text) (briefs_are_followed (said solved) u x rules named known h)
+    ∙ ap (followed_so text) (briefs_are_followed (said solved) u x rules known h)
     ∙ ap (compared_by (length x.followed.inferred.solved)) (no_difference 1 (whole_lines text))

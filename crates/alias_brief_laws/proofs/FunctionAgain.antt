@@ -1,11 +1,12 @@
 -- A function is followed again by what is told of it.
-use Rattle.std.specs.Prelude.{replicate, nat_lt, map, slice_get, slice_index_or, if◌then◌else◌}
+use Rattle.std.specs.Prelude.{replicate, nat_lt, map, slice_get, slice_index_or, if◌then◌else◌, is_some}
 use Rattle.std.specs.List.{AllByRecursion}
 use Rattle.std.proofs.Common.{◌≡◌, ℕ, zero, suc, ◌+◌, ◌≤◌, Bool, true, false, List, [], ◌∷◌, ◌++◌, length, Option, Some, None}
 use Rattle.std.proofs.Common.{Result, Ok, Err, refl, ap, sym, ◌∙◌, subst, arith}
 use Rattle.std.proofs.lemmas.Bool.{le-ltb}
-use Rattle.std.proofs.lemmas.List.{length-map}
+use Rattle.std.proofs.lemmas.List.{length-map, length-replicate}
 use Rattle.alias_base.specs.Answer.{◌>>=◌}
+use Rattle.alias_base.specs.Find.{value_at}
 use Rattle.alias_base.specs.declared.ids.FunctionId.{FunctionId}
 use Rattle.alias_hir.specs.declared.env.Environment.{Environment}
 use Rattle.alias_hir.specs.declared.hir.HirFunction.{HirFunction}
@@ -13,13 +14,16 @@ use Rattle.alias_lattice.specs.JoinLaws.{state_laws}
 use Rattle.alias_lattice.specs.ProperLaws.{proper-empty_state}
 use Rattle.alias_lattice.specs.ProperStates.{StateProper}
 use Rattle.alias_lattice.specs.States.{State, empty_state, state_join, state_below}
-use Rattle.alias_flow.specs.Machine.{Rules}
+use Rattle.alias_flow.specs.Machine.{Rules, FlowLaws}
 use Rattle.alias_flow.specs.Runs.{solver_state}
+use Rattle.alias_flow.proofs.check.Marks.{marked_is_reached}
+use Rattle.alias_tables.specs.GrowingLaws.{Extends}
 use Rattle.alias_tables.specs.Tables.{TableLists}
 use Rattle.alias_tables.specs.write_back.WriteBack.{tables_of}
+use Rattle.alias_step.specs.block.Contexts.{context_of}
 use Rattle.alias_step.specs.declared.block.faults.BlockRefusal.{BlockRefusal}
 use Rattle.alias_step.specs.declared.block.recorded.BlockEffects.{BlockEffects}
-use Rattle.alias_effects.proofs.Solving.{Numbers}
+use Rattle.alias_effects.specs.PassLaws.{pass_laws}
 use Rattle.alias_effects.specs.declared.solved.Solved.{Solved}
 use Rattle.alias_nested.specs.Created.{created_functions}
 use Rattle.alias_certificate.specs.declared.beyond.Beyond.{Beyond}
@@ -29,7 +33,6 @@ use Rattle.alias_certificate.specs.declared.certificate.CertTemporary.{CertTempo
 use Rattle.alias_certificate.specs.declared.fault.CheckFault.{CheckFault}
 use Rattle.alias_cert.specs.function.Temporaries.{temporaries_stated}
 use Rattle.alias_cert.proofs.Running.{after}
-use Rattle.alias_cert.proofs.function.SolvesFunction.{laws}
 use Rattle.alias_passage.specs.Passes.{Passing, passage_begun, flow_passed}
 use Rattle.alias_follow.specs.declared.function.follow.FunctionBeyond.{FunctionBeyond}
 use Rattle.alias_follow.specs.declared.function.follow.FunctionEnd.{FunctionEnd}
@@ -48,6 +51,7 @@ use Rattle.alias_brief_laws.proofs.Entered.{Enters, enters}
 use Rattle.alias_brief_laws.proofs.Lines.{AreTold, TellsAt, position_told}
 use Rattle.alias_brief_laws.proofs.Marking.{beyond_at}
 use Rattle.alias_brief_laws.proofs.PassedAgain.{Ends, pass_ends}
+use Rattle.alias_brief_laws.proofs.Reached.{reached_first}
 use Rattle.alias_brief_laws.proofs.Temporaries.{told_temporary, AllMore, all_more, no_longer}
 
 -- what is told of a function of which this was handed out
@@ -103,7 +107,7 @@ module _ (id : Option FunctionId) (env : Environment) (f : HirFunction) (b : Boo
   unfolding followed_by ended
   as_kept given t is = ap (λ z. followed_by (kept z given) (limit z given)) is
 
-  module _ (fits : Numbers f) (given : Option CertFunction) (said : CertFunction)
+  module _ (there : is_some (value_at f.body.blocks f.body.entry) ≡ true) (given : Option CertFunction) (said : CertFunction)
       (known : AreLinesKnown (blocks_given given)) (e : FunctionEnd) (tables : TableLists)
       (w : Passing State Beyond TableLists BlockEffects)
       (begun : tables_begun given id env f ≡ Ok tables)
@@ -112,6 +116,9 @@ module _ (id : Option FunctionId) (env : Environment) (f : HirFunction) (b : Boo
       (ends : followed_end None id env f b w ≡ e)
       (blocks : AreTold said.blocks e.beyond.blocks e.end.solved.entries)
       (temporaries : said.temporaries ≡ map told_temporary e.end.solved.temporaries) where
+    abbrev own_laws : FlowLaws StateProper Extends rules nothing
+    own_laws = pass_laws (context_of env f b) there nothing (length-replicate (length f.body.blocks) None)
+
     abbrev count : ℕ
     count = length (temporaries_given given)
 
@@ -136,10 +143,10 @@ module _ (id : Option FunctionId) (env : Environment) (f : HirFunction) (b : Boo
         ap (λ z. if z then Some unfollowed.MissingTemporary else None) few
 
     run : Ends state_join state_below empty_state rules unfollowed.State (lacking (Some count)) (marks None id env f b)
-        state_laws (laws env f b fits) proper-empty_state (entering given id env f)
+        state_laws own_laws proper-empty_state (entering given id env f)
         (λ q x s m h is. (enters_at q x s m h is).is_proper) tables 0 rules.blocks (solver_state (passage_begun state_join rules) tables nothing) w
     run = pass_ends state_join state_below empty_state rules unfollowed.State (lacking (Some count))
-        (marks None id env f b) state_laws (laws env f b fits) proper-empty_state (entering given id env f)
+        (marks None id env f b) state_laws own_laws proper-empty_state (entering given id env f)
         (λ q x s m h is. (enters_at q x s m h is).is_proper) tables w lacks_none passed
 
     same_temporaries : w.tables.temporaries ≡ tables.temporaries
@@ -154,17 +161,19 @@ module _ (id : Option FunctionId) (env : Environment) (f : HirFunction) (b : Boo
         ∙ ap (λ (z : FunctionEnd). map told_temporary z.end.solved.temporaries) (sym ends)
         ∙ ap (map told_temporary) (same_temporaries ∙ made.is) ∙ made.told
 
-    told_at : (q : ℕ) (m : Beyond) → beyond_at w.progress.entries w.progress.beyond q ≡ Some m
+    told_at : (q : ℕ) (m : Beyond) → slice_index_or (marks None id env f b) q false ≡ true
+        → beyond_at w.progress.entries w.progress.beyond q ≡ Some m
         → TellsAt said.blocks (first_lines said.blocks f.body.blocks) q m
-    told_at q m at = position_told f.body.blocks w.progress.entries w.progress.beyond said.blocks fits.distinct
+    told_at q m marked at = position_told f.body.blocks w.progress.entries w.progress.beyond said.blocks
         (subst (λ (z : FunctionEnd). AreTold said.blocks z.beyond.blocks z.end.solved.entries) (sym ends) blocks)
-        run.long q m at
+        run.long q m (reached_first f env b there q (marked_is_reached own_laws q marked)) at
 
-    enters_too : (q : ℕ) (x s : State) (m : Beyond) → StateProper x → entering given id env f q x ≡ Some (s, m)
+    enters_too : (q : ℕ) (x s : State) (m : Beyond) → slice_index_or (marks None id env f b) q false ≡ true
+        → StateProper x → entering given id env f q x ≡ Some (s, m)
         → beyond_at w.progress.entries w.progress.beyond q ≡ Some m
         → entering (Some said) id env f q x ≡ Some (s, m)
-    enters_too q x s m h is at =
-        let told = told_at q m at in
+    enters_too q x s m marked h is at =
+        let told = told_at q m marked at in
         ap (λ o. entered_by (length env.identifiers + length said.temporaries) (created_functions f) o x) told.is
         ∙ ap (λ cs. entered_by (length env.identifiers + length cs) (created_functions f) (Some told.line) x)
         said_temporaries
@@ -182,7 +191,7 @@ module _ (id : Option FunctionId) (env : Environment) (f : HirFunction) (b : Boo
         (ap (λ cs. temporaries_stated id env cs (tables_of env)) said_temporaries ∙ begun)
         ∙ ap (λ r. r >>= ended) passed_too ∙ ap Ok ends
 
-  module _ (fits : Numbers f) (given also : Option CertFunction) (e : FunctionEnd) (told : IsTold also e.end.solved e.beyond) where
+  module _ (there : is_some (value_at f.body.blocks f.body.entry) ≡ true) (given also : Option CertFunction) (e : FunctionEnd) (told : IsTold also e.end.solved e.beyond) where
     ended_forward : function_followed given id env f b ≡ Ok e → e.beyond.is_forward ≡ is_forward None id env f b
     ended_forward h =
         let a = after (tables_begun (kept (is_forward given id env f b) given) id env f) _ e h in
@@ -202,7 +211,7 @@ module _ (id : Option FunctionId) (env : Environment) (f : HirFunction) (b : Boo
         let passed = unfaulted id env f.body.blocks (flow_passed state_join state_below empty_state rules
         (entering given id env f) unfollowed.State (lacking most) (marks None id env f b) a.was nothing) s.was s.first in
         subst (λ z. followed_by z (Some (length (temporaries_given z))) ≡ Ok e) (sym told.is)
-        (followed_too fits given told.said known e a.was s.was a.first passed same told.blocks
+        (followed_too there given told.said known e a.was s.was a.first passed same told.blocks
         (told.temporaries loops))
 
     by_forward : (t : Bool) → is_forward None id env f b ≡ t → AreLinesKnown (blocks_given (kept t given))

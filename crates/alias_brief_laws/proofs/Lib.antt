@@ -10,7 +10,7 @@ pub mod PassedAgain
 pub mod Lines
 pub mod Temporaries
 pub mod FunctionAgain
-pub mod Names
+pub mod Reached
 pub mod One
 pub mod Order
 pub mod Walking

@@ -1,13 +1,12 @@
 -- The line that is told of each block of a function.
 use Rattle.std.specs.Prelude.{cond, slice_get, slice_index_or, position, ⊤}
-use Rattle.std.specs.List.{AllByRecursion, IsDistinct}
 use Rattle.std.specs.Map.{keys_of}
 use Rattle.std.proofs.Common.{◌≡◌, ℕ, ◌+◌, ◌<◌, zero, suc, Bool, true, false, List, [], ◌∷◌, length, Option, Some, None}
 use Rattle.std.proofs.Common.{option_map, refl, ap, sym, ◌∙◌, subst, arith}
 use Rattle.alias_base.specs.Find.{same_block}
 use Rattle.alias_base.specs.declared.ids.BlockId.{BlockId}
-use Rattle.alias_hir.specs.PositionLaws.{position_step, same_self}
-use Rattle.alias_hir.specs.Positions.{Blocks}
+use Rattle.alias_hir.specs.PositionLaws.{position_step, same_is, same_self}
+use Rattle.alias_hir.specs.Positions.{Blocks, position_in}
 use Rattle.alias_hir.specs.declared.hir.BasicBlock.{BasicBlock}
 use Rattle.alias_lattice.specs.States.{State}
 use Rattle.alias_effects.specs.Inference.{entries_of}
@@ -55,12 +54,24 @@ pub record Tells (cs : List CertBlock) (b : BlockId) (m : Beyond) : Type 0 where
   pub is : line_of cs b ≡ Some line
   pub says : SaysBeyond line m
 
-apart_at : (b : BlockId) (es : Blocks) (q : ℕ) (e : BlockId × BasicBlock)
-    → AllByRecursion (λ y. same_block b y ≡ false) (keys_of es) → slice_get es q ≡ Some e → same_block b e.0 ≡ false
-apart_at b [] q e a h = cc
-apart_at b (x ∷ es) zero e a h =
-    let same : x ≡ e = cc in ap (λ (y : BlockId × BasicBlock). same_block b y.0) (sym same) ∙ a.0
-apart_at b (x ∷ es) (suc q) e a h = apart_at b es q e a.1 h
+later : (t : Bool) (o : Option ℕ) (q : ℕ) → cond t (Some 0) (option_map suc o) ≡ Some (suc q)
+    → (t ≡ false) × (o ≡ Some q)
+later true o q h = let clash : 0 ≡ suc q = cc in absurd (omega arith)
+later false None q h = cc
+later false (Some n) q h = let same : suc n ≡ suc q = cc in let less : n ≡ q = omega arith in (refl, ap Some less)
+
+other_way : (a b : BlockId) (t : Bool) → same_block a b ≡ t → same_block b a ≡ false → t ≡ false
+other_way a b false is h = refl
+other_way a b true is h =
+    let same : a ≡ b = same_is a b is in
+    let clash : true ≡ false = sym (same_self a) ∙ ap (λ z. same_block z a) same ∙ h in cc
+
+-- a block that is the first of its name has another than the block before it, and is the first behind that
+apart_first : (b : BlockId × BasicBlock) (bs : Blocks) (e : BlockId) (q : ℕ) → position_in (b ∷ bs) e ≡ Some (suc q)
+    → (same_block b.0 e ≡ false) × (position_in bs e ≡ Some q)
+apart_first b bs e q h =
+    let l = later (same_block e b.0) (position_in bs e) q (sym (position_step (same_block e) b.0 (keys_of bs)) ∙ h) in
+    (other_way b.0 e (same_block b.0 e) refl l.0, l.1)
 
 told_behind : (c : CertBlock) (cs : List CertBlock) (b : BlockId) (m : Beyond) → same_block c.block b ≡ false
     → Tells cs b m → Tells (c ∷ cs) b m
@@ -79,23 +90,24 @@ told_here c cs b m same says = record {
   says = says;
 }
 
--- each block of whose entry state this is beyond has a line that says it
-pub block_told : (blocks : Blocks) (xs : List (Option State)) (ms : List Beyond) (cs : List CertBlock)
-    → IsDistinct same_block (keys_of blocks) → AreTold cs ms (entries_of blocks xs) → (q : ℕ)
-    (e : BlockId × BasicBlock) (m : Beyond) → slice_get blocks q ≡ Some e → beyond_at xs ms q ≡ Some m → Tells cs e.0 m
-unfolding IsDistinct
-block_told [] xs ms cs d t q e m at h = cc
-block_told (b ∷ bs) [] ms cs d t q e m at h = cc
-block_told (b ∷ bs) (None ∷ xs) ms cs d t zero e m at h = cc
-block_told (b ∷ bs) (None ∷ xs) ms cs d t (suc q) e m at h = block_told bs xs ms cs d.1 t q e m at h
-block_told (b ∷ bs) (Some x ∷ xs) ms [] d t q e m at h = absurd t
-block_told (b ∷ bs) (Some x ∷ xs) [] (c ∷ cs) d t q e m at h = cc
-block_told (b ∷ bs) (Some x ∷ xs) (k ∷ ms) (c ∷ cs) d t zero e m at h =
+-- each block of whose entry state this is beyond, and that is the first of its name, has a line that says it
+block_told : (blocks : Blocks) (xs : List (Option State)) (ms : List Beyond) (cs : List CertBlock)
+    → AreTold cs ms (entries_of blocks xs) → (q : ℕ) (e : BlockId × BasicBlock) (m : Beyond)
+    → slice_get blocks q ≡ Some e → position_in blocks e.0 ≡ Some q → beyond_at xs ms q ≡ Some m → Tells cs e.0 m
+block_told [] xs ms cs t q e m at is h = cc
+block_told (b ∷ bs) [] ms cs t q e m at is h = cc
+block_told (b ∷ bs) (None ∷ xs) ms cs t zero e m at is h = cc
+block_told (b ∷ bs) (None ∷ xs) ms cs t (suc q) e m at is h =
+    block_told bs xs ms cs t q e m at (apart_first b bs e.0 q is).1 h
+block_told (b ∷ bs) (Some x ∷ xs) ms [] t q e m at is h = absurd t
+block_told (b ∷ bs) (Some x ∷ xs) [] (c ∷ cs) t q e m at is h = cc
+block_told (b ∷ bs) (Some x ∷ xs) (k ∷ ms) (c ∷ cs) t zero e m at is h =
     let same : b ≡ e = cc in
     told_here c cs e.0 m (t.0 ∙ ap (λ (y : BlockId × BasicBlock). y.0) same) (t.1 m h)
-block_told (b ∷ bs) (Some x ∷ xs) (k ∷ ms) (c ∷ cs) d t (suc q) e m at h =
-    told_behind c cs e.0 m (ap (λ z. same_block z e.0) t.0 ∙ apart_at b.0 bs q e d.0 at)
-    (block_told bs xs ms cs d.1 t.2 q e m at h)
+block_told (b ∷ bs) (Some x ∷ xs) (k ∷ ms) (c ∷ cs) t (suc q) e m at is h =
+    let first = apart_first b bs e.0 q is in
+    told_behind c cs e.0 m (ap (λ z. same_block z e.0) t.0 ∙ first.0)
+    (block_told bs xs ms cs t.2 q e m at first.1 h)
 
 -- ---- by numbers
 
@@ -126,12 +138,13 @@ pub record TellsAt (cs : List CertBlock) (numbers : List (Option ℕ)) (q : ℕ)
   pub says : SaysBeyond line m
 
 pub position_told : (blocks : Blocks) (xs : List (Option State)) (ms : List Beyond) (cs : List CertBlock)
-    → IsDistinct same_block (keys_of blocks) → AreTold cs ms (entries_of blocks xs) → length xs ≡ length blocks
-    → (q : ℕ) (m : Beyond) → beyond_at xs ms q ≡ Some m → TellsAt cs (first_lines cs blocks) q m
-position_told blocks xs ms cs d t long q m h =
+    → AreTold cs ms (entries_of blocks xs) → length xs ≡ length blocks → (q : ℕ) (m : Beyond)
+    → ((e : BlockId × BasicBlock) → slice_get blocks q ≡ Some e → position_in blocks e.0 ≡ Some q)
+    → beyond_at xs ms q ≡ Some m → TellsAt cs (first_lines cs blocks) q m
+position_told blocks xs ms cs t long q m is h =
     let within : q < length blocks = subst (λ n. q < n) long (beyond_within xs ms q m h) in
     let b = block_there blocks q within in
-    let told = block_told blocks xs ms cs d t q b.0 m b.1 h in
+    let told = block_told blocks xs ms cs t q b.0 m b.1 (is b.0 b.1) h in
     record {
       line = told.line;
       is = ap (line_at cs) (number_at cs blocks q b.0 b.1) ∙ told.is;

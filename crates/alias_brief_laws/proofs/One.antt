@@ -11,17 +11,14 @@ use Rattle.alias_fitting_laws.specs.bare.EvolvedLaws.{evolves_through}
 use Rattle.alias_effects.specs.Inference.{env_after}
 use Rattle.alias_effects.specs.Recording.{with_effects_of}
 use Rattle.alias_range_pass.specs.Passes.{Ranged, range_pass}
-use Rattle.alias_range_pass.specs.places.Keeping.{but_context}
 use Rattle.alias_ranges.specs.KeptLaws.{silent_fits}
 use Rattle.alias_ranges.specs.laws.ReportLaws.{expression_reports}
 use Rattle.alias_ranges.specs.laws.SummaryLaws.{summary_fits}
 use Rattle.alias_nested.specs.Annotating.{annotated}
 use Rattle.alias_nested.specs.Finishing.{finished}
 use Rattle.alias_nested.specs.Fitting.{FunctionKept, SummaryFits}
-use Rattle.alias_nested.proofs.Evolving.{passed_contexts}
 use Rattle.alias_nested.proofs.Keeping.{ranged_keeps, annotated_keeps, summary_kept}
 use Rattle.alias_answer_laws.proofs.order.Ordering.{went}
-use Rattle.alias_answer_laws.proofs.order.Staying.{ranged_contexts}
 use Rattle.alias_inferred_laws.proofs.inferred.Ranging.{PassLeaves, pass_leaves}
 use Rattle.alias_certificate.specs.declared.certificate.CertFunction.{CertFunction}
 use Rattle.alias_certificate.specs.declared.fault.CheckFault.{CheckFault}
@@ -152,11 +149,3 @@ pub one_more : (given : List CertFunction) (id : FunctionId) (f : HirFunction) (
     → (o : FollowedOne given id f a s)
     → s.1.functions ≡ a.functions ++ followed_function (Some id) true f a.env o.end ∷ []
 one_more given id f a s o = sym (ap (λ (z : Taken). z.1.functions) o.is)
-
--- functions stay the same but for effects of context places
-pub one_contexts : (given : List CertFunction) (id : FunctionId) (f : HirFunction) (a : Following) (s : Taken)
-    → FollowedOne given id f a s → map but_context s.1.env.functions ≡ map but_context a.env.functions
-one_contexts given id f a s o =
-    ap (λ (z : Taken). map but_context z.1.env.functions) (sym o.is)
-    ∙ ranged_contexts (with_effects_of o.end.end.solved f) (env_after a.env o.end.end) o.ranged o.ran
-    ∙ passed_contexts a.env o.end.end

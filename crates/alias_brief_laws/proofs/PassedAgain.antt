@@ -159,7 +159,8 @@ module _ {P B T K C D : Type 0} (join : P → P → P) (below : P → P → Bool
 
     -- another way to enter blocks gives the same where a block was entered
     abbrev pub Agrees : (ℕ → P → Option (P × B)) → Passing P B T K → Type 0
-    Agrees other v = (b : ℕ) (x s : P) (m : B) → proper x → enter b x ≡ Some (s, m)
+    Agrees other v = (b : ℕ) (x s : P) (m : B) → slice_index_or marks b false ≡ true → proper x
+        → enter b x ≡ Some (s, m)
         → beyond_at v.progress.entries v.progress.beyond b ≡ Some m → other b x ≡ Some (s, m)
 
     pub record Ends (i n : ℕ) (w v : Passing P B T K) : Type 0 where
@@ -233,7 +234,7 @@ module _ {P B T K C D : Type 0} (join : P → P → P) (below : P → P → Bool
                 >>= blocks_passed {C = C} join below empty rules other unentered lacks marks (up (i + 1) n)) is
                 ∙ ap (λ r. r >>= blocks_passed {C = C} join below empty rules other unentered lacks marks (up (i + 1) n))
                 (passes_again other i w a enter p
-                (agrees i (arrives i w) p.state p.more here p.enters (c.stays i p.more (omega arith) entered_is)))
+                (agrees i (arrives i w) p.state p.more is here p.enters (c.stays i p.more (omega arith) entered_is)))
                 ∙ c.again other agrees;
           }
 

@@ -1,25 +1,22 @@
 -- The functions below a function are followed again by what is told of them.
 use Rattle.std.specs.Prelude.{slice_get}
-use Rattle.std.specs.List.{AllByRecursion, IsDistinct}
-use Rattle.std.specs.Map.{keys_of}
+use Rattle.std.specs.List.{AllByRecursion}
 use Rattle.std.proofs.Common.{◌≡◌, ℕ, zero, suc, Bool, true, false, List, [], ◌∷◌, ◌++◌, Option, Some, None, Result, Ok, Err, refl, ap}
 use Rattle.std.proofs.Common.{sym, ◌∙◌, subst}
 use Rattle.std.proofs.lemmas.List.{append-nil, append_assoc}
 use Rattle.alias_base.specs.Answer.{◌>>=◌}
-use Rattle.alias_base.specs.Find.{same_block}
 use Rattle.alias_base.specs.declared.ids.FunctionId.{FunctionId}
 use Rattle.alias_hir.specs.declared.env.Environment.{Environment}
 use Rattle.alias_hir.specs.declared.hir.HirFunction.{HirFunction}
 use Rattle.alias_rules.specs.Fitting.{function_fits}
 use Rattle.alias_rules.specs.Nesting.{created_in}
-use Rattle.alias_rules.specs.RuleLaws.{fitting_entry, fitting_successors}
+use Rattle.alias_rules.specs.RuleLaws.{fitting_entry}
 use Rattle.alias_rules.specs.function_rules.Rules.{is_among}
 use Rattle.alias_nesting_laws.specs.NestingLaws.{taken_out_fits}
 use Rattle.alias_nesting_laws.specs.Slots.{with_function}
 use Rattle.alias_fitting_laws.specs.pruning.PruningLaws.{function_through}
-use Rattle.alias_effects.proofs.Solving.{Numbers}
 use Rattle.alias_nested.specs.Created.{created_functions}
-use Rattle.alias_nested.specs.Fitting.{FunctionKept, EnvironmentPruned}
+use Rattle.alias_nested.specs.Fitting.{EnvironmentPruned}
 use Rattle.alias_nested.specs.Slots.{emptied}
 use Rattle.alias_nested.proofs.Creating.{created_is_among}
 use Rattle.alias_nested.proofs.Keeping.{kept_pruned, pruned_self, pruned_through, pruned_fits, pruned_beside}
@@ -31,10 +28,8 @@ use Rattle.alias_follow.specs.Functions.{FollowedFunction, Following, following,
 use Rattle.alias_follow.specs.Units.{each, put_back, taken_followed, found_followed, slot_followed, below_followed}
 use Rattle.alias_follow.specs.function.Givens.{given_of, blocks_given}
 use Rattle.alias_follow.specs.lines.Known.{AreLinesKnown}
-use Rattle.alias_brief_laws.specs.Names.{HasNames}
 use Rattle.alias_brief_laws.proofs.FunctionAgain.{IsTold, function_again}
-use Rattle.alias_brief_laws.proofs.Names.{all_set, one_of, all_both, named_alike, named_still}
-use Rattle.alias_brief_laws.proofs.One.{Taken, FollowedOne, followed_one, nested_again, one_kept, one_more, one_contexts}
+use Rattle.alias_brief_laws.proofs.One.{Taken, FollowedOne, followed_one, nested_again, one_kept, one_more}
 use Rattle.alias_brief_laws.proofs.One.{ok_same}
 
 -- ---- what following keeps
@@ -44,23 +39,16 @@ pub record Went (a b : Following) : Type 0 where
   pub more : List FollowedFunction
   pub is : a.functions ++ more ≡ b.functions
   pub pruned : EnvironmentPruned a.env b.env
-  -- blocks keep their names
-  pub names : AllByRecursion HasNames a.env.functions
-      → AllByRecursion HasNames b.env.functions × AllByRecursion (λ (x : FollowedFunction). HasNames x.func) more
 
 went_self : (f : HirFunction) (a b : Following) → function_fits f a.env ≡ true → a ≡ b → Went a b
 went_self f a b fits is = subst (Went a) is
-    (record { more = []; is = append-nil a.functions; pruned = pruned_self f a.env fits; names = λ n. (n, tt) })
+    (record { more = []; is = append-nil a.functions; pruned = pruned_self f a.env fits })
 
 went_through : (a b c : Following) → Went a b → Went b c → Went a c
 went_through a b c p q = record {
   more = p.more ++ q.more;
   is = sym (append_assoc a.functions p.more q.more) ∙ ap (λ zs. zs ++ q.more) p.is ∙ q.is;
   pruned = pruned_through a.env b.env c.env p.pruned q.pruned;
-  names = λ n.
-      let i = p.names n in
-      let j = q.names i.0 in
-      (j.0, all_both (λ (x : FollowedFunction). HasNames x.func) p.more q.more i.1 j.1);
 }
 
 -- a function that was out of its slot
@@ -127,29 +115,12 @@ module _ (given : List CertFunction)
         (pruned_beside out.env t.mid.env went_mid.pruned f out_fits)
         (kept_pruned f t.mid.env t.taken.0 t.taken.1.env (one_kept given id f t.mid t.taken one (known (Some id)) mid_fits)))
 
-    kept : FunctionKept f t.mid.env t.taken.0 t.taken.1.env
-    kept = one_kept given id f t.mid t.taken one (known (Some id)) mid_fits
-
-    names_back : AllByRecursion HasNames a.env.functions
-        → AllByRecursion HasNames (put_back id t.taken).env.functions
-        × AllByRecursion (λ (x : FollowedFunction). HasNames x.func) (went_mid.more ++ own ∷ [])
-    unfolding IsDistinct
-    names_back n =
-        let own_names : HasNames f = one_of HasNames a.env.functions id.0 f n at in
-        let m = went_mid.names (all_set HasNames a.env.functions id.0 (emptied f.returns) n tt) in
-        let left = named_alike t.mid.env.functions t.taken.1.env.functions (one_contexts given id f t.mid t.taken one)
-        m.0 in (
-          all_set HasNames t.taken.1.env.functions id.0 t.taken.0 left (named_still f t.taken.0 kept.still own_names),
-          all_both (λ (x : FollowedFunction). HasNames x.func) went_mid.more (own ∷ []) m.1 (own_names, tt),
-        )
-
     taking_went : Went a b
     taking_went = subst (Went a) t.back (record {
       more = went_mid.more ++ own ∷ [];
       is = sym (append_assoc a.functions went_mid.more (own ∷ [])) ∙ ap (λ zs. zs ++ own ∷ []) went_mid.is
           ∙ sym own_last;
       pruned = went_back;
-      names = names_back;
     })
 
   module _ (below : HirFunction → Following → Result Following CheckFault) (goes : Goes below) (g : HirFunction) where
@@ -181,15 +152,7 @@ module _ (given : List CertFunction)
 
   -- ---- again
 
-  pub numbers_of : (f : HirFunction) (env : Environment) → HasNames f → function_fits f env ≡ true → Numbers f
-  numbers_of f env names fits = record {
-    distinct = names;
-    entry = fitting_entry f env fits;
-    successors = λ n j x k. fitting_successors f env n j x fits k;
-  }
-
   module _ (also : List CertFunction) (all : List FollowedFunction)
-      (named : (xs ys : List FollowedFunction) (x : FollowedFunction) → all ≡ xs ++ x ∷ ys → HasNames x.func)
       (tells : (xs ys : List FollowedFunction) (x : FollowedFunction) → all ≡ xs ++ x ∷ ys
       → IsTold (given_of also x.solved.function) x.solved x.beyond) where
     -- these were followed first
@@ -223,8 +186,7 @@ module _ (given : List CertFunction)
           ∙ ap (λ zs. zs ++ front.rest) last ∙ append_assoc t.mid.functions (x ∷ []) front.rest in
           let told = tells t.mid.functions front.rest x whole in
           let fits_mid = mid_fits below (below_went n) g id f a b fits among at t in
-          let numbers = numbers_of f t.mid.env (named t.mid.functions front.rest x whole) fits_mid in
-          let same = function_again (Some id) t.mid.env f true numbers (given_of given (Some id)) (given_of also (Some id))
+          let same = function_again (Some id) t.mid.env f true (fitting_entry f t.mid.env fits_mid) (given_of given (Some id)) (given_of also (Some id))
           o.end (record { said = told.said; is = told.is; blocks = told.blocks; temporaries = told.temporaries })
           (known (Some id)) o.ended in
           let first : below_followed also n f z ≡ Ok t.mid =

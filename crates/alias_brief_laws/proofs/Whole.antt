@@ -22,7 +22,7 @@ use Rattle.alias_validate.specs.Reports.{with_reports}
 use Rattle.alias_rules.specs.Fitting.{function_fits}
 use Rattle.alias_rules.specs.Functions.{rules_hold}
 use Rattle.alias_rules.specs.Nesting.{times}
-use Rattle.alias_rules.specs.RuleLaws.{rules_make_function_fit}
+use Rattle.alias_rules.specs.RuleLaws.{fitting_entry, rules_make_function_fit}
 use Rattle.alias_rules.specs.TreeLaws.{times_cons}
 use Rattle.alias_effects.specs.Inference.{env_after}
 use Rattle.alias_effects.specs.Recording.{with_effects_of}
@@ -55,14 +55,12 @@ use Rattle.alias_follow.specs.lines.Known.{AreLinesKnown}
 use Rattle.alias_brief_text_laws.specs.Telling.{told_block, told_blocks_from, told_blocks, told_temporaries, told_function}
 use Rattle.alias_brief_text_laws.specs.Telling.{told_if_known, told_from, told}
 use Rattle.alias_brief_laws.proofs.FunctionAgain.{IsTold, function_again}
-use Rattle.alias_brief_laws.specs.Names.{HasNames, BlocksHaveNames}
 use Rattle.alias_brief_laws.specs.Raising.{SaysBeyond}
-use Rattle.alias_brief_laws.proofs.Names.{all_both}
 use Rattle.alias_brief_laws.proofs.Lines.{AreTold, others_of}
 use Rattle.alias_brief_laws.proofs.One.{Taken, effects_left, ranging_ok, ok_same}
 use Rattle.alias_brief_laws.proofs.Order.{done, Done, goes_over}
 use Rattle.alias_brief_laws.proofs.Temporaries.{told_temporary}
-use Rattle.alias_brief_laws.proofs.Walking.{Went, below_went, numbers_of, below_again}
+use Rattle.alias_brief_laws.proofs.Walking.{Went, below_went, below_again}
 
 -- ---- names
 
@@ -298,14 +296,8 @@ get_there [] k h = absurd (omega arith)
 get_there (x ∷ xs) zero h = (x, refl)
 get_there (x ∷ xs) (suc k) h = get_there xs k (omega arith)
 
-named_at : {X : Type 0} (p : X → Type 0) (all xs ys : List X) (x : X) → AllByRecursion p all → all ≡ xs ++ x ∷ ys → p x
-named_at p [] xs ys x a e = no_end (p x) xs ys x e
-named_at p (z ∷ all) [] ys x a e = let same : z ≡ x = cc in subst p same a.0
-named_at p (z ∷ all) (w ∷ xs) ys x a e = let rest : all ≡ xs ++ x ∷ ys = cc in named_at p all xs ys x a.1 rest
-
 module _ (given : List CertFunction) (u : HirUnit) (x : UnitFollowing) (rules : rules_hold u ≡ Ok tt)
     (known : (id : Option FunctionId) → AreLinesKnown (blocks_given (given_of given id)))
-    (named : BlocksHaveNames u)
     (h : unit_followed given u ≡ Ok x) where
   p : Parts given u x
   p = parts given u x h
@@ -390,17 +382,8 @@ module _ (given : List CertFunction) (u : HirUnit) (x : UnitFollowing) (rules : 
   fits_nested : function_fits u.function nested.env ≡ true
   fits_nested = pruned_fits u.env nested.env went_nested.pruned u.function fits
 
-  all_named : AllByRecursion (λ (z : FollowedFunction). HasNames z.func) x.functions
-  all_named = subst (AllByRecursion (λ (z : FollowedFunction). HasNames z.func))
-      (sym (functions_are ∙ ap (λ zs. zs ++ own ∷ []) (sym went_nested.is)))
-      (all_both (λ (z : FollowedFunction). HasNames z.func) went_nested.more (own ∷ [])
-      (went_nested.names named.nested).1 (named.root, tt))
-
-  at : (xs ys : List FollowedFunction) (z : FollowedFunction) → x.functions ≡ xs ++ z ∷ ys → HasNames z.func
-  at xs ys z split = named_at (λ (w : FollowedFunction). HasNames w.func) x.functions xs ys z all_named split
-
   below_too : below_followed again most_levels u.function (following u.env []) ≡ Ok nested
-  below_too = below_again given known again x.functions at tells most_levels u.function (following u.env []) nested fits
+  below_too = below_again given known again x.functions tells most_levels u.function (following u.env []) nested fits
       p.below (record { rest = own ∷ []; is = functions_are })
 
   root_too : root_followed again u.function nested ≡ Ok p.root
@@ -408,7 +391,7 @@ module _ (given : List CertFunction) (u : HirUnit) (x : UnitFollowing) (rules : 
       let t = tells nested.functions [] own functions_are in
       root_again given again u.function nested p.root p.end p.went_root p.ended
       (function_again None nested.env u.function false
-      (numbers_of given known u.function nested.env (at nested.functions [] own functions_are) fits_nested)
+      (fitting_entry u.function nested.env fits_nested)
       (given_of given None) (given_of again None) p.end
       (record { said = t.said; is = t.is; blocks = t.blocks; temporaries = t.temporaries }) (known None) p.ended)
 

@@ -1,3 +1,2 @@
 pub mod Raising
-pub mod Names
 pub mod Accepted

@@ -1,4 +1,3 @@
-use Rattle.alias_brief_laws.proofs.FunctionAgain.{function_again}
 use Rattle.alias_brief_laws.proofs.RaisedAgain.{raises_again}
 use Rattle.alias_brief_laws.proofs.laws.raises_again_law.Goals as goal
 
