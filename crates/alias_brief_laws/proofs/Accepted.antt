@@ -1,21 +1,27 @@
 -- What `brief` prints is accepted by `verify`.
-use Rattle.std.specs.Prelude.{if◌then◌else◌}
+use Rattle.std.specs.Prelude.{if◌then◌else◌, nat_eq}
+use Rattle.std.specs.Cmp.Lexicographic.{pointwise}
 use Rattle.std.specs.List.{AllByRecursion}
-use Rattle.std.proofs.Common.{◌≡◌, Bool, true, false, List, [], ◌∷◌, length, Option, Some, None, Ok, refl, ap, ◌∙◌}
+use Rattle.std.proofs.Common.{◌≡◌, ℕ, ◌+◌, Bool, true, false, List, [], ◌∷◌, length, Option, Some, None, Ok, refl, ap, ◌∙◌}
+use Rattle.std.proofs.lemmas.Bool.{eq-eqb}
 use Rattle.alias_base.specs.declared.ids.FunctionId.{FunctionId}
 use Rattle.alias_hir.specs.declared.env.Unit.{Unit as HirUnit}
+use Rattle.alias_rules.specs.Functions.{rules_hold}
+use Rattle.alias_effects.specs.declared.solved.Solved.{Solved}
+use Rattle.alias_answer_laws.proofs.order.Ordering.{went}
 use Rattle.alias_certificate.specs.declared.certificate.CertFunction.{CertFunction}
 use Rattle.alias_cert.specs.Functions.{same_name}
-use Rattle.alias_follow.specs.Units.{UnitFollowing}
+use Rattle.alias_follow.specs.Units.{UnitFollowing, unit_followed}
 use Rattle.alias_follow.specs.function.Givens.{given_of, blocks_given}
 use Rattle.alias_follow.specs.lines.Known.{AreLinesKnown}
 use Rattle.alias_brief.specs.Briefs.{brief_text}
-use Rattle.alias_brief.specs.Differences.{whole_lines}
+use Rattle.alias_brief.specs.Differences.{whole_lines, difference_from, first_difference}
 use Rattle.alias_brief.specs.Saying.{said}
-use Rattle.alias_brief.specs.Verifying.{compared_by, followed_so, read_so}
-use Rattle.alias_brief.proofs.Lines.{no_difference}
-use Rattle.alias_brief_laws.specs.Accepted.{AreGivenKnown, BriefsAreFollowed, BriefsAreAccepted}
-use Rattle.alias_brief_laws.proofs.Whole.{unit_again}
+use Rattle.alias_brief.specs.Verifying.{text_followed, compared_by, followed_so, read_so, verified}
+use Rattle.alias_brief_laws.specs.Accepted.{AreGivenKnown, BriefsAreFollowed, functions_in, ReadsAsTold}
+use Rattle.alias_brief_laws.specs.Accepted.{BriefsAreAccepted}
+use Rattle.alias_brief_laws.proofs.One.{ok_same}
+use Rattle.alias_brief_laws.proofs.Whole.{unit_again, count_is}
 
 first_known : (c : CertFunction) (o : Option CertFunction) (t : Bool) → AreLinesKnown c.blocks
     → AreLinesKnown (blocks_given o) → AreLinesKnown (blocks_given (if t then Some c else o))
@@ -31,9 +37,29 @@ known_of (c ∷ cs) id h = first_known c (given_of cs id) (same_name c.function 
 pub briefs_are_followed : BriefsAreFollowed
 briefs_are_followed given u x rules known h = unit_again given u x rules (λ id. known_of given id known) h
 
+-- ---- texts
+
+alike : (xs : List ℕ) → pointwise nat_eq xs xs ≡ true
+alike [] = refl
+alike (x ∷ xs) = rw (eq-eqb x x refl) (alike xs)
+
+-- lines differ in nothing from themselves
+no_difference : (n : ℕ) (lines : List (List ℕ)) → difference_from n lines lines ≡ None
+no_difference n [] = refl
+no_difference n (line ∷ lines) = rw (alike line) (no_difference (n + 1) lines)
+
+module _ (solved : List Solved) (u : HirUnit) (text : List ℕ) (rules : rules_hold u ≡ Ok tt)
+    (known : AreGivenKnown (said solved)) (reads : ReadsAsTold solved u text) where
+  accepted_as : (x : UnitFollowing) → unit_followed (said solved) u ≡ Ok x → brief_text x.followed ≡ text
+      → verified text u ≡ Ok (functions_in u)
+  accepted_as x h same =
+      ap (read_so text u) (reads x h)
+      ∙ ap (followed_so text) (briefs_are_followed (said solved) u x rules known h)
+      ∙ ap (λ t. compared_by (length x.followed.inferred.solved) (first_difference t text)) same
+      ∙ ap (compared_by (length x.followed.inferred.solved)) (no_difference 1 (whole_lines text))
+      ∙ ap Ok (count_is (said solved) u x rules (λ id. known_of (said solved) id known) h)
+
 pub briefs_are_accepted : BriefsAreAccepted
-briefs_are_accepted solved u x rules known h reads =
-    let text = brief_text x.followed in
-    ap (read_so text u) reads
-    ∙ ap (followed_so text) (briefs_are_followed (said solved) u x rules known h)
-    ∙ ap (compared_by (length x.followed.inferred.solved)) (no_difference 1 (whole_lines text))
+briefs_are_accepted solved u text rules known h reads =
+    let w = went (unit_followed (said solved) u) text_followed text h in
+    accepted_as solved u text rules known reads w.0 w.1 (ok_same (brief_text w.0.followed) text w.2)

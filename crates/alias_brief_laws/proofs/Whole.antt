@@ -5,7 +5,7 @@ use Rattle.std.proofs.Common.{◌≡◌, ℕ, zero, suc, ◌+◌, ◌<◌, ◌�
 use Rattle.std.proofs.Common.{Result, Ok, Err, refl, ap, sym, ◌∙◌, subst, arith}
 use Rattle.std.proofs.lemmas.Bool.{eqb-true}
 use Rattle.std.proofs.lemmas.Bool.Decides.{nat_tests}
-use Rattle.std.proofs.lemmas.List.{append-nil, append_assoc, map-append}
+use Rattle.std.proofs.lemmas.List.{map-append, length-map, length-append}
 use Rattle.alias_base.specs.Answer.{◌>>=◌}
 use Rattle.alias_base.specs.declared.ids.FunctionId.{FunctionId}
 use Rattle.alias_hir.specs.declared.effect.AliasingEffect.{AliasingEffect}
@@ -372,6 +372,13 @@ module _ (given : List CertFunction) (u : HirUnit) (x : UnitFollowing) (rules : 
       (ap (λ cs. given_of cs (name_of z)) (again_is ∙ ap (map (told_of handed x.followed.inferred.summary)) split)
       ∙ first_given handed x.followed.inferred.summary xs ys z
       (front_unlike order once (map name_of xs) (map name_of ys) (name_of z) (split_names xs ys z split)))
+
+  -- one is handed out of each function
+  pub count_is : length x.followed.inferred.solved ≡ length order + 1
+  count_is =
+      ap length solved_is ∙ length-map x.functions (λ (z : FollowedFunction). z.solved)
+      ∙ sym (length-map x.functions name_of) ∙ ap length names ∙ length-append (map Some order) (None ∷ [])
+      ∙ ap (λ n. n + 1) (length-map order (λ (id : FunctionId). Some id))
 
   fits : function_fits u.function u.env ≡ true
   fits = rules_make_function_fit u rules

@@ -1,16 +1,16 @@
 -- What follows for a unit follows again from what is told of it, and its text is accepted by `verify`.
-use Rattle.std.specs.Prelude.{◌≡◌, List, length, Ok}
+use Rattle.std.specs.Prelude.{◌≡◌, ℕ, ◌+◌, List, length, Ok}
 use Rattle.std.specs.List.{AllByRecursion}
 use Rattle.alias_hir.specs.declared.env.Unit.{Unit as HirUnit}
 use Rattle.alias_rules.specs.Functions.{rules_hold}
 use Rattle.alias_effects.specs.declared.solved.Solved.{Solved}
+use Rattle.alias_answer_laws.specs.order.Order.{nested_innermost_first}
 use Rattle.alias_cert_text.specs.Certificates.{certificate_of_text}
 use Rattle.alias_certificate.specs.declared.certificate.CertFunction.{CertFunction}
 use Rattle.alias_follow.specs.Units.{UnitFollowing, unit_followed}
 use Rattle.alias_follow.specs.lines.Known.{AreLinesKnown}
-use Rattle.alias_brief.specs.Briefs.{brief_text}
 use Rattle.alias_brief.specs.Saying.{said}
-use Rattle.alias_brief.specs.Verifying.{verified}
+use Rattle.alias_brief.specs.Verifying.{brief_of, verified}
 use Rattle.alias_brief_text_laws.specs.Telling.{told}
 
 -- the values that are given of entry states are kinds with sets of reasons
@@ -23,10 +23,17 @@ BriefsAreFollowed =
     (given : List CertFunction) (u : HirUnit) (x : UnitFollowing) → rules_hold u ≡ Ok tt → AreGivenKnown given
     → unit_followed given u ≡ Ok x → unit_followed (told x.followed).functions u ≡ Ok x
 
--- the text of what follows for a unit from what an inference says of it is accepted, where it reads as what it tells
+-- how many functions a unit has: those below the root, and the root
+abbrev pub functions_in : HirUnit → ℕ
+functions_in u = length (nested_innermost_first u) + 1
+
+-- the text reads as what is told of what follows for the unit from what solutions say of its functions
+abbrev pub ReadsAsTold : List Solved → HirUnit → List ℕ → Type 0
+ReadsAsTold solved u text = (x : UnitFollowing) → unit_followed (said solved) u ≡ Ok x
+    → certificate_of_text text ≡ Ok (told x.followed)
+
+-- what `brief` prints of a unit is accepted by `verify`, where it reads as what it tells
 abbrev pub BriefsAreAccepted : Type 0
 BriefsAreAccepted =
-    (solved : List Solved) (u : HirUnit) (x : UnitFollowing) → rules_hold u ≡ Ok tt
-    → AreGivenKnown (said solved) → unit_followed (said solved) u ≡ Ok x
-    → certificate_of_text (brief_text x.followed) ≡ Ok (told x.followed)
-    → verified (brief_text x.followed) u ≡ Ok (length x.followed.inferred.solved)
+    (solved : List Solved) (u : HirUnit) (text : List ℕ) → rules_hold u ≡ Ok tt → AreGivenKnown (said solved)
+    → brief_of solved u ≡ Ok text → ReadsAsTold solved u text → verified text u ≡ Ok (functions_in u)
