@@ -64,6 +64,10 @@ ranging_ok id (Err e) x h = cc
 pub ok_same : {A E : Type 0} (x y : A) → ◌≡◌ {A = Result A E} (Ok x) (Ok y) → x ≡ y
 ok_same x y h = cc
 
+left_as : (p q : HirFunction × Environment) (fs : List FollowedFunction) (s : Taken) → p ≡ q
+    → ◌≡◌ {A = Taken} (q.0, following q.1 fs) s → ◌≡◌ {A = Taken} (p.0, following p.1 fs) s
+left_as p q fs s same h = ap (λ (r : HirFunction × Environment). let z : Taken = (r.0, following r.1 fs) in z) same ∙ h
+
 pub followed_one : (given : List CertFunction) (id : FunctionId) (f : HirFunction) (a : Following) (s : Taken)
     → nested_followed given id f a ≡ Ok s → FollowedOne given id f a s
 followed_one given id f a s h =
@@ -87,7 +91,7 @@ followed_one given id f a s h =
       ended = v.1;
       ranged = y.0;
       ran = y.1;
-      is = ap (λ (r : HirFunction × Environment). let z : Taken = (r.0, following r.1 fs) in z) set ∙ last;
+      is = left_as (annotated y.0.summary y.0.after) x.0 fs s set last;
     }
 
 -- what follows a function's effects
