@@ -1,0 +1,4 @@
+//! That what `brief` prints is accepted by `verify`.
+#![tactic(auto)]
+
+pub mod laws;

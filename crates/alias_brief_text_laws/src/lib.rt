@@ -1,0 +1,2 @@
+//! That what `brief` prints reads back.
+#![tactic(auto)]
