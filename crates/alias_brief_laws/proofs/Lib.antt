@@ -16,3 +16,4 @@ pub mod Order
 pub mod Walking
 pub mod Whole
 pub mod Accepted
+pub mod Printed

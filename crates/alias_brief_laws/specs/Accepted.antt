@@ -19,10 +19,12 @@ use Rattle.alias_brief_text_laws.specs.Telling.{told}
 abbrev pub AreGivenKnown : List CertFunction → Type 0
 AreGivenKnown given = AllByRecursion (λ (c : CertFunction). AreLinesKnown c.blocks) given
 
+abbrev pub AreEntriesProper : List BlockEntry → Type 0
+AreEntriesProper es = AllByRecursion (λ (e : BlockEntry). StateProper e.state) es
+
 -- each entry state that the solutions have is proper
 abbrev pub AreStatesProper : List Solved → Type 0
-AreStatesProper solved =
-    AllByRecursion (λ (s : Solved). AllByRecursion (λ (e : BlockEntry). StateProper e.state) s.entries) solved
+AreStatesProper solved = AllByRecursion (λ (s : Solved). AreEntriesProper s.entries) solved
 
 -- whatever was given of a unit's functions: what is told of what follows comes to just that again
 abbrev pub BriefsAreFollowed : Type 0

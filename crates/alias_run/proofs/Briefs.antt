@@ -2,9 +2,10 @@
 use Rattle.std.proofs.Common.{◌≡◌, ◌∙◌, ℕ, List, [], length, ◌<◌, refl, sym, ap, subst, arith}
 use Rattle.std.specs.Prelude.{false, Result, Ok, Err, codes, ◌++◌, ◌∷◌}
 use Rattle.alias_base.specs.Answer.{Gives}
-use Rattle.alias_brief.specs.Verifying.{brief_of, Verifies, IsVerified}
+use Rattle.alias_brief.specs.Verifying.{brief_of, verified, Verifies, IsVerified}
 use Rattle.alias_brief.specs.declared.calls.VerifyFault.{VerifyFault}
 use Rattle.alias_brief.specs.declared.calls.VerifyFault.TheVariants as verify
+use Rattle.alias_brief_laws.specs.Accepted.{functions_in}
 use Rattle.alias_cert.specs.function.Faults.{is_memory}
 use Rattle.alias_certificate.specs.declared.fault.CheckFault.{CheckFault}
 use Rattle.alias_certificate.specs.declared.fault.CheckFault.TheVariants as check
@@ -34,10 +35,12 @@ use Rattle.alias_run.proofs.Running.{ended_as, rules_passed, rules_refused}
 
 -- ---- the text that follows
 
-pub briefed_done : (solved : List Solved) (u : HirUnit) (t : List ℕ) (o : Outcome)
-    → o ≡ record { status = Done; answer = Briefed t } → brief_of solved u ≡ Ok t
-    → IsBriefedOf solved u o.status o.answer
-briefed_done solved u t o is h = subst (λ (z : Outcome). IsBriefedOf solved u z.status z.answer) (sym is) h
+pub briefed_done : (solved : List Solved) (u : HirUnit) (t accepted : List ℕ) (o : Outcome)
+    → o ≡ record { status = Done; answer = Briefed t } → accepted ≡ t → brief_of solved u ≡ Ok t
+    → verified accepted u ≡ Ok (functions_in u) → IsBriefedOf solved u o.status o.answer
+briefed_done solved u t accepted o is same h k =
+    subst (λ (z : Outcome). IsBriefedOf solved u z.status z.answer) (sym is)
+    (h, subst (λ s. verified s u ≡ Ok (functions_in u)) same k)
 
 -- a number is wanting, or what can't come
 briefed_refused : (solved : List Solved) (u : HirUnit) (e : CheckFault) → Gives is_memory (brief_of solved u) (Err e)

@@ -24,6 +24,7 @@ use Rattle.alias_run.specs.declared.answer.Answer.{Answer}
 use Rattle.alias_run.specs.declared.answer.Answer.TheVariants.{Nothing, Inferred, Accepted, Briefed, Verified}
 use Rattle.alias_run.specs.declared.answer.Answer.TheVariants.{Linted, Explained, FunctionExplained, Decided}
 use Rattle.alias_brief.specs.Verifying.{brief_of, verified, IsVerified}
+use Rattle.alias_brief_laws.specs.Accepted.{functions_in}
 use Rattle.alias_brief.specs.declared.calls.VerifyFault.TheVariants as verify
 use Rattle.alias_effects.specs.declared.solved.Solved.{Solved}
 use Rattle.alias_cert.specs.Units.{unit_checked, Accepts}
@@ -106,10 +107,11 @@ IsAccepted text u (BadLine number) a = (certificate_of_text text ≡ Err (text_f
 IsAccepted text u Memory a = a ≡ Nothing
 IsAccepted text u status a = (c : Certificate) × (certificate_of_text text ≡ Ok c) × IsAcceptedOf c u status a
 
--- the text that follows for a unit from what solutions of its functions say: a number may be wanting for it. That
--- nothing else is ever wrong, where the solutions are those of the inference, is open
+-- the text that follows for a unit from what solutions of its functions say, which is accepted as the one that follows:
+-- a number may be wanting for it. That nothing else is ever wrong, where the solutions are those of the inference, is
+-- open
 abbrev pub IsBriefedOf : List Solved → HirUnit → Status → Answer → Type 0
-IsBriefedOf solved u Done (Briefed text) = brief_of solved u ≡ Ok text
+IsBriefedOf solved u Done (Briefed text) = (brief_of solved u ≡ Ok text) × (verified text u ≡ Ok (functions_in u))
 IsBriefedOf solved u (Refused (error.TooMany which)) a =
     (brief_of solved u ≡ Err (check_fault.TooMany which)) × (a ≡ Nothing)
 IsBriefedOf solved u (Rejected fault) a = (brief_of solved u ≡ Err fault) × (a ≡ Nothing)

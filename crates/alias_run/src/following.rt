@@ -10,6 +10,7 @@ use crate::outcome::{Outcome, done, ended};
 use crate::status::{Status, brief_status};
 use alias_base::List;
 use alias_brief::{brief, verify};
+use alias_brief_laws::laws::brief_accepted;
 use alias_effects::Solved;
 use alias_hir::env::Unit;
 use alias_nested::Inferred;
@@ -29,8 +30,14 @@ fn solutions_of(inferred: Inferred) -> List<Solved>
 fn brief_from(alloc: Global, unit: Checked, solved: &[Solved]) -> Outcome
     ensures { IsBriefedOf solved.now unit result.status result.answer }
 {
+    // Looked at for what the clause of `unit` says: the unit is well formed.
+    let _unit = unit.unit();
     match brief(alloc, unit, solved) {
-        Ok(text) => done(Answer::Briefed(text)),
+        Ok(text) => {
+            // Does nothing: it tells the prover that `verify` accepts the text.
+            brief_accepted(text.as_str(), solved);
+            done(Answer::Briefed(text))
+        }
         Err(fault) => ended(brief_status(fault)),
     }
 }
