@@ -1,0 +1,11 @@
+mod Bytes
+mod Words
+mod Spelling
+mod Leading
+mod States
+mod Blocks
+mod Whole
+mod Rising
+mod Noting
+mod Entries
+mod Following

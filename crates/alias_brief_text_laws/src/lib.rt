@@ -1,2 +1,4 @@
 //! That what `brief` prints reads back.
 #![tactic(auto)]
+
+pub mod laws;
