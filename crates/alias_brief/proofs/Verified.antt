@@ -18,6 +18,7 @@ use Rattle.alias_follow.specs.Functions.{FollowedFunction, SolvesItsFlow}
 use Rattle.alias_follow.specs.Units.{unit_followed}
 use Rattle.alias_brief.specs.Briefs.{brief_text}
 use Rattle.alias_brief.specs.Differences.{first_difference}
+use Rattle.alias_brief.specs.Fitting.{IsFitting, IsFittingText}
 use Rattle.alias_brief.specs.Saying.{said}
 use Rattle.alias_brief.specs.Verifying.{text_followed, brief_of, text_fault_of, check_fault_of, is_memory, compared_by}
 use Rattle.alias_brief.specs.Verifying.{followed_so, read_so, verified, FollowsAs, Verifies}
@@ -37,6 +38,16 @@ module _ (solved : List Solved) (u : HirUnit) (functions : List CertFunction) (s
       → brief_of solved u ≡ Ok text
   brief_comes fs x text h is = ap (λ z. z >>= text_followed) (ap (λ cs. unit_followed cs u) (sym same) ∙ h)
       ∙ ap Ok (sym is)
+
+  pub brief_fits : (fs : List FollowedFunction) (x : Followed) (text : List ℕ)
+      → unit_followed functions u ≡ Ok (record { functions = fs; followed = x }) → text ≡ brief_text x → IsFitting x
+      → IsFittingText solved u text
+  brief_fits fs x text h is fits = (
+    record { functions = fs; followed = x },
+    ap (λ cs. unit_followed cs u) (sym same) ∙ h,
+    is,
+    fits,
+  )
 
 -- ---- faults
 

@@ -1,4 +1,5 @@
 pub mod Briefs
 pub mod Differences
+pub mod Fitting
 pub mod Saying
 pub mod Verifying

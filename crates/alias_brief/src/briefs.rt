@@ -1,10 +1,13 @@
 //! What follows for a unit, as lines.
 ghost use Rattle.std.specs.Prelude.{◌≡◌, ◌++◌, OnOk, codes, option_map};
-ghost use Rattle.std.specs.List.{flat_map};
+ghost use Rattle.std.specs.List.{AllByRecursion, flat_map};
 ghost use Rattle.alias_text.specs.Certificates.{spaced_site};
+ghost use Rattle.alias_text.specs.Fitting.{SmallSite};
 ghost use Rattle.alias_brief.specs.Briefs.{beyond_value, beyond_variable, beyond_lines, beyond_or, entry_text, blocks_from, found_text, temporary_lines, followed_text, function_text, functions_from, brief_text};
+ghost use Rattle.alias_brief.specs.Fitting.{FittingMoreValue, SmallMoreVariable, FittingMore, FittingBlock, FittingFrom, FittingFound, FittingTemporaries, FittingFunction, FittingIfKnown, FittingFunctions, IsFitting};
 
 use alias_base::{List, Text};
+use alias_cert::entries::entries_known;
 use alias_certificate::{Beyond, CertValue, CertVariable};
 use alias_effects::{BlockEntry, Solved};
 use alias_follow::{Followed, FunctionBeyond};
@@ -23,7 +26,8 @@ use alias_text::summaries::push_summary;
 use std::alloc::{AllocError, Global};
 
 fn push_values(out: &mut Text, values: &[CertValue]) -> Result<(), AllocError>
-    ensures { OnOk result (out.new ≡ out.old ++ flat_map beyond_value values.now) }
+    ensures text { OnOk result (out.new ≡ out.old ++ flat_map beyond_value values.now) }
+    ensures fits { OnOk result (AllByRecursion FittingMoreValue values.now) }
 {
     for value in values {
         push_value_line(out, value.site, value.value)?;
@@ -32,7 +36,8 @@ fn push_values(out: &mut Text, values: &[CertValue]) -> Result<(), AllocError>
 }
 
 fn push_sites(out: &mut Text, sites: &[Site]) -> Result<(), AllocError>
-    ensures { OnOk result (out.new ≡ out.old ++ flat_map spaced_site sites.now) }
+    ensures text { OnOk result (out.new ≡ out.old ++ flat_map spaced_site sites.now) }
+    ensures fits { OnOk result (AllByRecursion SmallSite sites.now) }
 {
     for site in sites {
         push_spaced_site(out, *site)?;
@@ -41,7 +46,8 @@ fn push_sites(out: &mut Text, sites: &[Site]) -> Result<(), AllocError>
 }
 
 fn push_variable(out: &mut Text, variable: &CertVariable) -> Result<(), AllocError>
-    ensures { OnOk result (out.new ≡ out.old ++ beyond_variable variable.now) }
+    ensures text { OnOk result (out.new ≡ out.old ++ beyond_variable variable.now) }
+    ensures fits { OnOk result (SmallMoreVariable variable.now) }
 {
     out.push_str("variable")?;
     push_spaced(out, u64::from(variable.identifier.0))?;
@@ -50,7 +56,8 @@ fn push_variable(out: &mut Text, variable: &CertVariable) -> Result<(), AllocErr
 }
 
 fn push_variables(out: &mut Text, variables: &[CertVariable]) -> Result<(), AllocError>
-    ensures { OnOk result (out.new ≡ out.old ++ flat_map beyond_variable variables.now) }
+    ensures text { OnOk result (out.new ≡ out.old ++ flat_map beyond_variable variables.now) }
+    ensures fits { OnOk result (AllByRecursion SmallMoreVariable variables.now) }
 {
     for variable in variables {
         push_variable(out, variable)?;
@@ -59,13 +66,15 @@ fn push_variables(out: &mut Text, variables: &[CertVariable]) -> Result<(), Allo
 }
 
 fn push_beyond(out: &mut Text, beyond: Option<&Beyond>) -> Result<(), AllocError>
-    ensures { OnOk result (out.new ≡ out.old ++ beyond_or (option_map (λ b. b.now) beyond.entry)) }
+    ensures text { OnOk result (out.new ≡ out.old ++ beyond_or (option_map (λ b. b.now) beyond.entry)) }
+    ensures fits { OnOk result (FittingMore (option_map (λ b. b.now) beyond.entry)) }
 {
     let Some(beyond) = beyond else {
         return Ok(());
     };
     push_values(out, beyond.values.as_slice())?;
-    push_variables(out, beyond.variables.as_slice())
+    push_variables(out, beyond.variables.as_slice())?;
+    Ok(())
 }
 
 fn push_entry(
@@ -74,11 +83,13 @@ fn push_entry(
     beyond: Option<&Beyond>,
     entry: &BlockEntry,
 ) -> Result<(), AllocError>
-    ensures { OnOk result (out.new ≡ out.old ++ entry_text func.now (option_map (λ b. b.now) beyond.entry) entry.now) }
+    ensures text { OnOk result (out.new ≡ out.old ++ entry_text func.now (option_map (λ b. b.now) beyond.entry) entry.now) }
+    ensures fits { OnOk result (FittingBlock func.now (option_map (λ b. b.now) beyond.entry) entry.now) }
 {
     push_block_head(out, entry.block)?;
     push_beyond(out, beyond)?;
-    push_block_lines(out, func, entry.block)
+    push_block_lines(out, func, entry.block)?;
+    Ok(())
 }
 
 fn push_entries(
@@ -87,7 +98,8 @@ fn push_entries(
     beyond: &List<Beyond>,
     entries: &[BlockEntry],
 ) -> Result<(), AllocError>
-    ensures { OnOk result (out.new ≡ out.old ++ blocks_from func.now beyond.now 0 entries.now) }
+    ensures text { OnOk result (out.new ≡ out.old ++ blocks_from func.now beyond.now 0 entries.now) }
+    ensures fits { OnOk result (FittingFrom func.now beyond.now 0 entries.now) }
 {
     for (position, entry) in entries.iter().enumerate() {
         push_entry(out, func, beyond.get(position), entry)?;
@@ -102,7 +114,8 @@ fn push_found(
     beyond: &FunctionBeyond,
     entries: &[BlockEntry],
 ) -> Result<(), AllocError>
-    ensures { OnOk result (out.new ≡ out.old ++ found_text (option_map (λ f. f.now) func.entry) beyond.now entries.now) }
+    ensures text { OnOk result (out.new ≡ out.old ++ found_text (option_map (λ f. f.now) func.entry) beyond.now entries.now) }
+    ensures fits { OnOk result (FittingFound (option_map (λ f. f.now) func.entry) beyond.now entries.now) }
 {
     match func {
         Some(func) => push_entries(out, func, &beyond.blocks, entries),
@@ -117,7 +130,8 @@ fn push_temporaries_of(
     is_forward: bool,
     temporaries: &[Temporary],
 ) -> Result<(), AllocError>
-    ensures { OnOk result (out.new ≡ out.old ++ temporary_lines is_forward temporaries.now) }
+    ensures text { OnOk result (out.new ≡ out.old ++ temporary_lines is_forward temporaries.now) }
+    ensures fits { OnOk result (FittingTemporaries is_forward temporaries.now) }
 {
     if is_forward {
         return Ok(());
@@ -133,14 +147,18 @@ fn push_followed(
     solved: &Solved,
     beyond: &FunctionBeyond,
 ) -> Result<(), AllocError>
-    ensures { OnOk result (out.new ≡ out.old ++ followed_text unit.now summary.now solved.now beyond.now) }
+    ensures text { OnOk result (out.new ≡ out.old ++ followed_text unit.now summary.now solved.now beyond.now) }
+    ensures fits { OnOk result (FittingFunction unit.now solved.now beyond.now) }
 {
+    // Does nothing: it tells the prover that the entry states are proper.
+    entries_known(solved.entries.as_slice());
     push_function_head(out, solved.function)?;
     let func = function_of(unit, solved.function);
     push_found(out, func, beyond, solved.entries.as_slice())?;
     let temporaries = solved.temporaries.as_slice();
     push_temporaries_of(alloc, out, beyond.is_forward, temporaries)?;
-    push_summary(out, unit, summary, solved.function)
+    push_summary(out, unit, summary, solved.function)?;
+    Ok(())
 }
 
 fn push_function(
@@ -151,7 +169,8 @@ fn push_function(
     solved: &Solved,
     beyond: Option<&FunctionBeyond>,
 ) -> Result<(), AllocError>
-    ensures { OnOk result (out.new ≡ out.old ++ function_text unit.now summary.now solved.now (option_map (λ b. b.now) beyond.entry)) }
+    ensures text { OnOk result (out.new ≡ out.old ++ function_text unit.now summary.now solved.now (option_map (λ b. b.now) beyond.entry)) }
+    ensures fits { OnOk result (FittingIfKnown unit.now solved.now (option_map (λ b. b.now) beyond.entry)) }
 {
     match beyond {
         Some(beyond) => push_followed(alloc, out, unit, summary, solved, beyond),
@@ -167,7 +186,8 @@ fn push_functions(
     solved: &[Solved],
     beyond: &List<FunctionBeyond>,
 ) -> Result<(), AllocError>
-    ensures { OnOk result (out.new ≡ out.old ++ functions_from unit.now summary.now beyond.now 0 solved.now) }
+    ensures text { OnOk result (out.new ≡ out.old ++ functions_from unit.now summary.now beyond.now 0 solved.now) }
+    ensures fits { OnOk result (FittingFunctions unit.now beyond.now 0 solved.now) }
 {
     for (position, of_function) in solved.iter().enumerate() {
         push_function(alloc, out, unit, summary, of_function, beyond.get(position))?;
@@ -180,7 +200,8 @@ fn push_functions(
 /// what arrived, and behind its blocks its temporaries. docs/FORMAT.md has the form of the lines. An `Err` is out of memory:
 /// `out` may then hold a part of it.
 pub fn push_brief(alloc: Global, out: &mut Text, followed: &Followed) -> Result<(), AllocError>
-    ensures { OnOk result (out.new ≡ out.old ++ brief_text followed.now) }
+    ensures text { OnOk result (out.new ≡ out.old ++ brief_text followed.now) }
+    ensures fits { OnOk result (IsFitting followed.now) }
 {
     let inferred = &followed.inferred;
     let unit = &inferred.unit;

@@ -1,9 +1,10 @@
 //! `brief` and `verify`: the text that follows for a unit, and whether a text is one that follows from what it says.
-ghost use Rattle.std.specs.Prelude.{◌≡◌, length, IfOk};
+ghost use Rattle.std.specs.Prelude.{◌≡◌, length, IfOk, OnOk};
 ghost use Rattle.alias_base.specs.Answer.{Gives};
 ghost use Rattle.alias_cert.specs.function.Faults.{is_memory};
 ghost use Rattle.alias_brief.specs.Briefs.{brief_text};
 ghost use Rattle.alias_brief.specs.Differences.{first_difference};
+ghost use Rattle.alias_brief.specs.Fitting.{IsFitting, IsFittingText};
 ghost use Rattle.alias_brief.specs.Verifying.{brief_of, text_fault_of, check_fault_of, compared_by, FollowsAs, Verifies, is_memory as verify_memory};
 ghost use Rattle.alias_brief.specs.declared.calls.VerifyFault.TheVariants.{Memory};
 
@@ -64,7 +65,8 @@ impl From<CheckFault> for VerifyFault {
 
 /// The text of what follows for a unit.
 fn text_of(alloc: Global, followed: &Followed) -> Result<Text, AllocError>
-    ensures { IfOk result (λ text. text ≡ brief_text followed.now) }
+    ensures text { IfOk result (λ text. text ≡ brief_text followed.now) }
+    ensures fits { OnOk result (IsFitting followed.now) }
 {
     let mut text = Text::new(alloc);
     push_brief(alloc, &mut text, followed)?;
@@ -75,7 +77,8 @@ fn text_of(alloc: Global, followed: &Followed) -> Result<Text, AllocError>
 /// those of its inference. The unit is dropped on `Err`. Of what an inference hands out there is a text, unless no number is
 /// left for a report, or memory runs out.
 pub fn brief(alloc: Global, unit: Checked, solved: &[Solved]) -> Result<Text, CheckFault>
-    ensures { Gives is_memory (brief_of solved.now unit) result }
+    ensures text { Gives is_memory (brief_of solved.now unit) result }
+    ensures fits { IfOk result (λ text. IsFittingText solved.now unit text) }
 {
     let given = said(alloc, solved)?;
     let followed = follow(alloc, unit, &given)?;

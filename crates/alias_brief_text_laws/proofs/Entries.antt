@@ -1,8 +1,8 @@
 -- What a function's entry states have beyond what arrived is noted of these states.
-use Rattle.std.proofs.Common.{◌≡◌, ℕ, zero, suc, ◌<◌, ◌⊎◌, inl, inr, Bool, true, false, List, [], ◌∷◌, length, Option}
+use Rattle.std.proofs.Common.{◌≡◌, ℕ, zero, suc, ◌+◌, ◌<◌, ◌⊎◌, inl, inr, Bool, true, false, List, [], ◌∷◌, length, Option}
 use Rattle.std.proofs.Common.{Some, None, Result, Ok, Err, refl, ap, sym, ◌∙◌, subst, arith, replicate, option_map}
 use Rattle.std.proofs.Common.{if◌then◌else◌}
-use Rattle.std.specs.Prelude.{slice_get}
+use Rattle.std.specs.Prelude.{slice_get, slice_index_or}
 use Rattle.std.specs.List.{AllByRecursion}
 use Rattle.alias_base.specs.Answer.{◌>>=◌}
 use Rattle.alias_base.specs.declared.ids.FunctionId.{FunctionId}
@@ -29,10 +29,13 @@ use Rattle.alias_follow.specs.declared.lines.entering.Unfollowed.TheVariants as 
 use Rattle.alias_follow.specs.function.Faults.{faulted}
 use Rattle.alias_follow.specs.function.Functions.{flow_rules, is_forward, marks, steps_followed, followed_end}
 use Rattle.alias_follow.specs.function.Functions.{function_followed}
-use Rattle.alias_follow.specs.function.Givens.{kept, limit, lacking, tables_begun, entering}
+use Rattle.alias_follow.specs.function.Givens.{kept, limit, lacking, blocks_given, temporaries_given, tables_begun}
+use Rattle.alias_follow.specs.function.Givens.{entering}
 use Rattle.alias_follow.specs.lines.Entering.{is_bare, entered_by}
+use Rattle.alias_follow.specs.lines.First.{first_lines, line_at}
+use Rattle.alias_nested.specs.Created.{created_functions}
 use Rattle.alias_passage.specs.Passes.{Passing, flow_passed}
-use Rattle.alias_brief_text_laws.proofs.Noting.{not_error, after, all_map, Noted, pass_notes}
+use Rattle.alias_brief_text_laws.proofs.Noting.{not_error, ok_same, after, all_map, Noted, pass_notes}
 
 -- nothing, or what the state has beyond another
 abbrev Comes : State → Beyond → Type 0
@@ -104,7 +107,10 @@ module _ (given : Option CertFunction) (id : Option FunctionId) (env : Environme
   enter = entering (kept forward given) id env f
 
   enters : (b : ℕ) (x s : State) (m : Beyond) → enter b x ≡ Some (s, m) → Comes s m
-  enters b x s m h = entered_comes _ _ _ x s m h
+  enters b x s m h =
+      let lines = blocks_given (kept forward given) in
+      entered_comes (length env.identifiers + length (temporaries_given (kept forward given))) (created_functions f)
+      (line_at lines (slice_index_or (first_lines lines f.body.blocks) b None)) x s m h
 
   abbrev lacks : TableLists → Option Unfollowed
   lacks = lacking (limit forward given)
@@ -115,14 +121,17 @@ module _ (given : Option CertFunction) (id : Option FunctionId) (env : Environme
   notes tables w h =
       let rules = flow_rules given id env f is_function_expression in
       let es = entries_of f.body.blocks w.progress.entries in
+      let nothing : List (Option BlockEffects) = replicate (length f.body.blocks) None in
+      let passes = unfaulted id env f.body.blocks
+      (flow_passed state_join state_below empty_state rules enter unfollowed.State lacks
+      (marks given id env f is_function_expression) tables nothing) w h in
       all_map
       (Noted state_join state_below empty_state rules enter unfollowed.State lacks Comes enters (length f.body.blocks)
       w.progress.entries) (OfEntry es)
       (λ m n. of_state es n.state m (in_entries f.body.blocks w.progress.entries n.block n.state n.earlier n.is) n.comes)
       w.progress.beyond
       (pass_notes state_join state_below empty_state rules enter unfollowed.State lacks Comes enters
-      (marks given id env f is_function_expression) tables (replicate (length f.body.blocks) None) w
-      (unfaulted id env f.body.blocks _ w h))
+      (marks given id env f is_function_expression) tables nothing w passes)
 
   -- what is handed out of a function notes what its entries have
   pub function_notes : (end : FunctionEnd) → function_followed given id env f is_function_expression ≡ Ok end
@@ -133,7 +142,7 @@ module _ (given : Option CertFunction) (id : Option FunctionId) (env : Environme
       λ w. Ok (followed_end given id env f is_function_expression w) in
       let a = after (tables_begun (kept forward given) id env f) (λ tables. steps tables >>= ended) end h in
       let b = after (steps a.was) ended end a.then_is in
-      let last : ended b.was ≡ Ok end = b.then_is in
-      let same : followed_end given id env f is_function_expression b.was ≡ end = cc in
+      let same : followed_end given id env f is_function_expression b.was ≡ end =
+      ok_same (followed_end given id env f is_function_expression b.was) end b.then_is in
       subst (λ (z : FunctionEnd). AllByRecursion (OfEntry z.end.solved.entries) z.beyond.blocks) same
       (notes a.was b.was b.first)

@@ -34,7 +34,7 @@ use Rattle.alias_follow.specs.function.Givens.{given_of}
 use Rattle.alias_brief.specs.Fitting.{FittingIfKnown, FittingFunctions, IsFitting}
 use Rattle.alias_brief_text_laws.specs.Orderly.{Orderly, OrderlyBlocks, IsOrderly}
 use Rattle.alias_brief_text_laws.proofs.Entries.{OfEntry, function_notes}
-use Rattle.alias_brief_text_laws.proofs.Noting.{not_error, after, all_append, all_map}
+use Rattle.alias_brief_text_laws.proofs.Noting.{ok_same, after, all_append, all_map}
 use Rattle.alias_brief_text_laws.proofs.Rising.{beyond_orderly}
 
 abbrev NotesEntries : FollowedFunction → Type 0
@@ -55,8 +55,7 @@ module _ (given : List CertFunction) where
         following (env_after a.env r.end) (a.functions ++ followed_function id e f a.env r ∷ []),
       ) in
       let b = after (function_followed (given_of given id) id a.env f e) (λ r. Ok (next r)) z h in
-      let last : Ok (next b.was) ≡ Ok z = b.then_is in
-      let same : next b.was ≡ z = cc in
+      let same : next b.was ≡ z = ok_same (next b.was) z b.then_is in
       subst (λ (q : HirFunction × Following). AllNote q.1) same
       (all_append NotesEntries a.functions (followed_function id e f a.env b.was ∷ []) all
       (function_notes (given_of given id) id a.env f e b.was b.first, tt))
@@ -66,8 +65,7 @@ module _ (given : List CertFunction) where
   finished_notes id s z h all =
       let next : HirFunction × Environment → HirFunction × Following = λ r. (r.0, following r.1 s.1.functions) in
       let b = after (ranging (Some id) (finished s.0 s.1.env)) (λ r. Ok (next r)) z h in
-      let last : Ok (next b.was) ≡ Ok z = b.then_is in
-      let same : next b.was ≡ z = cc in
+      let same : next b.was ≡ z = ok_same (next b.was) z b.then_is in
       subst (λ (q : HirFunction × Following). AllNote q.1) same all
 
   nested_notes : (id : FunctionId) (f : HirFunction) (a : Following) (z : HirFunction × Following)
@@ -89,17 +87,16 @@ module _ (given : List CertFunction) where
 
     found_notes : (id : FunctionId) (a b : Following) (o : Option HirFunction)
         → found_followed given below id a o ≡ Ok b → AllNote a → AllNote b
-    found_notes id a b None h all = let same : a ≡ b = cc in subst AllNote same all
+    found_notes id a b None h all = subst AllNote (ok_same a b h) all
     found_notes id a b (Some f) h all =
         let from = record a { env = with_function id (emptied f.returns) a.env } in
         let c = after (taken_followed given below id f from) (λ s. Ok (put_back id s)) b h in
-        let last : Ok (put_back id c.was) ≡ Ok b = c.then_is in
-        let same : put_back id c.was ≡ b = cc in
+        let same : put_back id c.was ≡ b = ok_same (put_back id c.was) b c.then_is in
         subst AllNote same (taken_notes id f from c.was c.first all)
 
     slots_note : (ids : List FunctionId) (a b : Following) → each (slot_followed given below) ids a ≡ Ok b → AllNote a
         → AllNote b
-    slots_note [] a b h all = let same : a ≡ b = cc in subst AllNote same all
+    slots_note [] a b h all = subst AllNote (ok_same a b h) all
     slots_note (id ∷ ids) a b h all =
         let c = after (slot_followed given below id a) (each (slot_followed given below) ids) b h in
         slots_note ids c.was b c.then_is
@@ -107,7 +104,7 @@ module _ (given : List CertFunction) where
 
   below_notes : (n : ℕ) → Keeps (below_followed given n)
   unfolding below_followed
-  below_notes zero f a b h all = let same : a ≡ b = cc in subst AllNote same all
+  below_notes zero f a b h all = subst AllNote (ok_same a b h) all
   below_notes (suc n) f a b h all =
       slots_note (below_followed given n) (below_notes n) (created_functions f) a b h all
 
@@ -118,8 +115,7 @@ module _ (given : List CertFunction) where
       let next : List AliasingEffect × (HirFunction × Environment) → RootFollowing =
       λ q. record { summary = q.0; func = q.1.0; following = following q.1.1 b.was.1.functions } in
       let c = after (ranging None (root_ended b.was.0 b.was.1.env)) (λ q. Ok (next q)) r b.then_is in
-      let last : Ok (next c.was) ≡ Ok r = c.then_is in
-      let same : next c.was ≡ r = cc in
+      let same : next c.was ≡ r = ok_same (next c.was) r c.then_is in
       subst (λ (q : RootFollowing). AllNote q.following) same (effects_note None false f a b.was b.first all)
 
   unit_notes : (f : HirFunction) (env : Environment) (r : RootFollowing)
@@ -166,8 +162,7 @@ pub unit_orderly : (given : List CertFunction) (u : HirUnit) (x : UnitFollowing)
     → IsFitting x.followed → IsOrderly x.followed
 unit_orderly given u x h fits =
     let a = after (all_followed given u.function (following u.env [])) (λ r. Ok (handed_out r)) x h in
-    let last : Ok (handed_out a.was) ≡ Ok x = a.then_is in
-    let same : handed_out a.was ≡ x = cc in
+    let same : handed_out a.was ≡ x = ok_same (handed_out a.was) x a.then_is in
     let fs = a.was.following.functions in
     let here : IsFitting (handed_out a.was).followed = subst (λ (z : UnitFollowing). IsFitting z.followed) (sym same)
     fits in

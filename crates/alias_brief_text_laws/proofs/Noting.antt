@@ -19,6 +19,9 @@ IsOk r x = r ≡ Ok x
 pub not_error : {A E : Type 0} (e : E) (x : A) {X : Type 0} → IsOk (Err e) x → X
 not_error e x h = cc
 
+pub ok_same : {A E : Type 0} (x y : A) → IsOk {A = A} {E = E} (Ok x) y → x ≡ y
+ok_same x y h = cc
+
 -- what comes after an answer
 pub record After {A X E : Type 0} (r : Result A E) (f : A → Result X E) (z : X) : Type 0 where
   pub was : A
