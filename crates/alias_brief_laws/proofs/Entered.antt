@@ -18,7 +18,8 @@ use Rattle.alias_brief_laws.proofs.RaisedAgain.{raises_again, raised_by_none}
 abbrev pub with_beyond : State → State → State × Beyond
 with_beyond x u = (u, beyond_of u x)
 
--- the state that is entered is proper, and above what arrives; and it is entered again by a line of what it has beyond that
+-- the state that is entered is proper, and above what arrives; and it is entered again by a line of what it has beyond
+-- that
 pub record Enters (n : ℕ) (ids : List FunctionId) (x s : State) (m : Beyond) : Type 0 where
   pub is_proper : StateProper s
   pub above : IsTrue (state_below x s)

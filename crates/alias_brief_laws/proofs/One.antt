@@ -1,6 +1,7 @@
 -- What following one nested function comes to.
 use Rattle.std.specs.Prelude.{map}
-use Rattle.std.proofs.Common.{◌≡◌, Bool, true, false, List, [], ◌∷◌, ◌++◌, Some, Option, Result, Ok, Err, refl, ap, sym, ◌∙◌, subst}
+use Rattle.std.proofs.Common.{◌≡◌, Bool, true, false, List, [], ◌∷◌, ◌++◌, Some, Option, Result, Ok, Err, refl, ap, sym}
+use Rattle.std.proofs.Common.{◌∙◌, subst}
 use Rattle.alias_base.specs.Answer.{◌>>=◌}
 use Rattle.alias_base.specs.declared.ids.FunctionId.{FunctionId}
 use Rattle.alias_hir.specs.declared.env.Environment.{Environment}
@@ -143,7 +144,8 @@ one_kept given id f a s o known fits =
     let said = given_of given (Some id) in
     let effects = followed_keeps said (Some id) a.env f true fits
     (lines_kept said (is_forward said (Some id) a.env f true) known) o.end o.ended in
-    let ranged = range_kept (with_effects_of o.end.end.solved f) (env_after a.env o.end.end) o.ranged effects.fits o.ran in
+    let ranged = range_kept (with_effects_of o.end.end.solved f) (env_after a.env o.end.end) o.ranged effects.fits o.ran
+    in
     subst (λ (z : Taken). FunctionKept f a.env z.0 z.1.env) o.is
     (kept_through f (with_effects_of o.end.end.solved f) (annotated o.ranged.summary o.ranged.after).0 a.env
     (env_after a.env o.end.end) (annotated o.ranged.summary o.ranged.after).1 effects ranged)

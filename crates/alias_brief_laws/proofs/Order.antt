@@ -176,9 +176,11 @@ abbrev pub GoesOver : List HirFunction → (HirFunction → Following → Result
 GoesOver fs below ordered = (f : HirFunction) (out : List ℕ) (a b : Following) → Stands fs out a.env
     → Apart fs out (ordered (created_functions f)) → below f a ≡ Ok b → Done fs out a b (ordered (created_functions f))
 
-module _ (given : List CertFunction) (fs : List HirFunction) (n : ℕ) (below_goes : GoesOver fs (below_followed given n) (innermost_first n fs)) where
+module _ (given : List CertFunction) (fs : List HirFunction) (n : ℕ)
+    (below_goes : GoesOver fs (below_followed given n) (innermost_first n fs)) where
   found_done : (id : FunctionId) (out : List ℕ) (a b : Following) (o : Option HirFunction) → Stands fs out a.env
-      → Apart fs out (ids_of fs n id) → slice_get a.env.functions id.0 ≡ o → found_followed given (below_followed given n) id a o ≡ Ok b
+      → Apart fs out (ids_of fs n id) → slice_get a.env.functions id.0 ≡ o
+      → found_followed given (below_followed given n) id a o ≡ Ok b
       → Done fs out a b (ids_of fs n id)
   found_done id out a b None st apart h g =
       let c = st.count in
@@ -186,7 +188,8 @@ module _ (given : List CertFunction) (fs : List HirFunction) (n : ℕ) (below_go
       absurd (none_there a.env.functions id.0 (omega arith) h)
   found_done id out a b (Some f) st apart h g =
       let a0 : Following = record a { env = with_function id (emptied f.returns) a.env } in
-      let w = went (taken_followed given (below_followed given n) id f a0) (λ (s : HirFunction × Following). Ok (put_back id s)) b g in
+      let w = went (taken_followed given (below_followed given n) id f a0)
+      (λ (s : HirFunction × Following). Ok (put_back id s)) b g in
       let s : HirFunction × Following = w.0 in
       let is : put_back id s ≡ b = cc in
       let v = went (below_followed given n f a0) (nested_followed given id f) s w.1 in
@@ -215,7 +218,8 @@ module _ (given : List CertFunction) (fs : List HirFunction) (n : ℕ) (below_go
       let is : a ≡ b = cc in
       subst (λ (z : Following). Done fs out a z []) is (record { functions = sym (append-nil (done a)); stands = st })
   each_done (id ∷ ids) out a b st apart h =
-      let w = went (slot_followed given (below_followed given n) id a) (each (slot_followed given (below_followed given n)) ids) b h in
+      let w = went (slot_followed given (below_followed given n) id a)
+      (each (slot_followed given (below_followed given n)) ids) b h in
       let a1 : Following = w.0 in
       let first : Done fs out a a1 (ids_of fs n id) =
       found_done id out a a1 (slice_get a.env.functions id.0) st
@@ -233,9 +237,11 @@ module _ (given : List CertFunction) (fs : List HirFunction) (n : ℕ) (below_go
       }
 
 -- following the functions on n levels goes over them in the order that is stated
-pub goes_over : (given : List CertFunction) (fs : List HirFunction) (n : ℕ) → GoesOver fs (below_followed given n) (innermost_first n fs)
+pub goes_over : (given : List CertFunction) (fs : List HirFunction) (n : ℕ)
+    → GoesOver fs (below_followed given n) (innermost_first n fs)
 unfolding below_followed innermost_first
 goes_over given fs zero f out a b st apart h =
     let is : a ≡ b = cc in
     subst (λ (z : Following). Done fs out a z []) is (record { functions = sym (append-nil (done a)); stands = st })
-goes_over given fs (suc n) f out a b st apart h = each_done given fs n (goes_over given fs n) (created_functions f) out a b st apart h
+goes_over given fs (suc n) f out a b st apart h =
+    each_done given fs n (goes_over given fs n) (created_functions f) out a b st apart h

@@ -1,7 +1,8 @@
 -- A unit is followed again by what is told of its functions.
 use Rattle.std.specs.Prelude.{slice_get, map, nat_eq, cond, ◌==◌, if◌then◌else◌}
 use Rattle.std.specs.List.{AllByRecursion}
-use Rattle.std.proofs.Common.{◌≡◌, ℕ, zero, suc, ◌+◌, ◌<◌, ◌≤◌, Bool, true, false, List, [], ◌∷◌, ◌++◌, length, Option, Some, None}
+use Rattle.std.proofs.Common.{◌≡◌, ℕ, zero, suc, ◌+◌, ◌<◌, ◌≤◌, Bool, true, false, List, [], ◌∷◌, ◌++◌, length, Option}
+use Rattle.std.proofs.Common.{Some, None}
 use Rattle.std.proofs.Common.{Result, Ok, Err, refl, ap, sym, ◌∙◌, subst, arith}
 use Rattle.std.proofs.lemmas.Bool.{eqb-true}
 use Rattle.std.proofs.lemmas.Bool.Decides.{nat_tests}
@@ -52,7 +53,8 @@ use Rattle.alias_follow.specs.declared.function.follow.FunctionEnd.{FunctionEnd}
 use Rattle.alias_follow.specs.function.Functions.{function_followed}
 use Rattle.alias_follow.specs.function.Givens.{given_of, blocks_given}
 use Rattle.alias_follow.specs.lines.Known.{AreLinesKnown}
-use Rattle.alias_brief_text_laws.specs.Telling.{told_block, told_blocks_from, told_blocks, told_temporaries, told_function}
+use Rattle.alias_brief_text_laws.specs.Telling.{told_block, told_blocks_from, told_blocks, told_temporaries}
+use Rattle.alias_brief_text_laws.specs.Telling.{told_function}
 use Rattle.alias_brief_text_laws.specs.Telling.{told_if_known, told_from, told}
 use Rattle.alias_brief_laws.proofs.FunctionAgain.{IsTold, function_again}
 use Rattle.alias_brief_laws.specs.Raising.{SaysBeyond}
@@ -77,7 +79,8 @@ no_end P (z ∷ xs) ys x e = cc
 counted_in : (ids : List FunctionId) (xs ys : List (Option FunctionId)) (j : FunctionId)
     → map Some ids ++ None ∷ [] ≡ xs ++ Some j ∷ ys → 1 ≤ times (numbers ids) j.0
 counted_in [] [] ys j e = cc
-counted_in [] (x ∷ xs) ys j e = let rest : [] ≡ xs ++ Some j ∷ ys = cc in no_end (1 ≤ times (numbers []) j.0) xs ys (Some j) rest
+counted_in [] (x ∷ xs) ys j e =
+    let rest : [] ≡ xs ++ Some j ∷ ys = cc in no_end (1 ≤ times (numbers []) j.0) xs ys (Some j) rest
 counted_in (k ∷ ids) [] ys j e =
     let same : k ≡ j = cc in
     let c : times (numbers (k ∷ ids)) j.0 ≡ cond (nat_eq k.0 j.0) 1 0 + times (numbers ids) j.0 =
@@ -314,7 +317,8 @@ module _ (given : List CertFunction) (u : HirUnit) (x : UnitFollowing) (rules : 
   abbrev order : List FunctionId
   order = nested_innermost_first u
 
-  over : Done u.env.functions [] (following u.env []) nested (innermost_first most_levels u.env.functions (created_functions u.function))
+  over : Done u.env.functions [] (following u.env []) nested
+      (innermost_first most_levels u.env.functions (created_functions u.function))
   over = goes_over given u.env.functions most_levels u.function [] (following u.env []) nested
       (record { count = refl; slots = λ k free. refl }) (root_apart u rules) p.below
 
