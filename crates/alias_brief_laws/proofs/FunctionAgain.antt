@@ -1,9 +1,8 @@
 -- A function is followed again by what is told of it.
 use Rattle.std.specs.Prelude.{replicate, nat_lt, map, slice_get, slice_index_or, if◌then◌else◌, is_some}
-use Rattle.std.specs.List.{AllByRecursion}
-use Rattle.std.proofs.Common.{◌≡◌, ℕ, zero, suc, ◌+◌, ◌≤◌, Bool, true, false, List, [], ◌∷◌, ◌++◌, length, Option, Some}
+use Rattle.std.proofs.Common.{◌≡◌, ℕ, zero, suc, ◌+◌, Bool, true, false, List, [], ◌∷◌, length, Option, Some}
 use Rattle.std.proofs.Common.{None}
-use Rattle.std.proofs.Common.{Result, Ok, Err, refl, ap, sym, ◌∙◌, subst, arith}
+use Rattle.std.proofs.Common.{Result, Ok, refl, ap, sym, ◌∙◌, subst, arith}
 use Rattle.std.proofs.lemmas.Bool.{le-ltb}
 use Rattle.std.proofs.lemmas.List.{length-map, length-replicate}
 use Rattle.alias_base.specs.Answer.{◌>>=◌}
@@ -30,7 +29,6 @@ use Rattle.alias_nested.specs.Created.{created_functions}
 use Rattle.alias_certificate.specs.declared.beyond.Beyond.{Beyond}
 use Rattle.alias_certificate.specs.declared.certificate.CertBlock.{CertBlock}
 use Rattle.alias_certificate.specs.declared.certificate.CertFunction.{CertFunction}
-use Rattle.alias_certificate.specs.declared.certificate.CertTemporary.{CertTemporary}
 use Rattle.alias_certificate.specs.declared.fault.CheckFault.{CheckFault}
 use Rattle.alias_cert.specs.function.Temporaries.{temporaries_stated}
 use Rattle.alias_cert.proofs.Running.{after}

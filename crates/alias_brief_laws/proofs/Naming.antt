@@ -1,26 +1,22 @@
 -- What a state that lines raised has beyond what arrived is named by these lines.
-use Rattle.std.specs.Prelude.{◌&&◌, cond, if◌then◌else◌, IsTrue, ◌++◌, ℕ, nat_lt, ◌⊎◌}
+use Rattle.std.specs.Prelude.{◌&&◌, cond, if◌then◌else◌, ◌++◌, ℕ, nat_lt, ◌⊎◌}
 use Rattle.std.specs.List.{AllByRecursion, list_all}
-use Rattle.std.proofs.Common.{◌≡◌, Bool, true, false, List, [], ◌∷◌, Option, Some, None, refl, ap, sym, ◌∙◌, subst, inl}
+use Rattle.std.proofs.Common.{◌≡◌, Bool, true, false, List, [], ◌∷◌, Option, Some, None, refl, ap, sym, ◌∙◌, inl}
 use Rattle.std.proofs.Common.{inr}
 use Rattle.std.proofs.Math.Dec.{T}
 use Rattle.std.specs.Option.{is_some}
 use Rattle.std.specs.Ordering.{eq_by_cmp}
-use Rattle.std.specs.FinMap.{find, put, is_sorted}
+use Rattle.std.specs.FinMap.{find, is_sorted}
 use Rattle.std.specs.FinMap.Entries.{find-put}
 use Rattle.alias_base.specs.AnswerLaws.{both_true}
 use Rattle.alias_base.specs.declared.ids.FunctionId.{FunctionId}
 use Rattle.alias_base.specs.declared.ids.IdentifierId.{IdentifierId}
-use Rattle.alias_lattice.specs.AbstractValueLaws.{abstract_laws}
-use Rattle.alias_lattice.specs.AbstractValues.{abstract_join, AbstractProper}
 use Rattle.alias_lattice.specs.JoinLaws.{sites_laws}
 use Rattle.alias_lattice.specs.KeyLaws.{ids_total}
 use Rattle.alias_lattice.specs.Keys.{id_cmp}
-use Rattle.alias_lattice.specs.Laws.{below_self}
-use Rattle.alias_lattice.specs.MapLaws.{join_none}
 use Rattle.alias_lattice.specs.Maps.{join_option, ProperOption}
-use Rattle.alias_lattice.specs.ProperStates.{StateProper, SitesProper}
-use Rattle.alias_lattice.specs.PutLaws.{proper_found, find-join}
+use Rattle.alias_lattice.specs.ProperStates.{SitesProper}
+use Rattle.alias_lattice.specs.PutLaws.{find-join}
 use Rattle.alias_lattice.specs.SiteOrder.{site_cmp}
 use Rattle.alias_lattice.specs.SiteOrderLaws.{sites_total}
 use Rattle.alias_lattice.specs.States.{State, Sites, initialized, defined_as, value_at, sites_of, with_site, sites_join}

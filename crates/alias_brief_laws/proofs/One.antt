@@ -1,6 +1,5 @@
 -- What following one nested function comes to.
-use Rattle.std.specs.Prelude.{map}
-use Rattle.std.proofs.Common.{◌≡◌, Bool, true, false, List, [], ◌∷◌, ◌++◌, Some, Option, Result, Ok, Err, refl, ap, sym}
+use Rattle.std.proofs.Common.{◌≡◌, Bool, true, false, List, [], ◌∷◌, ◌++◌, Some, Option, Result, Ok, Err, ap, sym}
 use Rattle.std.proofs.Common.{◌∙◌, subst}
 use Rattle.alias_base.specs.Answer.{◌>>=◌}
 use Rattle.alias_base.specs.declared.ids.FunctionId.{FunctionId}
@@ -23,7 +22,7 @@ use Rattle.alias_answer_laws.proofs.order.Ordering.{went}
 use Rattle.alias_inferred_laws.proofs.inferred.Ranging.{PassLeaves, pass_leaves}
 use Rattle.alias_certificate.specs.declared.certificate.CertFunction.{CertFunction}
 use Rattle.alias_certificate.specs.declared.fault.CheckFault.{CheckFault}
-use Rattle.alias_cert.specs.Functions.{ranging, range_fault}
+use Rattle.alias_cert.specs.Functions.{ranging}
 use Rattle.alias_follow.specs.Functions.{FollowedFunction, Following, following, followed_function, effects_followed}
 use Rattle.alias_follow.specs.Functions.{nested_finished, nested_followed}
 use Rattle.alias_follow.specs.declared.function.follow.FunctionEnd.{FunctionEnd}

@@ -1,12 +1,11 @@
 -- The functions of a unit are followed in the order that is stated.
-use Rattle.std.specs.Prelude.{◌≡◌, ℕ, ◌==◌, ◌||◌, nat_eq, Bool, true, false, cond, List, [], ◌∷◌, ◌++◌, Option, Some}
-use Rattle.std.specs.Prelude.{None, Result, Ok, Err, length, map, slice_get, slice_set}
+use Rattle.std.specs.Prelude.{◌≡◌, ℕ, ◌==◌, nat_eq, Bool, true, false, cond, List, [], ◌∷◌, ◌++◌, Option, Some}
+use Rattle.std.specs.Prelude.{None, Result, Ok, length, map, slice_get, slice_set}
 use Rattle.std.specs.List.{flat_map}
 use Rattle.std.proofs.Common.{zero, suc, refl, ap, sym, ◌∙◌, subst, arith, ◌+◌, ◌<◌, ◌≤◌}
 use Rattle.std.proofs.lemmas.Bool.{eqb-true}
 use Rattle.std.proofs.lemmas.Bool.Decides.{nat_tests}
 use Rattle.std.proofs.lemmas.List.{append-nil, append_assoc, map-append}
-use Rattle.alias_base.specs.Answer.{◌>>=◌}
 use Rattle.alias_base.specs.declared.ids.FunctionId.{FunctionId}
 use Rattle.alias_hir.specs.declared.env.Environment.{Environment}
 use Rattle.alias_hir.specs.declared.hir.HirFunction.{HirFunction}
@@ -19,10 +18,7 @@ use Rattle.alias_nesting_laws.specs.Slots.{with_function}
 use Rattle.alias_effects.specs.Inference.{env_after}
 use Rattle.alias_effects.specs.Recording.{with_effects_of}
 use Rattle.alias_range_pass.specs.places.Keeping.{but_context}
-use Rattle.alias_range_pass.specs.Passes.{Ranged, range_pass}
-use Rattle.alias_nested.specs.Annotating.{annotated}
 use Rattle.alias_nested.specs.Created.{created_functions}
-use Rattle.alias_nested.specs.Finishing.{finished}
 use Rattle.alias_nested.specs.Order.{created_by_slot, innermost_first, numbers}
 use Rattle.alias_nested.specs.Slots.{emptied}
 use Rattle.alias_nested.proofs.Changing.{slots_stay}
@@ -32,13 +28,9 @@ use Rattle.alias_answer_laws.proofs.order.Ordering.{went, neither, both_false, d
 use Rattle.alias_answer_laws.proofs.order.Staying.{created_recorded, created_ranged, ranged_contexts, count_alike}
 use Rattle.alias_certificate.specs.declared.certificate.CertFunction.{CertFunction}
 use Rattle.alias_certificate.specs.declared.fault.CheckFault.{CheckFault}
-use Rattle.alias_cert.specs.Functions.{ranging}
-use Rattle.alias_follow.specs.Functions.{FollowedFunction, Following, following, followed_function, effects_followed}
-use Rattle.alias_follow.specs.Functions.{nested_finished, nested_followed}
+use Rattle.alias_follow.specs.Functions.{FollowedFunction, Following, followed_function}
+use Rattle.alias_follow.specs.Functions.{nested_followed}
 use Rattle.alias_follow.specs.Units.{each, put_back, taken_followed, found_followed, slot_followed, below_followed}
-use Rattle.alias_follow.specs.declared.function.follow.FunctionEnd.{FunctionEnd}
-use Rattle.alias_follow.specs.function.Functions.{function_followed}
-use Rattle.alias_follow.specs.function.Givens.{given_of}
 use Rattle.alias_brief_laws.proofs.One.{FollowedOne, followed_one}
 
 none_there : {X : Type 0} (xs : List X) (k : ℕ) → k < length xs → slice_get xs k ≡ None → ⊥

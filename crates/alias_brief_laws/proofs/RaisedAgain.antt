@@ -1,14 +1,13 @@
 -- What a state that lines raised has beyond what arrived raises that to it again.
-use Rattle.std.specs.Prelude.{◌&&◌, ◌⊎◌, if◌then◌else◌, IsTrue, ℕ, nat_lt, option_map}
-use Rattle.std.specs.List.{AllByRecursion, list_all}
+use Rattle.std.specs.Prelude.{◌&&◌, ◌⊎◌, if◌then◌else◌, IsTrue, ℕ, option_map}
+use Rattle.std.specs.List.{list_all}
 use Rattle.std.proofs.Common.{◌≡◌, Bool, true, false, List, [], ◌∷◌, Option, Some, None, refl, ap, sym, ◌∙◌, subst}
-use Rattle.std.proofs.Math.Dec.{T}
 use Rattle.std.specs.Option.{is_some}
 use Rattle.std.specs.FinMap.{find}
 use Rattle.alias_base.specs.declared.ids.FunctionId.{FunctionId}
 use Rattle.alias_base.specs.declared.ids.IdentifierId.{IdentifierId}
 use Rattle.alias_lattice.specs.AbstractValueLaws.{abstract_laws}
-use Rattle.alias_lattice.specs.AbstractValues.{abstract_join, abstract_below, AbstractProper}
+use Rattle.alias_lattice.specs.AbstractValues.{abstract_join, AbstractProper}
 use Rattle.alias_lattice.specs.JoinLaws.{state_laws}
 use Rattle.alias_lattice.specs.KeyLaws.{ids_apart, ids_total}
 use Rattle.alias_lattice.specs.Keys.{id_cmp}
@@ -28,7 +27,6 @@ use Rattle.alias_lattice.specs.States.{state_join, state_below, sites_join}
 use Rattle.alias_lattice.specs.declared.site.Site.{Site}
 use Rattle.alias_lattice.specs.declared.value.AbstractValue.{AbstractValue}
 use Rattle.alias_flow.proofs.Order.{below_trans}
-use Rattle.alias_certificate.specs.declared.beyond.Beyond.{Beyond}
 use Rattle.alias_certificate.specs.declared.certificate.CertBlock.{CertBlock}
 use Rattle.alias_certificate.specs.declared.certificate.CertValue.{CertValue}
 use Rattle.alias_certificate.specs.declared.certificate.CertVariable.{CertVariable}

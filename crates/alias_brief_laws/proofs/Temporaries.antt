@@ -12,7 +12,6 @@ use Rattle.alias_hir.specs.declared.error.Counter.TheVariants.{Identifiers}
 use Rattle.alias_hir.specs.declared.place.Place.{Place}
 use Rattle.alias_tables.specs.Tables.{TableLists, new_place, temporary, temporary_after, has_room}
 use Rattle.alias_tables.specs.Temporaries.{same_temp, temp_like, temporary_of}
-use Rattle.alias_tables.specs.declared.faults.Refusal.{Refusal}
 use Rattle.alias_tables.specs.declared.faults.Refusal.TheVariants as refused
 use Rattle.alias_tables.specs.declared.temp_key.TempKey.{TempKey}
 use Rattle.alias_tables.specs.declared.temporaries.Temporary.{Temporary}

@@ -3,8 +3,7 @@ use Rattle.std.specs.Prelude.{slice_get, map, nat_eq, cond, ◌==◌, if◌then�
 use Rattle.std.specs.List.{AllByRecursion}
 use Rattle.std.proofs.Common.{◌≡◌, ℕ, zero, suc, ◌+◌, ◌<◌, ◌≤◌, Bool, true, false, List, [], ◌∷◌, ◌++◌, length, Option}
 use Rattle.std.proofs.Common.{Some, None}
-use Rattle.std.proofs.Common.{Result, Ok, Err, refl, ap, sym, ◌∙◌, subst, arith}
-use Rattle.std.proofs.lemmas.Bool.{eqb-true}
+use Rattle.std.proofs.Common.{Result, Ok, refl, ap, sym, ◌∙◌, subst, arith}
 use Rattle.std.proofs.lemmas.Bool.Decides.{nat_tests}
 use Rattle.std.proofs.lemmas.List.{map-append, length-map, length-append}
 use Rattle.alias_base.specs.Answer.{◌>>=◌}
@@ -12,7 +11,6 @@ use Rattle.alias_base.specs.declared.ids.FunctionId.{FunctionId}
 use Rattle.alias_hir.specs.declared.effect.AliasingEffect.{AliasingEffect}
 use Rattle.alias_hir.specs.declared.env.Environment.{Environment}
 use Rattle.alias_hir.specs.declared.env.Unit.{Unit as HirUnit}
-use Rattle.alias_hir.specs.declared.error.InferError.{InferError}
 use Rattle.alias_hir.specs.declared.hir.HirFunction.{HirFunction}
 use Rattle.alias_hir.specs.declared.report.Report.{Report}
 use Rattle.alias_range_pass.specs.Passes.{Ranged, range_pass}
@@ -28,7 +26,6 @@ use Rattle.alias_rules.specs.TreeLaws.{times_cons}
 use Rattle.alias_effects.specs.Inference.{env_after}
 use Rattle.alias_effects.specs.Recording.{with_effects_of}
 use Rattle.alias_effects.specs.declared.solved.BlockEntry.{BlockEntry}
-use Rattle.alias_effects.specs.declared.solved.Solved.{Solved}
 use Rattle.alias_nested.specs.Analysis.{most_levels}
 use Rattle.alias_nested.specs.Created.{created_functions}
 use Rattle.alias_nested.specs.Order.{innermost_first, numbers}
@@ -36,7 +33,7 @@ use Rattle.alias_nested.specs.Units.{validated}
 use Rattle.alias_nested.proofs.Evolving.{passed_contexts}
 use Rattle.alias_nested.proofs.Keeping.{pruned_fits}
 use Rattle.alias_answer_laws.specs.order.Order.{nested_innermost_first}
-use Rattle.alias_answer_laws.proofs.order.Ordering.{went, Stands, Apart}
+use Rattle.alias_answer_laws.proofs.order.Ordering.{went}
 use Rattle.alias_answer_laws.proofs.order.Solving.{root_apart}
 use Rattle.alias_answer_laws.proofs.order.Staying.{count_alike}
 use Rattle.alias_inferred_laws.proofs.inferred.Ranging.{PassLeaves, pass_leaves}
@@ -59,9 +56,8 @@ use Rattle.alias_brief_text_laws.specs.Telling.{told_if_known, told_from, told}
 use Rattle.alias_brief_laws.proofs.FunctionAgain.{IsTold, function_again}
 use Rattle.alias_brief_laws.specs.Raising.{SaysBeyond}
 use Rattle.alias_brief_laws.proofs.Lines.{AreTold, others_of}
-use Rattle.alias_brief_laws.proofs.One.{Taken, effects_left, ranging_ok, ok_same}
-use Rattle.alias_brief_laws.proofs.Order.{done, Done, goes_over}
-use Rattle.alias_brief_laws.proofs.Temporaries.{told_temporary}
+use Rattle.alias_brief_laws.proofs.One.{effects_left, ranging_ok, ok_same}
+use Rattle.alias_brief_laws.proofs.Order.{Done, goes_over}
 use Rattle.alias_brief_laws.proofs.Walking.{Went, below_went, below_again}
 
 -- ---- names
