@@ -4,21 +4,22 @@ use Rattle.std.proofs.Common.{◌≡◌, Bool, true, false, List, [], ◌∷◌,
 use Rattle.alias_base.specs.declared.ids.FunctionId.{FunctionId}
 use Rattle.alias_lattice.specs.JoinLaws.{state_laws}
 use Rattle.alias_lattice.specs.ProperStates.{StateProper}
-use Rattle.alias_lattice.specs.States.{State, state_join, state_below}
+use Rattle.alias_lattice.specs.States.{State, state_below}
 use Rattle.alias_certificate.specs.declared.beyond.Beyond.{Beyond}
 use Rattle.alias_certificate.specs.declared.certificate.CertBlock.{CertBlock}
 use Rattle.alias_certificate.specs.states.Beyond.{beyond_of, nothing_beyond}
-use Rattle.alias_certificate.specs.states.Raised.{values_raised, raised_state}
+use Rattle.alias_certificate.specs.states.Raised.{raised_state}
 use Rattle.alias_follow.specs.lines.Entering.{is_bare, none_of, entered_by}
-use Rattle.alias_brief_laws.specs.Raising.{AreValuesProper, SaysBeyond, RaisesAgain}
-use Rattle.alias_brief_laws.proofs.RaisedAgain.{WasRaised, was_raised, is_proper, is_above, values_alone, by_parts}
+use Rattle.alias_brief_laws.specs.Raising.{AreValuesProper, SaysBeyond}
+use Rattle.alias_brief_laws.proofs.RaisedAgain.{was_raised, is_proper, is_above}
 use Rattle.alias_brief_laws.proofs.RaisedAgain.{raises_again, raised_by_none}
 
 -- a state with what it has beyond what arrives
 abbrev pub with_beyond : State → State → State × Beyond
 with_beyond x u = (u, beyond_of u x)
 
--- the state that is entered is proper, and above what arrives; and it is entered again by a line of what it has beyond that
+-- the state that is entered is proper, and above what arrives; and it is entered again by a line of what it has beyond
+-- that
 pub record Enters (n : ℕ) (ids : List FunctionId) (x s : State) (m : Beyond) : Type 0 where
   pub is_proper : StateProper s
   pub above : IsTrue (state_below x s)

@@ -1,8 +1,8 @@
 -- A function is followed again by what is told of it.
 use Rattle.std.specs.Prelude.{replicate, nat_lt, map, slice_get, slice_index_or, if◌then◌else◌, is_some}
-use Rattle.std.specs.List.{AllByRecursion}
-use Rattle.std.proofs.Common.{◌≡◌, ℕ, zero, suc, ◌+◌, ◌≤◌, Bool, true, false, List, [], ◌∷◌, ◌++◌, length, Option, Some, None}
-use Rattle.std.proofs.Common.{Result, Ok, Err, refl, ap, sym, ◌∙◌, subst, arith}
+use Rattle.std.proofs.Common.{◌≡◌, ℕ, zero, suc, ◌+◌, Bool, true, false, List, [], ◌∷◌, length, Option, Some}
+use Rattle.std.proofs.Common.{None}
+use Rattle.std.proofs.Common.{Result, Ok, refl, ap, sym, ◌∙◌, subst, arith}
 use Rattle.std.proofs.lemmas.Bool.{le-ltb}
 use Rattle.std.proofs.lemmas.List.{length-map, length-replicate}
 use Rattle.alias_base.specs.Answer.{◌>>=◌}
@@ -29,7 +29,6 @@ use Rattle.alias_nested.specs.Created.{created_functions}
 use Rattle.alias_certificate.specs.declared.beyond.Beyond.{Beyond}
 use Rattle.alias_certificate.specs.declared.certificate.CertBlock.{CertBlock}
 use Rattle.alias_certificate.specs.declared.certificate.CertFunction.{CertFunction}
-use Rattle.alias_certificate.specs.declared.certificate.CertTemporary.{CertTemporary}
 use Rattle.alias_certificate.specs.declared.fault.CheckFault.{CheckFault}
 use Rattle.alias_cert.specs.function.Temporaries.{temporaries_stated}
 use Rattle.alias_cert.proofs.Running.{after}
@@ -107,7 +106,8 @@ module _ (id : Option FunctionId) (env : Environment) (f : HirFunction) (b : Boo
   unfolding followed_by ended
   as_kept given t is = ap (λ z. followed_by (kept z given) (limit z given)) is
 
-  module _ (there : is_some (value_at f.body.blocks f.body.entry) ≡ true) (given : Option CertFunction) (said : CertFunction)
+  module _ (there : is_some (value_at f.body.blocks f.body.entry) ≡ true) (given : Option CertFunction)
+      (said : CertFunction)
       (known : AreLinesKnown (blocks_given given)) (e : FunctionEnd) (tables : TableLists)
       (w : Passing State Beyond TableLists BlockEffects)
       (begun : tables_begun given id env f ≡ Ok tables)
@@ -144,7 +144,8 @@ module _ (id : Option FunctionId) (env : Environment) (f : HirFunction) (b : Boo
 
     run : Ends state_join state_below empty_state rules unfollowed.State (lacking (Some count)) (marks None id env f b)
         state_laws own_laws proper-empty_state (entering given id env f)
-        (λ q x s m h is. (enters_at q x s m h is).is_proper) tables 0 rules.blocks (solver_state (passage_begun state_join rules) tables nothing) w
+        (λ q x s m h is. (enters_at q x s m h is).is_proper) tables 0 rules.blocks
+        (solver_state (passage_begun state_join rules) tables nothing) w
     run = pass_ends state_join state_below empty_state rules unfollowed.State (lacking (Some count))
         (marks None id env f b) state_laws own_laws proper-empty_state (entering given id env f)
         (λ q x s m h is. (enters_at q x s m h is).is_proper) tables w lacks_none passed
@@ -191,7 +192,8 @@ module _ (id : Option FunctionId) (env : Environment) (f : HirFunction) (b : Boo
         (ap (λ cs. temporaries_stated id env cs (tables_of env)) said_temporaries ∙ begun)
         ∙ ap (λ r. r >>= ended) passed_too ∙ ap Ok ends
 
-  module _ (there : is_some (value_at f.body.blocks f.body.entry) ≡ true) (given also : Option CertFunction) (e : FunctionEnd) (told : IsTold also e.end.solved e.beyond) where
+  module _ (there : is_some (value_at f.body.blocks f.body.entry) ≡ true) (given also : Option CertFunction)
+      (e : FunctionEnd) (told : IsTold also e.end.solved e.beyond) where
     ended_forward : function_followed given id env f b ≡ Ok e → e.beyond.is_forward ≡ is_forward None id env f b
     ended_forward h =
         let a = after (tables_begun (kept (is_forward given id env f b) given) id env f) _ e h in
@@ -209,7 +211,8 @@ module _ (id : Option FunctionId) (env : Environment) (f : HirFunction) (b : Boo
         let s = after (passed_by given most a.was) ended e a.then_is in
         let same : followed_end None id env f b s.was ≡ e = cc in
         let passed = unfaulted id env f.body.blocks (flow_passed state_join state_below empty_state rules
-        (entering given id env f) unfollowed.State (lacking most) (marks None id env f b) a.was nothing) s.was s.first in
+        (entering given id env f) unfollowed.State (lacking most) (marks None id env f b) a.was nothing) s.was s.first
+        in
         subst (λ z. followed_by z (Some (length (temporaries_given z))) ≡ Ok e) (sym told.is)
         (followed_too there given told.said known e a.was s.was a.first passed same told.blocks
         (told.temporaries loops))

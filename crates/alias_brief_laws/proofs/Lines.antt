@@ -1,7 +1,7 @@
 -- The line that is told of each block of a function.
-use Rattle.std.specs.Prelude.{cond, slice_get, slice_index_or, position, ⊤}
+use Rattle.std.specs.Prelude.{cond, slice_get, slice_index_or, ⊤}
 use Rattle.std.specs.Map.{keys_of}
-use Rattle.std.proofs.Common.{◌≡◌, ℕ, ◌+◌, ◌<◌, zero, suc, Bool, true, false, List, [], ◌∷◌, length, Option, Some, None}
+use Rattle.std.proofs.Common.{◌≡◌, ℕ, ◌<◌, zero, suc, Bool, true, false, List, [], ◌∷◌, length, Option, Some, None}
 use Rattle.std.proofs.Common.{option_map, refl, ap, sym, ◌∙◌, subst, arith}
 use Rattle.alias_base.specs.Find.{same_block}
 use Rattle.alias_base.specs.declared.ids.BlockId.{BlockId}

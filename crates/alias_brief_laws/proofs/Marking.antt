@@ -1,7 +1,6 @@
 -- What the entry states of a flow have beyond what arrived, in the order of the blocks that are entered.
 use Rattle.std.specs.Prelude.{slice_set, replicate, ⊤}
 use Rattle.std.proofs.Common.{◌≡◌, ℕ, ◌<◌, zero, suc, List, [], ◌∷◌, ◌++◌, length, Option, Some, None, refl, arith}
-use Rattle.alias_flow.specs.Solutions.{entry_at}
 
 -- what is beyond in the entry state of the block at a position
 abbrev pub beyond_at : {P B : Type 0} → List (Option P) → List B → ℕ → Option B

@@ -1,25 +1,22 @@
 -- What a state that lines raised has beyond what arrived is named by these lines.
-use Rattle.std.specs.Prelude.{◌&&◌, cond, if◌then◌else◌, IsTrue, ◌++◌, ℕ, nat_lt, ◌⊎◌}
+use Rattle.std.specs.Prelude.{◌&&◌, cond, if◌then◌else◌, ◌++◌, ℕ, nat_lt, ◌⊎◌}
 use Rattle.std.specs.List.{AllByRecursion, list_all}
-use Rattle.std.proofs.Common.{◌≡◌, Bool, true, false, List, [], ◌∷◌, Option, Some, None, refl, ap, sym, ◌∙◌, subst, inl, inr}
+use Rattle.std.proofs.Common.{◌≡◌, Bool, true, false, List, [], ◌∷◌, Option, Some, None, refl, ap, sym, ◌∙◌, inl}
+use Rattle.std.proofs.Common.{inr}
 use Rattle.std.proofs.Math.Dec.{T}
 use Rattle.std.specs.Option.{is_some}
 use Rattle.std.specs.Ordering.{eq_by_cmp}
-use Rattle.std.specs.FinMap.{find, put, is_sorted}
+use Rattle.std.specs.FinMap.{find, is_sorted}
 use Rattle.std.specs.FinMap.Entries.{find-put}
 use Rattle.alias_base.specs.AnswerLaws.{both_true}
 use Rattle.alias_base.specs.declared.ids.FunctionId.{FunctionId}
 use Rattle.alias_base.specs.declared.ids.IdentifierId.{IdentifierId}
-use Rattle.alias_lattice.specs.AbstractValueLaws.{abstract_laws}
-use Rattle.alias_lattice.specs.AbstractValues.{abstract_join, AbstractProper}
 use Rattle.alias_lattice.specs.JoinLaws.{sites_laws}
 use Rattle.alias_lattice.specs.KeyLaws.{ids_total}
 use Rattle.alias_lattice.specs.Keys.{id_cmp}
-use Rattle.alias_lattice.specs.Laws.{below_self}
-use Rattle.alias_lattice.specs.MapLaws.{join_none}
 use Rattle.alias_lattice.specs.Maps.{join_option, ProperOption}
-use Rattle.alias_lattice.specs.ProperStates.{StateProper, SitesProper}
-use Rattle.alias_lattice.specs.PutLaws.{proper_found, find-join}
+use Rattle.alias_lattice.specs.ProperStates.{SitesProper}
+use Rattle.alias_lattice.specs.PutLaws.{find-join}
 use Rattle.alias_lattice.specs.SiteOrder.{site_cmp}
 use Rattle.alias_lattice.specs.SiteOrderLaws.{sites_total}
 use Rattle.alias_lattice.specs.States.{State, Sites, initialized, defined_as, value_at, sites_of, with_site, sites_join}
@@ -40,7 +37,8 @@ use Rattle.alias_brief_laws.proofs.Variables.{tied_id}
 
 -- ---- what passes of those that are picked
 
-value_named : (n : ℕ) (ids : List FunctionId) (old : State) (e : Site × AbstractValue) (rest : List CertValue) (t : Bool)
+value_named : (n : ℕ) (ids : List FunctionId) (old : State) (e : Site × AbstractValue) (rest : List CertValue)
+    (t : Bool)
     → is_there (value_at old e.0) e.1 ≡ t → (t ≡ false → is_site_there n ids e.0 ≡ true)
     → list_all (λ (v : CertValue). is_site_there n ids v.site) rest ≡ true
     → list_all (λ (v : CertValue). is_site_there n ids v.site)
@@ -105,7 +103,8 @@ module _ (n : ℕ) (ids : List FunctionId) where
   same_there q k t h = ap (is_site_there n ids) (tied_site q k t) ∙ h
 
   -- a site that lines give a value is there
-  pub value_there : (vs : List CertValue) (z : State) → list_all (λ (v : CertValue). is_site_there n ids v.site) vs ≡ true
+  pub value_there : (vs : List CertValue) (z : State)
+      → list_all (λ (v : CertValue). is_site_there n ids v.site) vs ≡ true
       → (q : Site) → ((w : AbstractValue) → value_at z q ≡ Some w → is_site_there n ids q ≡ true)
       → (w : AbstractValue) → value_at (with_values vs z) q ≡ Some w → is_site_there n ids q ≡ true
   value_there [] z a q h w e = h w e

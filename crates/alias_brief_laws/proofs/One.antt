@@ -1,6 +1,6 @@
 -- What following one nested function comes to.
-use Rattle.std.specs.Prelude.{map}
-use Rattle.std.proofs.Common.{◌≡◌, Bool, true, false, List, [], ◌∷◌, ◌++◌, Some, Option, Result, Ok, Err, refl, ap, sym, ◌∙◌, subst}
+use Rattle.std.proofs.Common.{◌≡◌, Bool, true, false, List, [], ◌∷◌, ◌++◌, Some, Option, Result, Ok, Err, ap, sym}
+use Rattle.std.proofs.Common.{◌∙◌, subst}
 use Rattle.alias_base.specs.Answer.{◌>>=◌}
 use Rattle.alias_base.specs.declared.ids.FunctionId.{FunctionId}
 use Rattle.alias_hir.specs.declared.env.Environment.{Environment}
@@ -22,7 +22,7 @@ use Rattle.alias_answer_laws.proofs.order.Ordering.{went}
 use Rattle.alias_inferred_laws.proofs.inferred.Ranging.{PassLeaves, pass_leaves}
 use Rattle.alias_certificate.specs.declared.certificate.CertFunction.{CertFunction}
 use Rattle.alias_certificate.specs.declared.fault.CheckFault.{CheckFault}
-use Rattle.alias_cert.specs.Functions.{ranging, range_fault}
+use Rattle.alias_cert.specs.Functions.{ranging}
 use Rattle.alias_follow.specs.Functions.{FollowedFunction, Following, following, followed_function, effects_followed}
 use Rattle.alias_follow.specs.Functions.{nested_finished, nested_followed}
 use Rattle.alias_follow.specs.declared.function.follow.FunctionEnd.{FunctionEnd}
@@ -143,7 +143,8 @@ one_kept given id f a s o known fits =
     let said = given_of given (Some id) in
     let effects = followed_keeps said (Some id) a.env f true fits
     (lines_kept said (is_forward said (Some id) a.env f true) known) o.end o.ended in
-    let ranged = range_kept (with_effects_of o.end.end.solved f) (env_after a.env o.end.end) o.ranged effects.fits o.ran in
+    let ranged = range_kept (with_effects_of o.end.end.solved f) (env_after a.env o.end.end) o.ranged effects.fits o.ran
+    in
     subst (λ (z : Taken). FunctionKept f a.env z.0 z.1.env) o.is
     (kept_through f (with_effects_of o.end.end.solved f) (annotated o.ranged.summary o.ranged.after).0 a.env
     (env_after a.env o.end.end) (annotated o.ranged.summary o.ranged.after).1 effects ranged)

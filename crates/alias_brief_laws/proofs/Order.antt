@@ -1,12 +1,11 @@
 -- The functions of a unit are followed in the order that is stated.
-use Rattle.std.specs.Prelude.{◌≡◌, ℕ, ◌==◌, ◌||◌, nat_eq, Bool, true, false, cond, List, [], ◌∷◌, ◌++◌, Option, Some}
-use Rattle.std.specs.Prelude.{None, Result, Ok, Err, length, map, slice_get, slice_set}
+use Rattle.std.specs.Prelude.{◌≡◌, ℕ, ◌==◌, nat_eq, Bool, true, false, cond, List, [], ◌∷◌, ◌++◌, Option, Some}
+use Rattle.std.specs.Prelude.{None, Result, Ok, length, map, slice_get, slice_set}
 use Rattle.std.specs.List.{flat_map}
 use Rattle.std.proofs.Common.{zero, suc, refl, ap, sym, ◌∙◌, subst, arith, ◌+◌, ◌<◌, ◌≤◌}
 use Rattle.std.proofs.lemmas.Bool.{eqb-true}
 use Rattle.std.proofs.lemmas.Bool.Decides.{nat_tests}
 use Rattle.std.proofs.lemmas.List.{append-nil, append_assoc, map-append}
-use Rattle.alias_base.specs.Answer.{◌>>=◌}
 use Rattle.alias_base.specs.declared.ids.FunctionId.{FunctionId}
 use Rattle.alias_hir.specs.declared.env.Environment.{Environment}
 use Rattle.alias_hir.specs.declared.hir.HirFunction.{HirFunction}
@@ -19,10 +18,7 @@ use Rattle.alias_nesting_laws.specs.Slots.{with_function}
 use Rattle.alias_effects.specs.Inference.{env_after}
 use Rattle.alias_effects.specs.Recording.{with_effects_of}
 use Rattle.alias_range_pass.specs.places.Keeping.{but_context}
-use Rattle.alias_range_pass.specs.Passes.{Ranged, range_pass}
-use Rattle.alias_nested.specs.Annotating.{annotated}
 use Rattle.alias_nested.specs.Created.{created_functions}
-use Rattle.alias_nested.specs.Finishing.{finished}
 use Rattle.alias_nested.specs.Order.{created_by_slot, innermost_first, numbers}
 use Rattle.alias_nested.specs.Slots.{emptied}
 use Rattle.alias_nested.proofs.Changing.{slots_stay}
@@ -32,13 +28,9 @@ use Rattle.alias_answer_laws.proofs.order.Ordering.{went, neither, both_false, d
 use Rattle.alias_answer_laws.proofs.order.Staying.{created_recorded, created_ranged, ranged_contexts, count_alike}
 use Rattle.alias_certificate.specs.declared.certificate.CertFunction.{CertFunction}
 use Rattle.alias_certificate.specs.declared.fault.CheckFault.{CheckFault}
-use Rattle.alias_cert.specs.Functions.{ranging}
-use Rattle.alias_follow.specs.Functions.{FollowedFunction, Following, following, followed_function, effects_followed}
-use Rattle.alias_follow.specs.Functions.{nested_finished, nested_followed}
+use Rattle.alias_follow.specs.Functions.{FollowedFunction, Following, followed_function}
+use Rattle.alias_follow.specs.Functions.{nested_followed}
 use Rattle.alias_follow.specs.Units.{each, put_back, taken_followed, found_followed, slot_followed, below_followed}
-use Rattle.alias_follow.specs.declared.function.follow.FunctionEnd.{FunctionEnd}
-use Rattle.alias_follow.specs.function.Functions.{function_followed}
-use Rattle.alias_follow.specs.function.Givens.{given_of}
 use Rattle.alias_brief_laws.proofs.One.{FollowedOne, followed_one}
 
 none_there : {X : Type 0} (xs : List X) (k : ℕ) → k < length xs → slice_get xs k ≡ None → ⊥
@@ -176,9 +168,11 @@ abbrev pub GoesOver : List HirFunction → (HirFunction → Following → Result
 GoesOver fs below ordered = (f : HirFunction) (out : List ℕ) (a b : Following) → Stands fs out a.env
     → Apart fs out (ordered (created_functions f)) → below f a ≡ Ok b → Done fs out a b (ordered (created_functions f))
 
-module _ (given : List CertFunction) (fs : List HirFunction) (n : ℕ) (below_goes : GoesOver fs (below_followed given n) (innermost_first n fs)) where
+module _ (given : List CertFunction) (fs : List HirFunction) (n : ℕ)
+    (below_goes : GoesOver fs (below_followed given n) (innermost_first n fs)) where
   found_done : (id : FunctionId) (out : List ℕ) (a b : Following) (o : Option HirFunction) → Stands fs out a.env
-      → Apart fs out (ids_of fs n id) → slice_get a.env.functions id.0 ≡ o → found_followed given (below_followed given n) id a o ≡ Ok b
+      → Apart fs out (ids_of fs n id) → slice_get a.env.functions id.0 ≡ o
+      → found_followed given (below_followed given n) id a o ≡ Ok b
       → Done fs out a b (ids_of fs n id)
   found_done id out a b None st apart h g =
       let c = st.count in
@@ -186,7 +180,8 @@ module _ (given : List CertFunction) (fs : List HirFunction) (n : ℕ) (below_go
       absurd (none_there a.env.functions id.0 (omega arith) h)
   found_done id out a b (Some f) st apart h g =
       let a0 : Following = record a { env = with_function id (emptied f.returns) a.env } in
-      let w = went (taken_followed given (below_followed given n) id f a0) (λ (s : HirFunction × Following). Ok (put_back id s)) b g in
+      let w = went (taken_followed given (below_followed given n) id f a0)
+      (λ (s : HirFunction × Following). Ok (put_back id s)) b g in
       let s : HirFunction × Following = w.0 in
       let is : put_back id s ≡ b = cc in
       let v = went (below_followed given n f a0) (nested_followed given id f) s w.1 in
@@ -215,7 +210,8 @@ module _ (given : List CertFunction) (fs : List HirFunction) (n : ℕ) (below_go
       let is : a ≡ b = cc in
       subst (λ (z : Following). Done fs out a z []) is (record { functions = sym (append-nil (done a)); stands = st })
   each_done (id ∷ ids) out a b st apart h =
-      let w = went (slot_followed given (below_followed given n) id a) (each (slot_followed given (below_followed given n)) ids) b h in
+      let w = went (slot_followed given (below_followed given n) id a)
+      (each (slot_followed given (below_followed given n)) ids) b h in
       let a1 : Following = w.0 in
       let first : Done fs out a a1 (ids_of fs n id) =
       found_done id out a a1 (slice_get a.env.functions id.0) st
@@ -233,9 +229,11 @@ module _ (given : List CertFunction) (fs : List HirFunction) (n : ℕ) (below_go
       }
 
 -- following the functions on n levels goes over them in the order that is stated
-pub goes_over : (given : List CertFunction) (fs : List HirFunction) (n : ℕ) → GoesOver fs (below_followed given n) (innermost_first n fs)
+pub goes_over : (given : List CertFunction) (fs : List HirFunction) (n : ℕ)
+    → GoesOver fs (below_followed given n) (innermost_first n fs)
 unfolding below_followed innermost_first
 goes_over given fs zero f out a b st apart h =
     let is : a ≡ b = cc in
     subst (λ (z : Following). Done fs out a z []) is (record { functions = sym (append-nil (done a)); stands = st })
-goes_over given fs (suc n) f out a b st apart h = each_done given fs n (goes_over given fs n) (created_functions f) out a b st apart h
+goes_over given fs (suc n) f out a b st apart h =
+    each_done given fs n (goes_over given fs n) (created_functions f) out a b st apart h

@@ -1,7 +1,8 @@
 -- A pass whose blocks are entered again with the same states ends the same.
 use Rattle.std.specs.Prelude.{slice_set, slice_index_or, replicate}
-use Rattle.std.proofs.Common.{◌≡◌, ℕ, ◌+◌, ◌<◌, zero, suc, Bool, true, false, if◌then◌else◌, List, [], ◌∷◌, ◌++◌, length}
-use Rattle.std.proofs.Common.{Option, Some, None, Result, Ok, Err, refl, ap, sym, ◌∙◌, subst, arith, ◌⊎◌, inl, inr}
+use Rattle.std.proofs.Common.{◌≡◌, ℕ, ◌+◌, ◌<◌, zero, suc, Bool, true, false, if◌then◌else◌, List, [], ◌∷◌, ◌++◌}
+use Rattle.std.proofs.Common.{length}
+use Rattle.std.proofs.Common.{Option, Some, None, Result, Ok, Err, refl, ap, sym, ◌∙◌, subst, arith}
 use Rattle.std.proofs.lemmas.List.{length-set, length-replicate}
 use Rattle.alias_base.specs.Answer.{◌>>=◌}
 use Rattle.alias_lattice.specs.Flows.{Outcome, Stepped, Refused}
@@ -11,7 +12,8 @@ use Rattle.alias_flow.specs.RecordingLaws.{HoldsOf, AllHold}
 use Rattle.alias_flow.specs.Runs.{solver_state}
 use Rattle.alias_flow.specs.Solutions.{entry_at}
 use Rattle.alias_flow.specs.check.Checks.{first_not_above}
-use Rattle.alias_passage.specs.Passes.{back_edges, forward_edges, or_empty, Passing, passage_begun, passed, outcome_passed}
+use Rattle.alias_passage.specs.Passes.{back_edges, forward_edges, or_empty, Passing, passage_begun, passed}
+use Rattle.alias_passage.specs.Passes.{outcome_passed}
 use Rattle.alias_passage.specs.Passes.{entered, state_passed, block_passed, turn_passed, blocks_passed, flow_passed}
 use Rattle.alias_brief_laws.proofs.Marking.{beyond_at, AreBeyond, none_entered, one_more_beyond, no_more_beyond}
 use Rattle.alias_brief_laws.proofs.Marking.{beyond_here, beyond_stays}
@@ -212,7 +214,8 @@ module _ {P B T K C D : Type 0} (join : P → P → P) (below : P → P → Bool
           let out : proper p.out = f.step_proper w.tables i p.state p.out p.tables p.gives state p.step in
           let c = rest (subst (Waits (suc i)) p.leaves (record {
             arriving = sent_all proper join l.closed p.out (slice_set w.progress.arriving i None)
-                (forward_edges i (rules.flow.edges i)) out (set_all proper w.progress.arriving i None tt waits.arriving);
+                (forward_edges i (rules.flow.edges i)) out
+                (set_all proper w.progress.arriving i None tt waits.arriving);
             tables = f.transitive begun w.tables p.tables waits.tables
                 (f.grow w.tables i p.state p.out p.tables p.gives p.step);
             lacks_none = p.lacks_none;
@@ -232,7 +235,8 @@ module _ {P B T K C D : Type 0} (join : P → P → P) (below : P → P → Bool
             again = λ other agrees.
                 ap (λ t. (if t then block_passed join below empty rules other unentered lacks i w else Ok w)
                 >>= blocks_passed {C = C} join below empty rules other unentered lacks marks (up (i + 1) n)) is
-                ∙ ap (λ r. r >>= blocks_passed {C = C} join below empty rules other unentered lacks marks (up (i + 1) n))
+                ∙ ap (λ r. r
+                >>= blocks_passed {C = C} join below empty rules other unentered lacks marks (up (i + 1) n))
                 (passes_again other i w a enter p
                 (agrees i (arrives i w) p.state p.more is here p.enters (c.stays i p.more (omega arith) entered_is)))
                 ∙ c.again other agrees;

@@ -1,14 +1,13 @@
 -- What a state that lines raised has beyond what arrived raises that to it again.
-use Rattle.std.specs.Prelude.{◌&&◌, ◌⊎◌, if◌then◌else◌, IsTrue, ℕ, nat_lt, option_map}
-use Rattle.std.specs.List.{AllByRecursion, list_all}
+use Rattle.std.specs.Prelude.{◌&&◌, ◌⊎◌, if◌then◌else◌, IsTrue, ℕ, option_map}
+use Rattle.std.specs.List.{list_all}
 use Rattle.std.proofs.Common.{◌≡◌, Bool, true, false, List, [], ◌∷◌, Option, Some, None, refl, ap, sym, ◌∙◌, subst}
-use Rattle.std.proofs.Math.Dec.{T}
 use Rattle.std.specs.Option.{is_some}
 use Rattle.std.specs.FinMap.{find}
 use Rattle.alias_base.specs.declared.ids.FunctionId.{FunctionId}
 use Rattle.alias_base.specs.declared.ids.IdentifierId.{IdentifierId}
 use Rattle.alias_lattice.specs.AbstractValueLaws.{abstract_laws}
-use Rattle.alias_lattice.specs.AbstractValues.{abstract_join, abstract_below, AbstractProper}
+use Rattle.alias_lattice.specs.AbstractValues.{abstract_join, AbstractProper}
 use Rattle.alias_lattice.specs.JoinLaws.{state_laws}
 use Rattle.alias_lattice.specs.KeyLaws.{ids_apart, ids_total}
 use Rattle.alias_lattice.specs.Keys.{id_cmp}
@@ -22,21 +21,24 @@ use Rattle.alias_lattice.specs.PutLaws.{proper_found, proper_put, proper_nil, fi
 use Rattle.alias_lattice.specs.SiteOrder.{site_cmp}
 use Rattle.alias_lattice.specs.SiteOrderLaws.{sites_apart, sites_total}
 use Rattle.alias_lattice.specs.StateLaws.{proper-initialized, proper-defined_as}
-use Rattle.alias_lattice.specs.States.{State, Sites, empty_state, initialized, defined_as, with_site, value_at, sites_of}
+use Rattle.alias_lattice.specs.States.{State, Sites, empty_state, initialized, defined_as, with_site, value_at}
+use Rattle.alias_lattice.specs.States.{sites_of}
 use Rattle.alias_lattice.specs.States.{state_join, state_below, sites_join}
 use Rattle.alias_lattice.specs.declared.site.Site.{Site}
 use Rattle.alias_lattice.specs.declared.value.AbstractValue.{AbstractValue}
 use Rattle.alias_flow.proofs.Order.{below_trans}
-use Rattle.alias_certificate.specs.declared.beyond.Beyond.{Beyond}
 use Rattle.alias_certificate.specs.declared.certificate.CertBlock.{CertBlock}
 use Rattle.alias_certificate.specs.declared.certificate.CertValue.{CertValue}
 use Rattle.alias_certificate.specs.declared.certificate.CertVariable.{CertVariable}
-use Rattle.alias_certificate.specs.states.Beyond.{is_there, has_site, more_sites, more_values, more_variables, beyond_of}
+use Rattle.alias_certificate.specs.states.Beyond.{is_there, has_site, more_sites, more_values, more_variables}
+use Rattle.alias_certificate.specs.states.Beyond.{beyond_of}
 use Rattle.alias_certificate.specs.states.Raised.{values_raised, variables_raised, are_sites_named, raised_state}
-use Rattle.alias_certificate.specs.states.States.{is_site_there, with_values, with_sites, is_variable_there, with_variables}
+use Rattle.alias_certificate.specs.states.States.{is_site_there, with_values, with_sites, is_variable_there}
+use Rattle.alias_certificate.specs.states.States.{with_variables}
 use Rattle.alias_brief_laws.specs.Raising.{AreValuesProper, SaysBeyond, RaisesAgain}
 use Rattle.alias_certificate.proofs.states.Valued.{variable_is_valued}
-use Rattle.alias_brief_laws.proofs.Naming.{values_named, sites_pass, lines_named, value_there, SameOrGiven, same_or_given, IsGiven}
+use Rattle.alias_brief_laws.proofs.Naming.{values_named, sites_pass, lines_named, value_there, SameOrGiven}
+use Rattle.alias_brief_laws.proofs.Naming.{same_or_given, IsGiven}
 use Rattle.alias_brief_laws.proofs.Naming.{same_values, beyond_there, beyond_below}
 use Rattle.alias_brief_laws.proofs.Picking.{of_entries, join_nil}
 use Rattle.alias_brief_laws.proofs.Values.{values_again}
@@ -115,8 +117,8 @@ values_alone vs a h =
     ap (λ m. list_join id_cmp sites_join a.variables m) (none_defined vs empty_state)
     ∙ join_nil id_cmp ids_total ids_apart sites_join a.variables h.variables.0
 
-pub by_parts : (s : State) (m : List (Site × AbstractValue)) (v : List (IdentifierId × Sites)) → s.values ≡ m → s.variables
-    ≡ v → s ≡ record { values = m; variables = v }
+pub by_parts : (s : State) (m : List (Site × AbstractValue)) (v : List (IdentifierId × Sites)) → s.values ≡ m
+    → s.variables ≡ v → s ≡ record { values = m; variables = v }
 by_parts s m v e f i = record { values = e i; variables = f i }
 
 module _ (n : ℕ) (ids : List FunctionId) (c : CertBlock) (a s : State) (known : AreValuesProper c.values)

@@ -1,7 +1,7 @@
 -- A block that is reached is the first of its name.
 use Rattle.std.specs.Prelude.{slice_get, is_some}
 use Rattle.std.specs.Option.{option_map_or}
-use Rattle.std.proofs.Common.{◌≡◌, ℕ, Bool, true, Option, Some, None, refl, ap, sym, ◌∙◌, subst}
+use Rattle.std.proofs.Common.{◌≡◌, ℕ, Bool, true, Option, Some, None, ap, sym, ◌∙◌, subst}
 use Rattle.alias_base.specs.Find.{value_at}
 use Rattle.alias_base.specs.declared.ids.BlockId.{BlockId}
 use Rattle.alias_hir.specs.PositionLaws.{found_has_position, some_is, position_is_at}

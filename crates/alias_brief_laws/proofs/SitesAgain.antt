@@ -1,10 +1,10 @@
 -- The sites that a set has beyond one that is a part of it give it again.
 use Rattle.std.specs.Prelude.{cond, if◌then◌else◌, IsTrue, ◌++◌}
-use Rattle.std.proofs.Common.{◌≡◌, Bool, true, false, List, [], ◌∷◌, Option, Some, None, refl, ap, sym, ◌∙◌, subst}
+use Rattle.std.proofs.Common.{◌≡◌, Bool, true, false, List, [], ◌∷◌, Option, Some, None, refl, ap, sym, ◌∙◌}
 use Rattle.std.proofs.Math.Dec.{T}
 use Rattle.std.specs.Option.{is_some}
 use Rattle.std.specs.Ordering.{eq_by_cmp}
-use Rattle.std.specs.FinMap.{find, put, is_sorted, entries_sorted}
+use Rattle.std.specs.FinMap.{find, is_sorted, entries_sorted}
 use Rattle.std.specs.FinMap.Entries.{find-put, is_sorted-put, same_entries}
 use Rattle.alias_lattice.specs.ListMaps.{list_join}
 use Rattle.alias_lattice.specs.Maps.{join_option, below_option}

@@ -1,7 +1,8 @@
 -- The temporaries that are given are those that steps end with, where they make no more.
 use Rattle.std.specs.Prelude.{◌&&◌, ◌==◌, if◌then◌else◌, nat_lt, map}
 use Rattle.std.specs.List.{AllByRecursion}
-use Rattle.std.proofs.Common.{◌≡◌, ℕ, ◌+◌, ◌<◌, ◌≤◌, suc, Bool, true, false, cond, List, [], ◌∷◌, ◌++◌, length, Option, Some}
+use Rattle.std.proofs.Common.{◌≡◌, ℕ, ◌+◌, ◌<◌, ◌≤◌, suc, Bool, true, false, cond, List, [], ◌∷◌, ◌++◌, length, Option}
+use Rattle.std.proofs.Common.{Some}
 use Rattle.std.proofs.Common.{None, Result, Ok, Err, refl, ap, sym, ◌∙◌, subst, arith}
 use Rattle.std.proofs.lemmas.Bool.{ltb-false, eqb-true}
 use Rattle.std.proofs.lemmas.List.{append-nil, append_assoc, length-append}
@@ -11,7 +12,6 @@ use Rattle.alias_hir.specs.declared.error.Counter.TheVariants.{Identifiers}
 use Rattle.alias_hir.specs.declared.place.Place.{Place}
 use Rattle.alias_tables.specs.Tables.{TableLists, new_place, temporary, temporary_after, has_room}
 use Rattle.alias_tables.specs.Temporaries.{same_temp, temp_like, temporary_of}
-use Rattle.alias_tables.specs.declared.faults.Refusal.{Refusal}
 use Rattle.alias_tables.specs.declared.faults.Refusal.TheVariants as refused
 use Rattle.alias_tables.specs.declared.temp_key.TempKey.{TempKey}
 use Rattle.alias_tables.specs.declared.temporaries.Temporary.{Temporary}
@@ -73,7 +73,8 @@ module _ (function : Option FunctionId) (env : Environment) where
       → ◌≡◌ {A = CertTemporary} (record { identifier = record { 0 = n }; key = c.key }) c
   told_as c n h = λ i. record { identifier = record { 0 = sym h i }; key = c.key }
 
-  right_number : (c : CertTemporary) (t v u : TableLists) (p : Place) (b : Bool) → (p.identifier.0 == c.identifier.0) ≡ b
+  right_number : (c : CertTemporary) (t v u : TableLists) (p : Place) (b : Bool)
+      → (p.identifier.0 == c.identifier.0) ≡ b
       → (let r : Result TableLists CheckFault = if b then Ok v else Err (fault.Temporaries function) in r ≡ Ok u)
       → (p.identifier.0 ≡ c.identifier.0) × (v ≡ u)
   right_number c t v u p true is h = (eqb-true p.identifier.0 c.identifier.0 is, cc)

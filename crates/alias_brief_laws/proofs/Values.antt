@@ -3,7 +3,7 @@ use Rattle.std.specs.Prelude.{cond, if◌then◌else◌, IsTrue, ◌++◌}
 use Rattle.std.proofs.Common.{◌≡◌, Bool, true, false, List, [], ◌∷◌, Option, Some, None, refl, ap, sym, ◌∙◌, subst}
 use Rattle.std.proofs.Math.Dec.{T}
 use Rattle.std.specs.Ordering.{eq_by_cmp}
-use Rattle.std.specs.FinMap.{find, put, is_sorted, entries_sorted}
+use Rattle.std.specs.FinMap.{find, is_sorted, entries_sorted}
 use Rattle.std.specs.FinMap.Entries.{find-put, is_sorted-put, same_entries}
 use Rattle.alias_lattice.specs.AbstractValueLaws.{abstract_laws}
 use Rattle.alias_lattice.specs.AbstractValues.{abstract_join, abstract_below, AbstractProper}

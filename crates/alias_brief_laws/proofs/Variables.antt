@@ -5,7 +5,7 @@ use Rattle.std.proofs.Common.{◌≡◌, Bool, true, false, List, [], ◌∷◌,
 use Rattle.std.proofs.Math.Dec.{T}
 use Rattle.std.specs.Option.{is_some}
 use Rattle.std.specs.Ordering.{eq_by_cmp}
-use Rattle.std.specs.FinMap.{find, put, is_sorted, entries_sorted}
+use Rattle.std.specs.FinMap.{find, is_sorted, entries_sorted}
 use Rattle.std.specs.FinMap.Entries.{find-put, is_sorted-put, same_entries}
 use Rattle.alias_base.specs.declared.ids.IdentifierId.{IdentifierId}
 use Rattle.alias_lattice.specs.AbstractValues.{abstract_below}

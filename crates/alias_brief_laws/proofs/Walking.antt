@@ -1,7 +1,8 @@
 -- The functions below a function are followed again by what is told of them.
 use Rattle.std.specs.Prelude.{slice_get}
 use Rattle.std.specs.List.{AllByRecursion}
-use Rattle.std.proofs.Common.{◌≡◌, ℕ, zero, suc, Bool, true, false, List, [], ◌∷◌, ◌++◌, Option, Some, None, Result, Ok, Err, refl, ap}
+use Rattle.std.proofs.Common.{◌≡◌, ℕ, zero, suc, true, List, [], ◌∷◌, ◌++◌, Option, Some, None, Result, Ok}
+use Rattle.std.proofs.Common.{refl, ap}
 use Rattle.std.proofs.Common.{sym, ◌∙◌, subst}
 use Rattle.std.proofs.lemmas.List.{append-nil, append_assoc}
 use Rattle.alias_base.specs.Answer.{◌>>=◌}
@@ -24,7 +25,7 @@ use Rattle.alias_nested.proofs.Keeping.{environment_back, not_itself}
 use Rattle.alias_answer_laws.proofs.order.Ordering.{went}
 use Rattle.alias_certificate.specs.declared.certificate.CertFunction.{CertFunction}
 use Rattle.alias_certificate.specs.declared.fault.CheckFault.{CheckFault}
-use Rattle.alias_follow.specs.Functions.{FollowedFunction, Following, following, followed_function, nested_followed}
+use Rattle.alias_follow.specs.Functions.{FollowedFunction, Following, followed_function, nested_followed}
 use Rattle.alias_follow.specs.Units.{each, put_back, taken_followed, found_followed, slot_followed, below_followed}
 use Rattle.alias_follow.specs.function.Givens.{given_of, blocks_given}
 use Rattle.alias_follow.specs.lines.Known.{AreLinesKnown}
@@ -113,7 +114,8 @@ module _ (given : List CertFunction)
         (not_itself a.env g f id fits among at) refl refl
         (function_through f f t.taken.0 out.env t.mid.env t.taken.1.env
         (pruned_beside out.env t.mid.env went_mid.pruned f out_fits)
-        (kept_pruned f t.mid.env t.taken.0 t.taken.1.env (one_kept given id f t.mid t.taken one (known (Some id)) mid_fits)))
+        (kept_pruned f t.mid.env t.taken.0 t.taken.1.env
+        (one_kept given id f t.mid t.taken one (known (Some id)) mid_fits)))
 
     taking_went : Went a b
     taking_went = subst (Went a) t.back (record {
@@ -186,7 +188,8 @@ module _ (given : List CertFunction)
           ∙ ap (λ zs. zs ++ front.rest) last ∙ append_assoc t.mid.functions (x ∷ []) front.rest in
           let told = tells t.mid.functions front.rest x whole in
           let fits_mid = mid_fits below (below_went n) g id f a b fits among at t in
-          let same = function_again (Some id) t.mid.env f true (fitting_entry f t.mid.env fits_mid) (given_of given (Some id)) (given_of also (Some id))
+          let same = function_again (Some id) t.mid.env f true (fitting_entry f t.mid.env fits_mid)
+          (given_of given (Some id)) (given_of also (Some id))
           o.end (record { said = told.said; is = told.is; blocks = told.blocks; temporaries = told.temporaries })
           (known (Some id)) o.ended in
           let first : below_followed also n f z ≡ Ok t.mid =

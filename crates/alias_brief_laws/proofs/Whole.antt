@@ -1,9 +1,9 @@
 -- A unit is followed again by what is told of its functions.
 use Rattle.std.specs.Prelude.{slice_get, map, nat_eq, cond, ◌==◌, if◌then◌else◌}
 use Rattle.std.specs.List.{AllByRecursion}
-use Rattle.std.proofs.Common.{◌≡◌, ℕ, zero, suc, ◌+◌, ◌<◌, ◌≤◌, Bool, true, false, List, [], ◌∷◌, ◌++◌, length, Option, Some, None}
-use Rattle.std.proofs.Common.{Result, Ok, Err, refl, ap, sym, ◌∙◌, subst, arith}
-use Rattle.std.proofs.lemmas.Bool.{eqb-true}
+use Rattle.std.proofs.Common.{◌≡◌, ℕ, zero, suc, ◌+◌, ◌<◌, ◌≤◌, Bool, true, false, List, [], ◌∷◌, ◌++◌, length, Option}
+use Rattle.std.proofs.Common.{Some, None}
+use Rattle.std.proofs.Common.{Result, Ok, refl, ap, sym, ◌∙◌, subst, arith}
 use Rattle.std.proofs.lemmas.Bool.Decides.{nat_tests}
 use Rattle.std.proofs.lemmas.List.{map-append, length-map, length-append}
 use Rattle.alias_base.specs.Answer.{◌>>=◌}
@@ -11,7 +11,6 @@ use Rattle.alias_base.specs.declared.ids.FunctionId.{FunctionId}
 use Rattle.alias_hir.specs.declared.effect.AliasingEffect.{AliasingEffect}
 use Rattle.alias_hir.specs.declared.env.Environment.{Environment}
 use Rattle.alias_hir.specs.declared.env.Unit.{Unit as HirUnit}
-use Rattle.alias_hir.specs.declared.error.InferError.{InferError}
 use Rattle.alias_hir.specs.declared.hir.HirFunction.{HirFunction}
 use Rattle.alias_hir.specs.declared.report.Report.{Report}
 use Rattle.alias_range_pass.specs.Passes.{Ranged, range_pass}
@@ -27,7 +26,6 @@ use Rattle.alias_rules.specs.TreeLaws.{times_cons}
 use Rattle.alias_effects.specs.Inference.{env_after}
 use Rattle.alias_effects.specs.Recording.{with_effects_of}
 use Rattle.alias_effects.specs.declared.solved.BlockEntry.{BlockEntry}
-use Rattle.alias_effects.specs.declared.solved.Solved.{Solved}
 use Rattle.alias_nested.specs.Analysis.{most_levels}
 use Rattle.alias_nested.specs.Created.{created_functions}
 use Rattle.alias_nested.specs.Order.{innermost_first, numbers}
@@ -35,7 +33,7 @@ use Rattle.alias_nested.specs.Units.{validated}
 use Rattle.alias_nested.proofs.Evolving.{passed_contexts}
 use Rattle.alias_nested.proofs.Keeping.{pruned_fits}
 use Rattle.alias_answer_laws.specs.order.Order.{nested_innermost_first}
-use Rattle.alias_answer_laws.proofs.order.Ordering.{went, Stands, Apart}
+use Rattle.alias_answer_laws.proofs.order.Ordering.{went}
 use Rattle.alias_answer_laws.proofs.order.Solving.{root_apart}
 use Rattle.alias_answer_laws.proofs.order.Staying.{count_alike}
 use Rattle.alias_inferred_laws.proofs.inferred.Ranging.{PassLeaves, pass_leaves}
@@ -52,14 +50,14 @@ use Rattle.alias_follow.specs.declared.function.follow.FunctionEnd.{FunctionEnd}
 use Rattle.alias_follow.specs.function.Functions.{function_followed}
 use Rattle.alias_follow.specs.function.Givens.{given_of, blocks_given}
 use Rattle.alias_follow.specs.lines.Known.{AreLinesKnown}
-use Rattle.alias_brief_text_laws.specs.Telling.{told_block, told_blocks_from, told_blocks, told_temporaries, told_function}
+use Rattle.alias_brief_text_laws.specs.Telling.{told_block, told_blocks_from, told_blocks, told_temporaries}
+use Rattle.alias_brief_text_laws.specs.Telling.{told_function}
 use Rattle.alias_brief_text_laws.specs.Telling.{told_if_known, told_from, told}
 use Rattle.alias_brief_laws.proofs.FunctionAgain.{IsTold, function_again}
 use Rattle.alias_brief_laws.specs.Raising.{SaysBeyond}
 use Rattle.alias_brief_laws.proofs.Lines.{AreTold, others_of}
-use Rattle.alias_brief_laws.proofs.One.{Taken, effects_left, ranging_ok, ok_same}
-use Rattle.alias_brief_laws.proofs.Order.{done, Done, goes_over}
-use Rattle.alias_brief_laws.proofs.Temporaries.{told_temporary}
+use Rattle.alias_brief_laws.proofs.One.{effects_left, ranging_ok, ok_same}
+use Rattle.alias_brief_laws.proofs.Order.{Done, goes_over}
 use Rattle.alias_brief_laws.proofs.Walking.{Went, below_went, below_again}
 
 -- ---- names
@@ -77,7 +75,8 @@ no_end P (z ∷ xs) ys x e = cc
 counted_in : (ids : List FunctionId) (xs ys : List (Option FunctionId)) (j : FunctionId)
     → map Some ids ++ None ∷ [] ≡ xs ++ Some j ∷ ys → 1 ≤ times (numbers ids) j.0
 counted_in [] [] ys j e = cc
-counted_in [] (x ∷ xs) ys j e = let rest : [] ≡ xs ++ Some j ∷ ys = cc in no_end (1 ≤ times (numbers []) j.0) xs ys (Some j) rest
+counted_in [] (x ∷ xs) ys j e =
+    let rest : [] ≡ xs ++ Some j ∷ ys = cc in no_end (1 ≤ times (numbers []) j.0) xs ys (Some j) rest
 counted_in (k ∷ ids) [] ys j e =
     let same : k ≡ j = cc in
     let c : times (numbers (k ∷ ids)) j.0 ≡ cond (nat_eq k.0 j.0) 1 0 + times (numbers ids) j.0 =
@@ -314,7 +313,8 @@ module _ (given : List CertFunction) (u : HirUnit) (x : UnitFollowing) (rules : 
   abbrev order : List FunctionId
   order = nested_innermost_first u
 
-  over : Done u.env.functions [] (following u.env []) nested (innermost_first most_levels u.env.functions (created_functions u.function))
+  over : Done u.env.functions [] (following u.env []) nested
+      (innermost_first most_levels u.env.functions (created_functions u.function))
   over = goes_over given u.env.functions most_levels u.function [] (following u.env []) nested
       (record { count = refl; slots = λ k free. refl }) (root_apart u rules) p.below
 

@@ -1,5 +1,5 @@
 -- What a state that lines raised has beyond what arrived raises that to it again.
-use Rattle.std.specs.Prelude.{◌≡◌, ℕ, List, Option, Some}
+use Rattle.std.specs.Prelude.{◌≡◌, ℕ, List, Some}
 use Rattle.std.specs.List.{AllByRecursion}
 use Rattle.alias_base.specs.declared.ids.FunctionId.{FunctionId}
 use Rattle.alias_lattice.specs.AbstractValues.{AbstractProper}
