@@ -39,18 +39,18 @@ typedef struct {
     size_t length;
 } Bytes;
 
-/* A unit as codes, with the lines that they name; where these begin codes.c finds. */
+/* A unit as codes, with the lines that they name. */
 typedef struct {
     const int32_t *codes;
     size_t length;
     Bytes texts, strings;
-    size_t *texts_begin, texts_count, *strings_begin, strings_count;
 } Codes;
 
-typedef enum { WRITTEN, WRONG_CODES, NO_MEMORY } Outcome;
+/* Whether they are such as the front end makes: each has those that belong to it, and names a line that is there. */
+int are_codes(const Codes *given);
 
-/* Writes what the codes stand for into a block of the heap, behind so many bytes in front. There is a block where it was written. */
-Outcome write_codes(Codes *given, size_t front, uint8_t **block, size_t *length);
+/* What such codes stand for, in a block of the heap. Null where memory ran out. */
+uint8_t *write_codes(const Codes *given, size_t *length);
 
 /* Of calls.c: begin(words), put(calls, input), putCodes(calls, codes, texts, strings) and answers(calls). */
 napi_value begin(napi_env env, napi_callback_info info);

@@ -10,7 +10,8 @@ enum { MOST_THREADS = 4, OF_A_THREAD = 1 << 16 };
 typedef struct Item {
     struct Item *next;
     Call call;
-    uint8_t input[]; /* a copy, which nobody writes meanwhile */
+    Codes codes;      /* what the input stands as until a thread has the call; none where it is the bytes */
+    uint8_t copies[]; /* of what was given, which nobody writes meanwhile */
 } Item;
 
 /* All calls stand from `first` to `last`, and from `waiting` on those that no thread has taken. */
@@ -43,10 +44,25 @@ static Item *taken(Calls *calls) {
     return item;
 }
 
+/* Performs the call of an item, whose input is written first where it stands as codes. */
+static void perform(Item *item) {
+    uint8_t *written = NULL;
+    if (item->codes.codes != NULL) {
+        written = write_codes(&item->codes, &item->call.input_length);
+        if (written == NULL) {
+            item->call.status = JIRRAMBEO_MEMORY;
+            return;
+        }
+        item->call.input = written;
+    }
+    perform_anywhere(&item->call);
+    free(written);
+}
+
 static void *work(void *given) {
     Calls *calls = (Calls *)given;
     for (Item *item = taken(calls); item != NULL; item = taken(calls)) {
-        perform_anywhere(&item->call);
+        perform(item);
     }
     return NULL;
 }
@@ -166,13 +182,22 @@ static Calls *calls_of(napi_env env, size_t wanted, napi_value *arguments, napi_
     return (Calls *)calls;
 }
 
-/* Puts in the call of an item behind which its input stands. */
-static void put_item(napi_env env, Calls *calls, Item *item, size_t length) {
-    item->next = NULL;
-    item->call = (Call){.words = calls->words, .input = item->input, .input_length = length};
+/* An item with room for so many bytes. Where there is none it throws, and gives null. */
+static Item *item_with(napi_env env, const Calls *calls, size_t room) {
+    Item *item = (Item *)malloc(sizeof *item + room);
+    if (item == NULL) {
+        other_error(env, "memory ran out");
+        return NULL;
+    }
+    *item = (Item){.call = {.words = calls->words}};
+    return item;
+}
+
+/* Puts in the call of an item with so many bytes, and tells the collector of them. */
+static void put_item(napi_env env, Calls *calls, Item *item, size_t room) {
     int threads = calls->threads;
     append(calls, item);
-    tell(env, calls, (int64_t)(sizeof *item + length) + (calls->threads - threads) * OF_A_THREAD);
+    tell(env, calls, (int64_t)(sizeof *item + room) + (calls->threads - threads) * OF_A_THREAD);
 }
 
 napi_value put(napi_env env, napi_callback_info info) {
@@ -182,11 +207,13 @@ napi_value put(napi_env env, napi_callback_info info) {
     if (calls == NULL || !read_input(env, arguments[1], &call)) {
         return NULL;
     }
-    Item *item = (Item *)malloc(sizeof *item + call.input_length);
+    Item *item = item_with(env, calls, call.input_length);
     if (item == NULL) {
-        return other_error(env, "memory ran out");
+        return NULL;
     }
-    memcpy(item->input, call.input, call.input_length);
+    memcpy(item->copies, call.input, call.input_length);
+    item->call.input = item->copies;
+    item->call.input_length = call.input_length;
     put_item(env, calls, item, call.input_length);
     return NULL;
 }
@@ -211,20 +238,37 @@ static int read_codes(napi_env env, const napi_value arguments[3], Codes *given)
     return 1;
 }
 
+/* A copy of the bytes. */
+static Bytes copied(const Bytes *bytes, uint8_t *to) {
+    memcpy(to, bytes->at, bytes->length);
+    return (Bytes){to, bytes->length};
+}
+
 napi_value put_codes(napi_env env, napi_callback_info info) {
     napi_value arguments[4];
     Codes given = {0};
-    uint8_t *block = NULL;
-    size_t length = 0;
     Calls *calls = calls_of(env, 4, arguments, info);
     if (calls == NULL || !read_codes(env, arguments + 1, &given)) {
         return NULL;
     }
-    switch (write_codes(&given, offsetof(Item, input), &block, &length)) {
-    case WRITTEN: put_item(env, calls, (Item *)block, length); return NULL;
-    case WRONG_CODES: return type_error(env, "the codes are those of the front end");
-    default: return other_error(env, "memory ran out");
+    if (!are_codes(&given)) {
+        return type_error(env, "the codes are those of the front end");
     }
+    size_t size = given.length * sizeof *given.codes;
+    size_t room = size + given.texts.length + given.strings.length;
+    Item *item = item_with(env, calls, room);
+    if (item == NULL) {
+        return NULL;
+    }
+    if (size > 0) {
+        memcpy(item->copies, given.codes, size);
+    }
+    item->codes.codes = (const int32_t *)(const void *)item->copies;
+    item->codes.length = given.length;
+    item->codes.texts = copied(&given.texts, item->copies + size);
+    item->codes.strings = copied(&given.strings, item->copies + size + given.texts.length);
+    put_item(env, calls, item, room);
+    return NULL;
 }
 
 napi_value answers(napi_env env, napi_callback_info info) {

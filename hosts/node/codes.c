@@ -3,13 +3,44 @@
 
 enum { PAIR = -1, TRIPLE = -2, QUOTED = -3, JSON_TEXT = -4, FIRST_TEXT = -5, MOST_DIGITS = 10 };
 
-/* Where the lines of the bytes begin, and behind the last one. Null where memory ran out. */
-static size_t *begins_of(const Bytes *bytes, size_t *count) {
-    *count = 1;
+/* How many lines the bytes are. */
+static size_t lines_in(const Bytes *bytes) {
+    size_t count = 1;
     for (size_t i = 0; i < bytes->length; ++i) {
-        *count += bytes->at[i] == '\n';
+        count += bytes->at[i] == '\n';
     }
-    size_t *begins = (size_t *)malloc((*count + 1) * sizeof *begins);
+    return count;
+}
+
+/* How many codes belong to this one, which is below 0. */
+static size_t belonging(int32_t code) {
+    return code <= FIRST_TEXT ? 0 : code == TRIPLE ? 3 : code == PAIR ? 2 : 1;
+}
+
+int are_codes(const Codes *given) {
+    size_t texts = lines_in(&given->texts), strings = lines_in(&given->strings);
+    for (size_t i = 0; i < given->length; ++i) {
+        const int32_t *code = given->codes + i;
+        if (*code >= 0) {
+            continue;
+        }
+        size_t count = belonging(*code);
+        if (given->length - i - 1 < count || (*code <= FIRST_TEXT && (size_t)((int64_t)FIRST_TEXT - *code) >= texts)) {
+            return 0;
+        }
+        for (size_t k = 1; k <= count; ++k) {
+            if (code[k] < 0 || (*code < TRIPLE && (size_t)code[k] >= strings)) {
+                return 0;
+            }
+        }
+        i += count;
+    }
+    return 1;
+}
+
+/* Where the lines of the bytes begin, and behind the last one. Null where memory ran out. */
+static size_t *begins_of(const Bytes *bytes) {
+    size_t *begins = (size_t *)malloc((lines_in(bytes) + 1) * sizeof *begins);
     if (begins == NULL) {
         return NULL;
     }
@@ -60,29 +91,19 @@ static void put_number(Out *out, uint32_t number) {
 }
 
 /* Puts numbers there as a list, for which there is room. */
-static Outcome put_list(Out *out, const int32_t *codes, size_t left, size_t count) {
-    if (left < count) {
-        return WRONG_CODES;
-    }
+static void put_list(Out *out, const int32_t *codes, size_t count) {
     for (size_t i = 0; i < count; ++i) {
-        if (codes[i] < 0) {
-            return WRONG_CODES;
-        }
         out->block[out->length++] = i == 0 ? '[' : ',';
         put_number(out, (uint32_t)codes[i]);
     }
     out->block[out->length++] = ']';
-    return WRITTEN;
 }
 
-/* Puts the line of that number there, between quotes or not. */
-static Outcome put_line(Out *out, const Bytes *bytes, const size_t *begins, size_t count, int64_t number, int is_quoted) {
-    if (number < 0 || (size_t)number >= count) {
-        return WRONG_CODES;
-    }
+/* Puts a line there, between quotes or not. Says whether there was memory. */
+static int put_line(Out *out, const Bytes *bytes, const size_t *begins, size_t number, int is_quoted) {
     size_t size = begins[number + 1] - 1 - begins[number];
     if (!reserve(out, size + 2)) {
-        return NO_MEMORY;
+        return 0;
     }
     uint8_t *at = out->block + out->length;
     if (is_quoted) {
@@ -96,58 +117,51 @@ static Outcome put_line(Out *out, const Bytes *bytes, const size_t *begins, size
         *at++ = '"';
     }
     out->length = (size_t)(at - out->block);
-    return WRITTEN;
+    return 1;
 }
 
-/* Puts there what a code and those that belong to it stand for; `at` goes on to the last of them. */
-static Outcome put_code(Out *out, const Codes *given, size_t *at) {
-    const int32_t *codes = given->codes;
-    int32_t code = codes[*at];
-    size_t left = given->length - *at - 1;
+/* Puts there what a code and those that belong to it stand for. Says whether there was memory. */
+static int put_code(Out *out, const Codes *given, const size_t *texts, const size_t *strings, const int32_t *code) {
     if (!reserve(out, 4 + 3 * MOST_DIGITS)) {
-        return NO_MEMORY;
+        return 0;
     }
-    if (code >= 0) {
-        put_number(out, (uint32_t)code);
-        return WRITTEN;
+    if (*code >= 0) {
+        put_number(out, (uint32_t)*code);
+        return 1;
     }
-    if (code <= FIRST_TEXT) {
-        return put_line(out, &given->texts, given->texts_begin, given->texts_count, (int64_t)FIRST_TEXT - code, 0);
+    if (*code <= FIRST_TEXT) {
+        return put_line(out, &given->texts, texts, (size_t)((int64_t)FIRST_TEXT - *code), 0);
     }
-    if (code >= TRIPLE) {
-        size_t count = code == TRIPLE ? 3 : 2;
-        *at += count;
-        return put_list(out, codes + (*at - count) + 1, left, count);
+    if (*code < TRIPLE) {
+        return put_line(out, &given->strings, strings, (size_t)code[1], *code == QUOTED);
     }
-    *at += 1;
-    return left == 0 ? WRONG_CODES : put_line(out, &given->strings, given->strings_begin, given->strings_count, codes[*at], code == QUOTED);
+    put_list(out, code + 1, belonging(*code));
+    return 1;
 }
 
-static Outcome put_all(Out *out, const Codes *given) {
+/* The same of all codes. */
+static int put_all(Out *out, const Codes *given, const size_t *texts, const size_t *strings) {
     for (size_t i = 0; i < given->length; ++i) {
-        Outcome outcome = put_code(out, given, &i);
-        if (outcome != WRITTEN) {
-            return outcome;
+        const int32_t *code = given->codes + i;
+        if (!put_code(out, given, texts, strings, code)) {
+            return 0;
         }
+        i += *code < 0 ? belonging(*code) : 0;
     }
-    return WRITTEN;
+    return 1;
 }
 
-Outcome write_codes(Codes *given, size_t front, uint8_t **block, size_t *length) {
-    given->texts_begin = begins_of(&given->texts, &given->texts_count);
-    given->strings_begin = begins_of(&given->strings, &given->strings_count);
-    Out out = {NULL, front, 0};
-    out.room = front + 6 * given->length + 1;
+uint8_t *write_codes(const Codes *given, size_t *length) {
+    size_t *texts = begins_of(&given->texts), *strings = begins_of(&given->strings);
+    Out out = {NULL, 0, 6 * given->length + 1};
     out.block = (uint8_t *)malloc(out.room);
-    int has_memory = given->texts_begin != NULL && given->strings_begin != NULL && out.block != NULL;
-    Outcome outcome = has_memory ? put_all(&out, given) : NO_MEMORY;
-    free(given->texts_begin);
-    free(given->strings_begin);
-    if (outcome != WRITTEN) {
+    int is_written = texts != NULL && strings != NULL && out.block != NULL && put_all(&out, given, texts, strings);
+    free(texts);
+    free(strings);
+    if (!is_written) {
         free(out.block);
-        return outcome;
+        return NULL;
     }
-    *block = out.block;
-    *length = out.length - front;
-    return WRITTEN;
+    *length = out.length;
+    return out.block;
 }
