@@ -3,9 +3,6 @@
 ghost use Rattle.std.specs.Prelude.{◌≡◌};
 ghost use Rattle.alias_base.specs.failures.Failures.{Plan, new_plan, fails_now, called};
 
-#[cfg(test)]
-mod tests;
-
 use crate::List;
 use std::marker::Model;
 

@@ -5,8 +5,6 @@ pub mod memory;
 pub mod sink;
 pub mod source;
 pub mod standard;
-#[cfg(test)]
-mod tests;
 pub mod whole;
 
 pub use memory::{MemorySink, MemorySource};
