@@ -34,7 +34,7 @@ use Rattle.alias_brief_laws.specs.Accepted.{AreGivenKnown, AreStatesProper, Brie
 use Rattle.alias_brief_laws.specs.Accepted.{functions_in, ReadsAsTold}
 use Rattle.alias_brief_laws.specs.Accepted.{BriefsAreAccepted}
 use Rattle.alias_brief_laws.proofs.One.{ok_same}
-use Rattle.alias_brief_laws.proofs.Picking.{of_entries}
+use Rattle.alias_certificate.proofs.raised.Picking.{of_entries}
 use Rattle.alias_brief_laws.proofs.Whole.{unit_again, count_is}
 
 first_known : (c : CertFunction) (o : Option CertFunction) (t : Bool) → AreLinesKnown c.blocks

@@ -11,7 +11,8 @@ use Rattle.alias_certificate.specs.states.Beyond.{beyond_of, nothing_beyond}
 use Rattle.alias_certificate.specs.states.Raised.{raised_state}
 use Rattle.alias_follow.specs.lines.Entering.{is_bare, none_of, entered_by}
 use Rattle.alias_brief_laws.specs.Raising.{AreValuesProper, SaysBeyond}
-use Rattle.alias_brief_laws.proofs.RaisedAgain.{was_raised, is_proper, is_above}
+use Rattle.alias_certificate.proofs.raised.Lines.{was_raised}
+use Rattle.alias_brief_laws.proofs.RaisedAgain.{is_proper, is_above}
 use Rattle.alias_brief_laws.proofs.RaisedAgain.{raises_again, raised_by_none}
 
 -- a state with what it has beyond what arrives

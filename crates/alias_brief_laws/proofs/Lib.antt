@@ -1,4 +1,3 @@
-pub mod Picking
 pub mod Values
 pub mod SitesAgain
 pub mod Variables

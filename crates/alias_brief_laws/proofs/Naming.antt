@@ -30,7 +30,7 @@ use Rattle.alias_certificate.specs.states.Beyond.{is_there, has_site, more_value
 use Rattle.alias_certificate.specs.states.Raised.{are_sites_named}
 use Rattle.alias_certificate.specs.states.States.{is_site_there, with_values, with_sites, is_full, are_valued}
 use Rattle.alias_certificate.specs.states.States.{is_variable_there, with_variables}
-use Rattle.alias_brief_laws.proofs.Picking.{of_entries}
+use Rattle.alias_certificate.proofs.raised.Picking.{of_entries}
 use Rattle.alias_brief_laws.proofs.SitesAgain.{sorted_sites}
 use Rattle.alias_brief_laws.proofs.Values.{tied_site}
 use Rattle.alias_brief_laws.proofs.Variables.{tied_id}
@@ -172,18 +172,6 @@ module _ (n : ℕ) (ids : List FunctionId) where
       let b = both_true (list_all (λ k. is_site_there n ids k) y.sites) (are_sites_named n ids ys) a in
       given_if y ys z u x (is_variable_there n z y) refl b.0
       (λ f. same_or_given ys (defined_as y.identifier (with_sites y.sites []) z) u b.1 f x) e
-
-  values_if : (y : CertVariable) (ys : List CertVariable) (z u : State) (b : Bool)
-      → (with_variables n ys (defined_as y.identifier (with_sites y.sites []) z) ≡ Some u → u.values ≡ z.values)
-      → (if b then with_variables n ys (defined_as y.identifier (with_sites y.sites []) z) else None) ≡ Some u
-      → u.values ≡ z.values
-  values_if y ys z u true next e = next e
-  values_if y ys z u false next e = cc
-
-  pub same_values : (xs : List CertVariable) (z u : State) → with_variables n xs z ≡ Some u → u.values ≡ z.values
-  same_values [] z u e = let same : z ≡ u = cc in ap (λ (s : State). s.values) (sym same)
-  same_values (y ∷ ys) z u e = values_if y ys z u (is_variable_there n z y)
-      (λ f. same_values ys (defined_as y.identifier (with_sites y.sites []) z) u f) e
 
   -- ---- so is what is beyond
 

@@ -37,10 +37,11 @@ use Rattle.alias_certificate.specs.states.States.{is_site_there, with_values, wi
 use Rattle.alias_certificate.specs.states.States.{with_variables}
 use Rattle.alias_brief_laws.specs.Raising.{AreValuesProper, SaysBeyond, RaisesAgain}
 use Rattle.alias_certificate.proofs.states.Valued.{variable_is_valued}
+use Rattle.alias_certificate.proofs.raised.Lines.{WasRaised, only_sets, values_alone, sites_proper, no_sites}
 use Rattle.alias_brief_laws.proofs.Naming.{values_named, sites_pass, lines_named, value_there, SameOrGiven}
 use Rattle.alias_brief_laws.proofs.Naming.{same_or_given, IsGiven}
-use Rattle.alias_brief_laws.proofs.Naming.{same_values, beyond_there, beyond_below}
-use Rattle.alias_brief_laws.proofs.Picking.{of_entries, join_nil}
+use Rattle.alias_brief_laws.proofs.Naming.{beyond_there, beyond_below}
+use Rattle.alias_certificate.proofs.raised.Picking.{of_entries, join_nil}
 use Rattle.alias_brief_laws.proofs.Values.{values_again}
 use Rattle.alias_brief_laws.proofs.Variables.{CanBe, Defines, found_in, defines, variables_again}
 
@@ -50,14 +51,6 @@ values_proper : (vs : List CertValue) (s : State) → AreValuesProper vs → Sta
 values_proper [] s a h = h
 values_proper (v ∷ vs) s a h = values_proper vs (initialized v.site v.value s) a.1
     (proper-initialized v.site v.value s h a.0)
-
-sites_proper : (ks : List Site) (t : Sites) → SitesProper t → SitesProper (with_sites ks t)
-sites_proper [] t h = h
-sites_proper (k ∷ ks) t h = sites_proper ks (with_site k t)
-    (proper_put site_cmp (λ (u : Unit {0}). Unit {0}) sites_total k tt t h tt)
-
-no_sites : SitesProper []
-no_sites = proper_nil site_cmp (λ (u : Unit {0}). Unit {0})
 
 module _ (n : ℕ) where
   variable_proper : (x : CertVariable) (xs : List CertVariable) (s u : State) (b : Bool) → is_variable_there n s x ≡ b
@@ -76,46 +69,6 @@ module _ (n : ℕ) where
   variables_proper [] s u h e = let same : s ≡ u = cc in subst StateProper same h
   variables_proper (x ∷ xs) s u h e = variable_proper x xs s u (is_variable_there n s x) refl h
       (variables_proper xs (defined_as x.identifier (with_sites x.sites []) s) u) e
-
--- ---- how a state was raised
-
--- the lines name what is there, and give the state
-pub record WasRaised (n : ℕ) (ids : List FunctionId) (c : CertBlock) (a s : State) : Type 0 where
-  pub values : list_all (λ (v : CertValue). is_site_there n ids v.site) c.values ≡ true
-  pub sites : are_sites_named n ids c.variables ≡ true
-  pub given : State
-  pub defines : with_variables n c.variables (values_raised c.values a) ≡ Some given
-  pub joined : state_join (values_raised c.values a) given ≡ s
-
-module _ (n : ℕ) (ids : List FunctionId) (c : CertBlock) (a s : State) where
-  raised_by : (o : Option State) → list_all (λ (v : CertValue). is_site_there n ids v.site) c.values ≡ true
-      → are_sites_named n ids c.variables ≡ true → with_variables n c.variables (values_raised c.values a) ≡ o
-      → option_map (state_join (values_raised c.values a)) o ≡ Some s → WasRaised n ids c a s
-  raised_by None p q is e = cc
-  raised_by (Some u) p q is e = record { values = p; sites = q; given = u; defines = is; joined = cc }
-
-  raised_if : (p q : Bool) → list_all (λ (v : CertValue). is_site_there n ids v.site) c.values ≡ p
-      → are_sites_named n ids c.variables ≡ q
-      → (if p && q then variables_raised n c.variables (values_raised c.values a) else None) ≡ Some s
-      → WasRaised n ids c a s
-  raised_if true true p q e =
-      raised_by (with_variables n c.variables (values_raised c.values a)) p q refl e
-  raised_if true false p q e = cc
-  raised_if false q p r e = cc
-
-  pub was_raised : raised_state n ids c a ≡ Some s → WasRaised n ids c a s
-  was_raised e = raised_if (list_all (λ (v : CertValue). is_site_there n ids v.site) c.values)
-      (are_sites_named n ids c.variables) refl refl e
-
--- no line of a value defines anything
-none_defined : (vs : List CertValue) (s : State) → (with_values vs s).variables ≡ s.variables
-none_defined [] s = refl
-none_defined (v ∷ vs) s = none_defined vs (initialized v.site v.value s)
-
-pub values_alone : (vs : List CertValue) (a : State) → StateProper a → (values_raised vs a).variables ≡ a.variables
-values_alone vs a h =
-    ap (λ m. list_join id_cmp sites_join a.variables m) (none_defined vs empty_state)
-    ∙ join_nil id_cmp ids_total ids_apart sites_join a.variables h.variables.0
 
 pub by_parts : (s : State) (m : List (Site × AbstractValue)) (v : List (IdentifierId × Sites)) → s.values ≡ m
     → s.variables ≡ v → s ≡ record { values = m; variables = v }
@@ -151,7 +104,7 @@ module _ (n : ℕ) (ids : List FunctionId) (c : CertBlock) (a s : State) (known 
   value_is q =
       let same : s.values ≡ valued.values =
       ap (λ (z : State). z.values) (sym r.joined)
-      ∙ ap (list_join site_cmp abstract_join valued.values) (same_values n ids c.variables valued r.given r.defines)
+      ∙ ap (list_join site_cmp abstract_join valued.values) (only_sets n c.variables valued r.given r.defines).values
       ∙ ap (λ (z : State). z.values) (state_laws.idempotent valued valued_proper) in
       ap (find site_cmp q) same
       ∙ find-join site_cmp sites_total abstract_join a.values (with_values c.values empty_state).values q ha.values.0

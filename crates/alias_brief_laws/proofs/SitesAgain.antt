@@ -17,7 +17,7 @@ use Rattle.alias_lattice.specs.declared.site.Site.{Site}
 use Rattle.alias_lattice.proofs.SitesBelow.{one_below}
 use Rattle.alias_certificate.specs.states.Beyond.{has_site, more_sites}
 use Rattle.alias_certificate.specs.states.States.{with_sites}
-use Rattle.alias_brief_laws.proofs.Picking.{none_behind, sorted_rest, found_below}
+use Rattle.alias_certificate.proofs.raised.Picking.{none_behind, sorted_rest, found_below}
 use Rattle.alias_brief_laws.proofs.Values.{tied_site}
 
 -- ---- what is found

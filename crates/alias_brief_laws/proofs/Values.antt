@@ -23,7 +23,8 @@ use Rattle.alias_certificate.specs.declared.certificate.CertValue.{CertValue}
 use Rattle.alias_certificate.specs.states.Beyond.{is_there, more_values}
 use Rattle.alias_certificate.specs.states.Raised.{values_raised}
 use Rattle.alias_certificate.specs.states.States.{with_values}
-use Rattle.alias_brief_laws.proofs.Picking.{none_behind, sorted_rest, found_below}
+use Rattle.alias_certificate.proofs.raised.Lines.{sorted_values}
+use Rattle.alias_certificate.proofs.raised.Picking.{none_behind, sorted_rest, found_below}
 
 -- ---- what is found
 
@@ -69,12 +70,6 @@ found_values old [] s sorted q = refl
 found_values old (e ∷ es) s sorted q =
     at_first old e es s sorted q (is_there (value_at old e.0) e.1) refl (eq_by_cmp site_cmp q e.0) refl
     (λ z. found_values old es z (sorted_rest site_cmp sites_total e es sorted) q)
-
-pub sorted_values : (vs : List CertValue) (s : State) → T (is_sorted site_cmp s.values)
-    → T (is_sorted site_cmp (with_values vs s).values)
-sorted_values [] s h = h
-sorted_values (v ∷ vs) s h = sorted_values vs (initialized v.site v.value s)
-    (is_sorted-put site_cmp sites_total v.site v.value s.values h)
 
 -- ---- what they give
 

@@ -28,7 +28,7 @@ use Rattle.alias_lattice.specs.declared.value.AbstractValue.{AbstractValue}
 use Rattle.alias_certificate.specs.declared.certificate.CertVariable.{CertVariable}
 use Rattle.alias_certificate.specs.states.Beyond.{more_sites, more_of, more_variables}
 use Rattle.alias_certificate.specs.states.States.{with_sites, is_full, is_variable_there, with_variables}
-use Rattle.alias_brief_laws.proofs.Picking.{none_behind, sorted_rest, found_below, join_nil}
+use Rattle.alias_certificate.proofs.raised.Picking.{none_behind, sorted_rest, found_below, join_nil}
 use Rattle.alias_brief_laws.proofs.SitesAgain.{sites_from_none, sites_from_part}
 
 -- ---- what is defined

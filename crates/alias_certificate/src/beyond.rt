@@ -37,7 +37,7 @@ fn is_there(old: Option<AbstractValue>, line: &CertValue) -> bool
 }
 
 /// The value of the site, where the other state hasn't it.
-fn push_more_value(
+pub(crate) fn push_more_value(
     more: &mut List<CertValue>,
     old: &InferenceState,
     site: Site,
@@ -118,7 +118,7 @@ fn more_sites(
 }
 
 /// The sites of the identifier that it hasn't in the other state, where there are any.
-fn push_more_variable(
+pub(crate) fn push_more_variable(
     alloc: Global,
     more: &mut List<CertVariable>,
     old: &InferenceState,

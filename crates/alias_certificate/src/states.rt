@@ -41,7 +41,10 @@ fn are_sites_there(identifiers: usize, created: &CreatedFunctions, values: &[Cer
         .all(|value| is_site_there(identifiers, created, value.site))
 }
 
-fn give_values(state: &mut InferenceState, values: &[CertValue]) -> Result<(), AllocError>
+pub(crate) fn give_values(
+    state: &mut InferenceState,
+    values: &[CertValue],
+) -> Result<(), AllocError>
     ensures { OnOk result (state.new ≡ with_values values.now state.old) }
 {
     for value in values {
@@ -58,7 +61,7 @@ fn are_valued(state: &InferenceState, sites: &[Site]) -> bool
 }
 
 /// The set of the sites.
-fn set_of(alloc: Global, sites: &[Site]) -> Result<SiteSet, AllocError>
+pub(crate) fn set_of(alloc: Global, sites: &[Site]) -> Result<SiteSet, AllocError>
     ensures { IfOk result (λ set. set ≡ with_sites sites.now []) }
 {
     let mut set = SiteSet::empty(alloc);

@@ -1,5 +1,5 @@
 -- A set of sites that have values.
-use Rattle.std.proofs.Common.{◌≡◌, ℕ, nat_lt, Bool, true, false, ◌&&◌, IsTrue, List, [], ◌∷◌, sym, subst}
+use Rattle.std.proofs.Common.{◌≡◌, ℕ, nat_lt, true, ◌&&◌, List, [], ◌∷◌, sym, subst}
 use Rattle.std.proofs.lemmas.Bool.{false≢true}
 use Rattle.std.specs.Option.{is_some}
 use Rattle.alias_base.specs.AnswerLaws.{both_true}

@@ -29,6 +29,7 @@ use Rattle.alias_certificate.specs.states.States.{is_created, is_site_there, wit
 use Rattle.alias_certificate.specs.states.States.{with_variables}
 use Rattle.alias_certificate.specs.declared.beyond.Beyond.{Beyond}
 use Rattle.alias_certificate.specs.states.Beyond.{beyond_of, nothing_beyond}
+use Rattle.alias_certificate.proofs.raised.Lines.{sites_proper, no_sites}
 use Rattle.alias_certificate.proofs.states.Valued.{variable_is_valued}
 use Rattle.alias_cert.proofs.Stated.{site_given, no_site, site_has}
 use Rattle.alias_follow.specs.lines.Entering.{is_bare, entered_by, entering_by}
@@ -41,14 +42,6 @@ values_proper : (vs : List CertValue) (s : State) → AreKnown vs → StatePrope
 values_proper [] s a h = h
 values_proper (v ∷ vs) s a h = values_proper vs (initialized v.site v.value s) a.1
     (proper-initialized v.site v.value s h a.0)
-
-sites_proper : (ks : List Site) (t : Sites) → SitesProper t → SitesProper (with_sites ks t)
-sites_proper [] t h = h
-sites_proper (k ∷ ks) t h = sites_proper ks (with_site k t)
-    (proper_put site_cmp (λ (u : Unit {0}). Unit {0}) sites_total k tt t h tt)
-
-no_sites : SitesProper []
-no_sites = proper_nil site_cmp (λ (u : Unit {0}). Unit {0})
 
 module _ (n : ℕ) where
   variable_proper : (x : CertVariable) (xs : List CertVariable) (s u : State) (b : Bool) → is_variable_there n s x ≡ b

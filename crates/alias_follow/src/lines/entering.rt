@@ -9,14 +9,13 @@ ghost use Rattle.alias_follow.specs.lines.First.{first_lines};
 use crate::function::{blocks_given, temporaries_given};
 use crate::lines::numbers::{first_lines as line_numbers, line_at};
 use alias_cert::function::lines::number_at;
-use alias_certificate::states::raised_state;
 use alias_certificate::{
-    Beyond, CertBlock, CertFunction, CreatedFunctions, beyond_of, nothing_beyond,
+    Beyond, CertBlock, CertFunction, CreatedFunctions, nothing_beyond, raised_with_beyond,
 };
 use alias_effects::EffectsFlow;
 use alias_hir::env::Environment;
 use alias_hir::hir::HirFunction;
-use alias_lattice::{InferenceState, Lattice};
+use alias_lattice::InferenceState;
 use alias_nested::created::created_functions as created_in;
 use alias_passage::Given;
 use std::alloc::{AllocError, Global};
@@ -117,14 +116,7 @@ fn entered_by(
     if is_bare(line) {
         return Ok(Some((arrived, nothing_beyond(alloc))));
     }
-    let below = arrived.try_clone()?;
-    match raised_state(alloc, lines.identifiers, &lines.created, line, below)? {
-        Some(state) => {
-            let more = beyond_of(alloc, &state, &arrived)?;
-            Ok(Some((state, more)))
-        }
-        None => Ok(None),
-    }
+    raised_with_beyond(alloc, lines.identifiers, &lines.created, line, &arrived)
 }
 
 impl<'a, 'l> Given<EffectsFlow<'a>> for Lines<'l> {

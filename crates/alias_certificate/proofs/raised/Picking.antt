@@ -15,7 +15,7 @@ use Rattle.alias_lattice.specs.Maps.{below_option}
 use Rattle.alias_lattice.specs.PairLaws.{T-first, T-second}
 use Rattle.alias_lattice.specs.PutLaws.{find-join}
 
-none_is : {X : Type 0} (x : X) → ◌≡◌ {A = Option X} None (Some x) → ⊥
+pub none_is : {X : Type 0} (x : X) → ◌≡◌ {A = Option X} None (Some x) → ⊥
 none_is x e = cc
 
 module _ {K X : Type 0} (R : K → K → Ordering) (o : IsTotalOrder R) where
@@ -38,7 +38,7 @@ module _ {K X : Type 0} (R : K → K → Ordering) (o : IsTotalOrder R) where
   pub found_first : (e : K × X) (es : List (K × X)) → find R e.0 (e ∷ es) ≡ Some e.1
   found_first e es = ap (λ r. cond (is_eq r) (Some e.1) (find R e.0 es)) (tied_itself o e.0)
 
-  found_later : (q : K) (x : X) (e : K × X) (es : List (K × X)) → T (is_sorted R (e ∷ es)) → find R q es ≡ Some x
+  pub found_later : (q : K) (x : X) (e : K × X) (es : List (K × X)) → T (is_sorted R (e ∷ es)) → find R q es ≡ Some x
       → (t : Bool) → eq_by_cmp R q e.0 ≡ t → cond t (Some e.1) (find R q es) ≡ Some x
   found_later q x e es s h true t = absurd (none_is x (sym (none_behind q e es s t) ∙ h))
   found_later q x e es s h false t = h

@@ -1,0 +1,4 @@
+pub mod Picking
+pub mod AtKeys
+pub mod Lines
+pub mod AtLines
