@@ -1,7 +1,4 @@
-mod Bytes
-mod Words
 mod Spelling
-mod Leading
 mod States
 mod Blocks
 mod Whole

@@ -11,7 +11,8 @@ use Rattle.alias_flow.specs.Runs.{solver_state}
 use Rattle.alias_flow.specs.Solutions.{entry_at}
 use Rattle.alias_flow.specs.check.Checks.{first_not_above}
 use Rattle.alias_passage.specs.Passes.{forward_edges, back_edges, or_empty, Passing, passed, outcome_passed, entered}
-use Rattle.alias_passage.specs.Passes.{state_passed, block_passed, turn_passed, blocks_passed, passage_begun, flow_passed}
+use Rattle.alias_passage.specs.Passes.{state_passed, block_passed, turn_passed, blocks_passed, passage_begun}
+use Rattle.alias_passage.specs.Passes.{flow_passed}
 
 abbrev pub IsOk : {A E : Type 0} → Result A E → A → Type 0
 IsOk r x = r ≡ Ok x

@@ -8,7 +8,6 @@ ghost use Rattle.alias_brief_text_laws.specs.Orderly.{IsOrderly};
 ghost use Rattle.alias_brief_text_laws.specs.Reading.{FollowedInOrder, BriefsReadBack};
 ghost use Rattle.alias_brief_text_laws.specs.Telling.{told};
 
-use alias_certificate_laws::text::pieces_read_back;
 use alias_follow::Followed;
 
 /// A law: the text of what follows for a unit reads as the certificate of just that, where what is printed fits, and lines
@@ -18,9 +17,7 @@ pub fn brief_reads_back(text: &str, followed: &Followed)
     requires fitting { IsFitting followed.now }
     requires orderly { IsOrderly followed.now }
     ensures { certificate_of_text text.now ≡ Ok (told followed.now) }
-{
-    pieces_read_back();
-}
+{}
 
 /// A law: what follows for a unit stands in the order in which it is read, where it fits.
 pub fn followed_in_order()
@@ -30,6 +27,4 @@ pub fn followed_in_order()
 /// A law: the text of what follows for a unit reads as the certificate of just that, where it fits.
 pub fn briefs_read_back()
     ensures { BriefsReadBack }
-{
-    pieces_read_back();
-}
+{}

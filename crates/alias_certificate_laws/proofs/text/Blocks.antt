@@ -57,7 +57,7 @@ in_blocks done f bs = done ++ (record { function = f; blocks = bs; temporaries =
 abbrev pub in_block : List CertFunction → Option FunctionId → List CertBlock → CertBlock → List CertFunction
 in_block done f bs b = in_blocks done f (bs ++ b ∷ [])
 
-block_changed : (change : CertBlock → CertBlock) (done : List CertFunction) (f : Option FunctionId)
+pub block_changed : (change : CertBlock → CertBlock) (done : List CertFunction) (f : Option FunctionId)
     (bs : List CertBlock) (b : CertBlock) → at_last (in_last_block change) (in_block done f bs b)
     ≡ in_block done f bs (change b)
 block_changed change done f bs b =
@@ -81,7 +81,7 @@ values_above k [] h = tt
 values_above k (e ∷ es) h = true_of (is_lt (site_cmp k e.0))
     (T-first (is_lt (site_cmp k e.0)) (below_all site_cmp k es) h)
 
-value_first : (k : Site) (last : Place) → rank last ≤ 3 → rises (Value k) last ≡ true
+pub value_first : (k : Site) (last : Place) → rank last ≤ 3 → rises (Value k) last ≡ true
 value_first k Start h = refl
 value_first k Function h = refl
 value_first k Visits h = refl
@@ -144,7 +144,7 @@ variables_above : (x : IdentifierId) (es : List (IdentifierId × Sites)) → T (
 variables_above x [] h = tt
 variables_above x (e ∷ es) h = true_of (is_lt (id_cmp x e.0)) (T-first (is_lt (id_cmp x e.0)) (below_all id_cmp x es) h)
 
-variable_first : (x : IdentifierId) (last : Place) → rank last ≤ 4 → rises (Variable x) last ≡ true
+pub variable_first : (x : IdentifierId) (last : Place) → rank last ≤ 4 → rises (Variable x) last ≡ true
 variable_first x Start h = refl
 variable_first x Function h = refl
 variable_first x Visits h = refl
@@ -201,7 +201,7 @@ reaches_variables (e ∷ es) h s last l m up found =
 
 module _ (done : List CertFunction) (f : Option FunctionId) (bs : List CertBlock) where
   -- a block with these parts
-  abbrev holding : CertBlock → List CertFunction
+  abbrev pub holding : CertBlock → List CertFunction
   holding b = in_block done f bs b
 
   values_held : (b : CertBlock) (es : List (Site × AbstractValue)) → add_all value_said es (holding b)
@@ -273,7 +273,7 @@ module _ (done : List CertFunction) (f : Option FunctionId) (bs : List CertBlock
       l m (holding b))
       (ends_held b es)
 
-  reaches_block_lines : (instructions : List Instruction) (block : Option BasicBlock) → SmallBlock block
+  pub reaches_block_lines : (instructions : List Instruction) (block : Option BasicBlock) → SmallBlock block
       → (b : CertBlock) (last : Place) → 3 ≤ rank last → rank last ≤ 6
       → Reaches last (holding b) (block_lines instructions block)
       (holding (record b { effects = b.effects ++ effects_in instructions block; end = b.end ++ ends_in block })) 3
@@ -313,7 +313,7 @@ module _ (done : List CertFunction) (f : Option FunctionId) (bs : List CertBlock
       (holding valued))
       (variables_held valued state.variables))
 
-  begun : (b : BlockId) → with_line (line.Block b) (in_blocks done f bs) ≡ holding (bare_block b)
+  pub begun : (b : BlockId) → with_line (line.Block b) (in_blocks done f bs) ≡ holding (bare_block b)
   begun b = at_last_push (function_with (line.Block b)) done
       (record { function = f; blocks = bs; temporaries = []; summary = [] })
 

@@ -47,7 +47,7 @@ every (x ∷ xs) = (tt, every xs)
 -- ---- a function
 
 -- a function with these parts, behind those that are done
-abbrev in_function : List CertFunction → Option FunctionId → List CertBlock → List CertTemporary → List (List ℕ)
+abbrev pub in_function : List CertFunction → Option FunctionId → List CertBlock → List CertTemporary → List (List ℕ)
     → List CertFunction
 in_function done f bs ts ss = done ++ (record { function = f; blocks = bs; temporaries = ts; summary = ss }) ∷ []
 
@@ -68,8 +68,8 @@ module _ (done : List CertFunction) (f : Option FunctionId) where
       found)
       (none_added (λ (e : AliasingEffect). line.First) (λ e more. unkept more) first found)
 
-  reaches_temporaries : (bs : List CertBlock) (ts : List Temporary) → AllByRecursion SmallTemporary ts → (last : Place)
-      → 1 ≤ rank last → rank last ≤ 9
+  pub reaches_temporaries : (bs : List CertBlock) (ts : List Temporary) → AllByRecursion SmallTemporary ts
+      → (last : Place) → 1 ≤ rank last → rank last ≤ 9
       → Reaches last (in_function done f bs [] []) (flat_map temporary_line ts)
       (in_function done f bs (map cert_temporary ts) []) 1 9
   reaches_temporaries bs ts h last l m =
@@ -83,7 +83,7 @@ module _ (done : List CertFunction) (f : Option FunctionId) where
       (λ t v. at_last_push (function_with (said t)) done
       (record { function = f; blocks = bs; temporaries = v; summary = [] })) ts [])
 
-  reaches_summary : (bs : List CertBlock) (ts : List CertTemporary) (es : List AliasingEffect) (last : Place) → 1
+  pub reaches_summary : (bs : List CertBlock) (ts : List CertTemporary) (es : List AliasingEffect) (last : Place) → 1
       ≤ rank last → rank last ≤ 10
       → Reaches last (in_function done f bs ts []) (summary_lines es) (in_function done f bs ts (map effect_text es)) 1
       10
@@ -162,7 +162,7 @@ reaches_range true n r found last m =
     (unkept found)
 reaches_range false n r found last m = reaches_none last found 0 11 (omega arith) m
 
-reaches_ranges : (numbered : List (ℕ × Identifier)) (found : List CertFunction) (last : Place) → rank last ≤ 11
+pub reaches_ranges : (numbered : List (ℕ × Identifier)) (found : List CertFunction) (last : Place) → rank last ≤ 11
     → Reaches last found (flat_map numbered_text numbered) found 0 11
 reaches_ranges [] found last m = reaches_none last found 0 11 (omega arith) m
 reaches_ranges (n ∷ more) found last m =
@@ -179,7 +179,7 @@ reaches_report_lines reports found last m =
     (omega arith) m found)
     (none_added (λ (r : Report). line.Report) (λ r more. unkept more) reports found)
 
-reaches_reports : (reports : List Report) (found : List CertFunction) (last : Place) → rank last ≤ 11
+pub reaches_reports : (reports : List Report) (found : List CertFunction) (last : Place) → rank last ≤ 11
     → Reaches last found (reports_text reports) found 0 13
 reaches_reports reports found last m =
     reaches_both last found found found (codes "reports " ++ decimal (length reports) ++ codes "\n")
