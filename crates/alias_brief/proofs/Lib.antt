@@ -1,3 +1,3 @@
 mod Lines
 mod Listing
-mod Verified
+mod Printed

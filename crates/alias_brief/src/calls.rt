@@ -1,19 +1,17 @@
-//! `brief` and `verify`: the text that follows for a unit, and whether a text is one that follows from what it says.
-ghost use Rattle.std.specs.Prelude.{◌≡◌, length, IfOk, OnOk};
+//! `brief`: the text that follows for a unit; and why a text isn't that.
+ghost use Rattle.std.specs.Prelude.{◌≡◌, IfOk, OnOk};
 ghost use Rattle.alias_base.specs.Answer.{Gives};
 ghost use Rattle.alias_cert.specs.function.Faults.{is_memory};
 ghost use Rattle.alias_brief.specs.Briefs.{brief_text};
-ghost use Rattle.alias_brief.specs.Differences.{first_difference};
 ghost use Rattle.alias_brief.specs.Fitting.{IsFitting, IsFittingText};
-ghost use Rattle.alias_brief.specs.Verifying.{brief_of, text_fault_of, check_fault_of, compared_by, FollowsAs, Verifies, is_memory as verify_memory};
+ghost use Rattle.alias_brief.specs.Verifying.{brief_of, text_fault_of, check_fault_of};
 ghost use Rattle.alias_brief.specs.declared.calls.VerifyFault.TheVariants.{Memory};
 
 use crate::briefs::push_brief;
-use crate::difference::first_difference;
 use crate::saying::said;
 use alias_base::Text;
-use alias_cert_text::{CertFault, read_certificate};
-use alias_certificate::{Certificate, CheckFault};
+use alias_cert_text::CertFault;
+use alias_certificate::CheckFault;
 use alias_effects::Solved;
 use alias_follow::{Followed, follow};
 use alias_rules::check::Checked;
@@ -63,8 +61,8 @@ impl From<CheckFault> for VerifyFault {
     }
 }
 
-/// The text of what follows for a unit.
-fn text_of(alloc: Global, followed: &Followed) -> Result<Text, AllocError>
+/// The text of what follows for a unit. The one error is out of memory.
+pub fn text_of(alloc: Global, followed: &Followed) -> Result<Text, AllocError>
     ensures text { IfOk result (λ text. text ≡ brief_text followed.now) }
     ensures fits { OnOk result (IsFitting followed.now) }
 {
@@ -84,43 +82,4 @@ pub fn brief(alloc: Global, unit: Checked, solved: &[Solved]) -> Result<Text, Ch
     let followed = follow(alloc, unit, &given)?;
     let text = text_of(alloc, &followed)?;
     Ok(text)
-}
-
-/// How many functions the unit has, where the text is that of what follows for it.
-fn compare(alloc: Global, followed: &Followed, text: &[u8]) -> Result<usize, VerifyFault>
-    ensures { Gives verify_memory (compared_by (length followed.now.inferred.solved) (first_difference (brief_text followed.now) text.now)) result }
-{
-    let expected = text_of(alloc, followed)?;
-    match first_difference(expected.as_str(), text) {
-        None => Ok(followed.inferred.solved.len()),
-        Some(difference) => Err(VerifyFault::Differs {
-            number: difference.number,
-            line: Text::from_str(alloc, difference.line)?,
-        }),
-    }
-}
-
-/// How many functions the unit has, where the text is what follows for it from what is given of its functions.
-fn verify_given(
-    alloc: Global,
-    unit: Checked,
-    given: &Certificate,
-    text: &[u8],
-) -> Result<usize, VerifyFault>
-    ensures { FollowsAs given.now text.now unit result }
-{
-    let followed = follow(alloc, unit, given)?;
-    compare(alloc, &followed, text)
-}
-
-/// How many functions a unit that is well formed has, where the text is exactly the one that follows for it from the entry
-/// states and the temporaries that the text itself says: then these solve the flow of each function. The unit is dropped on
-/// `Err`.
-///
-/// Each reached block of a function steps once. docs/MODEL.md has the rules, and docs/FORMAT.md the text.
-pub fn verify(alloc: Global, unit: Checked, text: &[u8]) -> Result<usize, VerifyFault>
-    ensures { Verifies text.now unit result }
-{
-    let given = read_certificate(alloc, text)?;
-    verify_given(alloc, unit, &given, text)
 }

@@ -1,4 +1,4 @@
-//! Brief certificates: the text that follows for a unit, and whether a text is one that follows from what it says.
+//! Brief certificates: the text that follows for a unit, and where a text differs from it first.
 #![tactic(auto)]
 
 pub mod briefs;
@@ -6,4 +6,4 @@ pub mod calls;
 pub mod difference;
 pub mod saying;
 
-pub use calls::{VerifyFault, brief, verify};
+pub use calls::{VerifyFault, brief, text_of};

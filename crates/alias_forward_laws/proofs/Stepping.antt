@@ -197,3 +197,10 @@ module _ (given : Option CertFunction) (id : Option FunctionId) (env : Environme
   follows_pass = both_end passing (visits_end (context_of env f b)) refl refl
       (passes_as_rounds state_laws laws forward empty_state enter unfollowed.State missing nothing_beyond
       (enters_bare env f id) missing_none (tables_of env))
+
+-- so the same follows for it, whatever is given
+pub followed_alike : (given other : Option CertFunction) (id : Option FunctionId) (env : Environment)
+    (f : HirFunction) (b : Bool) → is_some (value_at f.body.blocks f.body.entry) ≡ true
+    → is_forward given id env f b ≡ true → function_followed given id env f b ≡ function_followed other id env f b
+followed_alike given other id env f b entry ahead =
+    function_is given id env f b entry ahead ∙ sym (function_is other id env f b entry ahead)

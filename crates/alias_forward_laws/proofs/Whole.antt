@@ -1,4 +1,4 @@
--- A forward unit is followed in step with its inference.
+-- A forward unit is followed in step with its inference, and alike from whatever is given.
 use Rattle.std.proofs.Common.{◌≡◌, true, List, [], ◌∷◌, Result, Ok, length, map, refl, ap, sym, ◌∙◌}
 use Rattle.std.proofs.lemmas.List.{length-map}
 use Rattle.std.specs.List.{AllByRecursion}
@@ -54,38 +54,43 @@ same_handed f g env more ss ts es ds a b c d =
     ap (λ z. handed z env ss es) a ∙ ap (λ z. handed g z ss es) b ∙ ap (λ z. handed g more z es) c
     ∙ ap (λ z. handed g more ts z) d
 
-module _ (given : List CertFunction) (u : HirUnit) (rules : rules_hold u ≡ Ok tt) (forward : IsForwardUnit u) where
+module _ (given other : List CertFunction) (u : HirUnit) (rules : rules_hold u ≡ Ok tt)
+    (forward : IsForwardUnit u) where
   fits : function_fits u.function u.env ≡ true
   fits = rules_make_function_fit u rules
 
-  unmarked : (r : Result Analysis InferError) (s : Result Following CheckFault)
-      → Walked InStep (Below Marked most_levels u.function (analysis u.env [])) r s → Together InStep r s
-  unmarked r s (marked e x m) = absurd (none_marked u fits forward e x m)
-  unmarked r s (walked m t) = t
+  unmarked : (r : Result Analysis InferError) (s t : Result Following CheckFault)
+      → Walked InStep (Below Marked most_levels u.function (analysis u.env [])) r s t → Together InStep r s t
+  unmarked r s t (marked e x m) = absurd (none_marked u fits forward e x m)
+  unmarked r s t (walked m l) = l
 
   below : Together InStep (analysed most_levels u.function (analysis u.env []))
       (below_followed given most_levels u.function (following u.env []))
+      (below_followed other most_levels u.function (following u.env []))
   below =
       unmarked (analysed most_levels u.function (analysis u.env []))
       (below_followed given most_levels u.function (following u.env []))
-      (below_walks given most_levels u.function (analysis u.env []) (following u.env [])
+      (below_followed other most_levels u.function (following u.env []))
+      (below_walks given other most_levels u.function (analysis u.env []) (following u.env [])
       (record { env = refl; solved = refl; bare = tt }))
 
   all : Together RootInStep (all_analysed u.function (analysis u.env []))
-      (all_followed given u.function (following u.env []))
+      (all_followed given u.function (following u.env [])) (all_followed other u.function (following u.env []))
   all =
       together_then InStep RootInStep (analysed most_levels u.function (analysis u.env []))
-      (below_followed given most_levels u.function (following u.env [])) (root_analysed u.function)
-      (root_followed given u.function) below
-      (λ a c h. root_together given u.function a c h (root_has_entry u fits forward)
+      (below_followed given most_levels u.function (following u.env []))
+      (below_followed other most_levels u.function (following u.env [])) (root_analysed u.function)
+      (root_followed given u.function) (root_followed other u.function) below
+      (λ a c h. root_together given other u.function a c h (root_has_entry u fits forward)
       (root_forward u fits forward a.env))
 
   -- whatever is given
-  pub unit_together : Together UnitInStep (unit_analysed u) (unit_followed given u)
+  pub unit_together : Together UnitInStep (unit_analysed u) (unit_followed given u) (unit_followed other u)
   unit_together =
       together_then RootInStep UnitInStep (all_analysed u.function (analysis u.env []))
-      (all_followed given u.function (following u.env [])) (λ r. Ok (as_inferred r)) (λ r. Ok (as_followed r)) all
-      (λ x y h. go (as_inferred x) (as_followed y) refl refl (record {
+      (all_followed given u.function (following u.env [])) (all_followed other u.function (following u.env []))
+      (λ r. Ok (as_inferred r)) (λ r. Ok (as_followed r)) (λ r. Ok (as_followed r)) all
+      (λ x y h. go (as_inferred x) (as_followed y) refl refl refl (record {
         inferred = same_handed x.func y.func x.analysis.env y.following.env (as_inferred x).inferred.solved
             (as_followed y).followed.inferred.solved x.summary y.summary h.func h.walk.env h.walk.solved h.summary;
         long = length-map y.following.functions (λ (z : FollowedFunction). z.beyond)

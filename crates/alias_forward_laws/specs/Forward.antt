@@ -45,6 +45,11 @@ abbrev pub ForwardUnitsFollow : Type 0
 ForwardUnitsFollow = (given : List CertFunction) (u : HirUnit) (a : UnitAnalysis) → rules_hold u ≡ Ok tt
     → IsForwardUnit u → unit_analysed u ≡ Ok a → IsFollowedAs given u a
 
+-- what follows for a forward unit, or the first fault, is the same from whatever is given
+abbrev pub ForwardUnitsAreAlike : Type 0
+ForwardUnitsAreAlike = (given other : List CertFunction) (u : HirUnit) → rules_hold u ≡ Ok tt → IsForwardUnit u
+    → unit_followed given u ≡ unit_followed other u
+
 -- so the text that is printed of a forward unit is accepted, where it reads as a certificate, whatever that says
 abbrev pub InferredTextsAreAccepted : Type 0
 InferredTextsAreAccepted = (u : HirUnit) (a : UnitAnalysis) (c : Certificate) → rules_hold u ≡ Ok tt

@@ -9,13 +9,14 @@ use crate::answer::Answer;
 use crate::outcome::{Outcome, done, ended};
 use crate::status::{Status, brief_status};
 use alias_base::List;
-use alias_brief::{brief, verify};
+use alias_brief::brief;
 use alias_brief_laws::laws::brief_accepted;
 use alias_effects::Solved;
 use alias_hir::env::Unit;
 use alias_nested::Inferred;
 use alias_rules::check::{Checked, check_unit};
 use alias_straight::read_unit;
+use alias_verify::verify;
 use std::alloc::Global;
 
 /// The solutions of what was inferred: the unit and all else is dropped.

@@ -1,6 +1,6 @@
 use Rattle.std.proofs.Common.{◌≡◌, Err, rules}
 use Rattle.alias_certificate.specs.declared.fault.CheckFault.{CheckFault}
-use Rattle.alias_brief.proofs.Verified.{brief_refused, brief_comes, brief_fits}
+use Rattle.alias_brief.proofs.Printed.{brief_refused, brief_comes, brief_fits}
 use Rattle.alias_brief.proofs.calls.brief.Goals as goal
 
 pub returns-in_err-followed-clause-text : goal.returns-in_err-followed-clause-text

@@ -1,8 +1,8 @@
 use Rattle.std.proofs.Common.{◌≡◌, Err, rules}
 use Rattle.alias_cert_text.specs.declared.fault.CertFault.{CertFault}
 use Rattle.alias_brief.specs.Verifying.{text_fault_of}
-use Rattle.alias_brief.proofs.Verified.{read_then, unread}
-use Rattle.alias_brief.proofs.calls.verify.Goals as goal
+use Rattle.alias_verify.proofs.Verified.{read_then, unread}
+use Rattle.alias_verify.proofs.calls.verify_read.Goals as goal
 
 pub returns-in_err-given : goal.returns-in_err-given
 returns-in_err-given c =
@@ -12,4 +12,4 @@ returns-in_err-given c =
 
 pub returns : goal.returns
 returns c = read_then c.in_ok-given.given c.args.text.now c.args.unit c.verify_given.result c.in_ok-given.ensures
-    c.verify_given.ensures
+    c.verify_given.ensures.follows

@@ -1,0 +1,3 @@
+mod Edges
+mod Units
+mod Verified
