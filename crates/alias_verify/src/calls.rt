@@ -74,7 +74,7 @@ fn verify_forward(alloc: Global, unit: Checked, text: &[u8]) -> Result<usize, Ve
     match verify_given(alloc, unit, &nothing, text) {
         Ok(functions) => Ok(functions),
         Err(fault) => {
-            read_certificate(alloc, text)?;
+            let _said = read_certificate(alloc, text)?;
             Err(fault)
         }
     }
