@@ -24,9 +24,10 @@ function shapeText(id, asCompiler) {
 
 class Tables {
   constructor() {
-    /** @type {Map<import('./HIR.js').Ident, number>} */
-    this.idents = new Map();
-    this.declarations = new Map(); // from a variable to its first version
+    /** @type {Array<import('./HIR.js').Ident>} */
+    this.idents = [];
+    /** @type {Array<number>} of each identifier, that of the first version of its variable */
+    this.declarations = [];
     /** @type {Array<string>} their JSON */
     this.types = [];
     /** @type {Map<?string, number>} numbers of object types, by their shapes */
@@ -99,15 +100,26 @@ class Tables {
     return number;
   }
 
-  /** The number of an identifier. @param {import('./HIR.js').Ident} ident */
+  /** The number of an identifier, which stands in itself. @param {import('./HIR.js').Ident} ident */
   ident(ident) {
-    let number = this.idents.get(ident);
-    if (number === undefined) {
-      number = this.idents.size;
-      this.idents.set(ident, number);
-      if (!this.declarations.has(ident.decl)) this.declarations.set(ident.decl, number);
-    }
+    return this.idents[ident.number] === ident ? ident.number : this.add(ident);
+  }
+
+  /** @param {import('./HIR.js').Ident} ident */
+  add(ident) {
+    const {decl} = ident;
+    const number = this.idents.push(ident) - 1;
+    ident.number = number;
+    // a number of another unit may be left
+    const isKnown = decl.first < number && this.idents[decl.first].decl === decl;
+    if (!isKnown) decl.first = number;
+    this.declarations.push(decl.first);
     return number;
+  }
+
+  /** The number of an identifier, if it has one. @param {import('./HIR.js').Ident} ident @returns {number|undefined} */
+  numberOf(ident) {
+    return this.idents[ident.number] === ident ? ident.number : undefined;
   }
 }
 
