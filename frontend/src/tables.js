@@ -42,19 +42,20 @@ class Tables {
     this.shapes = new Set();
   }
 
-  /** A type as the JSON has it. @param {object} type @param {number} [level] on which it stands in another */
-  typeValue(type, level = 1) {
+  /** A type as the JSON has it. @param {object} type @param {number} [level] on which it stands in another @returns {string} */
+  typeText(type, level = 1) {
     const t = find(type);
     switch (t.kind) {
-      case 'Object': return {kind: 'Object', shape_id: t.shape};
+      case 'Object': return `{"kind":"Object","shape_id":${JSON.stringify(t.shape)}}`;
       case 'Function': {
         if (t.shape !== null) this.shape(t.shape);
-        if (level === TYPE_LEVELS) return {kind: 'Var'};
-        const returns = this.typeValue(t.returns, level + 1);
-        return {kind: 'Function', ...(t.shape !== null && {shape_id: t.shape}), return_type: returns};
+        if (level === TYPE_LEVELS) return '{"kind":"Var"}';
+        const returns = this.typeText(t.returns, level + 1);
+        const shape = t.shape === null ? '' : `,"shape_id":${JSON.stringify(t.shape)}`;
+        return `{"kind":"Function"${shape},"return_type":${returns}}`;
       }
-      case 'Phi': return {kind: 'Phi', jsx_operand: t.operands.some(o => this.isJsx(o))};
-      default: return {kind: t.kind};
+      case 'Phi': return `{"kind":"Phi","jsx_operand":${t.operands.some(o => this.isJsx(o))}}`;
+      default: return `{"kind":"${t.kind}"}`;
     }
   }
 
@@ -76,7 +77,7 @@ class Tables {
     if (t.kind !== 'Function' && t.kind !== 'Phi') return this.numberOfType(this.plain, t.kind, t);
     let number = this.others.get(t);
     if (number === undefined) {
-      const text = JSON.stringify(this.typeValue(t));
+      const text = this.typeText(t);
       number = this.made.get(text);
       if (number === undefined) {
         number = this.types.push(text) - 1;
@@ -94,7 +95,7 @@ class Tables {
   numberOfType(known, key, type) {
     let number = known.get(key);
     if (number === undefined) {
-      number = this.types.push(JSON.stringify(this.typeValue(type))) - 1;
+      number = this.types.push(this.typeText(type)) - 1;
       known.set(key, number);
     }
     return number;
