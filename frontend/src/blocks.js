@@ -18,6 +18,8 @@
 
 /** @typedef {{block: number, binding: ?import('./HIR.js').Place}} Handler */
 
+const {NO_BLOCKS} = require('./HIR.js');
+
 class Blocks {
   constructor() {
     /** @type {Map<number, Block>} */
@@ -48,7 +50,7 @@ class Blocks {
   /** @param {Terminal} terminal */
   close(terminal) {
     const {id, instructions} = this.current;
-    this.done.set(id, {id, instructions, terminal, phis: [], preds: new Set()});
+    this.done.set(id, {id, instructions, terminal, phis: [], preds: NO_BLOCKS});
   }
 
   /** Ends the current block and goes on with the given one. @param {Terminal} terminal @param {Open} next */

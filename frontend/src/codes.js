@@ -1,31 +1,29 @@
 'use strict';
 /**
- * JSON text that grows, as codes: numbers stand for themselves, and texts, which are less than 0, for their bytes. The
- * bytes are made in the end, here or by the addon (hosts/node/codes.c), in a tenth of the time.
+ * JSON text that grows, as codes: numbers stand for themselves, and texts, which are less than 0, for their bytes. A text
+ * may have holes, which the numbers behind its code fill. The bytes are made in the end, here or by the addon
+ * (hosts/node/codes.c), in a tenth of the time.
  */
-const [ZERO, COMMA, OPEN, CLOSE, QUOTE] = [...'0,[]"'].map(c => c.charCodeAt(0));
+const [ZERO, QUOTE, HOLE] = [...'0"%'].map(c => c.charCodeAt(0));
 const LONGEST = 10; // digits of a number
-const COPIED_ONE_BY_ONE = 64;
 const MOST_SPARE = 64;
 const LONGEST_SPARE = 1 << 16;
 
-/** Codes that others follow: two numbers or three as a list, a name between quotes, and any JSON, by their places. */
-const PAIR = -1;
-const TRIPLE = -2;
-const QUOTED = -3;
-const JSON_TEXT = -4;
-const FIRST_TEXT = -5;
+/** Codes that another follows: the places of a name between quotes, and of any JSON. */
+const QUOTED = -1;
+const JSON_TEXT = -2;
+const FIRST_TEXT = -3;
 
 /** @type {Array<Uint8Array>} the bytes of texts, by their codes */
 const TEXTS = [];
-let longestText = 4 + 3 * LONGEST;
+let longestText = LONGEST;
 
 /** @type {?Buffer} all of them, once they are known */
 let joinedTexts = null;
 
-/** The code of a text of ASCII alone, before any unit is made. @param {string} text */
+/** The code of a text of ASCII alone, before any unit is made. A hole in it is `%`. @param {string} text */
 function ascii(text) {
-  longestText = Math.max(longestText, text.length);
+  longestText = Math.max(longestText, text.length + LONGEST * (text.split('%').length - 1));
   return FIRST_TEXT + 1 - TEXTS.push(Buffer.from(text, 'latin1'));
 }
 
@@ -53,14 +51,6 @@ function putNumber(bytes, at, number) {
   return end;
 }
 
-/** The same of a text. @param {Uint8Array} bytes @param {number} at @param {Uint8Array} text */
-function putText(bytes, at, text) {
-  const size = text.length;
-  if (size > COPIED_ONE_BY_ONE) bytes.set(text, at);
-  else for (let i = 0; i < size; i++) bytes[at + i] = text[i];
-  return at + size;
-}
-
 /** The same of a name of ASCII alone, between quotes. @param {Uint8Array} bytes @param {number} at @param {string} name */
 function putQuoted(bytes, at, name) {
   const size = name.length;
@@ -82,6 +72,13 @@ function reserve(length, more) {
   return room;
 }
 
+/** Puts any bytes there. @param {number} at @param {Uint8Array} text */
+function putBytes(at, text) {
+  const bytes = reserve(at, text.length);
+  bytes.set(text, at);
+  return bytes;
+}
+
 /** @param {Int32Array} codes @param {number} length @param {Array<string>} strings @returns {Buffer} */
 function bytesOf(codes, length, strings) {
   let bytes = room;
@@ -90,25 +87,20 @@ function bytesOf(codes, length, strings) {
     const code = codes[i];
     if (at + longestText > bytes.length) bytes = reserve(at, longestText);
     if (code >= 0) at = putNumber(bytes, at, code);
-    else if (code <= FIRST_TEXT) at = putText(bytes, at, TEXTS[FIRST_TEXT - code]);
-    else if (code >= TRIPLE) {
-      bytes[at] = OPEN;
-      at = putNumber(bytes, at + 1, codes[++i]);
-      bytes[at] = COMMA;
-      at = putNumber(bytes, at + 1, codes[++i]);
-      if (code === TRIPLE) {
-        bytes[at] = COMMA;
-        at = putNumber(bytes, at + 1, codes[++i]);
+    else if (code <= FIRST_TEXT) {
+      const text = TEXTS[FIRST_TEXT - code];
+      for (let k = 0; k < text.length; k++) {
+        if (text[k] === HOLE) at = putNumber(bytes, at, codes[++i]);
+        else bytes[at++] = text[k];
       }
-      bytes[at++] = CLOSE;
     } else if (code === QUOTED) {
       const name = strings[codes[++i]];
       bytes = reserve(at, name.length + 2);
       at = putQuoted(bytes, at, name);
     } else {
       const text = Buffer.from(strings[codes[++i]]);
-      bytes = reserve(at, text.length);
-      at = putText(bytes, at, text);
+      bytes = putBytes(at, text);
+      at += text.length;
     }
   }
   return Buffer.from(bytes.subarray(0, at));
@@ -130,9 +122,10 @@ class Codes {
     if (spare.length < MOST_SPARE && this.codes.length <= LONGEST_SPARE) spare.push(this.codes);
   }
 
-  /** @param {number} more codes that are to come */
-  reserve(more) {
+  /** Room for so many codes from `length` on, which whoever asks for it sets. @param {number} more */
+  room(more) {
     if (this.length + more > this.codes.length) this.grow(more);
+    return this.codes;
   }
 
   grow(more) {
@@ -141,16 +134,14 @@ class Codes {
     this.codes = wider;
   }
 
-  /** @param {number} code of `ascii` */
+  /** @param {number} code of `ascii`, of a text without holes */
   text(code) {
-    this.reserve(1);
-    this.codes[this.length++] = code;
+    this.room(1)[this.length++] = code;
   }
 
   /** @param {number} number a whole one, from 0, below 2^31 */
   number(number) {
-    this.reserve(1);
-    this.codes[this.length++] = number;
+    this.room(1)[this.length++] = number;
   }
 
   comma() {
@@ -165,41 +156,37 @@ class Codes {
     this.text(CLOSE_CODE);
   }
 
-  /** [first,second] @param {number} first @param {number} second */
-  pair(first, second) {
-    this.reserve(3);
-    const {codes, length} = this;
-    codes[length] = PAIR;
+  /** A text with one hole. @param {number} code @param {number} number */
+  one(code, number) {
+    const codes = this.room(2);
+    codes[this.length++] = code;
+    codes[this.length++] = number;
+  }
+
+  /** A text with two. @param {number} code @param {number} first @param {number} second */
+  two(code, first, second) {
+    const codes = this.room(3);
+    const {length} = this;
+    codes[length] = code;
     codes[length + 1] = first;
     codes[length + 2] = second;
     this.length = length + 3;
   }
 
-  /**
-   * [first,second,third]
-   * @param {number} first @param {number} second @param {number} third @returns {number} where the first stands
-   */
-  triple(first, second, third) {
-    this.reserve(4);
-    const {codes, length} = this;
-    codes[length] = TRIPLE;
+  /** A text with three. @param {number} code @param {number} first @param {number} second @param {number} third */
+  three(code, first, second, third) {
+    const codes = this.room(4);
+    const {length} = this;
+    codes[length] = code;
     codes[length + 1] = first;
     codes[length + 2] = second;
     codes[length + 3] = third;
     this.length = length + 4;
-    return length + 1;
-  }
-
-  /** A number that wasn't known yet. @param {number} at @param {number} number */
-  set(at, number) {
-    this.codes[at] = number;
   }
 
   /** @param {number} kind @param {string} text */
   string(kind, text) {
-    this.reserve(2);
-    this.codes[this.length++] = kind;
-    this.codes[this.length++] = this.strings.push(text) - 1;
+    this.one(kind, this.strings.push(text) - 1);
   }
 
   /** @param {string} name of ASCII alone, as JSON has it between quotes */
@@ -214,8 +201,7 @@ class Codes {
 
   /** All of another one. @param {Codes} other */
   add({codes, length}) {
-    this.reserve(length);
-    this.codes.set(codes.subarray(0, length), this.length);
+    this.room(length).set(codes.subarray(0, length), this.length);
     this.length += length;
   }
 
@@ -258,4 +244,4 @@ class Unwritten {
   }
 }
 
-module.exports = {Codes, ascii};
+module.exports = {Codes, ascii, QUOTED, JSON_TEXT};

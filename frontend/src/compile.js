@@ -20,7 +20,7 @@ function wrapped(fn) {
   const place = () => ({ident: makeIdent(start, end), start, end});
   const made = place();
   const block = {id: 0, phis: [], preds: new Set(), instructions: [
-    {lvalue: made, value: {kind: 'FunctionExpression', fn: {...fn, kind: 'Other'}}, start, end},
+    {lvalue: made, value: {kind: 'FunctionExpression', fn: {...fn, kind: 'Other'}}, start, end, order: 0},
   ], terminal: {kind: 'Return', value: made, start, end}};
   return {kind: 'Other', name: null, params: [], context: [], returns: place(), isAsync: false, entry: 0,
     blocks: new Map([[0, block]]), start, end};

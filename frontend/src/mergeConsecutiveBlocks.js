@@ -13,7 +13,7 @@
  * @property {number} left how many of them
  * @property {boolean} isFirst
  */
-const {successors, mapBlocks} = require('./HIR.js');
+const {successors, mapBlocks, NO_BLOCKS} = require('./HIR.js');
 
 /** Walks the blocks from the entry, the block behind a statement before the statement's own. */
 class Walk {
@@ -78,7 +78,7 @@ function reversePostorderBlocks(entry, blocks) {
   for (const id of walk.run(entry)) {
     if (walk.used.has(id)) out.set(id, blocks.get(id));
     else if (walk.usedFallthroughs.has(id)) {
-      out.set(id, {id, instructions: [], terminal: {kind: 'Unreachable'}, phis: [], preds: new Set()});
+      out.set(id, {id, instructions: [], terminal: {kind: 'Unreachable'}, phis: [], preds: NO_BLOCKS});
     }
   }
   return {blocks: out, isAll: walk.used.size === walk.visited.size};
@@ -124,8 +124,8 @@ function pruneMaybeThrows(entry, all) {
 
 /** @param {Map<number, Block>} blocks */
 function markPredecessors(blocks) {
-  for (const block of blocks.values()) block.preds.clear();
-  for (const block of blocks.values()) for (const s of successors(block.terminal)) blocks.get(s).preds.add(block.id);
+  for (const block of blocks.values()) block.preds = new Set();
+  for (const block of blocks.values()) for (const s of successors(block.terminal)) /** @type {Set<number>} */ (blocks.get(s).preds).add(block.id);
 }
 
 /** The blocks behind statements. @param {Map<number, Block>} blocks @returns {Set<number>} */
@@ -164,7 +164,8 @@ function joined(entry, blocks) {
  * @param {Map<number, Block>} all
  */
 function mergeConsecutiveBlocks(entry, all) {
-  if (all.size === 1 && successors(all.get(entry).terminal).length === 0) return all;
+  const first = all.get(entry);
+  if (successors(first.terminal).length === 0) return all.size === 1 ? all : new Map([[entry, first]]);
   const blocks = pruneMaybeThrows(entry, all);
   markPredecessors(blocks);
   const kept = joined(entry, blocks);

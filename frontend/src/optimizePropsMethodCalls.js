@@ -6,14 +6,12 @@ const {nestedOf} = require('./HIR.js');
 /** @param {import('./HIR.js').Fn} fn with types; it and those below it are changed */
 function optimizePropsMethodCalls(fn) {
   for (const block of fn.blocks.values()) {
-    for (const {value} of block.instructions) {
+    for (const instruction of block.instructions) {
+      const {value} = instruction;
       if (value.kind === 'MethodCall') {
         const t = find(value.receiver.ident.type);
         if (t.kind === 'Object' && t.shape === 'BuiltInProps') {
-          value.kind = 'CallExpression';
-          value.callee = value.property;
-          delete value.receiver;
-          delete value.property;
+          instruction.value = {kind: 'CallExpression', callee: value.property, args: value.args};
         }
       }
       if (nestedOf(value)) optimizePropsMethodCalls(nestedOf(value));

@@ -24,9 +24,10 @@ function shapeText(id, asCompiler) {
 
 class Tables {
   constructor() {
-    /** @type {Map<import('./HIR.js').Ident, number>} */
-    this.idents = new Map();
-    this.declarations = new Map(); // from a variable to its first version
+    /** @type {Array<import('./HIR.js').Ident>} */
+    this.idents = [];
+    /** @type {Array<number>} of each identifier, that of the first version of its variable */
+    this.declarations = [];
     /** @type {Array<string>} their JSON */
     this.types = [];
     /** @type {Map<?string, number>} numbers of object types, by their shapes */
@@ -41,19 +42,20 @@ class Tables {
     this.shapes = new Set();
   }
 
-  /** A type as the JSON has it. @param {object} type @param {number} [level] on which it stands in another */
-  typeValue(type, level = 1) {
+  /** A type as the JSON has it. @param {object} type @param {number} [level] on which it stands in another @returns {string} */
+  typeText(type, level = 1) {
     const t = find(type);
     switch (t.kind) {
-      case 'Object': return {kind: 'Object', shape_id: t.shape};
+      case 'Object': return `{"kind":"Object","shape_id":${JSON.stringify(t.shape)}}`;
       case 'Function': {
         if (t.shape !== null) this.shape(t.shape);
-        if (level === TYPE_LEVELS) return {kind: 'Var'};
-        const returns = this.typeValue(t.returns, level + 1);
-        return {kind: 'Function', ...(t.shape !== null && {shape_id: t.shape}), return_type: returns};
+        if (level === TYPE_LEVELS) return '{"kind":"Var"}';
+        const returns = this.typeText(t.returns, level + 1);
+        const shape = t.shape === null ? '' : `,"shape_id":${JSON.stringify(t.shape)}`;
+        return `{"kind":"Function"${shape},"return_type":${returns}}`;
       }
-      case 'Phi': return {kind: 'Phi', jsx_operand: t.operands.some(o => this.isJsx(o))};
-      default: return {kind: t.kind};
+      case 'Phi': return `{"kind":"Phi","jsx_operand":${t.operands.some(o => this.isJsx(o))}}`;
+      default: return `{"kind":"${t.kind}"}`;
     }
   }
 
@@ -75,7 +77,7 @@ class Tables {
     if (t.kind !== 'Function' && t.kind !== 'Phi') return this.numberOfType(this.plain, t.kind, t);
     let number = this.others.get(t);
     if (number === undefined) {
-      const text = JSON.stringify(this.typeValue(t));
+      const text = this.typeText(t);
       number = this.made.get(text);
       if (number === undefined) {
         number = this.types.push(text) - 1;
@@ -93,21 +95,32 @@ class Tables {
   numberOfType(known, key, type) {
     let number = known.get(key);
     if (number === undefined) {
-      number = this.types.push(JSON.stringify(this.typeValue(type))) - 1;
+      number = this.types.push(this.typeText(type)) - 1;
       known.set(key, number);
     }
     return number;
   }
 
-  /** The number of an identifier. @param {import('./HIR.js').Ident} ident */
+  /** The number of an identifier, which stands in itself. @param {import('./HIR.js').Ident} ident */
   ident(ident) {
-    let number = this.idents.get(ident);
-    if (number === undefined) {
-      number = this.idents.size;
-      this.idents.set(ident, number);
-      if (!this.declarations.has(ident.decl)) this.declarations.set(ident.decl, number);
-    }
+    return this.idents[ident.number] === ident ? ident.number : this.add(ident);
+  }
+
+  /** @param {import('./HIR.js').Ident} ident */
+  add(ident) {
+    const {decl} = ident;
+    const number = this.idents.push(ident) - 1;
+    ident.number = number;
+    // a number of another unit may be left
+    const isKnown = decl.first < number && this.idents[decl.first].decl === decl;
+    if (!isKnown) decl.first = number;
+    this.declarations.push(decl.first);
     return number;
+  }
+
+  /** The number of an identifier, if it has one. @param {import('./HIR.js').Ident} ident @returns {number|undefined} */
+  numberOf(ident) {
+    return this.idents[ident.number] === ident ? ident.number : undefined;
   }
 }
 

@@ -23,9 +23,8 @@ function written(unit) {
   let out = '';
   for (let code = codes.shift(); code !== undefined; code = codes.shift()) {
     if (code >= 0) out += code;
-    else if (code <= -5) out += texts[-5 - code];
-    else if (code >= -2) out += `[${codes.splice(0, code === -2 ? 3 : 2).join()}]`;
-    else out += code === -3 ? `"${strings[codes.shift()]}"` : strings[codes.shift()];
+    else if (code <= -3) out += texts[-3 - code].replace(/%/g, () => String(codes.shift()));
+    else out += code === -1 ? `"${strings[codes.shift()]}"` : strings[codes.shift()];
   }
   return Buffer.from(out);
 }
@@ -64,13 +63,14 @@ test('numbers, texts and room', () => {
       out.comma();
     }
   }
-  out.pair(1, 23);
-  out.triple(4, 567, 8);
+  out.one(ascii('<%>'), 0x7fffffff);
+  out.two(ascii('[%,%]'), 1, 23);
+  out.three(ascii('%%b%'), 4, 567, 8);
   out.text(ascii('{"a":'));
   out.json(JSON.stringify({b: 'ü"𝒳\ud800'}));
   out.quoted('name');
   const text = out.taken().toString();
-  assert.strictEqual(text, `${numbers.map(n => `${n},`).join('').repeat(200)}[1,23][4,567,8]{"a":${JSON.stringify({b: 'ü"𝒳\ud800'})}"name"`);
+  assert.strictEqual(text, `${numbers.map(n => `${n},`).join('').repeat(200)}<2147483647>[1,23]4567b8{"a":${JSON.stringify({b: 'ü"𝒳\ud800'})}"name"`);
 });
 
 test('with `others: none` components and hooks are left, wherever they stand', () => {

@@ -46,8 +46,8 @@ typedef struct {
     Bytes texts, strings;
 } Codes;
 
-/* Whether they are such as the front end makes: each has those that belong to it, and names a line that is there. */
-int are_codes(const Codes *given);
+/* Whether they are such as the front end makes: each has those that belong to it, and names a line that is there. Says where memory ran out. */
+int are_codes(const Codes *given, int *is_out_of_memory);
 
 /* What such codes stand for, in a block of the heap. Null where memory ran out. */
 uint8_t *write_codes(const Codes *given, size_t *length);

@@ -251,8 +251,9 @@ napi_value put_codes(napi_env env, napi_callback_info info) {
     if (calls == NULL || !read_codes(env, arguments + 1, &given)) {
         return NULL;
     }
-    if (!are_codes(&given)) {
-        return type_error(env, "the codes are those of the front end");
+    int is_out_of_memory = 0;
+    if (!are_codes(&given, &is_out_of_memory)) {
+        return is_out_of_memory ? other_error(env, "memory ran out") : type_error(env, "the codes are those of the front end");
     }
     size_t size = given.length * sizeof *given.codes;
     size_t room = size + given.texts.length + given.strings.length;

@@ -1,7 +1,8 @@
-/* What frontend/src/codes.js makes of a unit, to the bytes for which it stands. A code from 0 is that number; others are below. Texts and strings are lines. */
+/* What frontend/src/codes.js makes of a unit, to the bytes for which it stands. A code from 0 is that number; others are below. Texts and strings are lines, and
+ * a text has holes for numbers, which stand behind its code. */
 #include "call.h"
 
-enum { PAIR = -1, TRIPLE = -2, QUOTED = -3, JSON_TEXT = -4, FIRST_TEXT = -5, MOST_DIGITS = 10 };
+enum { QUOTED = -1, JSON_TEXT = -2, FIRST_TEXT = -3, MOST_DIGITS = 10, HOLE = '%' };
 
 /* How many lines the bytes are. */
 static size_t lines_in(const Bytes *bytes) {
@@ -12,35 +13,9 @@ static size_t lines_in(const Bytes *bytes) {
     return count;
 }
 
-/* How many codes belong to this one, which is below 0. */
-static size_t belonging(int32_t code) {
-    return code <= FIRST_TEXT ? 0 : code == TRIPLE ? 3 : code == PAIR ? 2 : 1;
-}
-
-int are_codes(const Codes *given) {
-    size_t texts = lines_in(&given->texts), strings = lines_in(&given->strings);
-    for (size_t i = 0; i < given->length; ++i) {
-        const int32_t *code = given->codes + i;
-        if (*code >= 0) {
-            continue;
-        }
-        size_t count = belonging(*code);
-        if (given->length - i - 1 < count || (*code <= FIRST_TEXT && (size_t)((int64_t)FIRST_TEXT - *code) >= texts)) {
-            return 0;
-        }
-        for (size_t k = 1; k <= count; ++k) {
-            if (code[k] < 0 || (*code < TRIPLE && (size_t)code[k] >= strings)) {
-                return 0;
-            }
-        }
-        i += count;
-    }
-    return 1;
-}
-
 /* Where the lines of the bytes begin, and behind the last one. Null where memory ran out. */
-static size_t *begins_of(const Bytes *bytes) {
-    size_t *begins = (size_t *)malloc((lines_in(bytes) + 1) * sizeof *begins);
+static size_t *begins_of(const Bytes *bytes, size_t count) {
+    size_t *begins = (size_t *)malloc((count + 1) * sizeof *begins);
     if (begins == NULL) {
         return NULL;
     }
@@ -53,6 +28,58 @@ static size_t *begins_of(const Bytes *bytes) {
     }
     begins[number] = bytes->length + 1;
     return begins;
+}
+
+/* How many holes each of the lines has. Null where memory ran out. */
+static size_t *holes_of(const Bytes *bytes, size_t count) {
+    size_t *holes = (size_t *)calloc(count, sizeof *holes);
+    size_t number = 0;
+    for (size_t i = 0; holes != NULL && i < bytes->length; ++i) {
+        holes[number] += bytes->at[i] == HOLE;
+        number += bytes->at[i] == '\n';
+    }
+    return holes;
+}
+
+/* Which text a code is. */
+static size_t text_of(int32_t code) {
+    return (size_t)((int64_t)FIRST_TEXT - code);
+}
+
+/* Whether the codes from this one on, of which so many are left, begin with a whole one; and how many more belong to it. */
+static int is_whole(const int32_t *code, size_t left, const size_t *holes, size_t texts, size_t strings, size_t *count) {
+    *count = 0;
+    if (*code >= 0) {
+        return 1;
+    }
+    if (*code <= FIRST_TEXT && text_of(*code) >= texts) {
+        return 0;
+    }
+    *count = *code <= FIRST_TEXT ? holes[text_of(*code)] : 1;
+    if (left - 1 < *count) {
+        return 0;
+    }
+    for (size_t k = 1; k <= *count; ++k) {
+        if (code[k] < 0) {
+            return 0;
+        }
+    }
+    return *code <= FIRST_TEXT || (size_t)code[1] < strings;
+}
+
+int are_codes(const Codes *given, int *is_out_of_memory) {
+    size_t texts = lines_in(&given->texts), strings = lines_in(&given->strings), count = 0;
+    size_t *holes = holes_of(&given->texts, texts);
+    *is_out_of_memory = holes == NULL;
+    if (holes == NULL) {
+        return 0;
+    }
+    int are = 1;
+    for (size_t i = 0; are && i < given->length; i += 1 + count) {
+        are = is_whole(given->codes + i, given->length - i, holes, texts, strings, &count);
+    }
+    free(holes);
+    return are;
 }
 
 /* The bytes, in a block that grows. */
@@ -90,15 +117,6 @@ static void put_number(Out *out, uint32_t number) {
     } while (number > 0);
 }
 
-/* Puts numbers there as a list, for which there is room. */
-static void put_list(Out *out, const int32_t *codes, size_t count) {
-    for (size_t i = 0; i < count; ++i) {
-        out->block[out->length++] = i == 0 ? '[' : ',';
-        put_number(out, (uint32_t)codes[i]);
-    }
-    out->block[out->length++] = ']';
-}
-
 /* Puts a line there, between quotes or not. Says whether there was memory. */
 static int put_line(Out *out, const Bytes *bytes, const size_t *begins, size_t number, int is_quoted) {
     size_t size = begins[number + 1] - 1 - begins[number];
@@ -120,40 +138,56 @@ static int put_line(Out *out, const Bytes *bytes, const size_t *begins, size_t n
     return 1;
 }
 
-/* Puts there what a code and those that belong to it stand for. Says whether there was memory. */
-static int put_code(Out *out, const Codes *given, const size_t *texts, const size_t *strings, const int32_t *code) {
-    if (!reserve(out, 4 + 3 * MOST_DIGITS)) {
+/* Puts a text there, with the numbers of its holes, and tells how many these are. Says whether there was memory. */
+static int put_text(Out *out, const Bytes *bytes, const size_t *begins, const int32_t *code, size_t *count) {
+    size_t number = text_of(*code);
+    size_t size = begins[number + 1] - 1 - begins[number];
+    const uint8_t *text = bytes->at + begins[number];
+    if (!reserve(out, size * MOST_DIGITS)) {
         return 0;
     }
-    if (*code >= 0) {
-        put_number(out, (uint32_t)*code);
-        return 1;
+    for (size_t i = 0; i < size; ++i) {
+        if (text[i] == HOLE) {
+            put_number(out, (uint32_t)code[++*count]);
+        } else {
+            out->block[out->length++] = text[i];
+        }
     }
+    return 1;
+}
+
+/* Puts there what a code and those that belong to it stand for, and tells how many these are. Says whether there was memory. */
+static int put_code(Out *out, const Codes *given, const size_t *texts, const size_t *strings, const int32_t *code, size_t *count) {
+    *count = 0;
     if (*code <= FIRST_TEXT) {
-        return put_line(out, &given->texts, texts, (size_t)((int64_t)FIRST_TEXT - *code), 0);
+        return put_text(out, &given->texts, texts, code, count);
     }
-    if (*code < TRIPLE) {
+    if (*code < 0) {
+        *count = 1;
         return put_line(out, &given->strings, strings, (size_t)code[1], *code == QUOTED);
     }
-    put_list(out, code + 1, belonging(*code));
+    if (!reserve(out, MOST_DIGITS)) {
+        return 0;
+    }
+    put_number(out, (uint32_t)*code);
     return 1;
 }
 
 /* The same of all codes. */
 static int put_all(Out *out, const Codes *given, const size_t *texts, const size_t *strings) {
-    for (size_t i = 0; i < given->length; ++i) {
-        const int32_t *code = given->codes + i;
-        if (!put_code(out, given, texts, strings, code)) {
+    size_t count = 0;
+    for (size_t i = 0; i < given->length; i += 1 + count) {
+        if (!put_code(out, given, texts, strings, given->codes + i, &count)) {
             return 0;
         }
-        i += *code < 0 ? belonging(*code) : 0;
     }
     return 1;
 }
 
 uint8_t *write_codes(const Codes *given, size_t *length) {
-    size_t *texts = begins_of(&given->texts), *strings = begins_of(&given->strings);
-    Out out = {NULL, 0, 6 * given->length + 1};
+    size_t *texts = begins_of(&given->texts, lines_in(&given->texts));
+    size_t *strings = begins_of(&given->strings, lines_in(&given->strings));
+    Out out = {NULL, 0, 12 * given->length + 1};
     out.block = (uint8_t *)malloc(out.room);
     int is_written = texts != NULL && strings != NULL && out.block != NULL && put_all(&out, given, texts, strings);
     free(texts);

@@ -47,7 +47,7 @@ class Builder {
   local(node) {
     const {names} = this.shared;
     if (node.type === 'ThisExpression' || node.type === 'Super' || node.name === 'this') return this.self(node);
-    if (names.annexB.has(node)) throw new Refused('a function of a block, used outside of it', node, node.name);
+    if (names.annexB.size > 0 && names.annexB.has(node)) throw new Refused('a function of a block, used outside of it', node, node.name);
     const binding = names.bindingOf.get(node);
     if (!binding || !this.isInside(binding.fn)) {
       if (binding ? binding.kind === 'arguments' : node.name === 'arguments') throw new Refused('`arguments`', node);
@@ -72,13 +72,13 @@ class Builder {
   /** @param {Binding} binding @returns {Ident} */
   ident(binding) {
     const {idents, asCompiler} = this.shared;
-    if (!idents.has(binding)) {
-      const ident = makeIdent(binding.node.start, binding.node.end, binding.name);
-      ident.shared = isShared(binding, asCompiler ? fn => fn : home);
-      ident.constant = CONSTANT.has(binding.kind);
-      idents.set(binding, ident);
-    }
-    return idents.get(binding);
+    const known = idents.get(binding);
+    if (known) return known;
+    const ident = makeIdent(binding.node.start, binding.node.end, binding.name);
+    ident.shared = isShared(binding, asCompiler ? fn => fn : home);
+    ident.constant = CONSTANT.has(binding.kind);
+    idents.set(binding, ident);
+    return ident;
   }
 
   /** @param {Binding} binding */
@@ -114,7 +114,7 @@ class Builder {
 
   /** @param {Place} lvalue @param {Value} value @param {{start: number, end: number}} node */
   push(lvalue, value, node) {
-    this.blocks.push({lvalue, value, start: node.start, end: node.end});
+    this.blocks.push({lvalue, value, start: node.start, end: node.end, order: 0});
   }
 
   /** Puts a value into a temporary; a temporary that is loaded is itself. @param {Value} value @param {{start: number, end: number}} node */
@@ -138,7 +138,8 @@ class Builder {
 
   /** @param {Binding} binding @param {Node} node @returns {Value} */
   load(binding, node) {
-    return {kind: this.isShared(binding) ? 'LoadContext' : 'LoadLocal', place: this.place(binding, node)};
+    const ident = this.ident(binding);
+    return {kind: ident.shared ? 'LoadContext' : 'LoadLocal', place: {ident, start: node.start, end: node.end}};
   }
 
   /** Gives an expression its value on one way, and goes on. @returns {import('../HIR.js').Terminal} */

@@ -24,18 +24,18 @@ function lowerArguments(b, list) {
   });
 }
 
-/** What is called: a function, or a method of a receiver. @param {Builder} b @param {Node} node @returns {Value} */
+/** A call of a function, or of a method of a receiver, without its arguments. @param {Builder} b @param {Node} node @returns {Value} */
 function lowerCallee(b, node) {
   const x = unwrapped(node);
   if (x.type === 'Super') { // the constructor that it calls has `this` as its receiver
     const receiver = expressions.lowerExpressionToTemporary(b, x);
-    return {kind: 'MethodCall', receiver, property: b.emit({kind: 'PropertyLoad', object: receiver, name: 'constructor'}, x)};
+    return {kind: 'MethodCall', receiver, property: b.emit({kind: 'PropertyLoad', object: receiver, name: 'constructor'}, x), args: []};
   }
   if (x.type === 'MemberExpression') {
     const {object, value} = properties.lowerMember(b, x);
-    return {kind: 'MethodCall', receiver: object, property: value};
+    return {kind: 'MethodCall', receiver: object, property: value, args: []};
   }
-  return {kind: 'CallExpression', callee: expressions.lowerExpressionToTemporary(b, node)};
+  return {kind: 'CallExpression', callee: expressions.lowerExpressionToTemporary(b, node), args: []};
 }
 
 /** @param {Builder} b @param {Node} node @returns {Value} */
@@ -44,8 +44,8 @@ function lowerCall(b, node) {
   if (known) return known;
   const func = b.shared.names.funcOf.get(node.callee);
   if (func && func.inlinedInto) return lowerInlined(b, func, node);
-  const callee = lowerCallee(b, node.callee);
-  const call = {...callee, args: lowerArguments(b, node.arguments)};
+  const call = lowerCallee(b, node.callee);
+  call.args = lowerArguments(b, node.arguments);
   if (node.callee.type !== 'Super') return call;
   b.emit(call, node);
   return loaded(call.receiver);
@@ -86,10 +86,11 @@ function lowerTagged(b, node) {
   if (b.shared.asCompiler && quasi.expressions.length === 0) {
     return {kind: 'TaggedTemplateExpression', tag: expressions.lowerExpressionToTemporary(b, tag), text: quasi.quasis[0].value};
   }
-  const callee = lowerCallee(b, tag);
+  const call = lowerCallee(b, tag);
   const elements = quasi.quasis.map(q => b.primitive(q, q.value.cooked));
   const texts = b.emit({kind: 'ArrayExpression', elements, raw: quasi.quasis.map(q => q.value.raw)}, quasi);
-  return {...callee, args: [texts, ...quasi.expressions.map(e => expressions.lowerExpressionToTemporary(b, e))]};
+  call.args = [texts, ...quasi.expressions.map(e => expressions.lowerExpressionToTemporary(b, e))];
+  return call;
 }
 
 exports.lowerArguments = lowerArguments;

@@ -29,18 +29,24 @@ const isPlaced = binding => !NEVER_LATE.has(binding.kind) && !(binding.kind === 
  */
 function lowerStatements(b, list, scopeNode, onlyKind = null) {
   const {names, hoisted} = b.shared;
-  const left = new Set((names.declared.get(scopeNode) || []).filter(x => isPlaced(x) && (onlyKind === null || x.kind === onlyKind)));
+  const all = names.declared.get(scopeNode);
+  /** @type {Array<{binding: Binding, uses: Array<import('../scope.js').Reference>}>} those that aren't declared yet */
+  let left = all ? all.filter(x => isPlaced(x) && (onlyKind === null || x.kind === onlyKind))
+    .map(binding => ({binding, uses: hoistingUses(b, binding)})).filter(({uses}) => uses.length > 0) : [];
   for (const s of withFunctionsMoved(b, list, scopeNode)) {
-    for (const binding of left) {
-      if (hoisted.has(binding)) continue;
-      const use = binding.refs.find(r => isWithin(r.node, s) && !(r.init && b.isOwn(r)) &&
-        (!b.isOwn(r) || binding.kind === 'function'));
-      if (use) hoist(b, binding, use.node);
+    if (left.length > 0) {
+      for (const {binding, uses} of left) {
+        const use = hoisted.has(binding) ? null : uses.find(r => isWithin(r.node, s));
+        if (use) hoist(b, binding, use.node);
+      }
+      left = left.filter(({binding}) => !isWithin(binding.node, s));
     }
-    for (const binding of left) if (isWithin(binding.node, s)) left.delete(binding);
     statements.lowerStatement(b, s);
   }
 }
+
+/** The uses before which a name has to be declared: those by inner functions, and of a function its own. @param {Builder} b @param {Binding} binding */
+const hoistingUses = (b, binding) => binding.refs.filter(r => (b.isOwn(r) ? binding.kind === 'function' && !r.init : true));
 
 /**
  * Declares a name before its declaration.
@@ -63,11 +69,11 @@ function hoist(b, binding, use) {
  */
 function withFunctionsMoved(b, list, scopeNode) {
   const {bindingOf, declared} = b.shared.names;
+  if (!list.some(s => s.type === 'FunctionDeclaration')) return list;
   const at = new Map(); // from functions to where they stand
   list.forEach((s, i) => {
     if (s.type === 'FunctionDeclaration') at.set(bindingOf.get(s.id), i);
   });
-  if (at.size === 0) return list;
   const others = (declared.get(scopeNode) || []).filter(x => !at.has(x) && x.kind !== 'param' && !(x.kind === 'var' && !isLikeLet(x)))
     .map(x => /** @type {[Binding, number]} */ ([x, list.findIndex(s => isWithin(x.node, s))]));
   const target = goals(b, list, at, others);

@@ -32,8 +32,11 @@ function lowerFunction(b) {
     const value = expressions.lowerExpressionToTemporary(b, node.body);
     b.blocks.close({kind: 'Return', value, start: node.body.start, end: node.body.end});
   }
-  const context = [...b.func.free].filter(([binding, use]) => binding.kind === 'this' ? b.self(use) : b.isInside(binding.fn))
-    .map(([binding, use]) => b.place(binding, use));
+  /** @type {Array<import('../HIR.js').Place>} */
+  const context = [];
+  b.func.free.forEach((use, binding) => {
+    if (binding.kind === 'this' ? b.self(use) : b.isInside(binding.fn)) context.push(b.place(binding, use));
+  });
   const {entry, done} = b.blocks;
   return {
     kind: 'Other', name: node.id ? node.id.name : null, params, context, returns: b.temporary(node),

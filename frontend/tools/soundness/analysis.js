@@ -192,7 +192,7 @@ async function inferred(source, shorter = 0) {
   const {status, text} = await run('infer', JSON.stringify(unit));
   if (status !== 0) return {refused: `program: ${status} ${text.slice(0, 200)}`};
   prepare(made.root, 'root', emitter);
-  return {...made, kind, unit, source, out: parseOutput(text, shorter), number: ident => emitter.tables.idents.get(ident)};
+  return {...made, kind, unit, source, out: parseOutput(text, shorter), number: ident => emitter.tables.numberOf(ident)};
 }
 
 module.exports = {inferred};

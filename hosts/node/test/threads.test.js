@@ -76,15 +76,15 @@ test('what are no codes are refused', {skip}, () => {
   const calls = addon.begin('infer');
   const none = Buffer.alloc(0);
   const put = (codes, texts = '', strings = '') => addon.putCodes(calls, Int32Array.from(codes), Buffer.from(texts), Buffer.from(strings));
-  const wrong = [[-1], [-1, 1], [-2, 1, 2], [-2, 1, -2, 3], [-3], [-3, 1], [-4, -1], [-6], [-2147483648]];
-  for (const codes of wrong) assert.throws(() => put(codes, 'a', 'b'), /^TypeError: the codes are those of the front end$/);
+  const wrong = [[-1], [-1, 1], [-2, -1], [-2, 1], [-3], [-3, 1], [-3, 1, -1], [-3, 1, -3, 2, 3], [-4], [-2147483648]];
+  for (const codes of wrong) assert.throws(() => put(codes, 'a%%', 'b'), /^TypeError: the codes are those of the front end$/);
   assert.throws(() => addon.putCodes(calls, [1], none, none), /the codes are an Int32Array/);
   assert.throws(() => addon.putCodes(calls, new Uint8Array(1), none, none), /the codes are an Int32Array/);
   assert.throws(() => addon.putCodes(calls, new Int32Array(1), '', none), TypeError);
   assert.throws(() => addon.putCodes(calls, new Int32Array(1)), TypeError);
-  const right = [[], [0, -5, 2147483647, -6, -1, 1, 2, -2, 3, 40, 500, -3, 0, -4, 1]];
-  for (const codes of right) put(codes, 'ab\ncd', 'x\n"é"');
-  const texts = ['', '0ab2147483647cd[1,2][3,40,500]"x""é"'];
+  const right = [[], [0, -3, 2147483647, -4, 1, 2147483647, -5, -1, 0, -2, 1]];
+  for (const codes of right) put(codes, 'ab\n%c[%]\n', 'x%\n"é"');
+  const texts = ['', '0ab21474836471c[2147483647]"x%""é"'];
   assert.deepStrictEqual(addon.answers(calls).map(([status, text]) => ({status, text: text.toString()})), texts.map(text => jirrambeo.run('infer', text)));
 });
 
