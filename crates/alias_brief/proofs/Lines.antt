@@ -97,6 +97,10 @@ no_difference n (line ∷ lines) = rw (alike line) (no_difference (n + 1) lines)
     alike [] = refl
     alike (x ∷ xs) = rw (eq-eqb x x refl) (alike xs)
 
+-- of texts that are the same nothing differs
+pub none_where_same : (a b : List ℕ) → pointwise nat_eq a b ≡ true → first_difference a b ≡ None
+none_where_same a b same = sym (ap (first_difference a) (same_text a b (sym same))) ∙ no_difference 1 (whole_lines a)
+
 same_first : (n : ℕ) (line other : List ℕ) (more : Option (ℕ × List ℕ)) (b : Bool) → b ≡ pointwise nat_eq line other
     → (if b then more else Some (n, bare line)) ≡ None → (line ≡ other) × (more ≡ None)
 same_first n line other more true e none = (same_text line other e, none)

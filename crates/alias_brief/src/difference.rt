@@ -80,13 +80,25 @@ fn difference_between<'a>(expected: &'a str, text: &[u8]) -> Option<Difference<'
     at_end(number, expected_left, left)
 }
 
+/// Nothing where the texts are the same, and else the first line that differs.
+#[tactic(auto, using(crate::proofs::Lines::none_where_same))]
+fn difference_found<'a>(expected: &'a str, text: &[u8]) -> Option<Difference<'a>>
+    ensures { option_map at_line result ≡ first_difference expected.now text.now }
+{
+    // Compared as a whole first, which takes a fraction of the time of a walk line by line.
+    if expected.as_bytes() == text {
+        return None;
+    }
+    difference_between(expected, text)
+}
+
 /// The first line in which a text differs from the one that is expected, and nothing where they are the same. The
 /// last line of a text may lack its newline, and differs then from one that has it. Takes no memory, and reads each
-/// byte of both texts at most twice.
+/// byte of both texts at most three times.
 #[tactic(auto, using(crate::proofs::Lines::same_where_none))]
 pub fn first_difference<'a>(expected: &'a str, text: &[u8]) -> Option<Difference<'a>>
     ensures difference { option_map at_line result ≡ first_difference expected.now text.now }
     ensures same { (result ≡ None) ↔ (expected.now ≡ text.now) }
 {
-    difference_between(expected, text)
+    difference_found(expected, text)
 }

@@ -1,10 +1,8 @@
 -- What `brief` prints is accepted by `verify`.
-use Rattle.std.specs.Prelude.{if◌then◌else◌, nat_eq, map}
-use Rattle.std.specs.Cmp.Lexicographic.{pointwise}
+use Rattle.std.specs.Prelude.{map}
 use Rattle.std.specs.List.{AllByRecursion}
-use Rattle.std.proofs.Common.{◌≡◌, ℕ, ◌+◌, Bool, true, false, List, [], ◌∷◌, length, Option, Some, None, Ok, refl, ap}
+use Rattle.std.proofs.Common.{◌≡◌, ℕ, Bool, true, false, List, [], ◌∷◌, length, Option, Some, Ok, refl, ap}
 use Rattle.std.proofs.Common.{◌∙◌, subst}
-use Rattle.std.proofs.lemmas.Bool.{eq-eqb}
 use Rattle.alias_base.specs.declared.ids.FunctionId.{FunctionId}
 use Rattle.alias_hir.specs.declared.env.Unit.{Unit as HirUnit}
 use Rattle.alias_rules.specs.Functions.{rules_hold}
@@ -27,7 +25,8 @@ use Rattle.alias_follow.specs.Units.{UnitFollowing, unit_followed}
 use Rattle.alias_follow.specs.function.Givens.{given_of, blocks_given}
 use Rattle.alias_follow.specs.lines.Known.{AreKnown, AreLinesKnown}
 use Rattle.alias_brief.specs.Briefs.{brief_text}
-use Rattle.alias_brief.specs.Differences.{whole_lines, difference_from, first_difference}
+use Rattle.alias_brief.specs.Differences.{whole_lines, first_difference}
+use Rattle.alias_brief.proofs.Lines.{no_difference}
 use Rattle.alias_brief.specs.Saying.{said_block, said}
 use Rattle.alias_brief.specs.Verifying.{text_followed, compared_by, followed_so, read_so, verified}
 use Rattle.alias_brief_laws.specs.Accepted.{AreGivenKnown, AreStatesProper, BriefsAreFollowed}
@@ -73,15 +72,6 @@ said_known [] a = tt
 said_known (s ∷ solved) a = (entries_known s.entries a.0, said_known solved a.1)
 
 -- ---- texts
-
-alike : (xs : List ℕ) → pointwise nat_eq xs xs ≡ true
-alike [] = refl
-alike (x ∷ xs) = rw (eq-eqb x x refl) (alike xs)
-
--- lines differ in nothing from themselves
-no_difference : (n : ℕ) (lines : List (List ℕ)) → difference_from n lines lines ≡ None
-no_difference n [] = refl
-no_difference n (line ∷ lines) = rw (alike line) (no_difference (n + 1) lines)
 
 module _ (solved : List Solved) (u : HirUnit) (text : List ℕ) (rules : rules_hold u ≡ Ok tt)
     (known : AreGivenKnown (said solved)) (reads : ReadsAsTold solved u text) where

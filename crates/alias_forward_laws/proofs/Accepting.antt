@@ -18,7 +18,7 @@ use Rattle.alias_brief.specs.Verifying.{check_fault_of, compared_by, compared, f
 use Rattle.alias_brief.specs.declared.calls.VerifyFault.{VerifyFault}
 use Rattle.alias_forward_laws.specs.Forward.{inferred_text, IsInferredText, ForwardTextsAreInferred, IsFollowedAs}
 use Rattle.alias_forward_laws.specs.Forward.{ForwardUnitsFollow, ForwardUnitsAreAlike, InferredTextsAreAccepted}
-use Rattle.alias_forward_laws.proofs.Lines.{texts_same, no_difference}
+use Rattle.alias_brief.proofs.Lines.{texts_same, no_difference}
 use Rattle.alias_forward_laws.proofs.Texts.{brief_printed}
 use Rattle.alias_forward_laws.proofs.Together.{Together, go, stop}
 use Rattle.alias_forward_laws.proofs.Whole.{UnitInStep, unit_together}

@@ -5,5 +5,4 @@ pub mod Walking
 pub mod Unmarked
 pub mod Whole
 pub mod Texts
-pub mod Lines
 pub mod Accepting
