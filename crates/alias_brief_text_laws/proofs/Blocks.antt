@@ -1,40 +1,28 @@
 -- The lines of a block read back.
-use Rattle.std.proofs.Common.{◌≡◌, ℕ, zero, suc, ◌+◌, ◌≤◌, true, List, [], ◌∷◌, ◌++◌, Option, Some, None, refl, ap, sym}
-use Rattle.std.proofs.Common.{◌∙◌}
+use Rattle.std.proofs.Common.{ℕ, zero, suc, ◌+◌, ◌≤◌, List, [], ◌∷◌, ◌++◌, Option, refl, ap, sym}
 use Rattle.std.proofs.Common.{arith, append_assoc, append-nil}
-use Rattle.std.specs.Prelude.{map, slice_get}
-use Rattle.std.specs.List.{AllByRecursion, flat_map}
+use Rattle.std.specs.Prelude.{slice_get}
+use Rattle.std.specs.List.{AllByRecursion}
 use Rattle.alias_base.specs.Find.{value_at}
-use Rattle.alias_base.specs.declared.ids.BlockId.{BlockId}
 use Rattle.alias_base.specs.declared.ids.FunctionId.{FunctionId}
-use Rattle.alias_base.specs.declared.ids.InstructionId.{InstructionId}
-use Rattle.alias_hir.specs.Terminals.{terminal_effects}
-use Rattle.alias_hir.specs.declared.effect.AliasingEffect.{AliasingEffect}
-use Rattle.alias_hir.specs.declared.hir.BasicBlock.{BasicBlock}
 use Rattle.alias_hir.specs.declared.hir.HirFunction.{HirFunction}
-use Rattle.alias_hir.specs.declared.hir.Instruction.{Instruction}
 use Rattle.alias_effects.specs.declared.solved.BlockEntry.{BlockEntry}
-use Rattle.alias_text.specs.Lines.{effect_text, recorded, recorded_of, effect_line, effect_lines, end_line, end_lines}
-use Rattle.alias_text.specs.Lines.{instruction_lines, listed_lines, terminal_lines, block_head, block_lines}
-use Rattle.alias_text.specs.Fitting.{Small, SmallInstruction, SmallBlock}
+use Rattle.alias_text.specs.Lines.{block_head, block_lines}
 use Rattle.alias_certificate.specs.declared.beyond.Beyond.{Beyond}
 use Rattle.alias_certificate.specs.declared.certificate.CertBlock.{CertBlock}
 use Rattle.alias_certificate.specs.declared.certificate.CertFunction.{CertFunction}
-use Rattle.alias_cert_text.specs.declared.line.Line.{Line}
 use Rattle.alias_cert_text.specs.declared.line.Line.TheVariants as line
 use Rattle.alias_cert_text.specs.declared.order.Place.{Place}
-use Rattle.alias_cert_text.specs.declared.order.Place.TheVariants.{Block, Effect, End}
-use Rattle.alias_cert_text.specs.Certificates.{block_with, function_with, with_line, bare_block}
+use Rattle.alias_cert_text.specs.declared.order.Place.TheVariants.{Block}
+use Rattle.alias_cert_text.specs.Certificates.{with_line, bare_block}
 use Rattle.alias_cert_text.specs.Order.{rank}
-use Rattle.alias_cert_text.proofs.AtLast.{at_last_push}
-use Rattle.alias_certificate_laws.specs.text.Certifying.{cert_effect, effects_of, effects_in, ends_in}
 use Rattle.alias_brief.specs.Briefs.{entry_text, beyond_or, blocks_from}
 use Rattle.alias_brief.specs.Fitting.{FittingBlock, FittingFrom}
 use Rattle.alias_brief_text_laws.specs.Orderly.{Orderly}
 use Rattle.alias_brief_text_laws.specs.Telling.{told_beyond, told_block, told_blocks_from}
 use Rattle.alias_certificate_laws.proofs.text.Leading.{Reaches, follows_by, reaches_line, reaches_none, reaches_both}
 use Rattle.alias_certificate_laws.proofs.text.Leading.{reaches_as}
-use Rattle.alias_certificate_laws.proofs.text.Leading.{reaches_wider, reaches_all, add_all, added}
+use Rattle.alias_certificate_laws.proofs.text.Leading.{reaches_wider}
 use Rattle.alias_certificate_laws.proofs.text.Spelling.{block_spelled}
 use Rattle.alias_certificate_laws.proofs.text.Blocks.{in_blocks, in_block, begun, reaches_block_lines}
 use Rattle.alias_brief_text_laws.proofs.States.{OrderlyMore, reaches_more}

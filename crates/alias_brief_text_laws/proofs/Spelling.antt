@@ -1,5 +1,5 @@
 -- Each line of what an entry state has beyond what arrived reads back.
-use Rattle.std.proofs.Common.{◌≡◌, true, List, [], ◌∷◌, ◌++◌, ap, subst, refl}
+use Rattle.std.proofs.Common.{◌≡◌, true, false, List, [], ◌∷◌, ◌++◌, ap, subst, refl}
 use Rattle.std.specs.Prelude.{codes, map}
 use Rattle.std.specs.List.{AllByRecursion, flat_map}
 use Rattle.alias_lattice.specs.States.{Sites}
@@ -50,7 +50,7 @@ sites_spelled v (k ∷ ks) h named =
     (line.Variable (variable_with v (k ∷ ks)))) (same_text (k ∷ ks))
     (subst (λ sites. Spells (codes "variable" ++ spaced v.identifier.0 ++ sites_text entries ++ codes "\n")
     (line.Variable (variable_with v sites))) (same_sites (k ∷ ks))
-    (printed_variable (v.identifier, entries) ((h.0, small_entries (k ∷ ks) h.1), tt)))
+    (printed_variable (v.identifier, entries) ((h.0, small_entries (k ∷ ks) h.1), refl)))
 
 pub variable_spelled : (v : CertVariable) → SmallMoreVariable v → NamesSite v
     → Spells (beyond_variable v) (line.Variable v)

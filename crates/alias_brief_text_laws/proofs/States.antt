@@ -1,10 +1,8 @@
 -- The lines of what an entry state has beyond what arrived read back.
-use Rattle.std.proofs.Common.{◌≡◌, ℕ, ◌≤◌, true, List, [], ◌∷◌, ◌++◌, Option, Some, None, refl, ap, sym, ◌∙◌}
+use Rattle.std.proofs.Common.{◌≡◌, ◌≤◌, true, List, [], ◌∷◌, ◌++◌, Option, Some, None, ap, sym, ◌∙◌}
 use Rattle.std.proofs.Common.{arith, append_assoc, append-nil}
 use Rattle.std.specs.List.{AllByRecursion, flat_map}
 use Rattle.alias_base.specs.declared.ids.FunctionId.{FunctionId}
-use Rattle.alias_base.specs.declared.ids.IdentifierId.{IdentifierId}
-use Rattle.alias_lattice.specs.declared.site.Site.{Site}
 use Rattle.alias_certificate.specs.declared.beyond.Beyond.{Beyond}
 use Rattle.alias_certificate.specs.declared.certificate.CertBlock.{CertBlock}
 use Rattle.alias_certificate.specs.declared.certificate.CertFunction.{CertFunction}
@@ -13,12 +11,9 @@ use Rattle.alias_certificate.specs.declared.certificate.CertVariable.{CertVariab
 use Rattle.alias_cert_text.specs.declared.line.Line.{Line}
 use Rattle.alias_cert_text.specs.declared.line.Line.TheVariants as line
 use Rattle.alias_cert_text.specs.declared.order.Place.{Place}
-use Rattle.alias_cert_text.specs.declared.order.Place.TheVariants.{Start, Function, Visits, Block, Value, Variable}
-use Rattle.alias_cert_text.specs.declared.order.Place.TheVariants.{Effect, End, First, Temporary, Summary, Range}
-use Rattle.alias_cert_text.specs.declared.order.Place.TheVariants.{Reports, Report}
-use Rattle.alias_cert_text.specs.Certificates.{at_last, in_last_block, block_with, with_line}
+use Rattle.alias_cert_text.specs.declared.order.Place.TheVariants.{Value, Variable}
+use Rattle.alias_cert_text.specs.Certificates.{block_with, with_line}
 use Rattle.alias_cert_text.specs.Order.{rank, rises}
-use Rattle.alias_cert_text.proofs.AtLast.{at_last_push}
 use Rattle.alias_brief.specs.Briefs.{beyond_value, beyond_variable, beyond_lines, beyond_or}
 use Rattle.alias_brief.specs.Fitting.{FittingMoreValue, SmallMoreVariable, FittingBeyond, FittingMore}
 use Rattle.alias_brief_text_laws.specs.Orderly.{Ascends, value_below, variable_below, NamesSite, Orderly}

@@ -1,36 +1,28 @@
 -- The text of what follows for a unit reads back.
-use Rattle.std.proofs.Common.{◌≡◌, ℕ, zero, suc, ◌+◌, ◌≤◌, Bool, true, false, List, [], ◌∷◌, ◌++◌, length, Option, Some}
+use Rattle.std.proofs.Common.{◌≡◌, ℕ, zero, suc, ◌+◌, ◌≤◌, Bool, true, false, List, [], ◌∷◌, ◌++◌, Option, Some}
 use Rattle.std.proofs.Common.{None, refl, ap, sym, ◌∙◌, subst, arith, append_assoc, append-nil}
-use Rattle.std.specs.Prelude.{Ok, map, codes, decimal, IsUtf8, if◌then◌else◌, slice_get}
-use Rattle.std.specs.List.{AllByRecursion, flat_map, enumerate_from}
+use Rattle.std.specs.Prelude.{Ok, map, IsUtf8, slice_get}
+use Rattle.std.specs.List.{AllByRecursion, enumerate_from}
 use Rattle.alias_base.specs.Answer.{◌>>=◌}
 use Rattle.alias_base.specs.declared.ids.FunctionId.{FunctionId}
 use Rattle.alias_hir.specs.declared.effect.AliasingEffect.{AliasingEffect}
-use Rattle.alias_hir.specs.declared.env.Identifier.{Identifier}
-use Rattle.alias_hir.specs.declared.env.MutableRange.{MutableRange}
 use Rattle.alias_hir.specs.declared.env.Unit.{Unit as HirUnit}
 use Rattle.alias_hir.specs.declared.hir.HirFunction.{HirFunction}
-use Rattle.alias_hir.specs.declared.report.Report.{Report}
 use Rattle.alias_tables.specs.declared.temporaries.Temporary.{Temporary}
 use Rattle.alias_effects.specs.declared.solved.BlockEntry.{BlockEntry}
 use Rattle.alias_effects.specs.declared.solved.Solved.{Solved}
 use Rattle.alias_text.specs.Lines.{effect_text, function_head}
-use Rattle.alias_text.specs.Certificates.{temporary_line}
-use Rattle.alias_text.specs.Fitting.{SmallTemporary}
-use Rattle.alias_text.specs.Ranges.{range_line, has_range, numbered_text, ranges_text}
-use Rattle.alias_text.specs.Reports.{report_line, report_lines, reports_text}
+use Rattle.alias_text.specs.Ranges.{ranges_text}
+use Rattle.alias_text.specs.Reports.{reports_text}
 use Rattle.alias_text.specs.Results.{function_of}
-use Rattle.alias_text.specs.Summaries.{summary_of, summary_line, summary_lines}
+use Rattle.alias_text.specs.Summaries.{summary_of, summary_lines}
 use Rattle.alias_certificate.specs.declared.certificate.CertBlock.{CertBlock}
 use Rattle.alias_certificate.specs.declared.certificate.CertFunction.{CertFunction}
-use Rattle.alias_certificate.specs.declared.certificate.CertTemporary.{CertTemporary}
 use Rattle.alias_cert_text.specs.declared.line.Line.TheVariants as line
 use Rattle.alias_cert_text.specs.declared.order.Place.{Place}
 use Rattle.alias_cert_text.specs.declared.order.Place.TheVariants as place
-use Rattle.alias_cert_text.specs.Certificates.{function_with, with_line, certificate_made, certificate_of_text}
+use Rattle.alias_cert_text.specs.Certificates.{certificate_made, certificate_of_text}
 use Rattle.alias_cert_text.specs.Order.{rank}
-use Rattle.alias_cert_text.proofs.AtLast.{at_last_push}
-use Rattle.alias_certificate_laws.specs.text.Certifying.{cert_temporary}
 use Rattle.alias_follow.specs.declared.function.follow.FunctionBeyond.{FunctionBeyond}
 use Rattle.alias_follow.specs.declared.unit.Followed.{Followed}
 use Rattle.alias_brief.specs.Briefs.{found_text, temporary_lines, followed_text, function_text, functions_from}
@@ -43,7 +35,7 @@ use Rattle.alias_brief_text_laws.specs.Telling.{told}
 use Rattle.alias_brief_text_laws.proofs.Blocks.{reaches_entries}
 use Rattle.alias_certificate_laws.proofs.text.Leading.{Reaches, follows_by, reaches_line, reaches_none, reaches_both}
 use Rattle.alias_certificate_laws.proofs.text.Leading.{reaches_as}
-use Rattle.alias_certificate_laws.proofs.text.Leading.{reaches_wider, add_all, reaches_all, added, none_added, unkept}
+use Rattle.alias_certificate_laws.proofs.text.Leading.{reaches_wider}
 use Rattle.alias_certificate_laws.proofs.text.Blocks.{in_blocks}
 use Rattle.alias_certificate_laws.proofs.text.Spelling.{function_spelled}
 use Rattle.alias_certificate_laws.proofs.text.Whole.{in_function, reaches_temporaries as each_temporary}

@@ -1,5 +1,5 @@
 -- What the text of what follows for a unit reads as.
-use Rattle.std.specs.Prelude.{◌≡◌, ℕ, List, Ok, IsUtf8}
+use Rattle.std.specs.Prelude.{◌≡◌, List, Ok, IsUtf8}
 use Rattle.alias_hir.specs.declared.env.Unit.{Unit as HirUnit}
 use Rattle.alias_certificate.specs.declared.certificate.CertFunction.{CertFunction}
 use Rattle.alias_cert_text.specs.Certificates.{certificate_of_text}
