@@ -1,5 +1,5 @@
 -- What `brief` prints is accepted by `verify`.
-use Rattle.std.specs.Prelude.{map}
+use Rattle.std.specs.Prelude.{if◌then◌else◌, map}
 use Rattle.std.specs.List.{AllByRecursion}
 use Rattle.std.proofs.Common.{◌≡◌, ℕ, Bool, true, false, List, [], ◌∷◌, length, Option, Some, Ok, refl, ap}
 use Rattle.std.proofs.Common.{◌∙◌, subst}

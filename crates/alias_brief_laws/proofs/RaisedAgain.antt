@@ -9,7 +9,7 @@ use Rattle.alias_base.specs.declared.ids.IdentifierId.{IdentifierId}
 use Rattle.alias_lattice.specs.AbstractValueLaws.{abstract_laws}
 use Rattle.alias_lattice.specs.AbstractValues.{abstract_join, AbstractProper}
 use Rattle.alias_lattice.specs.JoinLaws.{state_laws}
-use Rattle.alias_lattice.specs.KeyLaws.{ids_apart, ids_total}
+use Rattle.alias_lattice.specs.KeyLaws.{ids_total}
 use Rattle.alias_lattice.specs.Keys.{id_cmp}
 use Rattle.alias_lattice.specs.Laws.{below_self, below_join}
 use Rattle.alias_lattice.specs.ListMaps.{list_join}
@@ -17,11 +17,11 @@ use Rattle.alias_lattice.specs.MapLaws.{join_none}
 use Rattle.alias_lattice.specs.Maps.{join_option, ProperOption}
 use Rattle.alias_lattice.specs.ProperLaws.{proper-empty_state}
 use Rattle.alias_lattice.specs.ProperStates.{StateProper, SitesProper}
-use Rattle.alias_lattice.specs.PutLaws.{proper_found, proper_put, proper_nil, find-join}
+use Rattle.alias_lattice.specs.PutLaws.{proper_found, find-join}
 use Rattle.alias_lattice.specs.SiteOrder.{site_cmp}
 use Rattle.alias_lattice.specs.SiteOrderLaws.{sites_apart, sites_total}
 use Rattle.alias_lattice.specs.StateLaws.{proper-initialized, proper-defined_as}
-use Rattle.alias_lattice.specs.States.{State, Sites, empty_state, initialized, defined_as, with_site, value_at}
+use Rattle.alias_lattice.specs.States.{State, Sites, empty_state, initialized, defined_as, value_at}
 use Rattle.alias_lattice.specs.States.{sites_of}
 use Rattle.alias_lattice.specs.States.{state_join, state_below, sites_join}
 use Rattle.alias_lattice.specs.declared.site.Site.{Site}
@@ -37,7 +37,8 @@ use Rattle.alias_certificate.specs.states.States.{is_site_there, with_values, wi
 use Rattle.alias_certificate.specs.states.States.{with_variables}
 use Rattle.alias_brief_laws.specs.Raising.{AreValuesProper, SaysBeyond, RaisesAgain}
 use Rattle.alias_certificate.proofs.states.Valued.{variable_is_valued}
-use Rattle.alias_certificate.proofs.raised.Lines.{WasRaised, only_sets, values_alone, sites_proper, no_sites}
+use Rattle.alias_certificate.proofs.raised.Lines.{WasRaised, was_raised, only_sets, values_alone, sites_proper}
+use Rattle.alias_certificate.proofs.raised.Lines.{no_sites}
 use Rattle.alias_brief_laws.proofs.Naming.{values_named, sites_pass, lines_named, value_there, SameOrGiven}
 use Rattle.alias_brief_laws.proofs.Naming.{same_or_given, IsGiven}
 use Rattle.alias_brief_laws.proofs.Naming.{beyond_there, beyond_below}

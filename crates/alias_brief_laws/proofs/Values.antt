@@ -4,7 +4,7 @@ use Rattle.std.proofs.Common.{◌≡◌, Bool, true, false, List, [], ◌∷◌,
 use Rattle.std.proofs.Math.Dec.{T}
 use Rattle.std.specs.Ordering.{eq_by_cmp}
 use Rattle.std.specs.FinMap.{find, is_sorted, entries_sorted}
-use Rattle.std.specs.FinMap.Entries.{find-put, is_sorted-put, same_entries}
+use Rattle.std.specs.FinMap.Entries.{find-put, same_entries}
 use Rattle.alias_lattice.specs.AbstractValueLaws.{abstract_laws}
 use Rattle.alias_lattice.specs.AbstractValues.{abstract_join, abstract_below, AbstractProper}
 use Rattle.alias_lattice.specs.Keys.{id_cmp}
@@ -19,7 +19,6 @@ use Rattle.alias_lattice.specs.SiteOrderLaws.{sites_apart, sites_total}
 use Rattle.alias_lattice.specs.States.{State, empty_state, initialized, value_at, state_below, sites_below}
 use Rattle.alias_lattice.specs.declared.site.Site.{Site}
 use Rattle.alias_lattice.specs.declared.value.AbstractValue.{AbstractValue}
-use Rattle.alias_certificate.specs.declared.certificate.CertValue.{CertValue}
 use Rattle.alias_certificate.specs.states.Beyond.{is_there, more_values}
 use Rattle.alias_certificate.specs.states.Raised.{values_raised}
 use Rattle.alias_certificate.specs.states.States.{with_values}
