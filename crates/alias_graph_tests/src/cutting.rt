@@ -6,9 +6,23 @@ use alias_graph::graph::AliasGraph;
 use alias_graph::types::{EdgeKind, LinkList, NodeValue};
 use alias_test_units::place;
 use std::alloc::{AllocError, Global};
-use std::io;
+use std::test::Fail;
 
 const OBJECTS: [NodeValue; 4] = [NodeValue::Object; 4];
+
+/// How many forward links the nodes 0 and 2 have after the graph is cut off to 1, where 0 and 2 are assigned to 1 and 3, and the node of 1
+/// is made once more in between, so that it doesn't know of the link any more.
+fn left(alloc: Global) -> Result<(bool, bool), AllocError> {
+    let mut graph = graph(
+        alloc,
+        OBJECTS,
+        &[(EdgeKind::Alias, 0, 0, 1), (EdgeKind::Alias, 1, 2, 3)],
+    )?;
+    graph.create(&place(1), NodeValue::Object)?;
+    let env = environment(alloc)?;
+    graph.cut_off(&[IdentifierId(1)], false, &env)?;
+    Ok((has_link(&graph, 0), has_link(&graph, 2)))
+}
 
 fn has_link(graph: &AliasGraph, number: u32) -> bool {
     graph
@@ -16,29 +30,8 @@ fn has_link(graph: &AliasGraph, number: u32) -> bool {
         .is_some()
 }
 
-/// Makes the node of 1 once more, and cuts the graph off to it.
-fn cut(alloc: Global, graph: &mut AliasGraph) -> Result<(), AllocError> {
-    graph.create(&place(1), NodeValue::Object)?;
-    let env = environment(alloc)?;
-    graph.cut_off(&[IdentifierId(1)], false, &env)
-}
-
-fn cut_links(alloc: Global, graph: &mut AliasGraph) -> Result<(bool, bool), AllocError> {
-    cut(alloc, graph)?;
-    Ok((has_link(graph, 0), has_link(graph, 2)))
-}
-
-/// Whether the nodes 0 and 2 have forward links after the graph is cut off to 1, where 0 and 2 are assigned to 1 and 3,
-/// and the node of 1 is made once more in between, so that it doesn't know of the link any more.
-fn left(alloc: Global) -> Result<(bool, bool), AllocError> {
-    let links = [(EdgeKind::Alias, 0, 0, 1), (EdgeKind::Alias, 1, 2, 3)];
-    let mut graph = graph(alloc, OBJECTS, &links)?;
-    cut_links(alloc, &mut graph)
-}
-
-pub(crate) fn print_left(rt: &impl Print, alloc: Global) -> io::Result<()> {
-    let (of_first, of_other) = left(alloc)?;
-    println!(rt;
-        "keeps_what_leads_to_a_target_that_was_made_twice: links of 0 {of_first}, of 2 {of_other}"
-    )
+#[test]
+fn keeps_what_leads_to_a_target_that_was_made_twice(rt: HostRuntime) -> Result<(), Fail> {
+    assert_eq!(rt; left(rt.alloc())?, (true, false));
+    Ok(())
 }

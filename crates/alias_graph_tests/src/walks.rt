@@ -5,13 +5,13 @@ use alias_base::{FunctionId, IdentifierId};
 use alias_graph::events::{GraphEvent, build};
 use alias_graph::graph::AliasGraph;
 use alias_graph::steps::Steps;
-use alias_graph::types::{EdgeKind, LinkList, MutationKind, NodeValue};
+use alias_graph::types::{EdgeKind, Link, LinkList, MutationKind, NodeValue};
 use alias_hir::env::Environment;
 use alias_test_units::place;
 use std::alloc::{AllocError, Global};
-use std::io;
 use std::marker::Brand;
 use std::sync::ledger::{Blank, Ledger};
+use std::test::Fail;
 
 const OBJECTS: [NodeValue; 4] = [NodeValue::Object; 4];
 
@@ -74,6 +74,14 @@ fn visited(graph: &AliasGraph, index: u32) -> [bool; 4] {
 
 const ASSIGN: EdgeKind = EdgeKind::Alias;
 
+fn link(index: u32, other: u32, edge: Option<EdgeKind>) -> Option<Link> {
+    Some(Link {
+        index,
+        other: IdentifierId(other),
+        edge,
+    })
+}
+
 /// The nodes 0 to 3, with a link of each kind from 0 to 1, one of which comes twice, and 2 made from a part of 1.
 fn add_each_link(graph: &mut AliasGraph) -> Result<(), AllocError> {
     graph.capture(5, &place(0), &place(1))?;
@@ -83,66 +91,47 @@ fn add_each_link(graph: &mut AliasGraph) -> Result<(), AllocError> {
     graph.create_from(8, &place(1), &place(2))
 }
 
-fn print_link(
-    rt: &impl Print,
-    graph: &AliasGraph,
-    number: u32,
-    list: LinkList,
-    position: usize,
-) -> io::Result<()> {
-    let link = graph.link(IdentifierId(number), list, position);
-    println!(rt; "shows_nodes_and_links: {number}, {list:?}, {position}: {link:?}")
+/// Whether each of these links is where it should be, and no more are.
+fn shows_links(graph: &AliasGraph) -> [bool; 9] {
+    let object = IdentifierId(1);
+    [
+        graph.link(IdentifierId(0), LinkList::Forward, 1) == link(6, 1, Some(ASSIGN)),
+        graph.link(IdentifierId(0), LinkList::Forward, 4).is_none(),
+        graph.link(object, LinkList::Forward, 0) == link(8, 2, Some(ASSIGN)),
+        graph.link(object, LinkList::Captures, 0) == link(5, 0, None),
+        graph.link(object, LinkList::Captures, 1).is_none(),
+        graph.link(object, LinkList::Aliases, 0) == link(6, 0, None),
+        graph.link(object, LinkList::MaybeAliases, 0) == link(7, 0, None),
+        graph.link(IdentifierId(2), LinkList::CreatedFrom, 0) == link(8, 1, None),
+        graph.link(IdentifierId(9), LinkList::Forward, 0).is_none(),
+    ]
 }
 
-fn print_forward_links(rt: &impl Print, graph: &AliasGraph) -> io::Result<()> {
-    print_link(rt, graph, 0, LinkList::Forward, 1)?;
-    print_link(rt, graph, 0, LinkList::Forward, 4)?;
-    print_link(rt, graph, 1, LinkList::Forward, 0)?;
-    print_link(rt, graph, 9, LinkList::Forward, 0)
+/// Whether 1 is a new function now, which holds nothing, and 9 is no node.
+fn shows_new_function(graph: &AliasGraph, function_id: FunctionId) -> [bool; 3] {
+    let object = IdentifierId(1);
+    [
+        graph.link(object, LinkList::Captures, 0).is_none(),
+        matches!(graph.node(object), Some(node) if node.value == NodeValue::Function { function_id }),
+        graph.node(IdentifierId(9)).is_none(),
+    ]
 }
 
-fn print_backward_links(rt: &impl Print, graph: &AliasGraph) -> io::Result<()> {
-    print_link(rt, graph, 1, LinkList::Captures, 0)?;
-    print_link(rt, graph, 1, LinkList::Captures, 1)?;
-    print_link(rt, graph, 1, LinkList::Aliases, 0)?;
-    print_link(rt, graph, 1, LinkList::MaybeAliases, 0)?;
-    print_link(rt, graph, 2, LinkList::CreatedFrom, 0)
-}
-
-fn print_node(rt: &impl Print, graph: &AliasGraph, number: u32) -> io::Result<()> {
-    match graph.node(IdentifierId(number)) {
-        Some(node) => println!(rt; "shows_nodes_and_links: {number} is {:?}", node.value),
-        None => println!(rt; "shows_nodes_and_links: {number} is no node"),
-    }
-}
-
-fn print_nodes(rt: &impl Print, graph: &AliasGraph) -> io::Result<()> {
-    print_link(rt, graph, 1, LinkList::Captures, 0)?;
-    print_node(rt, graph, 1)?;
-    print_node(rt, graph, 9)
-}
-
-fn print_links(rt: &impl Print, graph: &mut AliasGraph) -> io::Result<()> {
-    add_each_link(graph)?;
-    print_forward_links(rt, graph)?;
-    print_backward_links(rt, graph)
-}
-
-/// Makes 1 a new function, which holds nothing.
-fn print_function(rt: &impl Print, graph: &mut AliasGraph) -> io::Result<()> {
+fn shown(alloc: Global) -> Result<([bool; 9], [bool; 3]), AllocError> {
+    let mut graph = graph(alloc, OBJECTS, &[])?;
+    add_each_link(&mut graph)?;
+    let links = shows_links(&graph);
     let function_id = FunctionId(7);
     graph.create(&place(1), NodeValue::Function { function_id })?;
-    print_nodes(rt, graph)
+    Ok((links, shows_new_function(&graph, function_id)))
 }
 
-fn print_all(rt: &impl Print, graph: &mut AliasGraph) -> io::Result<()> {
-    print_links(rt, graph)?;
-    print_function(rt, graph)
-}
-
-pub(crate) fn print_graph(rt: &impl Print, alloc: Global) -> io::Result<()> {
-    let mut graph = graph(alloc, OBJECTS, &[])?;
-    print_all(rt, &mut graph)
+#[test]
+fn shows_nodes_and_links(rt: HostRuntime) -> Result<(), Fail> {
+    let (links, function) = shown(rt.alloc())?;
+    assert_eq!(rt; links, [true; 9]);
+    assert_eq!(rt; function, [true; 3]);
+    Ok(())
 }
 
 /// The graph of two objects and two phis, in which the walk from the last phi pops ten entries.
@@ -223,11 +212,9 @@ fn popped<L: Ledger>(alloc: Global, blank: Blank) -> Result<[bool; 4], AllocErro
     Ok(visited(&graph, 4))
 }
 
-fn walked(alloc: Global) -> Result<[bool; 4], AllocError> {
-    popped::<Brand>(alloc, Blank::new(1))
-}
-
-pub(crate) fn print_walk(rt: &impl Print, alloc: Global) -> io::Result<()> {
-    let seen = walked(alloc)?;
-    println!(rt; "walks_a_graph_of_events: visits {seen:?}")
+#[test]
+fn walks_a_graph_of_events(rt: HostRuntime) -> Result<(), Fail> {
+    let seen = popped::<Brand>(rt.alloc(), Blank::new(1))?;
+    assert_eq!(rt; seen, [true, true, true, true]);
+    Ok(())
 }
