@@ -4,7 +4,7 @@ use Rattle.alias_brief.specs.Briefs.{brief_text}
 use Rattle.alias_brief.specs.Differences.{whole_lines, first_difference}
 use Rattle.alias_brief.specs.Verifying.{compared_by, followed_so, read_so, verified, IsVerified}
 use Rattle.alias_forward_laws.proofs.Accepting.{forward_texts}
-use Rattle.alias_forward_laws.proofs.Lines.{no_difference}
+use Rattle.alias_brief.proofs.Lines.{no_difference}
 use Rattle.alias_forward_laws.specs.Forward.{IsInferredText}
 use Rattle.alias_hir.specs.declared.env.Unit.{Unit as HirUnit}
 use Rattle.alias_rules.specs.Functions.{rules_hold}
