@@ -4,7 +4,7 @@ use alias_base::IdentifierId;
 use alias_hir::effect::{ValueKind, ValueReason};
 use alias_lattice::{AbstractValue, InferenceState, Lattice, ReasonSet, Site, SiteSet};
 use std::alloc::{AllocError, Global};
-use std::test::Fail;
+use std::io;
 
 fn created(into: u32, kind: ValueKind) -> Site {
     Site::Created {
@@ -64,14 +64,12 @@ fn two_members_equal_their_copy(alloc: Global) -> Result<bool, AllocError> {
     set_equals_its_copy(&sites)
 }
 
-#[test]
-fn copies_a_state(rt: HostRuntime) -> Result<(), Fail> {
-    assert!(rt; shared_object_equals_its_copy(rt.alloc())?);
-    Ok(())
+pub(crate) fn print_state(rt: &impl Print, alloc: Global) -> io::Result<()> {
+    let equals = shared_object_equals_its_copy(alloc)?;
+    println!(rt; "copies_a_state: equals its copy {equals}")
 }
 
-#[test]
-fn copies_a_set(rt: HostRuntime) -> Result<(), Fail> {
-    assert!(rt; two_members_equal_their_copy(rt.alloc())?);
-    Ok(())
+pub(crate) fn print_set(rt: &impl Print, alloc: Global) -> io::Result<()> {
+    let equals = two_members_equal_their_copy(alloc)?;
+    println!(rt; "copies_a_set: equals its copy {equals}")
 }

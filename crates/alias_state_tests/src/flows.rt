@@ -8,8 +8,8 @@ use alias_flow::{Flow, Solution, StepFault, is_forward, solve, solve_forward};
 use alias_lattice::Lattice;
 use smallvec::SmallVec;
 use std::alloc::{AllocError, Global};
+use std::io;
 use std::marker::Model;
-use std::test::Fail;
 
 /// A height that can't be copied: each try wants memory.
 #[derive(Drop)]
@@ -261,18 +261,32 @@ fn heights_of(alloc: Global, entries: &[Option<Height>]) -> Result<Vec<Option<u3
     Ok(heights)
 }
 
-#[test]
-fn moves_states_along_a_line(rt: HostRuntime) {
-    let mut flow = ForwardPass {
-        alloc: rt.alloc(),
+fn print_notes(rt: &impl Print, name: &str, notes: &Notes) -> io::Result<()> {
+    let Notes {
+        first,
+        second,
+        third,
+        fourth,
+    } = notes;
+    println!(rt; "{name}: began with {first:?}, {second:?}, {third:?}, {fourth:?}")
+}
+
+fn line(alloc: Global) -> ForwardPass {
+    ForwardPass {
+        alloc,
         notes: Notes::none(),
-    };
-    assert!(rt; solve_forward(rt.alloc(), &mut flow).is_ok());
-    let notes = &flow.notes;
-    assert_eq!(rt; notes.first, Some(0));
-    assert_eq!(rt; notes.second, Some(1));
-    assert_eq!(rt; notes.third, Some(2));
-    assert_eq!(rt; notes.fourth, Some(3));
+    }
+}
+
+fn print_moves(rt: &impl Print, alloc: Global, flow: &mut ForwardPass) -> io::Result<()> {
+    let is_solved = solve_forward(alloc, flow).is_ok();
+    println!(rt; "moves_states_along_a_line: solved {is_solved}")?;
+    print_notes(rt, "moves_states_along_a_line", &flow.notes)
+}
+
+pub(crate) fn print_line(rt: &impl Print, alloc: Global) -> io::Result<()> {
+    let mut flow = line(alloc);
+    print_moves(rt, alloc, &mut flow)
 }
 
 /// The blocks in the order of their visits, and the heights that each was entered with.
@@ -292,36 +306,32 @@ fn settle(alloc: Global, flow: &mut Loop) -> Result<Settled, AllocError> {
     Ok(Settled { visits, heights })
 }
 
-#[test]
-fn visits_a_loop_until_it_settles(rt: HostRuntime) -> Result<(), Fail> {
-    let mut flow = Loop {
-        alloc: rt.alloc(),
-        notes: Notes::none(),
-    };
-    let settled = settle(rt.alloc(), &mut flow)?;
-    assert_eq!(rt; settled.visits.as_slice(), [0, 1, 2, 1, 2, 1].as_slice());
-    assert_eq!(rt;
-        settled.heights.as_slice(),
-        [Some(0), Some(3), Some(3), None].as_slice()
-    );
-    assert_eq!(rt; flow.notes.first, Some(0));
-    assert_eq!(rt; flow.notes.second, Some(3));
-    assert_eq!(rt; flow.notes.third, Some(3));
-    assert_eq!(rt; flow.notes.fourth, None);
-    Ok(())
+fn print_settled(rt: &impl Print, settled: &Settled) -> io::Result<()> {
+    let visits = settled.visits.as_slice();
+    let heights = settled.heights.as_slice();
+    println!(rt; "visits_a_loop_until_it_settles: visits {visits:?}, heights {heights:?}")
 }
 
-#[test]
-fn tells_a_line_from_a_loop(rt: HostRuntime) -> Result<(), Fail> {
-    let forward_round = ForwardPass {
-        alloc: rt.alloc(),
+fn print_visits(rt: &impl Print, alloc: Global, flow: &mut Loop) -> io::Result<()> {
+    let settled = settle(alloc, flow)?;
+    print_settled(rt, &settled)
+}
+
+fn around(alloc: Global) -> Loop {
+    Loop {
+        alloc,
         notes: Notes::none(),
-    };
-    assert!(rt; is_forward(&forward_round)?);
-    let around = Loop {
-        alloc: rt.alloc(),
-        notes: Notes::none(),
-    };
-    assert!(rt; !is_forward(&around)?);
-    Ok(())
+    }
+}
+
+pub(crate) fn print_loop(rt: &impl Print, alloc: Global) -> io::Result<()> {
+    let mut flow = around(alloc);
+    print_visits(rt, alloc, &mut flow)?;
+    print_notes(rt, "visits_a_loop_until_it_settles", &flow.notes)
+}
+
+pub(crate) fn print_kinds(rt: &impl Print, alloc: Global) -> io::Result<()> {
+    let of_line = is_forward(&line(alloc))?;
+    let of_loop = is_forward(&around(alloc))?;
+    println!(rt; "tells_a_line_from_a_loop: the line is forward {of_line}, the loop {of_loop}")
 }

@@ -4,8 +4,9 @@ use alias_hir::effect::ValueKind;
 use alias_lattice::lattice::Lattice;
 use alias_lattice::map::LatticeMap;
 use std::alloc::{AllocError, Global};
+use std::io;
 
-pub(crate) type Kinds = LatticeMap<u32, ValueKind>;
+type Kinds = LatticeMap<u32, ValueKind>;
 
 fn set_all(map: &mut Kinds, entries: &[(u32, ValueKind)]) -> Result<(), AllocError> {
     for entry in entries {
@@ -30,13 +31,13 @@ fn join_twice(one: &mut Kinds, two: &Kinds) -> Result<[bool; 2], AllocError> {
 
 /// What a map answers once another is joined in.
 #[derive(Clone, Copy)]
-pub(crate) struct Joined {
+struct Joined {
     /// Whether it grew, at the first time and at the second.
-    pub(crate) grew: [bool; 2],
+    grew: [bool; 2],
     /// The entries after none, after key 1 and after key 3.
-    pub(crate) entries: [Option<(u32, ValueKind)>; 3],
+    entries: [Option<(u32, ValueKind)>; 3],
     /// The kind at key 2.
-    pub(crate) at_two: Option<ValueKind>,
+    at_two: Option<ValueKind>,
 }
 
 fn join_mutable(alloc: Global, one: &mut Kinds) -> Result<Joined, AllocError> {
@@ -54,7 +55,7 @@ fn join_mutable(alloc: Global, one: &mut Kinds) -> Result<Joined, AllocError> {
 }
 
 /// Keys 3 and 1, of which the second is joined with another kind.
-pub(crate) fn joined_key_by_key(alloc: Global) -> Result<Joined, AllocError> {
+fn joined_key_by_key(alloc: Global) -> Result<Joined, AllocError> {
     let mut one = map_of(alloc, &[(3, ValueKind::Global), (1, ValueKind::Frozen)])?;
     join_mutable(alloc, &mut one)
 }
@@ -65,7 +66,7 @@ fn join_once(one: &mut Kinds, two: &Kinds) -> Result<(bool, Option<ValueKind>), 
     Ok((grew, one.get(1).copied()))
 }
 
-pub(crate) fn frozen_with_mutable(alloc: Global) -> Result<(bool, Option<ValueKind>), AllocError> {
+fn frozen_with_mutable(alloc: Global) -> Result<(bool, Option<ValueKind>), AllocError> {
     let mut one = map_of(alloc, &[(1, ValueKind::Frozen)])?;
     let two = map_of(alloc, &[(1, ValueKind::Mutable)])?;
     join_once(&mut one, &two)
@@ -97,27 +98,27 @@ fn walk(map: &Kinds) -> (u32, bool) {
     (300, map.entry_after(after).is_none())
 }
 
-pub(crate) fn walk_over_scattered(alloc: Global) -> Result<(u32, bool), AllocError> {
+fn walk_over_scattered(alloc: Global) -> Result<(u32, bool), AllocError> {
     let map = scattered(alloc)?;
     Ok(walk(&map))
 }
 
 /// What a copy of a map answers once the map changed at 150 and at 1000, and what the join of both answers.
 #[derive(Clone, Copy)]
-pub(crate) struct Copied {
+struct Copied {
     /// The kinds at 150 and at 1000 in the copy.
-    pub(crate) kept: [Option<ValueKind>; 2],
-    pub(crate) joined: JoinedCopy,
+    kept: [Option<ValueKind>; 2],
+    joined: JoinedCopy,
 }
 
 #[derive(Clone, Copy)]
-pub(crate) struct JoinedCopy {
+struct JoinedCopy {
     /// The kinds at 150 and at 1000.
-    pub(crate) kinds: [Option<ValueKind>; 2],
+    kinds: [Option<ValueKind>; 2],
     /// Whether both are below it, and it isn't below the copy.
-    pub(crate) is_above: bool,
+    is_above: bool,
     /// Whether it grows when the changed map is joined in once more.
-    pub(crate) grows: bool,
+    grows: bool,
 }
 
 fn kinds_at_changes(map: &Kinds) -> [Option<ValueKind>; 2] {
@@ -150,7 +151,45 @@ fn copy_and_change(map: &mut Kinds) -> Result<Copied, AllocError> {
     Ok(Copied { kept, joined })
 }
 
-pub(crate) fn copied_scattered(alloc: Global) -> Result<Copied, AllocError> {
+fn copied_scattered(alloc: Global) -> Result<Copied, AllocError> {
     let mut map = scattered(alloc)?;
     copy_and_change(&mut map)
+}
+
+fn print_entries(rt: &impl Print, joined: &Joined) -> io::Result<()> {
+    let [first, second, third] = joined.entries;
+    println!(rt; "joins_maps_key_by_key: {first:?}, {second:?}, {third:?}")
+}
+
+pub(crate) fn print_joined(rt: &impl Print, alloc: Global) -> io::Result<()> {
+    let joined = joined_key_by_key(alloc)?;
+    let [once, again] = joined.grew;
+    let at_two = joined.at_two;
+    println!(rt; "joins_maps_key_by_key: grew {once}, again {again}, at 2 {at_two:?}")?;
+    print_entries(rt, &joined)
+}
+
+pub(crate) fn print_frozen_with_mutable(rt: &impl Print, alloc: Global) -> io::Result<()> {
+    let (grew, kind) = frozen_with_mutable(alloc)?;
+    println!(rt; "joins_frozen_with_mutable: grew {grew}, {kind:?}")
+}
+
+pub(crate) fn print_walk(rt: &impl Print, alloc: Global) -> io::Result<()> {
+    let (keys, ends) = walk_over_scattered(alloc)?;
+    println!(rt; "walks_over_all_chunks: {keys} keys, ends {ends}")
+}
+
+fn print_joined_copy(rt: &impl Print, joined: &JoinedCopy) -> io::Result<()> {
+    let [changed, added] = joined.kinds;
+    println!(rt; "keeps_copies_as_they_were: joined {changed:?}, {added:?}")?;
+    let is_above = joined.is_above;
+    let grows = joined.grows;
+    println!(rt; "keeps_copies_as_they_were: above {is_above}, grows {grows}")
+}
+
+pub(crate) fn print_copied(rt: &impl Print, alloc: Global) -> io::Result<()> {
+    let copied = copied_scattered(alloc)?;
+    let [changed, added] = copied.kept;
+    println!(rt; "keeps_copies_as_they_were: the copy {changed:?}, {added:?}")?;
+    print_joined_copy(rt, &copied.joined)
 }
