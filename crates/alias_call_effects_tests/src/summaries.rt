@@ -2,7 +2,8 @@
 
 ghost use Rattle.std.specs.Prelude.{◌<◌, length, slice_get, IfOk, IfSome, IsSome};
 
-use crate::making::{environment, gave};
+use crate::making::environment;
+use crate::printing::{print_given, print_refusal};
 use alias_base::{FunctionId, IdentifierId, List};
 use alias_call_effects::{
     AliasingSignature, SignatureError, Temporaries, build_signature_from_function_expression,
@@ -14,7 +15,7 @@ use alias_hir::hir::{FunctionType, HirFunction, ParamPattern};
 use alias_hir::place::{PlaceOrSpreadOrHole, SpreadPattern};
 use alias_test_units::place;
 use std::alloc::{AllocError, Global};
-use std::test::Fail;
+use std::io;
 
 fn add_effects(effects: &mut AliasingEffects) -> Result<(), AllocError> {
     for number in 1..3u32 {
@@ -71,16 +72,12 @@ fn environment_with(alloc: Global, param: ParamPattern) -> Result<Environment, A
     Ok(env)
 }
 
-/// Whether the names are these, and the effects three.
-fn has_names(signature: &AliasingSignature, params: usize, rest: u32, returns: u32) -> bool {
-    let rest_is = match signature.rest {
-        Some(identifier) => identifier.0 == rest,
-        None => false,
-    };
-    signature.params.len() == params
-        && rest_is
-        && signature.returns.0 == returns
-        && signature.effects.len() == 3
+fn print_signature(rt: &impl Print, name: &str, signature: &AliasingSignature) -> io::Result<()> {
+    let params = signature.params.len();
+    let rest = signature.rest;
+    let returns = signature.returns;
+    let effects = signature.effects.len();
+    println!(rt; "{name}: {params} params, rest {rest:?}, returns {returns:?}, {effects} effects")
 }
 
 fn listed(
@@ -93,70 +90,89 @@ fn listed(
     compute_effects_for_aliasing_signature(alloc, env, signature, &place(0), args, &context, None)
 }
 
-/// Whether the one function has these names, and three effects.
-fn builds(
+/// Prints the names of the one function, and how many effects its summary has.
+fn print_names_in(
+    rt: &impl Print,
+    name: &str,
     alloc: Global,
     env: &mut Environment,
     temporaries: &mut Temporaries,
-    names: (usize, u32, u32),
-) -> bool
+) -> io::Result<()>
     requires there { 0 < length env.old.functions }
     requires summary { IfSome (slice_get env.old.functions 0) (λ f. IsSome f.aliasing_effects) }
 {
     match build_signature_from_function_expression(alloc, env, FunctionId(0), temporaries) {
-        Ok(signature) => has_names(&signature, names.0, names.1, names.2),
-        Err(_) => false,
+        Ok(signature) => print_signature(rt, name, &signature),
+        Err(error) => print_refusal(rt, name, &error),
     }
 }
 
-/// Whether the function with this parameter has these names, and how many identifiers its environment has then.
-fn built(
+fn print_built_in(
+    rt: &impl Print,
+    name: &str,
+    alloc: Global,
+    env: &mut Environment,
+    temporaries: &mut Temporaries,
+) -> io::Result<()>
+    requires there { 0 < length env.old.functions }
+    requires summary { IfSome (slice_get env.old.functions 0) (λ f. IsSome f.aliasing_effects) }
+{
+    print_names_in(rt, name, alloc, env, temporaries)?;
+    let identifiers = env.identifiers.len();
+    println!(rt; "{name}: {identifiers} identifiers")
+}
+
+/// Prints the names of the function with this parameter, and how many identifiers its environment has then.
+fn print_built(
+    rt: &impl Print,
+    name: &str,
     alloc: Global,
     param: ParamPattern,
     temporaries: &mut Temporaries,
-    names: (usize, u32, u32),
-) -> Result<(bool, usize), AllocError> {
+) -> io::Result<()> {
     let mut env = environment_with(alloc, param)?;
-    let has_names = builds(alloc, &mut env, temporaries, names);
-    Ok((has_names, env.identifiers.len()))
+    print_built_in(rt, name, alloc, &mut env, temporaries)
 }
 
 /// The same of two environments after one another, where the parameter is a place.
-fn built_again(
-    alloc: Global,
-    temporaries: &mut Temporaries,
-) -> Result<([bool; 2], [usize; 2]), AllocError> {
+fn print_twice(rt: &impl Print, alloc: Global, temporaries: &mut Temporaries) -> io::Result<()> {
     let param = ParamPattern::Place(place(2));
-    let (first, before) = built(alloc, param, temporaries, (1, 4, 3))?;
-    let (second, after) = built(alloc, param, temporaries, (1, 4, 3))?;
-    Ok(([first, second], [before, after]))
+    print_built(
+        rt,
+        "a_function_without_a_rest_gets_one",
+        alloc,
+        param,
+        temporaries,
+    )?;
+    print_built(
+        rt,
+        "a_function_without_a_rest_gets_one, again",
+        alloc,
+        param,
+        temporaries,
+    )
 }
 
-fn built_twice(alloc: Global) -> Result<([bool; 2], [usize; 2]), AllocError> {
+fn print_places(rt: &impl Print, alloc: Global) -> io::Result<()> {
     let mut temporaries = Temporaries::new(alloc);
-    built_again(alloc, &mut temporaries)
+    print_twice(rt, alloc, &mut temporaries)
 }
 
-#[test]
-fn a_function_without_a_rest_gets_one(rt: HostRuntime) -> Result<(), Fail> {
-    let (named, identifiers) = built_twice(rt.alloc())?;
-    assert_eq!(rt; named, [true; 2]);
-    assert_eq!(rt; identifiers, [5, 4]);
-    Ok(())
-}
-
-fn built_of_a_spread(alloc: Global) -> Result<(bool, usize), AllocError> {
+fn print_spread(rt: &impl Print, alloc: Global) -> io::Result<()> {
     let param = ParamPattern::Spread(SpreadPattern { place: place(2) });
     let mut temporaries = Temporaries::new(alloc);
-    built(alloc, param, &mut temporaries, (0, 2, 3))
+    print_built(
+        rt,
+        "a_spread_parameter_is_the_rest",
+        alloc,
+        param,
+        &mut temporaries,
+    )
 }
 
-#[test]
-fn a_spread_parameter_is_the_rest(rt: HostRuntime) -> Result<(), Fail> {
-    let (named, identifiers) = built_of_a_spread(rt.alloc())?;
-    assert!(rt; named);
-    assert!(rt; identifiers == 4);
-    Ok(())
+fn print_names(rt: &impl Print, alloc: Global) -> io::Result<()> {
+    print_places(rt, alloc)?;
+    print_spread(rt, alloc)
 }
 
 /// The names of a function with the rest 2, or with the parameter 2, and the effects of its summary.
@@ -174,45 +190,55 @@ fn signature(
     })
 }
 
-/// Whether a call of the function with the rest 2 lists what is described.
-fn rest_lists(
+fn print_listed(
+    rt: &impl Print,
+    name: &str,
+    alloc: Global,
+    signature: &AliasingSignature,
+    args: &[PlaceOrSpreadOrHole],
+) -> io::Result<()> {
+    let env = environment(alloc)?;
+    let answer = listed(alloc, &env, signature, args);
+    print_given(rt, name, &answer)
+}
+
+/// A call of the function with the rest 2.
+fn print_with_rest(
+    rt: &impl Print,
+    name: &str,
     alloc: Global,
     args: &[PlaceOrSpreadOrHole],
-    want: &[(&'static str, u32, u32)],
-) -> Result<bool, AllocError> {
+) -> io::Result<()> {
     let signature = signature(alloc, List::new(alloc), Some(IdentifierId(2)))?;
-    let env = environment(alloc)?;
-    Ok(gave(&listed(alloc, &env, &signature, args), want))
+    print_listed(rt, name, alloc, &signature, args)
 }
 
-#[test]
-fn further_arguments_stand_for_the_rest(rt: HostRuntime) -> Result<(), Fail> {
-    let args = [PlaceOrSpreadOrHole::Place(place(0))];
-    let wanted = [("Mutate", 1, 0), ("Mutate", 0, 0), ("Capture", 0, 0)];
-    assert!(rt; rest_lists(rt.alloc(), &args, &wanted)?);
-    Ok(())
-}
-
-/// Whether a call of the function with the parameter 2 gives no list.
-fn parameter_gives_none(alloc: Global, args: &[PlaceOrSpreadOrHole]) -> Result<bool, AllocError> {
+/// A call of the function with the parameter 2.
+fn print_with_parameter(
+    rt: &impl Print,
+    name: &str,
+    alloc: Global,
+    args: &[PlaceOrSpreadOrHole],
+) -> io::Result<()> {
     let params = List::from_slice(alloc, &[IdentifierId(2)])?;
     let signature = signature(alloc, params, None)?;
-    let env = environment(alloc)?;
-    Ok(matches!(&listed(alloc, &env, &signature, args), Ok(None)))
+    print_listed(rt, name, alloc, &signature, args)
 }
 
-#[test]
-fn a_call_without_the_parameter_gives_none(rt: HostRuntime) -> Result<(), Fail> {
-    assert!(rt; parameter_gives_none(rt.alloc(), &[])?);
-    Ok(())
+fn print_calls(rt: &impl Print, alloc: Global) -> io::Result<()> {
+    let argument = PlaceOrSpreadOrHole::Place(place(0));
+    print_with_rest(
+        rt,
+        "further_arguments_stand_for_the_rest",
+        alloc,
+        &[argument],
+    )?;
+    print_with_parameter(rt, "a_call_without_the_parameter_gives_none", alloc, &[])?;
+    let args = [argument, PlaceOrSpreadOrHole::Hole];
+    print_with_parameter(rt, "a_hole_too_many_gives_none", alloc, &args)
 }
 
-#[test]
-fn a_hole_too_many_gives_none(rt: HostRuntime) -> Result<(), Fail> {
-    let args = [
-        PlaceOrSpreadOrHole::Place(place(0)),
-        PlaceOrSpreadOrHole::Hole,
-    ];
-    assert!(rt; parameter_gives_none(rt.alloc(), &args)?);
-    Ok(())
+pub(crate) fn print_summaries(rt: &impl Print, alloc: Global) -> io::Result<()> {
+    print_names(rt, alloc)?;
+    print_calls(rt, alloc)
 }
