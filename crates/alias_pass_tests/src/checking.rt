@@ -9,7 +9,7 @@ use alias_rules::check::{Checked, check_unit};
 use alias_rules::fault::UnitFault;
 use alias_test_units::{environment, place};
 use std::alloc::{AllocError, Global};
-use std::test::Fail;
+use std::io;
 
 /// A unit of two identifiers whose root returns one of them at once.
 fn unit(alloc: Global, returned: u32) -> Result<Unit, AllocError> {
@@ -36,11 +36,9 @@ fn counts(alloc: Global) -> Result<(usize, usize), AllocError> {
     })
 }
 
-#[test]
-fn hands_out_the_unit_that_was_checked(rt: HostRuntime) -> Result<(), Fail> {
-    let counts = counts(rt.alloc())?;
-    assert_eq!(rt; counts, (2, 1));
-    Ok(())
+pub(crate) fn print_handed_out(rt: &impl Print, alloc: Global) -> io::Result<()> {
+    let (identifiers, blocks) = counts(alloc)?;
+    println!(rt; "hands_out_the_unit_that_was_checked: {identifiers} identifiers, {blocks} blocks")
 }
 
 fn fault_of(alloc: Global, unit: Unit) -> Option<UnitFault> {
@@ -94,17 +92,12 @@ fn nested_fault(alloc: Global, count: usize) -> Result<Option<UnitFault>, AllocE
     Ok(fault_of(alloc, unit))
 }
 
-#[test]
-fn nested_functions_have_no_context_values(rt: HostRuntime) -> Result<(), Fail> {
-    let alloc = rt.alloc();
-    assert!(rt; nested_fault(alloc, 0)?.is_none());
-    assert!(rt;
-        matches!(
-            nested_fault(alloc, 1)?,
-            Some(UnitFault::ContextValues {
-                function: Some(FunctionId(0)),
-            })
-        )
-    );
-    Ok(())
+fn print_nested_fault(rt: &impl Print, alloc: Global, count: usize) -> io::Result<()> {
+    let fault = nested_fault(alloc, count)?;
+    println!(rt; "nested_functions_have_no_context_values: {count}: {fault:?}")
+}
+
+pub(crate) fn print_nested_faults(rt: &impl Print, alloc: Global) -> io::Result<()> {
+    print_nested_fault(rt, alloc, 0)?;
+    print_nested_fault(rt, alloc, 1)
 }

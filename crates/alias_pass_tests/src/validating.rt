@@ -9,7 +9,7 @@ use alias_hir::value::{InstructionKind, InstructionValue, LValue, LoweredFunctio
 use alias_test_units::{add_block, add_instruction, environment, function, place, returning};
 use alias_validate::validate_locals_not_reassigned_after_render;
 use std::alloc::{AllocError, Global};
-use std::test::Fail;
+use std::io;
 
 const FIRST: InstructionId = InstructionId(0);
 
@@ -74,27 +74,33 @@ fn rendering(alloc: Global) -> Result<HirFunction, AllocError> {
 }
 
 /// The identifier whose effect the validation misses, where that is why it fails.
-fn missed_by(alloc: Global, env: &mut Environment) -> Result<Option<IdentifierId>, AllocError> {
-    env.functions.push(assigning(alloc)?)?;
-    let func = rendering(alloc)?;
-    let answer = validate_locals_not_reassigned_after_render(alloc, &func, env);
-    Ok(match &answer {
+fn missed_in(alloc: Global, func: &HirFunction, env: &mut Environment) -> Option<IdentifierId> {
+    let answer = validate_locals_not_reassigned_after_render(alloc, func, env);
+    match &answer {
         Err(InferError::EffectsNotInferred { identifier }) => Some(*identifier),
         _ => None,
-    })
+    }
 }
 
-/// That identifier, and the number of reports.
-fn missed(alloc: Global) -> Result<(Option<IdentifierId>, usize), AllocError> {
-    let mut env = environment(alloc, 8)?;
-    let identifier = missed_by(alloc, &mut env)?;
-    Ok((identifier, env.errors.len()))
-}
-
-#[test]
-fn wants_effects(rt: HostRuntime) -> Result<(), Fail> {
-    let (identifier, count) = missed(rt.alloc())?;
-    assert!(rt; identifier == Some(IdentifierId(3)));
-    assert_eq!(rt; count, 0);
+fn add_assigning(alloc: Global, env: &mut Environment) -> Result<(), AllocError> {
+    env.functions.push(assigning(alloc)?)?;
     Ok(())
+}
+
+fn missed_by(alloc: Global, env: &mut Environment) -> Result<Option<IdentifierId>, AllocError> {
+    add_assigning(alloc, env)?;
+    let func = rendering(alloc)?;
+    Ok(missed_in(alloc, &func, env))
+}
+
+/// Prints that identifier, and the number of reports.
+fn print_missed_in(rt: &impl Print, alloc: Global, env: &mut Environment) -> io::Result<()> {
+    let identifier = missed_by(alloc, env)?;
+    let reports = env.errors.len();
+    println!(rt; "wants_effects: {identifier:?}, {reports} reports")
+}
+
+pub(crate) fn print_missed(rt: &impl Print, alloc: Global) -> io::Result<()> {
+    let mut env = environment(alloc, 8)?;
+    print_missed_in(rt, alloc, &mut env)
 }
