@@ -1,20 +1,18 @@
-//! What a pass that drops an instruction changes of an analysis: function 1 of `WRITES_LATER` writes what has no value yet where function 0 makes
-//! it, unless the write is dropped before its summary is inferred.
+//! What a pass that drops an instruction changes of an analysis.
+ghost use Rattle.std.specs.Prelude.{◌≡◌, true};
+ghost use Rattle.alias_rules.specs.Fitting.{function_fits};
 
 use crate::dropping::DropLast;
 use crate::endings::{Ending, checked, refused};
-use crate::units::WRITES_LATER;
 use alias_hir::env::{Environment, Unit};
 use alias_hir::hir::HirFunction;
-use alias_inner_passes::InnerPasses;
 use alias_nested::analyse_functions_certified;
 use alias_rules::check::Checked;
 use std::alloc::Global;
-use std::test::Fail;
 
 /// How an analysis ends, and how many instructions the first blocks of the functions in their slots list then.
-#[derive(Clone, Copy, Debug, PartialEq, Eq)]
-struct Change {
+#[derive(Clone, Copy, Debug)]
+pub(crate) struct Change {
     ending: Ending,
     listed: [usize; 2],
 }
@@ -30,39 +28,32 @@ fn listed(env: &Environment, number: usize) -> usize {
     }
 }
 
-/// The analysis of the functions of a unit with these passes.
-fn change_of<P: InnerPasses>(alloc: Global, unit: Checked, passes: &mut P) -> Change {
+/// How the analysis of the functions below a function ends.
+fn ending_in(alloc: Global, func: &mut HirFunction, env: &mut Environment) -> Ending
+    requires { function_fits func.old env.old ≡ true }
+{
+    let mut log = |_func: &HirFunction, _env: &Environment| {};
+    match analyse_functions_certified(alloc, func, env, &mut DropLast, &mut log) {
+        Ok(solved) => Ending::Inferred(solved.len()),
+        Err(error) => refused(&error),
+    }
+}
+
+fn change_of(alloc: Global, unit: Checked) -> Change {
     let Unit {
         mut function,
         mut env,
     } = unit.into_unit();
-    let mut log = |_func: &HirFunction, _env: &Environment| {};
-    let answer = analyse_functions_certified(alloc, &mut function, &mut env, passes, &mut log);
     Change {
-        ending: match answer {
-            Ok(solved) => Ending::Inferred(solved.len()),
-            Err(error) => refused(&error),
-        },
+        ending: ending_in(alloc, &mut function, &mut env),
         listed: [listed(&env, 0), listed(&env, 1)],
     }
 }
 
 /// What comes of the unit that the text spells; `None` where it is no unit that is well formed.
-fn change_in<P: InnerPasses>(alloc: Global, text: &str, passes: &mut P) -> Option<Change> {
+pub(crate) fn change_in(alloc: Global, text: &str) -> Option<Change> {
     match checked(alloc, text) {
-        Some(unit) => Some(change_of(alloc, unit, passes)),
+        Some(unit) => Some(change_of(alloc, unit)),
         None => None,
     }
-}
-
-#[test]
-fn accepts_a_write_that_is_dropped(rt: HostRuntime) -> Result<(), Fail> {
-    assert_eq!(rt;
-        change_in(rt.alloc(), WRITES_LATER, &mut DropLast),
-        Some(Change {
-            ending: Ending::Inferred(2),
-            listed: [1, 1]
-        })
-    );
-    Ok(())
 }

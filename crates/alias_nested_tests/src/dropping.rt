@@ -13,8 +13,8 @@ use std::alloc::{AllocError, Global};
 use std::mem;
 
 /// The first pass drops the last instruction that the first block of a function lists; the two others do nothing.
-#[derive(Clone, Copy, Debug)]
-pub struct DropLast;
+#[derive(Clone, Copy)]
+pub(crate) struct DropLast;
 
 /// All that the first block of the function lists but the last.
 #[tactic(auto, using(crate::specs::DroppingLaws::front_of, crate::specs::DroppingLaws::front_none))]

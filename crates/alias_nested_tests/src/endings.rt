@@ -1,17 +1,16 @@
 //! How the inference of a unit ends.
-ghost use Rattle.std.specs.Prelude.{◌≡◌, true};
 
-use alias_base::{FunctionId, List};
+use alias_base::FunctionId;
 use alias_hir::env::Unit;
 use alias_hir::error::{InferError, Pass};
-use alias_inner_passes::{FailingPasses, InnerPasses};
+use alias_inner_passes::FailingPasses;
 use alias_nested::infer_unit;
 use alias_rules::check::{Checked, check_unit};
 use alias_straight::read_unit;
-use std::alloc::{AllocError, Global};
+use std::alloc::Global;
 
 /// How the inference of a unit ends.
-#[derive(Clone, Copy, Debug, PartialEq, Eq)]
+#[derive(Clone, Copy, Debug)]
 pub(crate) enum Ending {
     /// There are so many solutions.
     Inferred(usize),
@@ -38,12 +37,17 @@ pub(crate) fn refused(error: &InferError) -> Ending {
 }
 
 /// The ending of a unit that is well formed.
-fn inferred<P: InnerPasses>(alloc: Global, unit: Checked, passes: &mut P) -> Ending
-    requires { P.keeps_all ≡ true }
-{
+fn inferred(alloc: Global, unit: Checked, passes: &mut FailingPasses) -> Ending {
     match infer_unit(alloc, unit, passes) {
         Ok(inferred) => Ending::Inferred(inferred.solved.len()),
         Err(error) => refused(&error),
+    }
+}
+
+fn kept(alloc: Global, unit: Unit) -> Option<Checked> {
+    match check_unit(alloc, unit) {
+        Ok(checked) => Some(checked),
+        Err(_) => None,
     }
 }
 
@@ -55,25 +59,10 @@ pub(crate) fn checked(alloc: Global, text: &str) -> Option<Checked> {
     }
 }
 
-fn kept(alloc: Global, unit: Unit) -> Option<Checked> {
-    match check_unit(alloc, unit) {
-        Ok(checked) => Some(checked),
-        Err(_) => None,
-    }
-}
-
-/// The ending with these passes.
-pub(crate) fn ending_with<P: InnerPasses>(alloc: Global, text: &str, passes: &mut P) -> Ending
-    requires { P.keeps_all ≡ true }
-{
+/// The ending of the unit that the text spells, with these passes.
+pub(crate) fn ending_of(alloc: Global, text: &str, passes: &mut FailingPasses) -> Ending {
     match checked(alloc, text) {
         Some(unit) => inferred(alloc, unit, passes),
         None => Ending::NotChecked,
     }
-}
-
-/// The ending where the calls of these numbers fail.
-pub(crate) fn ending_at(alloc: Global, text: &str, calls: &[u64]) -> Result<Ending, AllocError> {
-    let mut passes = FailingPasses::new(List::from_slice(alloc, calls)?);
-    Ok(ending_with(alloc, text, &mut passes))
 }
