@@ -11,4 +11,4 @@ pub use crate::check::check::{begin, not_joined, pass_on, refused};
 pub use crate::check::claims::{ClaimedFlow, check_entries};
 pub use crate::check::entries::all_known;
 pub use crate::check::fault::Unsolved;
-pub use crate::check::reached::reached_blocks;
+pub use crate::check::reached::{reached_ahead, reached_blocks};

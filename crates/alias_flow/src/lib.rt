@@ -5,7 +5,7 @@ pub mod check;
 pub mod flow;
 pub mod forward;
 pub mod nothing;
-mod sending;
+pub mod sending;
 pub mod solver;
 mod work_list;
 

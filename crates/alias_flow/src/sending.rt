@@ -8,7 +8,7 @@ use alias_lattice::Lattice;
 use std::alloc::AllocError;
 
 /// Sends a copy of the state to the block, and answers whether what was sent to it grew.
-pub(crate) fn send_copy<S: Lattice + Drop>(
+pub fn send_copy<S: Lattice + Drop>(
     joined_input: &mut [Option<S>],
     state: &S,
     to: u32,
@@ -27,7 +27,7 @@ pub(crate) fn send_copy<S: Lattice + Drop>(
 }
 
 /// Sends the state itself to the block.
-pub(crate) fn send_state<S: Lattice + Drop>(
+pub fn send_state<S: Lattice + Drop>(
     joined_input: &mut [Option<S>],
     state: S,
     to: u32,

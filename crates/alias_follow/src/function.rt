@@ -3,7 +3,8 @@
 mod faults;
 pub mod follow;
 mod given;
+mod reach;
 
 pub(crate) use crate::function::follow::follow_function;
 pub use crate::function::follow::{FunctionBeyond, FunctionEnd};
-pub(crate) use crate::function::given::{blocks_given, given_of, temporaries_given};
+pub(crate) use crate::function::given::given_of;

@@ -3,3 +3,4 @@ pub mod Edges
 pub mod Arrivals
 pub mod Forward
 pub mod Solves
+pub mod Sending

@@ -1,45 +1,50 @@
 //! What arrives at blocks, and what stands there.
 ghost use Rattle.std.specs.Prelude.{◌≡◌, ◌<◌, OnOk, length};
 ghost use Rattle.std.specs.List.{AllByRecursion};
-ghost use Rattle.alias_flow.specs.Machine.{send, send_all};
+ghost use Rattle.alias_flow.specs.Machine.{send_all};
 ghost use Rattle.alias_flow.specs.check.Checks.{is_below_entry, first_not_above};
 ghost use Rattle.alias_passage.specs.Passes.{forward_edges, back_edges};
 
+use alias_flow::sending::{send_copy, send_state};
 use alias_lattice::Lattice;
 use std::alloc::AllocError;
 
-/// A copy of the state arrives at the block.
-pub(crate) fn arrive<S: Lattice + Drop>(
-    arriving: &mut [Option<S>],
-    state: &S,
-    block: u32,
-) -> Result<(), AllocError>
-    requires { block < length arriving.old }
-    ensures { OnOk result (arriving.new ≡ send S.join state.now arriving.old block) }
-{
-    match &mut arriving[block as usize] {
-        Some(old) => {
-            old.join_from(state)?;
-        }
-        none => *none = Some(state.try_clone()?),
-    }
-    Ok(())
-}
-
 /// Copies of the state arrive over those edges of the block that go forward.
-pub(crate) fn arrive_forward<S: Lattice + Drop>(
+fn arrive_copied<S: Lattice + Drop>(
     arriving: &mut [Option<S>],
     state: &S,
     block: u32,
     edges: &[u32],
 ) -> Result<(), AllocError>
     requires { AllByRecursion (λ e. e < length arriving.old) edges.now }
-    ensures { OnOk result (arriving.new ≡ send_all S.join state.now arriving.old (forward_edges block edges.now)) }
+    ensures sent { OnOk result (arriving.new ≡ send_all S.join state.now arriving.old (forward_edges block edges.now)) }
+    ensures length { OnOk result (length arriving.new ≡ length arriving.old) }
 {
     for edge in edges {
         if block < *edge {
-            arrive(arriving, state, *edge)?;
+            send_copy(arriving, state, *edge)?;
         }
+    }
+    Ok(())
+}
+
+/// The state arrives over those edges of the block that go forward: the state itself over the last edge, and copies of it
+/// over the others.
+pub(crate) fn arrive_forward<S: Lattice + Drop>(
+    arriving: &mut [Option<S>],
+    state: S,
+    block: u32,
+    edges: &[u32],
+) -> Result<(), AllocError>
+    requires { AllByRecursion (λ e. e < length arriving.old) edges.now }
+    ensures { OnOk result (arriving.new ≡ send_all S.join state arriving.old (forward_edges block edges.now)) }
+{
+    let Some((last, others)) = edges.split_last() else {
+        return Ok(());
+    };
+    arrive_copied(arriving, &state, block, others)?;
+    if block < *last {
+        send_state(arriving, state, *last)?;
     }
     Ok(())
 }

@@ -3,8 +3,8 @@ ghost use Rattle.std.specs.Prelude.{◌≡◌, ◌++◌, ◌∷◌, ◌<◌, [],
 ghost use Rattle.alias_flow.specs.Solutions.{entry_at};
 ghost use Rattle.alias_passage.specs.Passes.{or_empty, passage_begun};
 
-use crate::arriving::arrive;
 use alias_base::List;
+use alias_flow::sending::send_state;
 use alias_flow::{Flow, nothing_yet};
 use alias_lattice::Lattice;
 use std::alloc::{AllocError, Global};
@@ -26,7 +26,7 @@ pub fn begin<F: Flow, B: Drop>(alloc: Global, flow: &F) -> Result<Passage<F::Sta
     let entry = flow.entry();
     let mut arriving = List::from_vec(nothing_yet(alloc, count)?);
     let initial = flow.initial()?;
-    arrive(arriving.as_mut_slice(), &initial, entry)?;
+    send_state(arriving.as_mut_slice(), initial, entry)?;
     Ok(Passage {
         arriving,
         entries: List::from_vec(nothing_yet(alloc, count)?),

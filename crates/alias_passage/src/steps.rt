@@ -21,11 +21,11 @@ fn pass_out<F: Flow, G: Given<F>>(
     given: &G,
     passage: &mut Passage<F::State, G::Beyond>,
     block: u32,
-    out: &F::State,
+    out: F::State,
 ) -> Result<(), Unsolved<F::Fault, G::Lack>>
     requires block { block < (F.rules flow.now).blocks }
     requires arriving { length passage.old.arriving ≡ (F.rules flow.now).blocks }
-    ensures passes { (empty : _) (lacks : _) (before : _) (k : _) → Lacks F.tables (G.lacking given.now) lacks → F.recorded flow.now ≡ slice_set before block (Some k) → ChecksInto F.cause (outcome_passed F.State.join F.State.below empty (F.rules flow.now) (G.entering given.now) G.unentered lacks block (solver_state passage.old (F.tables flow.now) before) (Stepped out.now (F.tables flow.now) k)) result (solver_state passage.new (F.tables flow.now) (F.recorded flow.now)) }
+    ensures passes { (empty : _) (lacks : _) (before : _) (k : _) → Lacks F.tables (G.lacking given.now) lacks → F.recorded flow.now ≡ slice_set before block (Some k) → ChecksInto F.cause (outcome_passed F.State.join F.State.below empty (F.rules flow.now) (G.entering given.now) G.unentered lacks block (solver_state passage.old (F.tables flow.now) before) (Stepped out (F.tables flow.now) k)) result (solver_state passage.new (F.tables flow.now) (F.recorded flow.now)) }
     ensures arriving { OnOk result (length passage.new.arriving ≡ length passage.old.arriving) }
     ensures entries { passage.new.entries ≡ passage.old.entries }
 {
@@ -34,7 +34,7 @@ fn pass_out<F: Flow, G: Given<F>>(
     }
     let edges = flow.edges(block)?;
     let entries = passage.entries.as_slice();
-    if let Some(successor) = first_not_above(entries, out, block, edges.as_slice()) {
+    if let Some(successor) = first_not_above(entries, &out, block, edges.as_slice()) {
         return Err(Unsolved::NotBelow { block, successor });
     }
     let arriving = passage.arriving.as_mut_slice();
@@ -68,7 +68,7 @@ fn pass_block<F: Flow, G: Given<F>>(
     let mut out = entered.try_clone()?;
     note_entry(passage, block, entered, more)?;
     match flow.step(block, &mut out) {
-        Ok(()) => pass_out(&*flow, given, passage, block, &out),
+        Ok(()) => pass_out(&*flow, given, passage, block, out),
         Err(fault) => Err(refused(block, fault)),
     }
 }

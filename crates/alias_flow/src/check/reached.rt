@@ -1,7 +1,9 @@
 //! Which blocks of a flow are reached.
-ghost use Rattle.std.specs.Prelude.{◌≡◌, ◌<◌, true, false, IfOk, OnOk, length, replicate, slice_index_or, slice_set, vec_len};
+ghost use Rattle.std.specs.Prelude.{◌≡◌, ◌<◌, nat_lt, true, false, IfOk, OnOk, MatchOption, length, replicate, slice_index_or, slice_set, vec_len};
+ghost use Rattle.std.specs.List.{list_all};
 ghost use Rattle.alias_lattice.specs.Flows.{IsReached};
 ghost use Rattle.alias_flow.specs.Machine.{up};
+ghost use Rattle.alias_flow.specs.Solutions.{goes_forward};
 ghost use Rattle.alias_flow.specs.check.Reached.{marked_all, marked_from, marked_round, marked_rounds, reached_marks};
 
 use crate::Flow;
@@ -102,4 +104,63 @@ pub fn reached_blocks<F: Flow>(alloc: Global, flow: &F) -> Result<Vec<bool>, All
 {
     let marks = marks_left(alloc, flow)?;
     Ok(marks)
+}
+
+fn all_ahead(block: u32, edges: &[u32]) -> bool
+    ensures { result ≡ list_all (λ e. nat_lt block e) edges.now }
+{
+    edges.iter().all(|to| *to > block)
+}
+
+/// Whether each edge of the block goes to a later block; if so, and the block is marked, marks those that they lead to.
+fn mark_ahead<F: Flow>(marks: &mut [bool], flow: &F, block: u32) -> Result<bool, AllocError>
+    requires block { block < (F.rules flow.now).blocks }
+    requires length { length marks.old ≡ (F.rules flow.now).blocks }
+    ensures ahead { IfOk result (λ ahead. ahead ≡ list_all (λ e. nat_lt block e) ((F.rules flow.now).flow.edges block)) }
+    ensures marks { IfOk result (λ ahead. ahead ≡ true → marks.new ≡ marked_from (F.rules flow.now).flow.edges marks.old block) }
+{
+    let edges = flow.edges(block)?;
+    let ahead = all_ahead(block, edges.as_slice());
+    if ahead && marks[block as usize] {
+        let _grew = mark_all(marks, edges.as_slice());
+    }
+    Ok(ahead)
+}
+
+/// Goes over the blocks once, in stored order, while their edges go to later blocks, and answers whether all do.
+#[tactic(auto, using(crate::proofs::check::Rounds::up_next))]
+fn mark_all_ahead<F: Flow>(marks: &mut [bool], flow: &F, count: u32) -> Result<bool, AllocError>
+    requires count { count ≡ (F.rules flow.now).blocks }
+    requires length { length marks.old ≡ (F.rules flow.now).blocks }
+    ensures ahead { IfOk result (λ ahead. ahead ≡ goes_forward (F.rules flow.now)) }
+    ensures marks { IfOk result (λ ahead. ahead ≡ true → marks.new ≡ marked_round (F.rules flow.now).flow.edges marks.old (up 0 count)) }
+{
+    for block in 0..count {
+        if !mark_ahead(marks, flow, block)? {
+            return Ok(false);
+        }
+    }
+    Ok(true)
+}
+
+/// Whether each edge of each block goes to a later block, with the marks that one round leaves where all do.
+fn marks_ahead<F: Flow>(alloc: Global, flow: &F) -> Result<(bool, Vec<bool>), AllocError>
+    ensures ahead { IfOk result (λ found. found.0 ≡ goes_forward (F.rules flow.now)) }
+    ensures marks { IfOk result (λ found. found.0 ≡ true → found.1.items ≡ marked_round (F.rules flow.now).flow.edges (slice_set (replicate (F.rules flow.now).blocks false) (F.rules flow.now).flow.entry true) (up 0 (F.rules flow.now).blocks)) }
+    ensures count { IfOk result (λ found. vec_len found.1 ≡ (F.rules flow.now).blocks) }
+{
+    let count = flow.blocks();
+    let mut marks = entry_marked(alloc, count, flow.entry())?;
+    let ahead = mark_all_ahead(marks.as_mut_slice(), flow, count)?;
+    Ok((ahead, marks))
+}
+
+/// Where each edge of each block goes to a later block, whether each block of the flow is reached, in stored order, which
+/// one look at each edge tells; and `None` where an edge goes back. The one error is out of memory.
+#[tactic(auto, using(crate::proofs::check::ForwardMarks::forward_marked))]
+pub fn reached_ahead<F: Flow>(alloc: Global, flow: &F) -> Result<Option<Vec<bool>>, AllocError>
+    ensures marks { IfOk result (λ reached. MatchOption reached (goes_forward (F.rules flow.now) ≡ false) (λ marks. (goes_forward (F.rules flow.now) ≡ true) × (marks.items ≡ reached_marks (F.rules flow.now)) × (vec_len marks ≡ (F.rules flow.now).blocks))) }
+{
+    let (ahead, marks) = marks_ahead(alloc, flow)?;
+    if ahead { Ok(Some(marks)) } else { Ok(None) }
 }

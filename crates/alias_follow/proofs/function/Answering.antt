@@ -19,9 +19,7 @@ use Rattle.alias_step.specs.declared.block.faults.BlockRefusal.{BlockRefusal}
 use Rattle.alias_step.specs.declared.block.recorded.BlockEffects.{BlockEffects}
 use Rattle.alias_tables.specs.Tables.{TableLists}
 use Rattle.alias_tables.specs.write_back.WriteBack.{tables_of}
-use Rattle.alias_nested.specs.Created.{created_functions}
 use Rattle.alias_certificate.specs.declared.beyond.Beyond.{Beyond}
-use Rattle.alias_certificate.specs.declared.certificate.CertBlock.{CertBlock}
 use Rattle.alias_certificate.specs.declared.certificate.CertFunction.{CertFunction}
 use Rattle.alias_certificate.specs.declared.certificate.CertTemporary.{CertTemporary}
 use Rattle.alias_certificate.specs.declared.fault.CheckFault.{CheckFault}
@@ -34,9 +32,7 @@ use Rattle.alias_follow.specs.declared.lines.entering.Unfollowed.TheVariants as 
 use Rattle.alias_follow.specs.function.Faults.{pass_fault, faulted}
 use Rattle.alias_follow.specs.function.Functions.{flow_rules, is_forward, marks, steps_followed, followed_end}
 use Rattle.alias_follow.specs.function.Functions.{passed_with, given_passed, function_followed}
-use Rattle.alias_follow.specs.function.Givens.{kept, limit, lacking, blocks_given, temporaries_given, tables_begun}
-use Rattle.alias_follow.specs.lines.Entering.{entering_by}
-use Rattle.alias_follow.specs.lines.First.{first_lines}
+use Rattle.alias_follow.specs.function.Givens.{kept, limit, lacking, temporaries_given, tables_begun, entering}
 use Rattle.alias_passage.specs.declared.passage.Passage.{Passage}
 use Rattle.alias_passage.specs.Passes.{Passing, passage_begun, blocks_passed, flow_passed}
 
@@ -133,8 +129,7 @@ module _ (given : Option CertFunction) (most : Option ℕ) (id : Option Function
     (k : List (Option BlockEffects)) where
   after_temporaries : TableLists → Result (Passing State Beyond TableLists BlockEffects) CheckFault
   after_temporaries begun = faulted id env f.body.blocks (flow_passed state_join state_below empty_state r
-      (entering_by (length env.identifiers + length (temporaries_given given)) (created_functions f) (blocks_given given)
-      (first_lines (blocks_given given) f.body.blocks)) unfollowed.State (lacking most) ms begun k)
+      (entering given id env f) unfollowed.State (lacking most) ms begun k)
 
   pub temporaries_refused : (ts : List CertTemporary) (e : CheckFault) → ts ≡ temporaries_given given
       → temporaries_stated id env ts t ≡ Err e → given_passed given most id env f r ms t k ≡ Err e
@@ -144,20 +139,16 @@ module _ (given : Option CertFunction) (most : Option ℕ) (id : Option Function
 
   -- once these are given, what is given of the blocks decides
   pub given_at : (ts : List CertTemporary) (tables : TableLists) → ts ≡ temporaries_given given
-      → temporaries_stated id env ts t ≡ Ok tables → (n : ℕ) (ids : List FunctionId) (lines : List CertBlock)
-      (numbers : List (Option ℕ)) (limit : Option ℕ) (rules : Rules State TableLists BlockEffects BlockRefusal)
-      (recorded : List (Option BlockEffects)) → n ≡ length env.identifiers + length (temporaries_given given) → ids
-      ≡ created_functions f → lines ≡ blocks_given given → numbers ≡ first_lines (blocks_given given) f.body.blocks
-      → limit ≡ most → rules ≡ r → recorded ≡ k
-      → faulted id env f.body.blocks (flow_passed state_join state_below empty_state rules
-      (entering_by n ids lines numbers) unfollowed.State (lacking limit) ms tables recorded)
+      → temporaries_stated id env ts t ≡ Ok tables → (enter : ℕ → State → Option (State × Beyond)) (limit : Option ℕ)
+      (rules : Rules State TableLists BlockEffects BlockRefusal) (recorded : List (Option BlockEffects))
+      → enter ≡ entering given id env f → limit ≡ most → rules ≡ r → recorded ≡ k
+      → faulted id env f.body.blocks
+      (flow_passed state_join state_below empty_state rules enter unfollowed.State (lacking limit) ms tables recorded)
       ≡ given_passed given most id env f r ms t k
   unfolding after_temporaries
-  given_at ts tables same h n ids lines numbers limit rules recorded number_is ids_are lines_are numbers_are limit_is
-      rules_are recorded_are =
-      (λ i. faulted id env f.body.blocks (flow_passed state_join state_below empty_state (rules_are i)
-      (entering_by (number_is i) (ids_are i) (lines_are i) (numbers_are i)) unfollowed.State (lacking (limit_is i)) ms
-      tables (recorded_are i)))
+  given_at ts tables same h enter limit rules recorded enter_is limit_is rules_are recorded_are =
+      (λ i. faulted id env f.body.blocks (flow_passed state_join state_below empty_state (rules_are i) (enter_is i)
+      unfollowed.State (lacking (limit_is i)) ms tables (recorded_are i)))
       ∙ sym (ap (λ z. z >>= after_temporaries) (ap (λ z. temporaries_stated id env z t) (sym same) ∙ h))
 
 -- ---- the whole

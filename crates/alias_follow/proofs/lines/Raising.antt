@@ -1,11 +1,13 @@
 -- What lines raise a state to.
 use Rattle.std.specs.Prelude.{IsTrue, slice_get, slice_index_or}
 use Rattle.std.specs.List.{AllByRecursion, list_all}
-use Rattle.std.proofs.Common.{◌≡◌, ℕ, zero, suc, ◌&&◌, Bool, true, false, if◌then◌else◌, List, [], ◌∷◌, Option, Some, None}
-use Rattle.std.proofs.Common.{option_map, refl, ap, sym, ◌∙◌, subst}
+use Rattle.std.proofs.Common.{◌≡◌, ℕ, ◌+◌, zero, suc, ◌&&◌, Bool, true, false, if◌then◌else◌, List, [], ◌∷◌, Option, Some, None}
+use Rattle.std.proofs.Common.{length, option_map, refl, ap, sym, ◌∙◌, subst}
 use Rattle.alias_base.specs.AnswerLaws.{both_true}
 use Rattle.alias_base.specs.declared.ids.FunctionId.{FunctionId}
 use Rattle.alias_hir.specs.Positions.{Blocks}
+use Rattle.alias_hir.specs.declared.env.Environment.{Environment}
+use Rattle.alias_hir.specs.declared.hir.HirFunction.{HirFunction}
 use Rattle.alias_lattice.specs.AbstractValues.{AbstractProper}
 use Rattle.alias_lattice.specs.JoinLaws.{state_laws}
 use Rattle.alias_lattice.specs.Laws.{below_join}
@@ -32,7 +34,9 @@ use Rattle.alias_certificate.specs.states.Beyond.{beyond_of, nothing_beyond}
 use Rattle.alias_certificate.proofs.raised.Lines.{sites_proper, no_sites}
 use Rattle.alias_certificate.proofs.states.Valued.{variable_is_valued}
 use Rattle.alias_cert.proofs.Stated.{site_given, no_site, site_has}
-use Rattle.alias_follow.specs.lines.Entering.{is_bare, entered_by, entering_by}
+use Rattle.alias_nested.specs.Created.{created_functions}
+use Rattle.alias_follow.specs.function.Givens.{entering}
+use Rattle.alias_follow.specs.lines.Entering.{is_bare, entered_by, entering_by, entering_of}
 use Rattle.alias_follow.specs.lines.First.{line_at, first_lines}
 use Rattle.alias_follow.specs.lines.Known.{AreKnown, AreLinesKnown}
 
@@ -203,3 +207,9 @@ pub entering_nothing : (n : ℕ) (ids : List FunctionId) (blocks : Blocks) (b : 
 entering_nothing n ids blocks b x s m e =
     sym (same_state (as_it_is x) (s, m)
     (sym (ap (λ o. entered_by n ids (line_at [] o) x) (none_numbered blocks b)) ∙ e))
+
+-- it is so where nothing is said of any block
+pub nothing_entered : (id : Option FunctionId) (env : Environment) (f : HirFunction)
+    → entering_of None ≡ entering None id env f
+nothing_entered id env f = λ i b x. entered_by (length env.identifiers + 0) (created_functions f)
+    (line_at [] (sym (none_numbered f.body.blocks b) i)) x

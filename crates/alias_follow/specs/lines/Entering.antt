@@ -7,6 +7,7 @@ use Rattle.alias_certificate.specs.declared.certificate.CertBlock.{CertBlock}
 use Rattle.alias_certificate.specs.states.Raised.{raised_state}
 use Rattle.alias_certificate.specs.declared.beyond.Beyond.{Beyond}
 use Rattle.alias_certificate.specs.states.Beyond.{beyond_of, nothing_beyond}
+use Rattle.alias_follow.specs.declared.lines.entering.BlockLines.{BlockLines}
 use Rattle.alias_follow.specs.lines.First.{line_at}
 
 abbrev pub none_of : {A : Type 0} → List A → Bool
@@ -28,3 +29,8 @@ entered_by identifiers created (Some c) x = if is_bare c then Some (x, nothing_b
 abbrev pub entering_by : ℕ → List FunctionId → List CertBlock → List (Option ℕ) → ℕ → State → Option (State × Beyond)
 entering_by identifiers created lines numbers b x =
     entered_by identifiers created (line_at lines (slice_index_or numbers b None)) x
+
+-- by what is said of the blocks: where nothing is, what arrives
+abbrev pub entering_of : Option BlockLines → ℕ → State → Option (State × Beyond)
+entering_of None = λ b x. Some (x, nothing_beyond)
+entering_of (Some lines) = entering_by lines.identifiers lines.created lines.blocks.now lines.numbers.items

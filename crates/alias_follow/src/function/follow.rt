@@ -15,11 +15,12 @@ ghost use Rattle.alias_follow.specs.declared.lines.entering.Unfollowed.TheVarian
 ghost use Rattle.alias_follow.specs.function.Faults.{faulted};
 ghost use Rattle.alias_follow.specs.function.Functions.{passed_with, given_passed, function_followed};
 ghost use Rattle.alias_follow.specs.function.Givens.{lacking};
-ghost use Rattle.alias_follow.specs.lines.Entering.{entering_by};
+ghost use Rattle.alias_follow.specs.lines.Entering.{entering_of};
 ghost use Rattle.alias_passage.specs.Passes.{flow_passed};
 
 use crate::function::faults::fault_of;
 use crate::function::given::{blocks_given, kept, limit, temporaries_given};
+use crate::function::reach::reach;
 use crate::lines::{Lines, lines_known};
 use alias_base::{FunctionId, List};
 use alias_cert::function::function::marked_positions;
@@ -27,8 +28,7 @@ use alias_cert::function::temporaries::state_temporaries;
 use alias_certificate::{Beyond, CertFunction, CheckFault};
 use alias_effects::{EffectsFlow, PassEnd};
 use alias_facts::{FunctionFacts, function_facts};
-use alias_flow::check::reached_blocks;
-use alias_flow::{Flow, Solution, is_forward};
+use alias_flow::{Flow, Solution};
 use alias_hir::env::Environment;
 use alias_hir::hir::HirFunction;
 use alias_lattice::InferenceState;
@@ -72,7 +72,7 @@ fn follow_steps(
     flow: &mut EffectsFlow<'_>,
 ) -> Result<Passage<InferenceState, Beyond>, CheckFault>
     requires { length marks.now ≡ (numbered (held flow.old.context)).blocks }
-    ensures steps { Gives is_memory (faulted function env.now func.now.body.blocks (flow_passed state_join state_below empty_state (numbered (held flow.old.context)) (entering_by lines.now.identifiers lines.now.created lines.now.blocks.now lines.now.numbers.items) State (lacking lines.now.limit) marks.now flow.old.tables flow.old.recorded.items)) (passed_with flow.new.tables flow.new.recorded.items result) }
+    ensures steps { Gives is_memory (faulted function env.now func.now.body.blocks (flow_passed state_join state_below empty_state (numbered (held flow.old.context)) (entering_of lines.now.blocks) State (lacking lines.now.limit) marks.now flow.old.tables flow.old.recorded.items)) (passed_with flow.new.tables flow.new.recorded.items result) }
     ensures func { flow.new.context.func ≡ flow.old.context.func }
     ensures entries { IfOk result (λ passage. length passage.entries ≡ (numbered (held flow.old.context)).blocks) }
 {
@@ -126,9 +126,9 @@ fn follow_with(
     ensures keeps { IfOk result (λ e. FunctionKept func.now env.now (with_effects_of e.end.solved func.now) (env_after env.now e.end)) }
 {
     let mut flow = EffectsFlow::new(alloc, func, env, facts, is_function_expression)?;
-    let is_forward = is_forward(&flow)?;
-    let marks = reached_blocks(alloc, &flow)?;
-    let reached = marks.as_slice();
+    let found = reach(alloc, &flow)?;
+    let is_forward = found.is_forward;
+    let reached = found.marks.as_slice();
     let said = kept(is_forward, given);
     let most = limit(is_forward, given);
     let blocks = blocks_given(said);

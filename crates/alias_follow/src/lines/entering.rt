@@ -1,12 +1,9 @@
 //! The state that a block is entered with.
-ghost use Rattle.std.specs.Prelude.{◌≡◌, ◌+◌, Some, IfOk, length, option_map};
-ghost use Rattle.alias_nested.specs.Created.{created_functions};
+ghost use Rattle.std.specs.Prelude.{◌≡◌, ◌+◌, Some, None, IfOk, length, option_map};
 ghost use Rattle.alias_follow.specs.declared.lines.entering.Unfollowed.TheVariants.{State};
-ghost use Rattle.alias_follow.specs.function.Givens.{lacking, blocks_given as blocks_of, temporaries_given as temporaries_of};
-ghost use Rattle.alias_follow.specs.lines.Entering.{is_bare, entered_by, entering_by};
-ghost use Rattle.alias_follow.specs.lines.First.{first_lines};
+ghost use Rattle.alias_follow.specs.function.Givens.{lacking, entering};
+ghost use Rattle.alias_follow.specs.lines.Entering.{is_bare, entered_by, entering_by, entering_of};
 
-use crate::function::{blocks_given, temporaries_given};
 use crate::lines::numbers::{first_lines as line_numbers, line_at};
 use alias_cert::function::lines::number_at;
 use alias_certificate::{
@@ -29,8 +26,8 @@ pub enum Unfollowed {
     MissingTemporary,
 }
 
-/// What is given of a function's blocks.
-pub struct Lines<'a> {
+/// What is said of a function's blocks.
+pub struct BlockLines<'a> {
     /// How many identifiers there are, with the temporaries that are given.
     pub(crate) identifiers: usize,
     /// The functions that the function creates.
@@ -38,6 +35,23 @@ pub struct Lines<'a> {
     pub(crate) blocks: &'a [CertBlock],
     /// Of each block of the function, in stored order, the number of its line.
     pub(crate) numbers: Vec<Option<usize>>,
+}
+
+impl<'a> Drop for BlockLines<'a> {
+    fn drop(self) {
+        let BlockLines {
+            identifiers: _,
+            created: _,
+            blocks: _,
+            numbers: _,
+        } = self;
+    }
+}
+
+/// What is given of a function.
+pub struct Lines<'a> {
+    /// What is said of its blocks. Where nothing is, each is entered with what arrives.
+    pub(crate) blocks: Option<BlockLines<'a>>,
     /// How many temporaries steps may make.
     pub(crate) limit: Option<usize>,
 }
@@ -45,10 +59,7 @@ pub struct Lines<'a> {
 impl<'a> Drop for Lines<'a> {
     fn drop(self) {
         let Lines {
-            identifiers: _,
-            created: _,
             blocks: _,
-            numbers: _,
             limit: _,
         } = self;
     }
@@ -64,8 +75,36 @@ fn identifiers_with(env: &Environment, more: usize) -> Result<usize, AllocError>
     }
 }
 
+impl<'a> BlockLines<'a> {
+    /// What is said of the blocks of the function, which has so many. The one error is out of memory.
+    fn new(
+        alloc: Global,
+        given: &'a CertFunction,
+        func: &HirFunction,
+        env: &Environment,
+        count: u32,
+    ) -> Result<BlockLines<'a>, AllocError>
+        requires { count ≡ length func.now.body.blocks }
+        ensures { IfOk result (λ lines. entering_of (Some lines) ≡ entering (Some given.now) None env.now func.now) }
+    {
+        let identifiers = identifiers_with(env, given.temporaries.len())?;
+        let ids = created_in(alloc, func)?;
+        let created = CreatedFunctions::new(alloc, ids)?;
+        let blocks = given.blocks.as_slice();
+        let numbers = line_numbers(alloc, &func.body.blocks, count, blocks)?;
+        Ok(BlockLines {
+            identifiers,
+            created,
+            blocks,
+            numbers,
+        })
+    }
+}
+
 impl<'a> Lines<'a> {
-    /// What is given of the blocks of the function, which has so many. The one error is out of memory.
+    /// What is given of the function, which has so many blocks. Where nothing is, this takes no memory and no time. The one
+    /// error is out of memory.
+    #[tactic(auto, using(crate::proofs::lines::Raising::nothing_entered))]
     pub(crate) fn new(
         alloc: Global,
         given: Option<&'a CertFunction>,
@@ -75,25 +114,14 @@ impl<'a> Lines<'a> {
         count: u32,
     ) -> Result<Lines<'a>, AllocError>
         requires { count ≡ length func.now.body.blocks }
-        ensures identifiers { IfOk result (λ lines. lines.identifiers ≡ length env.now.identifiers + length (temporaries_of (option_map (λ g. g.now) given.entry))) }
-        ensures created { IfOk result (λ lines. lines.created ≡ created_functions func.now) }
-        ensures blocks { IfOk result (λ lines. lines.blocks.now ≡ blocks_of (option_map (λ g. g.now) given.entry)) }
-        ensures numbers { IfOk result (λ lines. lines.numbers.items ≡ first_lines (blocks_of (option_map (λ g. g.now) given.entry)) func.now.body.blocks) }
+        ensures entering { IfOk result (λ lines. entering_of lines.blocks ≡ entering (option_map (λ g. g.now) given.entry) None env.now func.now) }
         ensures limit { IfOk result (λ lines. lines.limit ≡ limit) }
     {
-        let more = temporaries_given(given).len();
-        let identifiers = identifiers_with(env, more)?;
-        let ids = created_in(alloc, func)?;
-        let created = CreatedFunctions::new(alloc, ids)?;
-        let blocks = blocks_given(given);
-        let numbers = line_numbers(alloc, &func.body.blocks, count, blocks)?;
-        Ok(Lines {
-            identifiers,
-            created,
-            blocks,
-            numbers,
-            limit,
-        })
+        let blocks = match given {
+            Some(given) => Some(BlockLines::new(alloc, given, func, env, count)?),
+            None => None,
+        };
+        Ok(Lines { blocks, limit })
     }
 }
 
@@ -107,7 +135,7 @@ fn is_bare(line: &CertBlock) -> bool
 /// What arrives, raised by what is said of the block.
 fn entered_by(
     alloc: Global,
-    lines: &Lines<'_>,
+    lines: &BlockLines<'_>,
     line: &CertBlock,
     arrived: InferenceState,
 ) -> Result<Option<(InferenceState, Beyond)>, AllocError>
@@ -119,12 +147,28 @@ fn entered_by(
     raised_with_beyond(alloc, lines.identifiers, &lines.created, line, &arrived)
 }
 
+/// What arrives at the block at this position, raised by what is said of it.
+fn entering_by(
+    alloc: Global,
+    lines: &BlockLines<'_>,
+    block: u32,
+    arrived: InferenceState,
+) -> Result<Option<(InferenceState, Beyond)>, AllocError>
+    ensures { IfOk result (λ entered. entered ≡ entering_by lines.now.identifiers lines.now.created lines.now.blocks.now lines.now.numbers.items block arrived) }
+{
+    let number = number_at(lines.numbers.as_slice(), block as usize);
+    match line_at(lines.blocks, number) {
+        Some(line) => entered_by(alloc, lines, line, arrived),
+        None => Ok(Some((arrived, nothing_beyond(alloc)))),
+    }
+}
+
 impl<'a, 'l> Given<EffectsFlow<'a>> for Lines<'l> {
     type Beyond = Beyond;
 
     type Lack = Unfollowed;
 
-    ghost entering = { λ lines. entering_by lines.identifiers lines.created lines.blocks.now lines.numbers.items };
+    ghost entering = { λ lines. entering_of lines.blocks };
 
     ghost unentered = { State };
 
@@ -136,13 +180,10 @@ impl<'a, 'l> Given<EffectsFlow<'a>> for Lines<'l> {
         block: u32,
         arrived: InferenceState,
     ) -> Result<Option<(InferenceState, Beyond)>, AllocError>
-        ensures { IfOk result (λ entered. entered ≡ entering_by self.now.identifiers self.now.created self.now.blocks.now self.now.numbers.items block arrived) }
+        ensures { IfOk result (λ entered. entered ≡ entering_of self.now.blocks block arrived) }
     {
-        match line_at(
-            self.blocks,
-            number_at(self.numbers.as_slice(), block as usize),
-        ) {
-            Some(line) => entered_by(alloc, self, line, arrived),
+        match &self.blocks {
+            Some(lines) => entering_by(alloc, lines, block, arrived),
             None => Ok(Some((arrived, nothing_beyond(alloc)))),
         }
     }

@@ -9,6 +9,7 @@ use Rattle.alias_certificate.specs.declared.fault.CheckFault.{CheckFault}
 use Rattle.alias_certificate.specs.declared.fault.CheckFault.TheVariants as fault
 use Rattle.alias_cert.specs.function.Faults.{is_memory}
 use Rattle.alias_follow.specs.function.Functions.{passed_with, given_passed}
+use Rattle.alias_follow.specs.lines.Entering.{entering_of}
 use Rattle.alias_follow.proofs.function.Answering.{passes_fault, passes_memory, temporaries_refused, given_at}
 use Rattle.alias_follow.proofs.function.follow.follow_given.Goals as goal
 
@@ -58,9 +59,8 @@ returns-clause-steps c =
     subst (λ z. Gives is_memory z (passed_with now.tables now.recorded.items c.follow_steps.result))
     (given_at given c.args.limit c.args.function c.args.env.now c.args.func.now (numbered (held old.context))
     c.args.marks.now old.tables old.recorded.items c.temporaries_given-temporaries.result.now flow.tables
-    c.temporaries_given-temporaries.ensures c.in_ok-state_temporaries.ensures.tables lines.identifiers lines.created
-    lines.blocks.now lines.numbers.items lines.limit (numbered (held flow.context)) flow.recorded.items is.identifiers
-    is.created is.blocks is.numbers is.limit
+    c.temporaries_given-temporaries.ensures c.in_ok-state_temporaries.ensures.tables (entering_of lines.blocks)
+    lines.limit (numbered (held flow.context)) flow.recorded.items is.entering is.limit
     (ap (λ x. numbered (held x)) c.in_ok-state_temporaries.ensures.same.context)
     c.in_ok-state_temporaries.ensures.same.recorded) c.follow_steps.ensures.steps
 

@@ -7,7 +7,7 @@ use Rattle.alias_certificate.specs.declared.fault.CheckFault.TheVariants as faul
 use Rattle.alias_follow.specs.declared.lines.entering.Unfollowed.TheVariants as unfollowed
 use Rattle.alias_follow.specs.function.Faults.{faulted}
 use Rattle.alias_follow.specs.function.Givens.{lacking}
-use Rattle.alias_follow.specs.lines.Entering.{entering_by}
+use Rattle.alias_follow.specs.lines.Entering.{entering_of}
 use Rattle.alias_passage.specs.Passes.{flow_passed}
 use Rattle.alias_follow.proofs.function.Answering.{passes_memory, begun_arriving, begun_entries, pass_comes, pass_finds}
 use Rattle.alias_follow.proofs.function.follow.follow_steps.Goals as goal
@@ -31,7 +31,7 @@ returns-in_err-passage-clause-steps c =
     passes_memory flow.tables flow.recorded.items
     (faulted c.args.function c.args.env.now c.args.func.now.body.blocks
     (flow_passed state_join state_below empty_state (numbered (held flow.context))
-    (entering_by lines.identifiers lines.created lines.blocks.now lines.numbers.items) unfollowed.State
+    (entering_of lines.blocks) unfollowed.State
     (lacking lines.limit) c.args.marks.now flow.tables flow.recorded.items)) c.from_residual.result e same
 
 pub returns-in-Ok-clause-steps : goal.returns-in-Ok-clause-steps
@@ -40,7 +40,7 @@ returns-in-Ok-clause-steps c =
     let now = c.pass_all.new.flow in
     let lines = c.args.lines.now in
     pass_comes (numbered (held flow.context)) c.in_ok-passage.passage c.in_ok-passage.ensures
-    (entering_by lines.identifiers lines.created lines.blocks.now lines.numbers.items) lines.limit c.args.marks.now
+    (entering_of lines.blocks) lines.limit c.args.marks.now
     flow.tables flow.recorded.items c.empty-empty.result c.empty-empty.ensures c.args.function c.args.env.now
     c.args.func.now.body.blocks (solver_state c.pass_all.new.passage now.tables now.recorded.items)
     (c.in-Ok.ensures.passes (lacking lines.limit) (λ _. refl))
@@ -51,7 +51,7 @@ returns-in-Err-clause-steps c =
     let now = c.pass_all.new.flow in
     let lines = c.args.lines.now in
     pass_finds (numbered (held flow.context)) c.in_ok-passage.passage c.in_ok-passage.ensures
-    (entering_by lines.identifiers lines.created lines.blocks.now lines.numbers.items) lines.limit c.args.marks.now
+    (entering_of lines.blocks) lines.limit c.args.marks.now
     flow.tables flow.recorded.items c.empty-empty.result c.empty-empty.ensures c.args.function c.args.env.now
     c.args.func.now.body.blocks c.in-Err.fault c.fault_of.result
     (solver_state c.pass_all.new.passage now.tables now.recorded.items)

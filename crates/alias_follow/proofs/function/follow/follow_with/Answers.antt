@@ -28,7 +28,7 @@ follow_given-requires c =
       env = c.in_ok-flow.ensures.env;
       blocks = count;
       marks =
-          ap length c.as_slice-reached.ensures.value ∙ sym c.in_ok-marks.marks.ok.0 ∙ c.in_ok-marks.ensures.count ∙ count;
+          ap length c.as_slice-reached.ensures.value ∙ sym c.in_ok-found.found.marks.ok.0 ∙ c.in_ok-found.ensures.count ∙ count;
     }
 
 pub returns-in_err-passage-clause-answer : goal.returns-in_err-passage-clause-answer
@@ -39,11 +39,11 @@ returns-in_err-passage-clause-answer c =
     let func = c.args.func.now in
     let b = c.args.is_function_expression in
     let flow = c.in_ok-flow.flow in
-    let forward_is : c.in_ok-is_forward.is_forward ≡ is_forward given id env func b =
-    c.in_ok-is_forward.ensures.answer ∙ ap goes_forward c.in_ok-flow.ensures.rules in
+    let forward_is : c.in_ok-found.found.is_forward ≡ is_forward given id env func b =
+    c.in_ok-found.ensures.forward ∙ ap goes_forward c.in_ok-flow.ensures.rules in
     let said = option_map (λ (g : Bor CertFunction). g.now) c.kept-said.result in
     let marks_are : c.as_slice-reached.result.now ≡ marks given id env func b = c.as_slice-reached.ensures.value
-    ∙ c.in_ok-marks.ensures.marks ∙ ap reached_marks c.in_ok-flow.ensures.rules in
+    ∙ c.in_ok-found.ensures.marks ∙ ap reached_marks c.in_ok-flow.ensures.rules in
     let same_pass = pass_as given id env func b said c.limit-most.result (numbered (held flow.context))
     c.as_slice-reached.result.now flow.tables flow.recorded.items
     (c.kept-said.ensures ∙ ap (λ z. kept z given) forward_is)
@@ -70,13 +70,13 @@ returns c =
     let flow = c.in_ok-flow.flow in
     let left = c.follow_given.new.flow in
     let passage = c.in_ok-passage.passage in
-    let forward_is : c.in_ok-is_forward.is_forward ≡ is_forward given id env func b =
-    c.in_ok-is_forward.ensures.answer ∙ ap goes_forward c.in_ok-flow.ensures.rules in
+    let forward_is : c.in_ok-found.found.is_forward ≡ is_forward given id env func b =
+    c.in_ok-found.ensures.forward ∙ ap goes_forward c.in_ok-flow.ensures.rules in
     let said = option_map (λ (g : Bor CertFunction). g.now) c.kept-said.result in
     let said_is : said ≡ kept (is_forward given id env func b) given =
     c.kept-said.ensures ∙ ap (λ z. kept z given) forward_is in
     let marks_are : c.as_slice-reached.result.now ≡ marks given id env func b = c.as_slice-reached.ensures.value
-    ∙ c.in_ok-marks.ensures.marks ∙ ap reached_marks c.in_ok-flow.ensures.rules in
+    ∙ c.in_ok-found.ensures.marks ∙ ap reached_marks c.in_ok-flow.ensures.rules in
     let w = solver_state passage left.tables left.recorded.items in
     let passed : its_pass given id env func b ≡ Ok w =
     pass_as given id env func b said c.limit-most.result (numbered (held flow.context)) c.as_slice-reached.result.now
@@ -89,7 +89,7 @@ returns c =
     ∙ ap (marked_positions 0) marks_are in
     let end : FunctionEnd = record {
       end = c.in_ok-end.end;
-      beyond = record { is_forward = c.in_ok-is_forward.is_forward; blocks = passage.beyond };
+      beyond = record { is_forward = c.in_ok-found.found.is_forward; blocks = passage.beyond };
     } in
     let ended : c.in_ok-end.end ≡ end_of func (record {
       progress = record {
@@ -117,8 +117,8 @@ returns c =
       successors = λ n j x k. fitting_successors func env n j x c.requires.fits k;
     } in
     let marks_long : length (marks given id env func b) ≡ length func.body.blocks =
-    sym (ap length marks_are) ∙ ap length c.as_slice-reached.ensures.value ∙ sym c.in_ok-marks.marks.ok.0
-    ∙ c.in_ok-marks.ensures.count ∙ ap (λ r. r.blocks) c.in_ok-flow.ensures.rules in
+    sym (ap length marks_are) ∙ ap length c.as_slice-reached.ensures.value ∙ sym c.in_ok-found.found.marks.ok.0
+    ∙ c.in_ok-found.ensures.count ∙ ap (λ r. r.blocks) c.in_ok-flow.ensures.rules in
     let lines : AreLinesKnown (blocks_given (kept (is_forward given id env func b) given)) =
     subst AreLinesKnown (c.blocks_given-blocks.ensures ∙ ap blocks_given said_is) c.lines_known.ensures in
     record {

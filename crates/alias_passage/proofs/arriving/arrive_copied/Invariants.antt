@@ -1,7 +1,7 @@
 use Rattle.std.proofs.Common.{◌≡◌, drop, length}
 use Rattle.alias_flow.specs.Machine.{send_all}
 use Rattle.alias_passage.specs.Passes.{forward_edges}
-use Rattle.alias_passage.proofs.arriving.arrive_forward.Given as goal
+use Rattle.alias_passage.proofs.arriving.arrive_copied.Given as goal
 
 abbrev pub invariant-loop-edge : goal.invariant-loop-edge
 invariant-loop-edge g l =
