@@ -30,6 +30,7 @@ fn arrive_copied<S: Lattice + Drop>(
 
 /// The state arrives over those edges of the block that go forward: the state itself over the last edge, and copies of it
 /// over the others.
+#[tactic(auto, using(crate::proofs::Sending::sends_last, crate::proofs::Sending::all_but_last))]
 pub(crate) fn arrive_forward<S: Lattice + Drop>(
     arriving: &mut [Option<S>],
     state: S,
