@@ -11,7 +11,7 @@ use std::alloc::{AllocError, Global};
 
 /// Which blocks of a function are reached.
 #[derive(Drop)]
-pub(crate) struct Reach {
+pub(crate) struct Reached {
     /// Whether each edge of each block goes to a later block.
     pub(crate) is_forward: bool,
     /// Whether each block is reached, in stored order.
@@ -19,19 +19,19 @@ pub(crate) struct Reach {
 }
 
 /// Which blocks of the flow's function are reached. Where no edge goes back, each edge is looked at once.
-pub(crate) fn reach(alloc: Global, flow: &EffectsFlow<'_>) -> Result<Reach, AllocError>
+pub(crate) fn reach(alloc: Global, flow: &EffectsFlow<'_>) -> Result<Reached, AllocError>
     ensures forward { IfOk result (λ found. found.is_forward ≡ goes_forward (numbered (held flow.now.context))) }
     ensures marks { IfOk result (λ found. found.marks.items ≡ reached_marks (numbered (held flow.now.context))) }
     ensures count { IfOk result (λ found. vec_len found.marks ≡ (numbered (held flow.now.context)).blocks) }
 {
     if let Some(marks) = reached_ahead(alloc, flow)? {
-        return Ok(Reach {
+        return Ok(Reached {
             is_forward: true,
             marks,
         });
     }
     let marks = reached_blocks(alloc, flow)?;
-    Ok(Reach {
+    Ok(Reached {
         is_forward: false,
         marks,
     })
