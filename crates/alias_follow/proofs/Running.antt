@@ -1,8 +1,7 @@
 -- What a pass over a flow keeps, where steps keep it.
 use Rattle.std.specs.Prelude.{slice_set, slice_index_or, replicate}
 use Rattle.std.proofs.Common.{◌≡◌, ℕ, zero, suc, Bool, true, false, if◌then◌else◌, List, [], ◌∷◌, Option, Some, None}
-use Rattle.std.proofs.Common.{Ok, refl, ap, sym, subst}
-use Rattle.std.specs.List.{AllByRecursion}
+use Rattle.std.proofs.Common.{Ok, refl, subst}
 use Rattle.alias_lattice.specs.Flows.{Outcome, Stepped, Refused}
 use Rattle.alias_flow.specs.Machine.{Rules, up, joined, send, send_all}
 use Rattle.alias_flow.specs.RecordingLaws.{HoldsOf, AllHold}

@@ -1,22 +1,18 @@
 -- What follows for a whole unit.
-use Rattle.std.proofs.Common.{◌≡◌, false, List, [], Result, Ok, Err, map, ap, sym, subst, ◌∙◌}
-use Rattle.std.specs.List.{AllByRecursion}
+use Rattle.std.proofs.Common.{◌≡◌, false, List, [], Result, Ok, Err, ap, sym, subst, ◌∙◌}
 use Rattle.alias_base.specs.Answer.{◌>>=◌}
 use Rattle.alias_hir.specs.declared.effect.AliasingEffect.{AliasingEffect}
 use Rattle.alias_hir.specs.declared.env.Environment.{Environment}
 use Rattle.alias_hir.specs.declared.env.Unit.{Unit as HirUnit}
 use Rattle.alias_hir.specs.declared.hir.HirFunction.{HirFunction}
-use Rattle.alias_hir.specs.declared.report.Report.{Report}
 use Rattle.alias_validate.specs.Reports.{with_errors}
 use Rattle.alias_effects.specs.declared.solved.Solved.{Solved}
-use Rattle.alias_nested.specs.declared.infer.Inferred.{Inferred}
 use Rattle.alias_certificate.specs.declared.certificate.CertFunction.{CertFunction}
 use Rattle.alias_certificate.specs.declared.fault.CheckFault.{CheckFault}
 use Rattle.alias_cert.specs.function.Faults.{is_memory}
 use Rattle.alias_follow.specs.declared.function.follow.FunctionBeyond.{FunctionBeyond}
 use Rattle.alias_follow.specs.declared.unit.Followed.{Followed}
-use Rattle.alias_follow.specs.Functions.{FollowedFunction, Following, following, RootFollowing, root_followed, Accounts}
-use Rattle.alias_follow.specs.Functions.{SolvesItsFlow}
+use Rattle.alias_follow.specs.Functions.{FollowedFunction, following, RootFollowing, root_followed, Accounts}
 use Rattle.alias_follow.specs.Units.{below_followed, UnitFollowing, handed_out, unit_followed, Follows}
 
 -- a call that found a fault

@@ -1,9 +1,8 @@
 -- What follows for a forward function is what its effects pass ends with.
 use Rattle.std.proofs.Common.{◌≡◌, ℕ, ◌+◌, Bool, true, false, if◌then◌else◌, List, [], ◌∷◌, ◌++◌}
 use Rattle.std.proofs.Common.{length, get_or, set, replicate}
-use Rattle.std.proofs.Common.{Option, Some, None, Result, Ok, Err, is_some, zero, suc, refl, ap, sym, ◌∙◌, arith}
+use Rattle.std.proofs.Common.{Option, Some, None, Result, Ok, Err, is_some, refl, ap, sym, ◌∙◌, arith}
 use Rattle.std.proofs.lemmas.List.{length-set, length-replicate}
-use Rattle.std.specs.Prelude.{slice_index_or}
 use Rattle.std.specs.List.{AllByRecursion}
 use Rattle.alias_base.specs.Answer.{◌>>=◌}
 use Rattle.alias_base.specs.Find.{value_at}
@@ -11,7 +10,6 @@ use Rattle.alias_base.specs.declared.ids.FunctionId.{FunctionId}
 use Rattle.alias_hir.specs.declared.env.Environment.{Environment}
 use Rattle.alias_hir.specs.declared.error.InferError.{InferError}
 use Rattle.alias_hir.specs.declared.hir.HirFunction.{HirFunction}
-use Rattle.alias_hir.specs.Positions.{Blocks}
 use Rattle.alias_lattice.specs.JoinLaws.{state_laws}
 use Rattle.alias_lattice.specs.ProperStates.{StateProper}
 use Rattle.alias_lattice.specs.States.{State, empty_state, state_join, state_below}
@@ -32,7 +30,6 @@ use Rattle.alias_effects.specs.Inference.{answer_of, pass_end, end_of, refusal, 
 use Rattle.alias_effects.specs.Numbered.{numbered, visits_end}
 use Rattle.alias_effects.specs.PassLaws.{pass_laws}
 use Rattle.alias_effects.specs.declared.output.PassEnd.{PassEnd}
-use Rattle.alias_nested.specs.Created.{created_functions}
 use Rattle.alias_certificate.specs.declared.beyond.Beyond.{Beyond}
 use Rattle.alias_certificate.specs.declared.certificate.CertFunction.{CertFunction}
 use Rattle.alias_certificate.specs.declared.fault.CheckFault.{CheckFault}
@@ -46,22 +43,15 @@ use Rattle.alias_follow.specs.declared.lines.entering.Unfollowed.TheVariants as 
 use Rattle.alias_follow.specs.function.Faults.{pass_fault, faulted}
 use Rattle.alias_follow.specs.function.Functions.{is_forward, followed_end, function_followed}
 use Rattle.alias_follow.specs.function.Givens.{kept, limit, lacking, tables_begun, entering}
-use Rattle.alias_follow.specs.lines.Entering.{entered_by}
-use Rattle.alias_follow.specs.lines.First.{first_lines, line_at}
+use Rattle.alias_follow.proofs.lines.Raising.{nothing_entered}
 use Rattle.alias_forward_laws.proofs.Passage.{marked_of, EndsBeside, solves, refuses, passes_as_rounds}
 
 -- ---- what is entered where nothing is given
 
-none_numbered : (blocks : Blocks) (b : ℕ) → slice_index_or (first_lines [] blocks) b None ≡ None
-none_numbered [] b = refl
-none_numbered (e ∷ es) zero = refl
-none_numbered (e ∷ es) (suc b) = none_numbered es b
-
 -- a block is entered with what arrives
 enters_bare : (env : Environment) (f : HirFunction) (id : Option FunctionId) (b : ℕ) (x : State)
     → entering None id env f b x ≡ Some (x, nothing_beyond)
-enters_bare env f id b x = ap (λ o. entered_by (length env.identifiers + 0) (created_functions f) (line_at [] o) x)
-    (none_numbered f.body.blocks b)
+enters_bare env f id b x = sym (ap (λ enter. enter b x) (nothing_entered id env f))
 
 -- ---- marks
 

@@ -1,6 +1,6 @@
 -- What follows for a function solves its flow.
 use Rattle.std.proofs.Common.{◌≡◌, ℕ, ◌+◌, Bool, true, false, List, [], length, replicate, get_or, Option, Some, None, Ok}
-use Rattle.std.proofs.Common.{refl, ap, sym, ◌∙◌, subst}
+use Rattle.std.proofs.Common.{refl, sym, ◌∙◌, subst}
 use Rattle.alias_base.specs.declared.ids.FunctionId.{FunctionId}
 use Rattle.alias_hir.specs.declared.env.Environment.{Environment}
 use Rattle.alias_hir.specs.declared.hir.HirFunction.{HirFunction}
@@ -14,7 +14,6 @@ use Rattle.alias_flow.proofs.check.Marks.{marked_is_reached, reached_is_marked}
 use Rattle.alias_flow.proofs.check.Solves.{check_solves, check_keeps, check_keeps_others, check_keeps_count}
 use Rattle.alias_flow.proofs.check.Solves.{check_joins}
 use Rattle.alias_flow.specs.Runs.{solver_state}
-use Rattle.alias_flow.specs.Solutions.{entry_at, goes_forward}
 use Rattle.alias_flow.specs.check.Checks.{not_joined}
 use Rattle.alias_step.specs.declared.block.recorded.BlockEffects.{BlockEffects}
 use Rattle.alias_tables.specs.Tables.{TableLists}
@@ -29,7 +28,7 @@ use Rattle.alias_cert.proofs.Running.{after}
 use Rattle.alias_cert.proofs.function.SolvesFunction.{laws}
 use Rattle.alias_passage.specs.Givens.{Raises}
 use Rattle.alias_passage.specs.Passes.{Passing, flow_passed}
-use Rattle.alias_passage.proofs.Solves.{IsBare, no_claim, known, entries_long, all_checked, check_passes, loops_join}
+use Rattle.alias_passage.proofs.Solves.{no_claim, known, entries_long, all_checked, check_passes, loops_join}
 use Rattle.alias_passage.proofs.Solves.{bare_joins}
 use Rattle.alias_follow.specs.declared.function.follow.FunctionEnd.{FunctionEnd}
 use Rattle.alias_follow.specs.declared.lines.entering.Unfollowed.{Unfollowed}

@@ -1,6 +1,6 @@
 -- What lines raise a state to.
 use Rattle.std.specs.Prelude.{IsTrue, slice_get, slice_index_or}
-use Rattle.std.specs.List.{AllByRecursion, list_all}
+use Rattle.std.specs.List.{list_all}
 use Rattle.std.proofs.Common.{◌≡◌, ℕ, ◌+◌, zero, suc, ◌&&◌, Bool, true, false, if◌then◌else◌, List, [], ◌∷◌, Option, Some, None}
 use Rattle.std.proofs.Common.{length, option_map, refl, ap, sym, ◌∙◌, subst}
 use Rattle.alias_base.specs.AnswerLaws.{both_true}
@@ -8,20 +8,16 @@ use Rattle.alias_base.specs.declared.ids.FunctionId.{FunctionId}
 use Rattle.alias_hir.specs.Positions.{Blocks}
 use Rattle.alias_hir.specs.declared.env.Environment.{Environment}
 use Rattle.alias_hir.specs.declared.hir.HirFunction.{HirFunction}
-use Rattle.alias_lattice.specs.AbstractValues.{AbstractProper}
 use Rattle.alias_lattice.specs.JoinLaws.{state_laws}
 use Rattle.alias_lattice.specs.Laws.{below_join}
 use Rattle.alias_lattice.specs.ProperLaws.{proper-empty_state}
-use Rattle.alias_lattice.specs.ProperStates.{SitesProper, StateProper}
-use Rattle.alias_lattice.specs.PutLaws.{proper_put, proper_nil}
-use Rattle.alias_lattice.specs.SiteOrder.{site_cmp}
-use Rattle.alias_lattice.specs.SiteOrderLaws.{sites_total}
+use Rattle.alias_lattice.specs.ProperStates.{StateProper}
 use Rattle.alias_lattice.specs.StateLaws.{proper-initialized, proper-defined_as}
 use Rattle.alias_lattice.specs.States.{State, Sites, empty_state, initialized, defined_as, with_site, state_join}
 use Rattle.alias_lattice.specs.States.{state_below}
 use Rattle.alias_lattice.specs.declared.site.Site.{Site}
 use Rattle.alias_flow.proofs.Order.{below_trans}
-use Rattle.alias_step_laws.specs.steps.FunctionSites.{SiteHas, SetHas, StateHas}
+use Rattle.alias_step_laws.specs.steps.FunctionSites.{SetHas, StateHas}
 use Rattle.alias_step_laws.specs.steps.FunctionSiteLaws.{has_defined_as, has_empty, has_join}
 use Rattle.alias_certificate.specs.declared.certificate.CertBlock.{CertBlock}
 use Rattle.alias_certificate.specs.declared.certificate.CertValue.{CertValue}

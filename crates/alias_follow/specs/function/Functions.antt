@@ -15,14 +15,12 @@ use Rattle.alias_step.specs.declared.block.faults.BlockRefusal.{BlockRefusal}
 use Rattle.alias_step.specs.declared.block.recorded.BlockEffects.{BlockEffects}
 use Rattle.alias_effects.specs.Inference.{end_of}
 use Rattle.alias_effects.specs.Numbered.{numbered}
-use Rattle.alias_effects.specs.declared.output.PassEnd.{PassEnd}
 use Rattle.alias_certificate.specs.declared.certificate.CertFunction.{CertFunction}
 use Rattle.alias_certificate.specs.declared.fault.CheckFault.{CheckFault}
 use Rattle.alias_cert.specs.function.Functions.{marked_positions}
 use Rattle.alias_cert.specs.function.Temporaries.{temporaries_stated}
 use Rattle.alias_follow.specs.declared.function.follow.FunctionEnd.{FunctionEnd}
 use Rattle.alias_certificate.specs.declared.beyond.Beyond.{Beyond}
-use Rattle.alias_follow.specs.declared.function.follow.FunctionBeyond.{FunctionBeyond}
 use Rattle.alias_follow.specs.function.Faults.{faulted}
 use Rattle.alias_follow.specs.declared.lines.entering.Unfollowed.TheVariants as unfollowed
 use Rattle.alias_follow.specs.function.Givens.{kept, limit, lacking, temporaries_given, tables_begun, entering}

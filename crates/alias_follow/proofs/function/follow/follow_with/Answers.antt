@@ -12,7 +12,7 @@ use Rattle.alias_certificate.specs.declared.certificate.CertFunction.{CertFuncti
 use Rattle.alias_certificate.specs.declared.fault.CheckFault.{CheckFault}
 use Rattle.alias_cert.specs.function.Functions.{marked_positions}
 use Rattle.alias_follow.specs.declared.function.follow.FunctionEnd.{FunctionEnd}
-use Rattle.alias_follow.specs.function.Functions.{flow_rules, is_forward, marks, followed_end, given_passed}
+use Rattle.alias_follow.specs.function.Functions.{is_forward, marks, followed_end}
 use Rattle.alias_follow.specs.function.Functions.{function_followed}
 use Rattle.alias_follow.specs.function.Givens.{kept, limit, blocks_given}
 use Rattle.alias_follow.specs.lines.Known.{AreLinesKnown}
