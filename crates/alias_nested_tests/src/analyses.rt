@@ -1,4 +1,5 @@
-//! The calls that analyse the functions below a function: how often the logger is called, and what is left in the slots.
+//! The calls that analyse the functions below a function: how often the logger is called, and what is left in the
+//! slots.
 ghost use Rattle.std.specs.Prelude.{◌≡◌, true};
 ghost use Rattle.alias_rules.specs.Fitting.{function_fits};
 
@@ -85,8 +86,8 @@ fn listed(func: &HirFunction) -> usize {
     }
 }
 
-/// Prints how many context places each function has, whether an instruction of it has effects, whether it has a summary,
-/// and how many instructions its first block lists.
+/// Prints how many context places each function has, whether an instruction of it has effects, whether it has a
+/// summary, and how many instructions its first block lists.
 fn print_slots(rt: &impl Print, functions: &[HirFunction]) {
     for func in functions {
         let fact = (

@@ -1,6 +1,7 @@
 //! Prints what `check_unit`, a validation and the passes of the caller come to, on units built by hand that no input
 //! spells: a line for each fact, and `stdout` has those that must come. A crate of its own, so that the crates below
-//! are proved once. No function answers an error: where memory runs out, or a line can't be printed, what comes differs.
+//! are proved once. No function answers an error: where memory runs out, or a line can't be printed, what comes
+//! differs.
 #![tactic(auto)]
 
 mod checking;
