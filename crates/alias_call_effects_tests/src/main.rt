@@ -1,6 +1,6 @@
 //! Prints what the calls of a call's effects come to, over an environment: a line for each fact, and `stdout` has those
 //! that must come, as docs/MODEL.md says. An effect is printed as its form, its source and its target, or its one place
-//! and its report's number. What owns an environment or a function has few exits: each lays out its drop.
+//! and its report's number. No function answers an error to print: where memory runs out, what comes differs.
 #![tactic(auto)]
 
 mod legacy;
@@ -9,11 +9,9 @@ mod parts;
 mod printing;
 mod summaries;
 
-use std::io;
-
-fn main(rt: HostRuntime) -> io::Result<()> {
+fn main(rt: HostRuntime) {
     let alloc = rt.alloc();
-    legacy::print_legacy(&rt, alloc)?;
-    parts::print_parts(&rt, alloc)?;
-    summaries::print_summaries(&rt, alloc)
+    legacy::print_legacy(&rt, alloc);
+    parts::print_parts(&rt, alloc);
+    summaries::print_summaries(&rt, alloc);
 }

@@ -1,34 +1,37 @@
-//! Small environments.
+//! Small environments, and texts and lists; with less in them where memory runs out.
 
-use alias_base::Text;
-use alias_hir::env::{Environment, Identifier, IdentifierName};
-use alias_hir::lookup::fresh_identifier;
+use alias_base::{List, Text};
+use alias_hir::env::{Environment, IdentifierName};
 use alias_hir::place::{Place, PlaceOrSpreadOrHole, Span, SpreadPattern};
-use alias_hir::types::Ty;
 use alias_test_units::place;
-use std::alloc::{AllocError, Global};
+use std::alloc::Global;
 
-fn identifier(alloc: Global, number: u32) -> Result<Identifier, AllocError> {
-    let mut identifier = fresh_identifier(None, number, 0);
-    if number == 2 {
-        identifier.name = Some(IdentifierName::Named(Text::from_str(alloc, "x")?));
-    }
-    Ok(identifier)
+/// Adds the item.
+pub(crate) fn add<T: Drop>(list: &mut List<T>, item: T) {
+    let _ = list.push(item);
 }
 
-fn add_four_identifiers(alloc: Global, env: &mut Environment) -> Result<(), AllocError> {
-    env.types.push(Ty::Var)?;
-    for number in 0..4u32 {
-        env.identifiers.push(identifier(alloc, number)?)?;
+pub(crate) fn text(alloc: Global, text: &str) -> Text {
+    match Text::from_str(alloc, text) {
+        Ok(text) => text,
+        Err(_) => Text::new(alloc),
     }
-    Ok(())
+}
+
+fn four_identifiers(alloc: Global) -> Environment {
+    match alias_test_units::environment(alloc, 4) {
+        Ok(env) => env,
+        Err(_) => Environment::new(alloc),
+    }
 }
 
 /// Four identifiers of which nothing is known but that 2 is named `x`.
-pub(crate) fn environment(alloc: Global) -> Result<Environment, AllocError> {
-    let mut env = Environment::new(alloc);
-    add_four_identifiers(alloc, &mut env)?;
-    Ok(env)
+pub(crate) fn environment(alloc: Global) -> Environment {
+    let mut env = four_identifiers(alloc);
+    if let Some(identifier) = env.identifiers.get_mut(2) {
+        identifier.name = Some(IdentifierName::Named(text(alloc, "x")));
+    }
+    env
 }
 
 /// The argument `...x` at a span that no other place has.

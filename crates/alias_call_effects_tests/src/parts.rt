@@ -1,97 +1,88 @@
 //! Calls by an aliasing part. Each calls 1, and its result is 3.
 
-use crate::making::{environment, spread_argument};
-use crate::printing::print_given;
-use alias_base::{List, Text};
-use alias_call_effects::{
-    SignatureError, Temporaries, compute_effects_for_aliasing_signature_config,
-};
-use alias_hir::effect::{AliasingEffects, ValueKind, ValueReason};
+use crate::making::{add, environment, spread_argument, text};
+use crate::printing::{print_fact, print_given};
+use alias_base::List;
+use alias_call_effects::{Temporaries, compute_effects_for_aliasing_signature_config};
+use alias_hir::effect::{ValueKind, ValueReason};
 use alias_hir::env::Environment;
 use alias_hir::place::{Place, PlaceOrSpreadOrHole};
 use alias_hir::signature::{AliasingEffectConfig, AliasingSignatureConfig};
 use alias_test_units::place;
-use std::alloc::{AllocError, Global};
-use std::io;
-
-fn text(alloc: Global, text: &str) -> Result<Text, AllocError> {
-    Text::from_str(alloc, text)
-}
+use std::alloc::Global;
 
 /// A part with the rest `rest`, no temporaries, and no effects.
-fn part(alloc: Global) -> Result<AliasingSignatureConfig, AllocError> {
-    let receiver = text(alloc, "r")?;
-    let rest = text(alloc, "rest")?;
-    let returns = text(alloc, "ret")?;
-    Ok(AliasingSignatureConfig {
-        receiver,
+fn part(alloc: Global) -> AliasingSignatureConfig {
+    AliasingSignatureConfig {
+        receiver: text(alloc, "r"),
         params: List::new(alloc),
-        rest: Some(rest),
-        returns,
+        rest: Some(text(alloc, "rest")),
+        returns: text(alloc, "ret"),
         temporaries: List::new(alloc),
         effects: List::new(alloc),
-    })
+    }
 }
 
-fn create(alloc: Global, name: &str) -> Result<AliasingEffectConfig, AllocError> {
-    Ok(AliasingEffectConfig::Create {
-        into: text(alloc, name)?,
+fn create(alloc: Global, name: &str) -> AliasingEffectConfig {
+    AliasingEffectConfig::Create {
+        into: text(alloc, name),
         value: ValueKind::Mutable,
         reason: ValueReason::Other,
-    })
+    }
 }
 
-fn capture(alloc: Global, from: &str, into: &str) -> Result<AliasingEffectConfig, AllocError> {
-    Ok(AliasingEffectConfig::Capture {
-        from: text(alloc, from)?,
-        into: text(alloc, into)?,
-    })
-}
-
-fn add_capturing(alloc: Global, part: &mut AliasingSignatureConfig) -> Result<(), AllocError> {
-    part.temporaries.push(text(alloc, "t")?)?;
-    part.effects.push(create(alloc, "ret")?)?;
-    part.effects.push(create(alloc, "t")?)?;
-    part.effects.push(capture(alloc, "t", "ret")?)?;
-    part.effects.push(capture(alloc, "@x", "ret")?)?;
-    Ok(())
+fn capture(alloc: Global, from: &str, into: &str) -> AliasingEffectConfig {
+    AliasingEffectConfig::Capture {
+        from: text(alloc, from),
+        into: text(alloc, into),
+    }
 }
 
 /// It makes the result and the temporary `t`, and captures the temporary and what is named `x` outside in the result.
-fn capturing(alloc: Global) -> Result<AliasingSignatureConfig, AllocError> {
-    let mut part = part(alloc)?;
-    add_capturing(alloc, &mut part)?;
-    Ok(part)
+fn capturing(alloc: Global) -> AliasingSignatureConfig {
+    let mut part = part(alloc);
+    add(&mut part.temporaries, text(alloc, "t"));
+    add(&mut part.effects, create(alloc, "ret"));
+    add(&mut part.effects, create(alloc, "t"));
+    add(&mut part.effects, capture(alloc, "t", "ret"));
+    add(&mut part.effects, capture(alloc, "@x", "ret"));
+    part
 }
 
-fn add_telling(alloc: Global, part: &mut AliasingSignatureConfig) -> Result<(), AllocError> {
-    part.temporaries.push(text(alloc, "t")?)?;
-    part.effects.push(AliasingEffectConfig::Impure {
-        place: text(alloc, "rest")?,
-    })?;
-    part.effects.push(AliasingEffectConfig::Freeze {
-        value: text(alloc, "rest")?,
+fn impure(alloc: Global, name: &str) -> AliasingEffectConfig {
+    AliasingEffectConfig::Impure {
+        place: text(alloc, name),
+    }
+}
+
+fn freeze(alloc: Global, name: &str) -> AliasingEffectConfig {
+    AliasingEffectConfig::Freeze {
+        value: text(alloc, name),
         reason: ValueReason::Other,
-    })?;
-    Ok(())
+    }
 }
 
 /// It tells of an impure call of each argument, and then freezes them.
-fn telling(alloc: Global) -> Result<AliasingSignatureConfig, AllocError> {
-    let mut part = part(alloc)?;
-    add_telling(alloc, &mut part)?;
-    Ok(part)
+fn telling(alloc: Global) -> AliasingSignatureConfig {
+    let mut part = part(alloc);
+    add(&mut part.temporaries, text(alloc, "t"));
+    add(&mut part.effects, impure(alloc, "rest"));
+    add(&mut part.effects, freeze(alloc, "rest"));
+    part
 }
 
-fn called(
+/// Prints what a call of a host with these temporaries lists.
+fn print_call(
+    rt: &impl Print,
+    name: &str,
     alloc: Global,
     env: &mut Environment,
     config: &AliasingSignatureConfig,
     args: &[PlaceOrSpreadOrHole],
     context: &[Place],
     temporaries: &mut Temporaries,
-) -> Result<Option<AliasingEffects>, SignatureError> {
-    compute_effects_for_aliasing_signature_config(
+) {
+    let answer = compute_effects_for_aliasing_signature_config(
         alloc,
         env,
         config,
@@ -101,204 +92,78 @@ fn called(
         context,
         None,
         temporaries,
-    )
+    );
+    print_given(rt, name, answer);
 }
 
-/// Prints what a call with no arguments lists.
-fn print_call(
-    rt: &impl Print,
-    name: &str,
-    alloc: Global,
-    env: &mut Environment,
-    config: &AliasingSignatureConfig,
-    context: &[Place],
-    temporaries: &mut Temporaries,
-) -> io::Result<()> {
-    let answer = called(alloc, env, config, &[], context, temporaries);
-    print_given(rt, name, &answer)
-}
-
-/// Two calls, between which another identifier is made, and one in another context, where nothing is named `x`.
-fn print_calls(
+/// Two calls, between which another identifier is made, and one in another context, where nothing is named `x`. Prints
+/// how many identifiers, types and temporaries there are then, too.
+fn print_one_host(
     rt: &impl Print,
     alloc: Global,
     env: &mut Environment,
     config: &AliasingSignatureConfig,
-    temporaries: &mut Temporaries,
-) -> io::Result<()> {
+) {
+    let mut kept = Temporaries::new(alloc);
     let context = [place(0), place(2)];
     let name = "a_temporary_keeps_its_identifier, first";
-    print_call(rt, name, alloc, env, config, &context, temporaries)?;
+    print_call(rt, name, alloc, env, config, &[], &context, &mut kept);
     let made = env.next_identifier_id().is_ok();
-    println!(rt; "a_temporary_keeps_its_identifier: makes another {made}")?;
+    print_fact(rt, "a_temporary_keeps_its_identifier, another", &made);
     let name = "a_temporary_keeps_its_identifier, again";
-    print_call(rt, name, alloc, env, config, &context, temporaries)?;
+    print_call(rt, name, alloc, env, config, &[], &context, &mut kept);
     let name = "a_temporary_keeps_its_identifier, without x";
-    print_call(rt, name, alloc, env, config, &[], temporaries)
+    print_call(rt, name, alloc, env, config, &[], &[], &mut kept);
+    let counts = (
+        env.identifiers.len(),
+        env.types.len(),
+        kept.as_slice().len(),
+    );
+    print_fact(
+        rt,
+        "identifiers, types and temporaries of the host",
+        &counts,
+    );
 }
 
-/// How many identifiers, types and temporaries there are.
-fn print_counts(rt: &impl Print, env: &Environment, temporaries: &Temporaries) -> io::Result<()> {
-    let identifiers = env.identifiers.len();
-    let types = env.types.len();
-    let count = temporaries.as_slice().len();
-    println!(rt;
-        "a_temporary_keeps_its_identifier: {identifiers} identifiers, {types} types, {count} temporaries"
-    )
-}
-
-fn print_of_one_host(
-    rt: &impl Print,
-    alloc: Global,
-    env: &mut Environment,
-    config: &AliasingSignatureConfig,
-) -> io::Result<()> {
-    let mut temporaries = Temporaries::new(alloc);
-    print_calls(rt, alloc, env, config, &mut temporaries)?;
-    print_counts(rt, env, &temporaries)
-}
-
-fn print_with_environment(
-    rt: &impl Print,
-    alloc: Global,
-    config: &AliasingSignatureConfig,
-) -> io::Result<()> {
-    let mut env = environment(alloc)?;
-    print_of_one_host(rt, alloc, &mut env, config)
-}
-
-/// Calls of one host, and how many identifiers, types and temporaries there are then.
-fn print_one_host(rt: &impl Print, alloc: Global) -> io::Result<()> {
-    let config = capturing(alloc)?;
-    print_with_environment(rt, alloc, &config)
-}
-
-/// Prints what the call of a new host lists.
+/// Prints what the call of a new host lists, and how many identifiers and reports there are then.
 fn print_new_host(
     rt: &impl Print,
     name: &str,
     alloc: Global,
     env: &mut Environment,
     config: &AliasingSignatureConfig,
-) -> io::Result<()> {
+    args: &[PlaceOrSpreadOrHole],
+) {
     let mut temporaries = Temporaries::new(alloc);
-    print_call(rt, name, alloc, env, config, &[], &mut temporaries)
+    print_call(rt, name, alloc, env, config, args, &[], &mut temporaries);
+    let counts = (env.identifiers.len(), env.interned.len());
+    print_fact(rt, name, &("identifiers and reports", counts));
 }
 
-fn print_hosts(
-    rt: &impl Print,
-    alloc: Global,
-    env: &mut Environment,
-    config: &AliasingSignatureConfig,
-) -> io::Result<()> {
-    print_new_host(
-        rt,
-        "temporaries_of_another_host_are_new, one",
-        alloc,
-        env,
-        config,
-    )?;
-    print_new_host(
-        rt,
-        "temporaries_of_another_host_are_new, another",
-        alloc,
-        env,
-        config,
-    )
-}
-
-fn print_hosts_of(
-    rt: &impl Print,
-    alloc: Global,
-    config: &AliasingSignatureConfig,
-) -> io::Result<()> {
-    let mut env = environment(alloc)?;
-    print_hosts(rt, alloc, &mut env, config)
-}
-
-fn print_two_hosts(rt: &impl Print, alloc: Global) -> io::Result<()> {
-    let config = capturing(alloc)?;
-    print_hosts_of(rt, alloc, &config)
-}
-
-/// Prints what a call with that argument gives.
-fn print_call_with(
-    rt: &impl Print,
-    name: &str,
-    alloc: Global,
-    env: &mut Environment,
-    config: &AliasingSignatureConfig,
-    argument: PlaceOrSpreadOrHole,
-) -> io::Result<()> {
-    let mut temporaries = Temporaries::new(alloc);
-    let answer = called(alloc, env, config, &[argument], &[], &mut temporaries);
-    print_given(rt, name, &answer)
-}
-
-fn print_refusal_in(
-    rt: &impl Print,
-    alloc: Global,
-    env: &mut Environment,
-    config: &AliasingSignatureConfig,
-) -> io::Result<()> {
-    let name = "reports_before_a_refusal_stay";
-    print_call_with(rt, name, alloc, env, config, spread_argument())?;
-    let interned = env.interned.len();
-    println!(rt; "{name}: {interned} reports")
-}
-
-fn print_refusal_of(
-    rt: &impl Print,
-    alloc: Global,
-    config: &AliasingSignatureConfig,
-) -> io::Result<()> {
-    let mut env = environment(alloc)?;
-    print_refusal_in(rt, alloc, &mut env, config)
+/// Calls of a host, of two new ones, and of one by the part without its rest, with an argument too many.
+fn print_capturing(rt: &impl Print, alloc: Global, env: &mut Environment) {
+    let mut config = capturing(alloc);
+    print_one_host(rt, alloc, env, &config);
+    let name = "temporaries_of_another_host_are_new, one";
+    print_new_host(rt, name, alloc, env, &config, &[]);
+    let name = "temporaries_of_another_host_are_new, another";
+    print_new_host(rt, name, alloc, env, &config, &[]);
+    config.rest = None;
+    let argument = PlaceOrSpreadOrHole::Place(place(2));
+    let name = "a_part_without_a_rest_gives_none";
+    print_new_host(rt, name, alloc, env, &config, &[argument]);
 }
 
 /// A call with a spread argument, by a part that tells of it before it would freeze it.
-fn print_refused(rt: &impl Print, alloc: Global) -> io::Result<()> {
-    let config = telling(alloc)?;
-    print_refusal_of(rt, alloc, &config)
+fn print_telling(rt: &impl Print, alloc: Global, env: &mut Environment) {
+    let name = "reports_before_a_refusal_stay";
+    let config = telling(alloc);
+    print_new_host(rt, name, alloc, env, &config, &[spread_argument()]);
 }
 
-fn without_a_rest(alloc: Global) -> Result<AliasingSignatureConfig, AllocError> {
-    let mut config = capturing(alloc)?;
-    config.rest = None;
-    Ok(config)
-}
-
-fn print_too_many_in(
-    rt: &impl Print,
-    alloc: Global,
-    env: &mut Environment,
-    config: &AliasingSignatureConfig,
-) -> io::Result<()> {
-    let name = "a_part_without_a_rest_gives_none";
-    let argument = PlaceOrSpreadOrHole::Place(place(2));
-    print_call_with(rt, name, alloc, env, config, argument)?;
-    let identifiers = env.identifiers.len();
-    println!(rt; "{name}: {identifiers} identifiers")
-}
-
-fn print_too_many(
-    rt: &impl Print,
-    alloc: Global,
-    config: &AliasingSignatureConfig,
-) -> io::Result<()> {
-    let mut env = environment(alloc)?;
-    print_too_many_in(rt, alloc, &mut env, config)
-}
-
-/// A call with one argument, by a part without a rest.
-fn print_without_a_rest(rt: &impl Print, alloc: Global) -> io::Result<()> {
-    let config = without_a_rest(alloc)?;
-    print_too_many(rt, alloc, &config)
-}
-
-pub(crate) fn print_parts(rt: &impl Print, alloc: Global) -> io::Result<()> {
-    print_one_host(rt, alloc)?;
-    print_two_hosts(rt, alloc)?;
-    print_refused(rt, alloc)?;
-    print_without_a_rest(rt, alloc)
+pub(crate) fn print_parts(rt: &impl Print, alloc: Global) {
+    let mut env = environment(alloc);
+    print_capturing(rt, alloc, &mut env);
+    print_telling(rt, alloc, &mut env);
 }

@@ -2,7 +2,7 @@
 
 use alias_call_effects::SignatureError;
 use alias_hir::effect::{AliasingEffect, AliasingEffects};
-use std::io;
+use std::fmt::Debug;
 
 /// The form of an effect, and its source and target, or its one place and its report's number.
 type Described = (&'static str, u32, u32);
@@ -23,27 +23,23 @@ fn described(effect: &AliasingEffect) -> Described {
     }
 }
 
-fn print_effect(rt: &impl Print, name: &str, effect: &AliasingEffect) -> io::Result<()> {
-    let (form, first, second) = described(effect);
-    println!(rt; "{name}: {form} {first} {second}")
+/// Prints a fact.
+pub(crate) fn print_fact(rt: &impl Print, name: &str, fact: &impl Debug) {
+    let _ = println!(rt; "{name}: {fact:?}");
 }
 
 /// Prints each effect, in order.
-pub(crate) fn print_effects(
-    rt: &impl Print,
-    name: &str,
-    effects: &AliasingEffects,
-) -> io::Result<()> {
-    for effect in effects.as_slice() {
-        print_effect(rt, name, effect)?;
+pub(crate) fn print_effects(rt: &impl Print, name: &str, effects: &[AliasingEffect]) {
+    for effect in effects {
+        print_fact(rt, name, &described(effect));
     }
-    Ok(())
 }
 
-pub(crate) fn print_refusal(rt: &impl Print, name: &str, error: &SignatureError) -> io::Result<()> {
+/// Prints why a call is refused: at which span an argument is spread, or for another reason.
+pub(crate) fn print_refusal(rt: &impl Print, name: &str, error: &SignatureError) {
     match error {
-        SignatureError::SpreadArgument(span) => println!(rt; "{name}: a spread argument, {span:?}"),
-        _ => println!(rt; "{name}: refused otherwise"),
+        SignatureError::SpreadArgument(span) => print_fact(rt, name, &("a spread argument", *span)),
+        _ => print_fact(rt, name, &"refused otherwise"),
     }
 }
 
@@ -51,11 +47,11 @@ pub(crate) fn print_refusal(rt: &impl Print, name: &str, error: &SignatureError)
 pub(crate) fn print_given(
     rt: &impl Print,
     name: &str,
-    answer: &Result<Option<AliasingEffects>, SignatureError>,
-) -> io::Result<()> {
-    match answer {
-        Ok(Some(effects)) => print_effects(rt, name, effects),
-        Ok(None) => println!(rt; "{name}: gives none"),
+    answer: Result<Option<AliasingEffects>, SignatureError>,
+) {
+    match &answer {
+        Ok(Some(effects)) => print_effects(rt, name, effects.as_slice()),
+        Ok(None) => print_fact(rt, name, &"gives none"),
         Err(error) => print_refusal(rt, name, error),
     }
 }

@@ -1,37 +1,35 @@
 //! A graph that is cut off to a part.
 
-use crate::walks::{environment, graph};
+use crate::links::objects;
+use crate::print_fact;
 use alias_base::IdentifierId;
 use alias_graph::graph::AliasGraph;
-use alias_graph::types::{EdgeKind, LinkList, NodeValue};
+use alias_graph::types::{Link, LinkList, NodeValue};
+use alias_hir::env::Environment;
 use alias_test_units::place;
-use std::alloc::{AllocError, Global};
-use std::test::Fail;
+use std::alloc::Global;
 
-const OBJECTS: [NodeValue; 4] = [NodeValue::Object; 4];
-
-/// How many forward links the nodes 0 and 2 have after the graph is cut off to 1, where 0 and 2 are assigned to 1 and 3, and the node of 1
-/// is made once more in between, so that it doesn't know of the link any more.
-fn left(alloc: Global) -> Result<(bool, bool), AllocError> {
-    let mut graph = graph(
-        alloc,
-        OBJECTS,
-        &[(EdgeKind::Alias, 0, 0, 1), (EdgeKind::Alias, 1, 2, 3)],
-    )?;
-    graph.create(&place(1), NodeValue::Object)?;
-    let env = environment(alloc)?;
-    graph.cut_off(&[IdentifierId(1)], false, &env)?;
-    Ok((has_link(&graph, 0), has_link(&graph, 2)))
+/// Assigns 0 to 1 and 2 to 3, and makes the node of 1 once more, so that it doesn't know of the link any more.
+fn add_links(graph: &mut AliasGraph) {
+    let _ = graph.assign(0, &place(0), &place(1));
+    let _ = graph.assign(1, &place(2), &place(3));
+    let _ = graph.create(&place(1), NodeValue::Object);
 }
 
-fn has_link(graph: &AliasGraph, number: u32) -> bool {
-    graph
-        .link(IdentifierId(number), LinkList::Forward, 0)
-        .is_some()
+fn first_link(graph: &AliasGraph, number: u32) -> Option<Link> {
+    graph.link(IdentifierId(number), LinkList::Forward, 0)
 }
 
-#[test]
-fn keeps_what_leads_to_a_target_that_was_made_twice(rt: HostRuntime) -> Result<(), Fail> {
-    assert_eq!(rt; left(rt.alloc())?, (true, false));
-    Ok(())
+/// Prints the first forward links of 0 and 2 after that graph is cut off to 1.
+pub(crate) fn print_cut(rt: &impl Print, alloc: Global) {
+    let env = Environment::new(alloc);
+    let mut graph = objects(alloc);
+    add_links(&mut graph);
+    let _ = graph.cut_off(&[IdentifierId(1)], false, &env);
+    let left = (first_link(&graph, 0), first_link(&graph, 2));
+    print_fact(
+        rt,
+        "keeps_what_leads_to_a_target_that_was_made_twice",
+        &left,
+    );
 }

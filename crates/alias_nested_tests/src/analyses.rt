@@ -1,33 +1,74 @@
-//! The calls that analyse the functions below a function: how often the logger is called, and what is left after a
-//! fault.
+//! The calls that analyse the functions below a function: how often the logger is called, and what is left in the
+//! slots.
 ghost use Rattle.std.specs.Prelude.{◌≡◌, true};
 ghost use Rattle.alias_rules.specs.Fitting.{function_fits};
 
-use crate::endings::checked;
+use crate::dropping::DropLast;
+use crate::endings::{Ending, refused};
+use crate::print_fact;
 use alias_hir::env::{Environment, Unit};
 use alias_hir::hir::HirFunction;
-use alias_inner_passes::{FailingPasses, KeepAll};
+use alias_inner_passes::{FailingPasses, InnerPasses, KeepAll};
 use alias_nested::{analyse_functions, analyse_functions_certified};
 use alias_rules::check::Checked;
 use std::alloc::Global;
 
-/// What an analysis comes to.
-#[derive(Clone, Copy, Debug)]
+/// Which analysis is run.
+#[derive(Clone, Copy)]
 pub(crate) enum Analysis {
-    /// There are so many solutions, and the logger was called so often.
-    Done(usize, u32),
-    /// It stopped; the logger was called so often, and this is left in the slots.
-    Stopped(u32, Standing),
-    /// The text is no unit that is well formed.
-    NotChecked,
+    /// The one that hands its solutions out, with passes that fail as planned.
+    HandingOut,
+    /// The one that hands nothing out, with passes that keep everything.
+    Keeping,
+    /// The one that hands its solutions out, with a pass that drops instructions.
+    Dropping,
 }
 
-/// How many of the functions in their slots have context places, an instruction with effects, and a summary.
-#[derive(Clone, Copy, Debug)]
-pub(crate) struct Standing {
-    contexts: usize,
-    effects: usize,
-    summaries: usize,
+/// How the analysis that hands its solutions out ends with these passes, and how often the logger was called.
+fn handing_out<P: InnerPasses>(
+    alloc: Global,
+    func: &mut HirFunction,
+    env: &mut Environment,
+    passes: &mut P,
+) -> (Ending, u32)
+    requires { function_fits func.old env.old ≡ true }
+{
+    let mut logged = 0u32;
+    let mut log = |_func: &HirFunction, _env: &Environment| logged = logged.wrapping_add(1);
+    let answer = analyse_functions_certified(alloc, func, env, passes, &mut log);
+    match &answer {
+        Ok(solved) => (Ending::Inferred(solved.len()), logged),
+        Err(error) => (refused(error), logged),
+    }
+}
+
+/// The same of the analysis that hands nothing out.
+fn keeping(alloc: Global, func: &mut HirFunction, env: &mut Environment) -> (Ending, u32)
+    requires { function_fits func.old env.old ≡ true }
+{
+    let mut logged = 0u32;
+    let mut log = |_func: &HirFunction, _env: &Environment| logged = logged.wrapping_add(1);
+    let answer = analyse_functions(alloc, func, env, &mut KeepAll, &mut log);
+    match &answer {
+        Ok(()) => (Ending::Done, logged),
+        Err(error) => (refused(error), logged),
+    }
+}
+
+fn ends(
+    alloc: Global,
+    analysis: Analysis,
+    func: &mut HirFunction,
+    env: &mut Environment,
+    passes: &mut FailingPasses,
+) -> (Ending, u32)
+    requires { function_fits func.old env.old ≡ true }
+{
+    match analysis {
+        Analysis::HandingOut => handing_out(alloc, func, env, passes),
+        Analysis::Keeping => keeping(alloc, func, env),
+        Analysis::Dropping => handing_out(alloc, func, env, &mut DropLast),
+    }
 }
 
 fn has_effects(func: &HirFunction) -> bool {
@@ -37,77 +78,46 @@ fn has_effects(func: &HirFunction) -> bool {
         .any(|instruction| instruction.effects.is_some())
 }
 
-fn standing_of(functions: &[HirFunction]) -> Standing {
-    Standing {
-        contexts: functions
-            .iter()
-            .filter(|func| func.context.len() > 0)
-            .count(),
-        effects: functions.iter().filter(|func| has_effects(func)).count(),
-        summaries: functions
-            .iter()
-            .filter(|func| func.aliasing_effects.is_some())
-            .count(),
+/// How many instructions the first block of the function lists.
+fn listed(func: &HirFunction) -> usize {
+    match func.body.blocks.get_index(0) {
+        Some((_, block)) => block.instructions.len(),
+        None => 0,
     }
 }
 
-/// What the analysis of the functions below a function comes to.
-fn analysed_in(
+/// Prints how many context places each function has, whether an instruction of it has effects, whether it has a
+/// summary, and how many instructions its first block lists.
+fn print_slots(rt: &impl Print, functions: &[HirFunction]) {
+    for func in functions {
+        let fact = (
+            func.context.len(),
+            has_effects(func),
+            func.aliasing_effects.is_some(),
+            listed(func),
+        );
+        print_fact(
+            rt,
+            "a slot: context, has effects, has a summary, lists",
+            &fact,
+        );
+    }
+}
+
+/// Prints how the analysis of the functions of a unit ends, how often its logger was called, and what is in the slots.
+pub(crate) fn print_analysis(
+    rt: &impl Print,
     alloc: Global,
-    func: &mut HirFunction,
-    env: &mut Environment,
+    analysis: Analysis,
+    unit: Checked,
     passes: &mut FailingPasses,
-) -> Analysis
-    requires { function_fits func.old env.old ≡ true }
-{
-    let mut logged = 0u32;
-    let mut log = |_func: &HirFunction, _env: &Environment| logged = logged.wrapping_add(1);
-    let answer = analyse_functions_certified(alloc, func, env, passes, &mut log);
-    match answer {
-        Ok(solved) => Analysis::Done(solved.len(), logged),
-        Err(_) => Analysis::Stopped(logged, standing_of(env.functions.as_slice())),
-    }
-}
-
-fn analysed(alloc: Global, unit: Checked, passes: &mut FailingPasses) -> Analysis {
+) {
     let Unit {
         mut function,
         mut env,
     } = unit.into_unit();
-    analysed_in(alloc, &mut function, &mut env, passes)
-}
-
-/// What the analysis of the functions of the unit that the text spells comes to, with these passes.
-pub(crate) fn analysis_of(alloc: Global, text: &str, passes: &mut FailingPasses) -> Analysis {
-    match checked(alloc, text) {
-        Some(unit) => analysed(alloc, unit, passes),
-        None => Analysis::NotChecked,
-    }
-}
-
-fn standing_in(alloc: Global, func: &mut HirFunction, env: &mut Environment) -> Option<Standing>
-    requires { function_fits func.old env.old ≡ true }
-{
-    let mut log = |_func: &HirFunction, _env: &Environment| {};
-    match analyse_functions(alloc, func, env, &mut KeepAll, &mut log) {
-        Ok(()) => Some(standing_of(env.functions.as_slice())),
-        Err(_) => None,
-    }
-}
-
-fn standing_after(alloc: Global, unit: Checked) -> Option<Standing> {
-    let Unit {
-        mut function,
-        mut env,
-    } = unit.into_unit();
-    standing_in(alloc, &mut function, &mut env)
-}
-
-/// What is standing once the functions of the unit are analysed, with nothing handed out; `None` where it isn't well
-/// formed or is refused.
-pub(crate) fn standing_of_kept(alloc: Global, text: &str) -> Option<Standing> {
-    match checked(alloc, text) {
-        Some(unit) => standing_after(alloc, unit),
-        None => None,
-    }
+    let (ending, logged) = ends(alloc, analysis, &mut function, &mut env, passes);
+    print_fact(rt, "ends", &ending);
+    print_fact(rt, "calls of the logger", &logged);
+    print_slots(rt, env.functions.as_slice());
 }

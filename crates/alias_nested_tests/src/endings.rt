@@ -1,4 +1,4 @@
-//! How the inference of a unit ends.
+//! How an inference or an analysis of a unit ends.
 
 use alias_base::FunctionId;
 use alias_hir::env::Unit;
@@ -9,19 +9,19 @@ use alias_rules::check::{Checked, check_unit};
 use alias_straight::read_unit;
 use std::alloc::Global;
 
-/// How the inference of a unit ends.
+/// How an inference or an analysis ends.
 #[derive(Clone, Copy, Debug)]
 pub(crate) enum Ending {
     /// There are so many solutions.
     Inferred(usize),
+    /// It is done, and hands nothing out.
+    Done,
     /// The pass failed on the function.
     Failed(Option<FunctionId>, Pass),
     /// The function reads an identifier that has no value.
     Uninitialized(Option<FunctionId>),
     /// It is refused for another reason.
     Refused,
-    /// The text is no unit that is well formed.
-    NotChecked,
     /// Memory ran out.
     Memory,
 }
@@ -36,8 +36,8 @@ pub(crate) fn refused(error: &InferError) -> Ending {
     }
 }
 
-/// The ending of a unit that is well formed.
-fn inferred(alloc: Global, unit: Checked, passes: &mut FailingPasses) -> Ending {
+/// The ending of a unit that is well formed, with these passes.
+pub(crate) fn inferred(alloc: Global, unit: Checked, passes: &mut FailingPasses) -> Ending {
     match infer_unit(alloc, unit, passes) {
         Ok(inferred) => Ending::Inferred(inferred.solved.len()),
         Err(error) => refused(&error),
@@ -56,13 +56,5 @@ pub(crate) fn checked(alloc: Global, text: &str) -> Option<Checked> {
     match read_unit(alloc, text.as_bytes()) {
         Ok(unit) => kept(alloc, unit),
         Err(_) => None,
-    }
-}
-
-/// The ending of the unit that the text spells, with these passes.
-pub(crate) fn ending_of(alloc: Global, text: &str, passes: &mut FailingPasses) -> Ending {
-    match checked(alloc, text) {
-        Some(unit) => inferred(alloc, unit, passes),
-        None => Ending::NotChecked,
     }
 }

@@ -4,19 +4,26 @@
 //! that `alias_nested` is proved once.
 //!
 //! A line of `stdin` is `unit` and the unit of the runs behind it; `#` and what is shown by the runs behind it; or a
-//! run: `infer` or `analyse` and the numbers of the calls of passes that fail, or `none`; `keep`; or `drop`.
+//! run: `infer` or `analyse` and the numbers of the calls of passes that fail, or `none`; `keep`; or `drop`. Each but a
+//! unit is printed, and then what comes of it.
 #![tactic(auto)]
 
 mod analyses;
-mod changes;
 mod dropping;
 mod endings;
 mod runs;
 
+use std::fmt::Debug;
 use std::io;
 
-fn main(rt: HostRuntime) -> io::Result<()> {
+/// Prints a fact.
+pub(crate) fn print_fact(rt: &impl Print, name: &str, fact: &impl Debug) {
+    let _ = println!(rt; "{name}: {fact:?}");
+}
+
+fn main(rt: HostRuntime) {
     let alloc = rt.alloc();
-    let text = io::read_to_string(alloc, rt.stdin())?;
-    runs::print_runs(&rt, alloc, text.as_str())
+    if let Ok(text) = io::read_to_string(alloc, rt.stdin()) {
+        runs::print_runs(&rt, alloc, text.as_str());
+    }
 }

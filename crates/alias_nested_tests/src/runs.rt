@@ -1,61 +1,67 @@
 //! The runs that the text names, in its order.
 
-use crate::analyses::{analysis_of, standing_of_kept};
-use crate::changes::change_in;
-use crate::endings::ending_of;
-use alias_base::{List, Text};
+use crate::analyses::{Analysis, print_analysis};
+use crate::endings::{checked, inferred};
+use crate::print_fact;
+use alias_base::List;
 use alias_inner_passes::FailingPasses;
-use std::alloc::{AllocError, Global};
-use std::io;
-
-fn push_calls(calls: &mut List<u64>, words: &str) -> Result<(), AllocError> {
-    for word in words.split_whitespace() {
-        if let Ok(call) = word.parse::<u64>() {
-            calls.push(call)?;
-        }
-    }
-    Ok(())
-}
+use alias_rules::check::Checked;
+use std::alloc::Global;
 
 /// Passes whose calls of these numbers fail.
-fn failing(alloc: Global, words: &str) -> Result<FailingPasses, AllocError> {
+fn failing(alloc: Global, words: &str) -> FailingPasses {
     let mut calls = List::new(alloc);
-    push_calls(&mut calls, words)?;
-    Ok(FailingPasses::new(calls))
+    for word in words.split_whitespace() {
+        if let Ok(call) = word.parse::<u64>() {
+            let _ = calls.push(call);
+        }
+    }
+    FailingPasses::new(calls)
 }
 
-fn print_ending(rt: &impl Print, alloc: Global, unit: &str, calls: &str) -> io::Result<()> {
-    let mut passes = failing(alloc, calls)?;
-    let ending = ending_of(alloc, unit, &mut passes);
-    println!(rt; "infer {calls}: {ending:?}")
-}
-
-fn print_analysis(rt: &impl Print, alloc: Global, unit: &str, calls: &str) -> io::Result<()> {
-    let mut passes = failing(alloc, calls)?;
-    let analysis = analysis_of(alloc, unit, &mut passes);
-    println!(rt; "analyse {calls}: {analysis:?}")
-}
-
-fn print_run(rt: &impl Print, alloc: Global, unit: &str, word: &str, rest: &str) -> io::Result<()> {
+/// The analysis that the word names; `None` where it names an inference.
+fn analysis_of(word: &str) -> Option<Analysis> {
     match word {
-        "infer" => print_ending(rt, alloc, unit, rest),
-        "analyse" => print_analysis(rt, alloc, unit, rest),
-        "keep" => println!(rt; "keep: {:?}", standing_of_kept(alloc, unit)),
-        "drop" => println!(rt; "drop: {:?}", change_in(alloc, unit)),
-        _ => println!(rt; "{word} {rest}"),
+        "analyse" => Some(Analysis::HandingOut),
+        "keep" => Some(Analysis::Keeping),
+        "drop" => Some(Analysis::Dropping),
+        _ => None,
+    }
+}
+
+/// Prints what an analysis of the unit, or its inference, comes to with these passes.
+fn print_checked(
+    rt: &impl Print,
+    alloc: Global,
+    analysis: Option<Analysis>,
+    unit: Checked,
+    passes: &mut FailingPasses,
+) {
+    match analysis {
+        Some(analysis) => print_analysis(rt, alloc, analysis, unit, passes),
+        None => print_fact(rt, "ends", &inferred(alloc, unit, passes)),
+    }
+}
+
+fn print_run(rt: &impl Print, alloc: Global, unit: &str, word: &str, calls: &str) {
+    if let Some(unit) = checked(alloc, unit) {
+        let mut passes = failing(alloc, calls);
+        print_checked(rt, alloc, analysis_of(word), unit, &mut passes);
     }
 }
 
 /// Prints what each run of the text comes to.
-pub(crate) fn print_runs(rt: &impl Print, alloc: Global, text: &str) -> io::Result<()> {
-    let mut unit = Text::new(alloc);
+pub(crate) fn print_runs(rt: &impl Print, alloc: Global, text: &str) {
+    let mut unit = "";
     for line in text.lines() {
         let (word, rest) = line.split_once(' ').unwrap_or((line, ""));
         if word == "unit" {
-            unit = Text::from_str(alloc, rest)?;
+            unit = rest;
         } else {
-            print_run(rt, alloc, unit.as_str(), word, rest)?;
+            let _ = rt.println(line);
+            if word != "#" {
+                print_run(rt, alloc, unit, word, rest);
+            }
         }
     }
-    Ok(())
 }

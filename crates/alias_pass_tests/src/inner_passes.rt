@@ -1,92 +1,58 @@
 //! The passes of the caller that keep everything, with and without planned failures.
 
-use crate::functions::returns_at_once;
+use crate::functions::{environment, returns_at_once};
+use crate::print_fact;
 use alias_base::List;
 use alias_hir::env::Environment;
 use alias_hir::hir::HirFunction;
-use alias_inner_passes::{FailingPasses, InnerPasses, KeepAll};
+use alias_inner_passes::{FailingPasses, InnerPasses, KeepAll, PassStop};
 use alias_rules::function::check_function;
-use alias_test_units::environment;
-use std::alloc::{AllocError, Global};
-use std::io;
+use std::alloc::Global;
 
-/// What the three passes leave, where they may be given the function.
-fn print_kept_in(
-    rt: &impl Print,
+/// How the three passes end, in their order.
+type Ends = (
+    Result<(), PassStop>,
+    Result<(), PassStop>,
+    Result<(), PassStop>,
+);
+
+/// How the three passes end, where they may be given the function.
+fn ends<P: InnerPasses>(
     alloc: Global,
+    passes: &mut P,
     func: &mut HirFunction,
     env: &mut Environment,
-) -> io::Result<()> {
-    if !check_function(alloc, func, env)? {
-        return println!(rt; "keeps_all: not taken");
+) -> Option<Ends> {
+    match check_function(alloc, func, env) {
+        Ok(true) => Some((
+            passes.dead_code_elimination(alloc, func, env),
+            passes.rewrite_instruction_kinds_based_on_reassignment(alloc, func, env),
+            passes.infer_reactive_scope_variables(alloc, func, env),
+        )),
+        _ => None,
     }
-    let mut passes = KeepAll;
-    let first = passes.dead_code_elimination(alloc, func, env);
-    let second = passes.rewrite_instruction_kinds_based_on_reassignment(alloc, func, env);
-    let third = passes.infer_reactive_scope_variables(alloc, func, env);
-    let blocks = func.body.blocks.len();
-    let identifiers = env.identifiers.len();
-    println!(rt;
-        "keeps_all: {first:?}, {second:?}, {third:?}, {blocks} blocks, {identifiers} identifiers"
-    )
 }
 
-fn print_kept_of(rt: &impl Print, alloc: Global, func: &mut HirFunction) -> io::Result<()> {
-    let mut env = environment(alloc, 1)?;
-    print_kept_in(rt, alloc, func, &mut env)
-}
-
-pub(crate) fn print_kept(rt: &impl Print, alloc: Global) -> io::Result<()> {
-    let mut func = returns_at_once(alloc, 0)?;
-    print_kept_of(rt, alloc, &mut func)
-}
-
-/// How four calls of passes end, where they may be given the function, and whether they may be given it once more.
-fn print_planned_in(
-    rt: &impl Print,
-    alloc: Global,
-    passes: &mut FailingPasses,
-    func: &mut HirFunction,
-    env: &mut Environment,
-) -> io::Result<()> {
-    if !check_function(alloc, func, env)? {
-        return println!(rt; "fails_at_the_planned_calls: not taken");
-    }
-    let first = passes.dead_code_elimination(alloc, func, env);
-    let second = passes.rewrite_instruction_kinds_based_on_reassignment(alloc, func, env);
-    let third = passes.infer_reactive_scope_variables(alloc, func, env);
-    let fourth = passes.dead_code_elimination(alloc, func, env);
-    let is_taken = check_function(alloc, func, env)?;
-    println!(rt;
-        "fails_at_the_planned_calls: {first:?}, {second:?}, {third:?}, {fourth:?}, taken {is_taken}"
-    )
-}
-
-fn print_planned_of(
-    rt: &impl Print,
-    alloc: Global,
-    passes: &mut FailingPasses,
-    func: &mut HirFunction,
-) -> io::Result<()> {
-    let mut env = environment(alloc, 1)?;
-    print_planned_in(rt, alloc, passes, func, &mut env)
-}
-
-fn print_planned_with(
-    rt: &impl Print,
-    alloc: Global,
-    passes: &mut FailingPasses,
-) -> io::Result<()> {
-    let mut func = returns_at_once(alloc, 0)?;
-    print_planned_of(rt, alloc, passes, &mut func)
+/// Prints how the passes end twice on one function, and how many blocks and identifiers they leave.
+fn print_ends<P: InnerPasses>(rt: &impl Print, name: &str, alloc: Global, passes: &mut P) {
+    let mut func = returns_at_once(alloc, 0);
+    let mut env = environment(alloc, 1);
+    print_fact(rt, name, &ends(alloc, passes, &mut func, &mut env));
+    print_fact(rt, name, &ends(alloc, passes, &mut func, &mut env));
+    let left = (func.body.blocks.len(), env.identifiers.len());
+    print_fact(rt, name, &left);
 }
 
 /// Passes whose second and third calls fail.
-fn failing(alloc: Global) -> Result<FailingPasses, AllocError> {
-    Ok(FailingPasses::new(List::from_slice(alloc, &[2u64, 3])?))
+fn failing(alloc: Global) -> FailingPasses {
+    let mut calls = List::new(alloc);
+    let _ = calls.push(2u64);
+    let _ = calls.push(3u64);
+    FailingPasses::new(calls)
 }
 
-pub(crate) fn print_planned(rt: &impl Print, alloc: Global) -> io::Result<()> {
-    let mut passes = failing(alloc)?;
-    print_planned_with(rt, alloc, &mut passes)
+pub(crate) fn print_passes(rt: &impl Print, alloc: Global) {
+    print_ends(rt, "keeps_all", alloc, &mut KeepAll);
+    let mut passes = failing(alloc);
+    print_ends(rt, "fails_at_the_planned_calls", alloc, &mut passes);
 }
