@@ -21,7 +21,9 @@ fn main(rt: HostRuntime) {
     let mut env = Environment::new(alloc);
     tables::add_named(alloc, &mut env);
     reports::print_reports(&rt, alloc, &mut env);
-    types::print_types(&rt, alloc);
     tables::print_made(&rt, &mut env);
-    tables::print_shapes(&rt, alloc, &mut env);
+    tables::add_shapes(alloc, &mut env);
+    types::add_types(alloc, &mut env.types);
+    types::print_types(&rt, alloc, &env);
+    tables::print_alias(&rt, &env);
 }

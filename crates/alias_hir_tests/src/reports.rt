@@ -36,22 +36,18 @@ fn print_missing(rt: &impl Print, alloc: Global, env: &Environment, name: &str, 
     }
 }
 
-/// Records the report, and prints whether there are invariant errors before and after.
-fn print_recorded(rt: &impl Print, env: &mut Environment, report: Report) {
-    let before = env.has_invariant_errors();
-    let _ = env.record_diagnostic(report);
-    let fact = (before, env.has_invariant_errors());
-    print_fact(
-        rt,
-        "records_reports: invariant errors before and after",
-        &fact,
-    );
-}
-
+/// Prints that report, records it, and prints whether there are invariant errors before and after.
 fn print_not_settled(rt: &impl Print, alloc: Global, env: &mut Environment) {
     if let Ok(report) = not_settled_report(alloc) {
         print_report(rt, "writes_that_a_function_is_not_settled", &report);
-        print_recorded(rt, env, report);
+        let before = env.has_invariant_errors();
+        let _ = env.record_diagnostic(report);
+        let fact = (before, env.has_invariant_errors());
+        print_fact(
+            rt,
+            "records_reports: invariant errors before and after",
+            &fact,
+        );
     }
 }
 

@@ -1,6 +1,6 @@
 //! Tables of which no input is the text: two shapes of one name, and identifiers that are made.
 
-use crate::made::{add, function, object, text_of};
+use crate::made::{add, function, text_of};
 use crate::print_fact;
 use alias_base::{DeclarationId, IdentifierId, List};
 use alias_hir::effect::{ValueKind, ValueReason};
@@ -70,26 +70,14 @@ fn shape(alloc: Global, hook: bool, signature: Option<FunctionSignature>) -> Sha
 
 /// Adds the identifier 2, whose type is a function of the shape `useState`, and two shapes of that name, of which the
 /// first is a hook.
-fn add_shapes(alloc: Global, env: &mut Environment) {
+pub(crate) fn add_shapes(alloc: Global, env: &mut Environment) {
     add(&mut env.types, function(alloc, "useState", Ty::Var));
     add(&mut env.identifiers, fresh_identifier(None, 2, 2));
     let _ = env.shapes.push(shape(alloc, true, Some(signature(alloc))));
     let _ = env.shapes.push(shape(alloc, false, None));
 }
 
-/// Prints whether the type is that of a hook, and whether it has a signature.
-fn print_looked_up(rt: &impl Print, env: &Environment, name: &str, ty: Ty) {
-    let signature = env.get_function_signature(&ty);
-    let fact = (env.get_hook_kind_for_type(&ty), signature.is_some());
-    print_fact(rt, name, &fact);
-}
-
-pub(crate) fn print_shapes(rt: &impl Print, alloc: Global, env: &mut Environment) {
-    add_shapes(alloc, env);
-    let callee = function(alloc, "useState", Ty::Var);
-    print_looked_up(rt, env, "looks_up_the_first_shape: a function", callee);
-    let held = object(alloc, "useState");
-    print_looked_up(rt, env, "looks_up_the_first_shape: an object", held);
+pub(crate) fn print_alias(rt: &impl Print, env: &Environment) {
     let has_no_alias = env.has_no_alias_signature(IdentifierId(2));
     print_fact(
         rt,
