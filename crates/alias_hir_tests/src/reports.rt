@@ -1,93 +1,58 @@
 //! Reports that come with a refusal, and that are recorded.
 
-use crate::tables::environment;
+use crate::print_fact;
 use alias_base::IdentifierId;
 use alias_hir::env::Environment;
+use alias_hir::place::Span;
 use alias_hir::report::{Report, not_settled_report, uninitialized_report};
-use std::alloc::{AllocError, Global};
-use std::io;
+use std::alloc::Global;
 
-/// What is reported where the identifier is read without a value.
-fn uninitialized(alloc: Global, number: u32) -> Result<Report, AllocError> {
-    let env = environment(alloc)?;
-    uninitialized_report(alloc, &env, IdentifierId(number), None)
-}
-
-fn print_what(rt: &impl Print, name: &str, report: &Report) -> io::Result<()> {
-    let category = report.category;
-    println!(rt; "{name}: {category:?}, {}", report.message.as_str())
-}
-
-fn print_help(rt: &impl Print, name: &str, report: &Report) -> io::Result<()> {
+fn help_of(report: &Report) -> Option<&str> {
     match &report.help {
-        Some(help) => println!(rt; "{name}: help {}", help.as_str()),
-        None => println!(rt; "{name}: no help"),
+        Some(help) => Some(help.as_str()),
+        None => None,
     }
 }
 
-fn print_labels(rt: &impl Print, name: &str, report: &Report) -> io::Result<()> {
-    println!(rt; "{name}: {} labels", report.labels.len())
-}
-
-fn print_first_span(rt: &impl Print, name: &str, report: &Report) -> io::Result<()> {
+fn first_span(report: &Report) -> Option<Span> {
     match report.labels.get(0) {
-        Some(label) => println!(rt; "{name}: {:?}", label.span),
-        None => println!(rt; "{name}: no label"),
+        Some(label) => Some(label.span),
+        None => None,
     }
 }
 
-fn print_report(rt: &impl Print, name: &str, report: &Report) -> io::Result<()> {
-    print_what(rt, name, report)?;
-    print_help(rt, name, report)?;
-    print_labels(rt, name, report)
+fn print_report(rt: &impl Print, name: &str, report: &Report) {
+    let message = report.message.as_str();
+    let fact = (report.category, message, help_of(report));
+    print_fact(rt, name, &fact);
+    let labels = (report.labels.len(), first_span(report));
+    print_fact(rt, name, &labels);
 }
 
-fn print_report_at(rt: &impl Print, name: &str, report: &Report) -> io::Result<()> {
-    print_report(rt, name, report)?;
-    print_first_span(rt, name, report)
+/// Prints what is reported where the identifier is read without a value.
+fn print_missing(rt: &impl Print, alloc: Global, env: &Environment, name: &str, number: u32) {
+    if let Ok(report) = uninitialized_report(alloc, env, IdentifierId(number), None) {
+        print_report(rt, name, &report);
+    }
 }
 
-fn print_missing(rt: &impl Print, alloc: Global) -> io::Result<()> {
-    let report = uninitialized(alloc, 0)?;
-    print_report_at(rt, "writes_that_a_value_is_missing", &report)
+/// Prints that report, records it, and prints whether there are invariant errors before and after.
+fn print_not_settled(rt: &impl Print, alloc: Global, env: &mut Environment) {
+    if let Ok(report) = not_settled_report(alloc) {
+        print_report(rt, "writes_that_a_function_is_not_settled", &report);
+        let before = env.has_invariant_errors();
+        let _ = env.record_diagnostic(report);
+        let fact = (before, env.has_invariant_errors());
+        print_fact(
+            rt,
+            "records_reports: invariant errors before and after",
+            &fact,
+        );
+    }
 }
 
-fn print_help_alone(rt: &impl Print, name: &str, report: &Report) -> io::Result<()> {
-    print_help(rt, name, report)?;
-    print_labels(rt, name, report)
-}
-
-fn print_in_no_table(rt: &impl Print, alloc: Global) -> io::Result<()> {
-    let report = uninitialized(alloc, 12)?;
-    print_help_alone(rt, "writes_reports_of_what_is_in_no_table", &report)
-}
-
-fn print_not_settled(rt: &impl Print, alloc: Global) -> io::Result<()> {
-    let report = not_settled_report(alloc)?;
-    print_report(rt, "writes_that_a_function_is_not_settled", &report)
-}
-
-/// Whether there are invariant errors before the report is recorded and after it.
-fn recorded(env: &mut Environment, report: Report) -> Result<(bool, bool), AllocError> {
-    let before = env.has_invariant_errors();
-    env.record_diagnostic(report)?;
-    Ok((before, env.has_invariant_errors()))
-}
-
-fn not_settled_recorded(alloc: Global) -> Result<(bool, bool), AllocError> {
-    let report = not_settled_report(alloc)?;
-    let mut env = Environment::new(alloc);
-    recorded(&mut env, report)
-}
-
-fn print_recorded(rt: &impl Print, alloc: Global) -> io::Result<()> {
-    let (before, after) = not_settled_recorded(alloc)?;
-    println!(rt; "records_reports: invariant errors {before} before, {after} after")
-}
-
-pub(crate) fn print_reports(rt: &impl Print, alloc: Global) -> io::Result<()> {
-    print_missing(rt, alloc)?;
-    print_in_no_table(rt, alloc)?;
-    print_not_settled(rt, alloc)?;
-    print_recorded(rt, alloc)
+pub(crate) fn print_reports(rt: &impl Print, alloc: Global, env: &mut Environment) {
+    print_missing(rt, alloc, env, "writes_that_a_value_is_missing", 0);
+    print_missing(rt, alloc, env, "writes_reports_of_what_is_in_no_table", 12);
+    print_not_settled(rt, alloc, env);
 }

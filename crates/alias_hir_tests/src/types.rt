@@ -1,57 +1,40 @@
-//! Types, and how they are printed.
+//! Types, how they are printed, and the shapes that they name.
 
-use alias_base::{Boxed, Text, TryClone};
+use crate::made::{add, function, object};
+use crate::print_fact;
+use alias_base::{List, Text, TryClone};
+use alias_hir::env::Environment;
 use alias_hir::printed::push_type;
 use alias_hir::types::Ty;
-use std::alloc::{AllocError, Global};
-use std::io;
+use std::alloc::Global;
 
-pub(crate) fn object(alloc: Global, shape: &str) -> Result<Ty, AllocError> {
-    Ok(Ty::Object {
-        shape_id: Some(Text::from_str(alloc, shape)?),
-    })
+/// Adds the types 3 to 6.
+pub(crate) fn add_types(alloc: Global, types: &mut List<Ty>) {
+    add(types, object(alloc, "useState"));
+    add(types, function(alloc, "F", Ty::Primitive));
+    let unshaped = Ty::Object { shape_id: None };
+    add(types, function(alloc, "F", unshaped));
+    add(types, object(alloc, "S"));
 }
 
-pub(crate) fn function(alloc: Global, shape: &str, return_type: Ty) -> Result<Ty, AllocError> {
-    Ok(Ty::Function {
-        shape_id: Some(Text::from_str(alloc, shape)?),
-        return_type: Boxed::new(alloc, return_type)?,
-    })
-}
-
-fn print_text(rt: &impl Print, text: &Text) -> io::Result<()> {
-    println!(rt; "prints_types: {:?}", text.as_str())
-}
-
-fn print_type(rt: &impl Print, alloc: Global, ty: &Ty) -> io::Result<()> {
+/// Prints the type, whether the first shape that it names is that of a hook, and whether that has a signature.
+fn print_type(rt: &impl Print, alloc: Global, env: &Environment, ty: &Ty) {
     let mut text = Text::new(alloc);
-    push_type(&mut text, ty)?;
-    print_text(rt, &text)
+    let _ = push_type(&mut text, ty);
+    let has_signature = env.get_function_signature(ty).is_some();
+    let fact = (text.as_str(), env.get_hook_kind_for_type(ty), has_signature);
+    print_fact(rt, "prints_types_and_looks_up_the_first_shape", &fact);
 }
 
-fn print_plain(rt: &impl Print, alloc: Global) -> io::Result<()> {
-    let plain = function(alloc, "F", Ty::Primitive)?;
-    print_type(rt, alloc, &plain)
+fn print_copy(rt: &impl Print, alloc: Global, env: &Environment, ty: &Ty) {
+    if let Ok(copy) = ty.try_clone(alloc) {
+        print_type(rt, alloc, env, &copy);
+    }
 }
 
-fn print_copied(rt: &impl Print, alloc: Global, ty: &Ty) -> io::Result<()> {
-    let copy = ty.try_clone(alloc)?;
-    print_type(rt, alloc, &copy)
-}
-
-fn print_nested(rt: &impl Print, alloc: Global) -> io::Result<()> {
-    let nested = function(alloc, "F", Ty::Object { shape_id: None })?;
-    print_copied(rt, alloc, &nested)
-}
-
-fn print_object(rt: &impl Print, alloc: Global) -> io::Result<()> {
-    let object = object(alloc, "S")?;
-    print_type(rt, alloc, &object)
-}
-
-pub(crate) fn print_types(rt: &impl Print, alloc: Global) -> io::Result<()> {
-    print_plain(rt, alloc)?;
-    print_nested(rt, alloc)?;
-    print_object(rt, alloc)?;
-    print_type(rt, alloc, &Ty::Var)
+/// Prints a copy of each type of the tables.
+pub(crate) fn print_types(rt: &impl Print, alloc: Global, env: &Environment) {
+    for ty in env.types.as_slice() {
+        print_copy(rt, alloc, env, ty);
+    }
 }

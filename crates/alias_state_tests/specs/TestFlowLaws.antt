@@ -1,13 +1,11 @@
--- The laws of the tests' flows.
+-- The laws of the tests' flow.
 use Rattle.std.proofs.Common.{◌≡◌, ℕ, ◌+◌, ◌<◌, Bool, true, false, if◌then◌else◌, nat_lt, nat_le, ◌==◌, IsTrue, List}
 use Rattle.std.proofs.Common.{[], ◌∷◌, length, Option, refl, arith}
 use Rattle.std.proofs.lemmas.Bool.Decides.{nat_tests}
 use Rattle.std.specs.List.{AllByRecursion}
 use Rattle.alias_lattice.specs.Laws.{LatticeLaws}
 use Rattle.alias_flow.specs.Machine.{FlowLaws}
-use Rattle.alias_flow.specs.Solutions.{IsForward}
-use Rattle.alias_state_tests.specs.TestFlows.{higher, IsHeight, Extends, forward_edges, forward_rules, loop_edges}
-use Rattle.alias_state_tests.specs.TestFlows.{loop_rules}
+use Rattle.alias_state_tests.specs.TestFlows.{higher, IsHeight, Extends, line_edges, loop_edges, climb_edges, climb_rules}
 
 higher_commutes : (x y : ℕ) → higher x y ≡ higher y x
 higher_commutes x y = grind (arith, nat_tests)
@@ -37,24 +35,8 @@ edges_if : (A : ℕ → Type 0) (b : Bool) (e : ℕ) → (b ≡ true → A e) �
 edges_if A true e h = (h refl, tt)
 edges_if A false e h = tt
 
-forward_below : (b : ℕ) → b < 4 → AllByRecursion (λ e. e < 4) (forward_edges b)
-forward_below b h = edges_if (λ e. e < 4) (nat_lt b 3) (b + 1) (λ t. grind (arith, nat_tests))
-
-pub forward_of_line : IsForward forward_rules
-forward_of_line b h = edges_if (λ e. b < e) (nat_lt b 3) (b + 1) (λ t. omega arith)
-
-pub forward_laws : (recorded : List (Option ℕ)) → length recorded ≡ 4 → FlowLaws IsHeight Extends forward_rules recorded
-forward_laws recorded h = record {
-  recorded_length = h;
-  initial_proper = tt;
-  step_proper = λ t b x y u k p e. tt;
-  entry_below = omega arith;
-  edges_below = forward_below;
-  reflexive = λ t. tt;
-  transitive = λ t u v p q. tt;
-  grow = λ t b x y u k e. tt;
-  replay = λ t b x y u v k e p. e;
-}
+line_below : (b : ℕ) → b < 4 → AllByRecursion (λ e. e < 4) (line_edges b)
+line_below b h = edges_if (λ e. e < 4) (nat_lt b 3) (b + 1) (λ t. grind (arith, nat_tests))
 
 loop_below : (b : ℕ) → b < 4 → AllByRecursion (λ e. e < 4) (loop_edges b)
 loop_below b h = elim (b == 0) as (λ r. AllByRecursion (λ e. e < 4)
@@ -64,13 +46,18 @@ loop_below b h = elim (b == 0) as (λ r. AllByRecursion (λ e. e < 4)
           [ true ↦ (omega arith, (omega arith, tt)) | false ↦ tt ]
     ]
 
-pub loop_laws : (recorded : List (Option ℕ)) → length recorded ≡ 4 → FlowLaws IsHeight Extends loop_rules recorded
-loop_laws recorded h = record {
+climb_below : (is_line : Bool) (b : ℕ) → b < 4 → AllByRecursion (λ e. e < 4) (climb_edges is_line b)
+climb_below true b h = line_below b h
+climb_below false b h = loop_below b h
+
+pub climb_laws : (is_line : Bool) (recorded : List (Option ℕ)) → length recorded ≡ 4
+    → FlowLaws IsHeight Extends (climb_rules is_line) recorded
+climb_laws is_line recorded h = record {
   recorded_length = h;
   initial_proper = tt;
   step_proper = λ t b x y u k p e. tt;
   entry_below = omega arith;
-  edges_below = loop_below;
+  edges_below = climb_below is_line;
   reflexive = λ t. tt;
   transitive = λ t u v p q. tt;
   grow = λ t b x y u k e. tt;

@@ -1,18 +1,27 @@
 //! Prints what values, effects and terminals read, assign and name, in order, and what the visitors change that do: a
-//! line for each fact, and `stdout` has those that must come. Places are printed by the digits of their identifiers,
-//! which are below ten. A crate of its own, so that `alias_visit` is proved once.
+//! line for each fact, and `stdout` has those that must come. A crate of its own, so that `alias_visit` is proved once.
+//! No function answers an error: where memory runs out, or a line can't be printed, what comes differs.
+//!
+//! Of places three numbers are printed, with a digit for each place: its identifier, which is below ten; 1 where it is
+//! read, 2 where it is stored, and else 3; and 1 where it is reactive, and else 2.
 #![tactic(auto)]
 
 mod changes;
 mod functions;
-mod places;
+mod lists;
+mod printed;
 mod values;
 
-use std::io;
+use alias_hir::env::Environment;
 
-fn main(rt: HostRuntime) -> io::Result<()> {
+fn main(rt: HostRuntime) {
     let alloc = rt.alloc();
-    places::print_lists(&rt, alloc)?;
-    functions::print_places(&rt, alloc)?;
-    changes::print_changes(&rt, alloc)
+    let mut env = Environment::new(alloc);
+    functions::add_nested(alloc, &mut env);
+    lists::print_values(&rt, alloc, &env);
+    lists::print_effects(&rt, alloc);
+    lists::print_switch(&rt, alloc);
+    lists::print_targets(&rt, alloc);
+    functions::print_places(&rt, alloc, &env);
+    changes::print_changes(&rt, alloc, &env);
 }

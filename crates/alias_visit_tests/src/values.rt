@@ -5,36 +5,35 @@ use alias_hir::hir::Instruction;
 use alias_hir::place::{Place, PlaceOrSpread, SpreadPattern};
 use alias_hir::terminal::{SwitchCase, Terminal};
 use alias_hir::value::{
-    InstructionKind, InstructionValue, JsxAttribute, JsxTag, LValuePattern, LoweredFunction,
-    ObjectPattern, ObjectProperty, ObjectPropertyOrSpread, Pattern,
+    InstructionKind, InstructionValue, JsxAttribute, JsxTag, LValue, LValuePattern,
+    LoweredFunction, ObjectPattern, ObjectProperty, ObjectPropertyOrSpread, Pattern,
 };
 use alias_test_units::place;
-use std::alloc::{AllocError, Global};
+use std::alloc::Global;
 
-/// The identifiers of the places, below ten each, as the digits of one number.
-pub(crate) fn numbers(places: &[Place]) -> u32 {
-    let mut all = 0u32;
-    for place in places {
-        all = all.wrapping_mul(10).wrapping_add(place.identifier.0);
+/// A list of these items, or an empty one where memory runs out.
+pub(crate) fn list_of<T: Copy>(alloc: Global, items: &[T]) -> List<T> {
+    match List::from_slice(alloc, items) {
+        Ok(list) => list,
+        Err(_) => List::new(alloc),
     }
-    all
 }
 
 /// `x1[x2](x3, ...x4)`.
-pub(crate) fn call(alloc: Global) -> Result<InstructionValue, AllocError> {
+pub(crate) fn call(alloc: Global) -> InstructionValue {
     let args = [
         PlaceOrSpread::Place(place(3)),
         PlaceOrSpread::Spread(SpreadPattern { place: place(4) }),
     ];
-    Ok(InstructionValue::MethodCall {
+    InstructionValue::MethodCall {
         receiver: place(1),
         property: place(2),
-        args: List::from_slice(alloc, &args)?,
-    })
+        args: list_of(alloc, &args),
+    }
 }
 
 /// `[x1]: x2, ...x3`.
-fn properties(alloc: Global) -> Result<List<ObjectPropertyOrSpread>, AllocError> {
+fn properties(alloc: Global) -> List<ObjectPropertyOrSpread> {
     let properties = [
         ObjectPropertyOrSpread::Property(ObjectProperty {
             computed: Some(place(1)),
@@ -42,41 +41,52 @@ fn properties(alloc: Global) -> Result<List<ObjectPropertyOrSpread>, AllocError>
         }),
         ObjectPropertyOrSpread::Spread(SpreadPattern { place: place(3) }),
     ];
-    List::from_slice(alloc, &properties)
+    list_of(alloc, &properties)
 }
 
 /// `{ [x1]: x2, ...x3 }`.
-pub(crate) fn object(alloc: Global) -> Result<InstructionValue, AllocError> {
-    Ok(InstructionValue::ObjectExpression {
-        properties: properties(alloc)?,
-    })
+pub(crate) fn object(alloc: Global) -> InstructionValue {
+    InstructionValue::ObjectExpression {
+        properties: properties(alloc),
+    }
 }
 
 /// `{ [x1]: x2, ...x3 } = x4`.
-pub(crate) fn destructuring(alloc: Global) -> Result<InstructionValue, AllocError> {
-    Ok(InstructionValue::Destructure {
+pub(crate) fn destructuring(alloc: Global) -> InstructionValue {
+    InstructionValue::Destructure {
         lvalue: LValuePattern {
             pattern: Pattern::Object(ObjectPattern {
-                properties: properties(alloc)?,
+                properties: properties(alloc),
             }),
             kind: InstructionKind::Const,
         },
         value: place(4),
-    })
+    }
 }
 
 /// `<x1 a={x2} {...x3}>{x4}</x1>`.
-pub(crate) fn element(alloc: Global) -> Result<InstructionValue, AllocError> {
+pub(crate) fn element(alloc: Global) -> InstructionValue {
     let props = [
         JsxAttribute::Attribute { place: place(2) },
         JsxAttribute::Spread { place: place(3) },
     ];
-    let children = List::from_slice(alloc, &[place(4)])?;
-    Ok(InstructionValue::JsxExpression {
+    let children = list_of(alloc, &[place(4)]);
+    InstructionValue::JsxExpression {
         tag: JsxTag::Place(place(1)),
-        props: List::from_slice(alloc, &props)?,
+        props: list_of(alloc, &props),
         children,
-    })
+    }
+}
+
+/// `x3 = x1`.
+pub(crate) fn store() -> InstructionValue {
+    InstructionValue::StoreLocal {
+        lvalue: LValue {
+            place: place(3),
+            kind: InstructionKind::Let,
+        },
+        value: place(1),
+    }
 }
 
 /// What creates the nested function.
@@ -96,13 +106,13 @@ fn case(test: Option<Place>) -> SwitchCase {
 }
 
 /// `switch (x1) { case x2: ; default: ; case x3: }`.
-pub(crate) fn switch(alloc: Global) -> Result<Terminal, AllocError> {
+pub(crate) fn switch(alloc: Global) -> Terminal {
     let cases = [case(Some(place(2))), case(None), case(Some(place(3)))];
-    Ok(Terminal::Switch {
+    Terminal::Switch {
         id: EvaluationOrder(2),
         test: place(1),
-        cases: List::from_slice(alloc, &cases)?,
-    })
+        cases: list_of(alloc, &cases),
+    }
 }
 
 /// An instruction whose result is the identifier of that number.
