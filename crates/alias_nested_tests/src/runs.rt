@@ -50,18 +50,26 @@ fn print_run(rt: &impl Print, alloc: Global, unit: &str, word: &str, calls: &str
     }
 }
 
-/// Prints what each run of the text comes to.
+/// Prints the line, and what the run that it names comes to.
+fn print_line(rt: &impl Print, alloc: Global, unit: &str, line: &str) {
+    let _ = rt.println(line);
+    let (word, calls) = line.split_once(' ').unwrap_or((line, ""));
+    if word != "#" {
+        print_run(rt, alloc, unit, word, calls);
+    }
+}
+
+/// Prints what comes of the lines behind a unit, which is on the first line.
+fn print_part(rt: &impl Print, alloc: Global, part: &str) {
+    let (unit, runs) = part.split_once('\n').unwrap_or((part, ""));
+    for line in runs.lines() {
+        print_line(rt, alloc, unit, line);
+    }
+}
+
+/// Prints what each run of the text comes to: `unit` begins a line with the unit of the runs behind it.
 pub(crate) fn print_runs(rt: &impl Print, alloc: Global, text: &str) {
-    let mut unit = "";
-    for line in text.lines() {
-        let (word, rest) = line.split_once(' ').unwrap_or((line, ""));
-        if word == "unit" {
-            unit = rest;
-        } else {
-            let _ = rt.println(line);
-            if word != "#" {
-                print_run(rt, alloc, unit, word, rest);
-            }
-        }
+    for part in text.split("\nunit ") {
+        print_part(rt, alloc, part);
     }
 }
