@@ -77,11 +77,13 @@ pub(crate) fn add_shapes(alloc: Global, env: &mut Environment) {
     let _ = env.shapes.push(shape(alloc, false, None));
 }
 
+/// Prints how many shapes there are, and whether the identifier 2 has no alias by the first.
 pub(crate) fn print_alias(rt: &impl Print, env: &Environment) {
-    let has_no_alias = env.has_no_alias_signature(IdentifierId(2));
+    let shapes = env.shapes.as_slice().len();
+    let fact = (shapes, env.has_no_alias_signature(IdentifierId(2)));
     print_fact(
         rt,
-        "looks_up_the_first_shape: no alias of the identifier",
-        &has_no_alias,
+        "looks_up_the_first_shape: how many, no alias of the identifier",
+        &fact,
     );
 }
