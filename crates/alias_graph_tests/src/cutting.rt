@@ -5,8 +5,7 @@ use crate::print_fact;
 use alias_base::IdentifierId;
 use alias_graph::graph::AliasGraph;
 use alias_graph::types::{Link, LinkList, NodeValue};
-use alias_hir::env::Environment;
-use alias_test_units::place;
+use alias_test_units::{environment, place};
 use std::alloc::Global;
 
 /// Assigns 0 to 1 and 2 to 3, and makes the node of 1 once more, so that it doesn't know of the link any more.
@@ -20,12 +19,18 @@ fn first_link(graph: &AliasGraph, number: u32) -> Option<Link> {
     graph.link(IdentifierId(number), LinkList::Forward, 0)
 }
 
+/// Cuts the graph off to 1, with its four identifiers in the tables.
+fn cut(alloc: Global, graph: &mut AliasGraph) {
+    if let Ok(env) = environment(alloc, 4) {
+        let _ = graph.cut_off(&[IdentifierId(1)], false, &env);
+    }
+}
+
 /// Prints the first forward links of 0 and 2 after that graph is cut off to 1.
 pub(crate) fn print_cut(rt: &impl Print, alloc: Global) {
-    let env = Environment::new(alloc);
     let mut graph = objects(alloc);
     add_links(&mut graph);
-    let _ = graph.cut_off(&[IdentifierId(1)], false, &env);
+    cut(alloc, &mut graph);
     let left = (first_link(&graph, 0), first_link(&graph, 2));
     print_fact(
         rt,

@@ -1,6 +1,6 @@
 //! Prints what graphs built by hand come to: nodes and links, a graph that is cut off to a part, and a walk whose steps
 //! are counted: a line for each fact, and `stdout` has those that must come. A crate of its own, so that `alias_graph`
-//! is proved once. No function answers an error to print: where memory runs out, what comes differs.
+//! is proved once. No function that prints answers an error: where memory runs out, what comes differs.
 #![tactic(auto)]
 
 mod cutting;
