@@ -48,16 +48,22 @@ return load(${JSON.stringify(first)});
 })`;
 }
 
-/** Has functions of the front end run, so that V8 compiles them: over the cases of its tests. */
-function used({unitsOf, unitsOfProgram}) {
+/** What no case of the tests has, and many a file. */
+const BESIDES = ['export function C() { return <>text</>; }'];
+
+/** Has functions of the front end run, so that V8 compiles them: over the cases of its tests, as the plugin does too. */
+function used({unitsOf, unitsOfProgram, isIncompatible}) {
   const {moduleOf} = require('../frontend/src/parse.js');
   const {WRONG, RIGHT} = require(path.join(TABLES, 'react.js'));
   const {BY_HAND} = require(path.join(TABLES, 'byhand.js'));
   const options = {offsets: 'utf16', as: 'bytes', others: 'none'};
-  for (const text of [...WRONG, ...RIGHT].map(one => one.source).concat(Object.values(BY_HAND))) {
+  const each = ({unit}) => unit && [unit.texts(), unit.lines(), unit.bytes()];
+  isIncompatible('react');
+  for (const text of [...WRONG, ...RIGHT].map(one => one.source).concat(Object.values(BY_HAND), BESIDES)) {
     try {
       const {program} = moduleOf('@babel/parser').parse(text, {sourceType: 'module', plugins: ['jsx', 'estree']});
       unitsOfProgram(program, text, options);
+      unitsOfProgram(program, text, {...options, as: 'codes', each});
       unitsOf(text, {...options, others: 'nested'});
     } catch (error) {
       if (!(error instanceof SyntaxError)) throw error;

@@ -1,28 +1,27 @@
--- A state sent along edges, one after the other.
-use Rattle.std.proofs.Common.{◌≡◌, ℕ, ◌+◌, ◌-◌, ◌≤◌, List, [], ◌∷◌, length, take, drop, get_or, Option, zero, suc, refl}
-use Rattle.std.proofs.Common.{ap, sym, ◌∙◌, arith}
-use Rattle.alias_flow.specs.Machine.{send, send_all}
+-- A state sent along edges, one after the other: the last edge apart from those before it.
+use Rattle.std.proofs.Common.{◌≡◌, ℕ, ◌+◌, ◌-◌, ◌≤◌, List, [], ◌∷◌, length, take, drop, get_or, zero, suc, refl, ap}
+use Rattle.std.proofs.Common.{sym, ◌∙◌, arith}
 
 drop_all : (ys : List ℕ) (i : ℕ) → length ys ≤ i → drop i ys ≡ []
 drop_all [] i h = elim i as (λ n. drop {A = ℕ} n [] ≡ []) [ zero ↦ refl | suc n ↦ refl ]
 drop_all (y ∷ ys) zero h = absurd (omega arith)
 drop_all (y ∷ ys) (suc i) h = drop_all ys i (omega arith)
 
-module _ {P : Type 0} (join : P → P → P) (x : P) where
+module _ {D : Type 0} (send : D → ℕ → D) (sends : D → List ℕ → D) (none : (d : D) → sends d [] ≡ d)
+    (more : (d : D) (e : ℕ) (es : List ℕ) → sends d (e ∷ es) ≡ sends (send d e) es) where
   -- the last edge comes after the ones before it
-  sends_last : (es : List ℕ) (m : ℕ) → m + 1 ≡ length es → (joined_input : List (Option P))
-      → send_all join x joined_input es ≡ send join x (send_all join x joined_input (take m es)) (get_or es m 0)
-  sends_last [] m h joined_input = absurd (omega arith)
-  sends_last (e ∷ []) zero h joined_input = refl
-  sends_last (e ∷ d ∷ es) zero h joined_input = absurd (omega arith)
-  sends_last (e ∷ es) (suc m) h joined_input = sends_last es m (omega arith) (send join x joined_input e)
+  sends_last : (es : List ℕ) (m : ℕ) → m + 1 ≡ length es → (d : D)
+      → sends d es ≡ send (sends d (take m es)) (get_or es m 0)
+  sends_last [] m h d = absurd (omega arith)
+  sends_last (e ∷ []) zero h d = more d e [] ∙ none (send d e) ∙ ap (λ z. send z e) (sym (none d))
+  sends_last (e ∷ c ∷ es) zero h d = absurd (omega arith)
+  sends_last (e ∷ es) (suc m) h d = more d e es ∙ sends_last es m (omega arith) (send d e)
+      ∙ ap (λ z. send z (get_or es m 0)) (sym (more d e (take m es)))
 
-  pub sent_along : (es : List ℕ) (i : ℕ) (before now : List (Option P)) → 1 ≤ length es
-      → length (take (length es - 1) es) ≤ i
-      → send_all join x now (drop i (take (length es - 1) es)) ≡ send_all join x before (take (length es - 1) es)
-      → send join x now (get_or es (length es - 1) 0) ≡ send_all join x before es
-  sent_along es i before now some past h =
-      let none : drop i (take (length es - 1) es) ≡ [] = drop_all (take (length es - 1) es) i past in
-      let all : now ≡ send_all join x before (take (length es - 1) es) = sym (ap (send_all join x now) none) ∙ h in
-      ap (λ joined_input. send join x joined_input (get_or es (length es - 1) 0)) all
-      ∙ sym (sends_last es (length es - 1) (omega arith) before)
+  pub sent_along : (es : List ℕ) (i : ℕ) (before now after : D) → 1 ≤ length es → length (take (length es - 1) es) ≤ i
+      → sends now (drop i (take (length es - 1) es)) ≡ sends before (take (length es - 1) es)
+      → after ≡ send now (get_or es (length es - 1) 0) → after ≡ sends before es
+  sent_along es i before now after some past h e =
+      let over : drop i (take (length es - 1) es) ≡ [] = drop_all (take (length es - 1) es) i past in
+      let all : now ≡ sends before (take (length es - 1) es) = sym (none now) ∙ sym (ap (sends now) over) ∙ h in
+      e ∙ ap (λ z. send z (get_or es (length es - 1) 0)) all ∙ sym (sends_last es (length es - 1) (omega arith) before)

@@ -1,5 +1,5 @@
 -- What the test of edges says.
-use Rattle.std.proofs.Common.{◌≡◌, ℕ, ◌+◌, ◌<◌, ◌≤◌, ⊎_elim, Bool, true, nat_lt, List, [], ◌∷◌, zero, suc, arith, refl}
+use Rattle.std.proofs.Common.{◌≡◌, ℕ, ◌+◌, ◌<◌, ◌≤◌, ⊎_elim, Bool, true, nat_lt, List, [], ◌∷◌, zero, suc, arith}
 use Rattle.std.proofs.Common.{ap, ◌∙◌}
 use Rattle.std.proofs.lemmas.Bool.{ltb-true, cases_eq}
 use Rattle.std.specs.List.{list_all, AllByRecursion}

@@ -3,8 +3,8 @@ use Rattle.std.specs.Prelude.{◌≡◌, ℕ, Bool, true, false, if◌then◌els
 use Rattle.std.specs.Prelude.{slice_index_or, slice_set, refl}
 use Rattle.std.specs.List.{AllByRecursion}
 use Rattle.std.proofs.Common.{zero, suc, subst}
-use Rattle.alias_lattice.specs.Flows.{Flow, Outcome, Stepped, Refused}
-use Rattle.alias_flow.specs.Machine.{Rules, VisitLog, SolverState, Run, Going, Stopped, End, Solved, Fault, NotSettled}
+use Rattle.alias_lattice.specs.Flows.{Outcome, Stepped, Refused}
+use Rattle.alias_flow.specs.Machine.{Rules, VisitLog, SolverState, Run, Going, Stopped, End, Solved, NotSettled}
 use Rattle.alias_flow.specs.Machine.{after, ending, up, outcome_after, visit_at, visit, turn, round, any_dirty, rounds}
 use Rattle.alias_flow.specs.Machine.{start, solution, dirty}
 

@@ -26,6 +26,25 @@ pub fn send_copy<S: Lattice + Drop>(
     }
 }
 
+/// Sends the state itself to the block, and answers whether what was sent to it grew.
+pub(crate) fn send_moved<S: Lattice + Drop>(
+    joined_input: &mut [Option<S>],
+    state: S,
+    to: u32,
+) -> Result<bool, AllocError>
+    requires { to < length joined_input.old }
+    ensures joined_input { OnOk result (joined_input.new ≡ send S.join state joined_input.old to) }
+    ensures grew { IfOk result (λ grew. grew ≡ grows S.join S.below (slice_index_or joined_input.old to None) state) }
+{
+    match &mut joined_input[to as usize] {
+        Some(old) => old.join_from(&state),
+        none => {
+            *none = Some(state);
+            Ok(true)
+        }
+    }
+}
+
 /// Sends the state itself to the block.
 pub fn send_state<S: Lattice + Drop>(
     joined_input: &mut [Option<S>],
@@ -35,11 +54,6 @@ pub fn send_state<S: Lattice + Drop>(
     requires { to < length joined_input.old }
     ensures { OnOk result (joined_input.new ≡ send S.join state joined_input.old to) }
 {
-    match &mut joined_input[to as usize] {
-        Some(old) => {
-            old.join_from(&state)?;
-        }
-        none => *none = Some(state),
-    }
+    send_moved(joined_input, state, to)?;
     Ok(())
 }

@@ -34,9 +34,7 @@ fn visit<F: Flow>(
     }
     work_list.note_visit(block)?;
     let edges = flow.edges(block)?;
-    for to in edges.as_slice() {
-        work_list.send(&state, *to)?;
-    }
+    work_list.send_along(state, edges.as_slice())?;
     Ok(())
 }
 
@@ -125,7 +123,7 @@ pub fn solve<F: Flow>(
     let entry = flow.entry();
     let mut work_list = WorkList::start(alloc, count)?;
     let initial = flow.initial()?;
-    work_list.send(&initial, entry)?;
+    work_list.send_state(initial, entry)?;
     rounds(&mut work_list, flow, count)?;
     settled(work_list)
 }

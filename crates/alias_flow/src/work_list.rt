@@ -1,12 +1,12 @@
 //! The work list of `solve`.
 ghost use Rattle.std.specs.Prelude.{◌≡◌, ◌<◌, ℕ, IfOk, OnOk, List, Option, None, replicate, slice_index_or, length, false, [], vec_len};
-ghost use Rattle.std.specs.List.{list_any};
-ghost use Rattle.alias_flow.specs.WorkLists.{work_list_send, work_list_visited};
+ghost use Rattle.std.specs.List.{list_any, AllByRecursion};
+ghost use Rattle.alias_flow.specs.WorkLists.{work_list_send, work_list_sends, work_list_visited};
 ghost use Rattle.alias_flow.specs.WorkListViews.{work_list_of};
 
 use crate::flow::Solution;
 use crate::nothing::nothing_yet;
-use crate::sending::send_copy;
+use crate::sending::{send_copy, send_moved};
 use alias_base::List;
 use alias_lattice::Lattice;
 use std::alloc::{AllocError, Global};
@@ -90,7 +90,7 @@ impl<S: Lattice + Drop> WorkList<S> {
     }
 
     /// Sends a copy of the state to the block, which is dirty if what was sent to it grew.
-    pub(crate) fn send(&mut self, state: &S, to: u32) -> Result<(), AllocError>
+    fn send_copy(&mut self, state: &S, to: u32) -> Result<(), AllocError>
         requires joined_input { to < vec_len self.old.joined_input }
         requires dirty { to < vec_len self.old.dirty }
         ensures joined_input { OnOk result (work_list_of self.new ≡ work_list_send S.join S.below state.now (work_list_of self.old) to) }
@@ -100,5 +100,34 @@ impl<S: Lattice + Drop> WorkList<S> {
             self.dirty[to as usize] = true;
         }
         Ok(())
+    }
+
+    /// Sends the state itself to the block, which is dirty if what was sent to it grew.
+    pub(crate) fn send_state(&mut self, state: S, to: u32) -> Result<(), AllocError>
+        requires joined_input { to < vec_len self.old.joined_input }
+        requires dirty { to < vec_len self.old.dirty }
+        ensures joined_input { OnOk result (work_list_of self.new ≡ work_list_send S.join S.below state (work_list_of self.old) to) }
+        ensures lengths { OnOk result ((vec_len self.new.joined_input ≡ vec_len self.old.joined_input) × (vec_len self.new.dirty ≡ vec_len self.old.dirty)) }
+    {
+        if send_moved(self.joined_input.as_mut_slice(), state, to)? {
+            self.dirty[to as usize] = true;
+        }
+        Ok(())
+    }
+
+    /// Sends the state along the edges: itself along the last one, and before that what joins it or copies it.
+    pub(crate) fn send_along(&mut self, state: S, edges: &[u32]) -> Result<(), AllocError>
+        requires joined_input { AllByRecursion (λ e. e < vec_len self.old.joined_input) edges.now }
+        requires dirty { AllByRecursion (λ e. e < vec_len self.old.dirty) edges.now }
+        ensures joined_input { OnOk result (work_list_of self.new ≡ work_list_sends S.join S.below state (work_list_of self.old) edges.now) }
+        ensures lengths { OnOk result ((vec_len self.new.joined_input ≡ vec_len self.old.joined_input) × (vec_len self.new.dirty ≡ vec_len self.old.dirty)) }
+    {
+        let [before @ .., last] = edges else {
+            return Ok(());
+        };
+        for to in before {
+            self.send_copy(&state, *to)?;
+        }
+        self.send_state(state, *last)
     }
 }

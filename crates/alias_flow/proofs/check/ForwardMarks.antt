@@ -1,11 +1,11 @@
 -- Where all edges go to later blocks, one round marks all that is reached.
-use Rattle.std.proofs.Common.{◌≡◌, ℕ, ◌+◌, ◌<◌, ◌≤◌, ◌≢◌, ◌⊎◌, ⊎_elim, Bool, true, false, if◌then◌else◌, List, [], ◌∷◌}
-use Rattle.std.proofs.Common.{replicate, get_or, set, zero, suc, refl, ap, sym, ◌∙◌, subst, arith}
+use Rattle.std.proofs.Common.{◌≡◌, ℕ, ◌+◌, ◌<◌, ◌≤◌, ◌≢◌, ⊎_elim, Bool, true, false, if◌then◌else◌, List, [], ◌∷◌}
+use Rattle.std.proofs.Common.{replicate, set, zero, suc, refl, ap, sym, ◌∙◌, subst, arith}
 use Rattle.std.proofs.lemmas.List.{get_or-set_other, set-set, set_comm}
 use Rattle.std.proofs.lemmas.Bool.{cases_eq}
 use Rattle.std.specs.List.{AllByRecursion}
 use Rattle.alias_flow.specs.Machine.{Rules, up}
-use Rattle.alias_flow.specs.Solutions.{goes_forward, IsForward}
+use Rattle.alias_flow.specs.Solutions.{goes_forward}
 use Rattle.alias_flow.specs.check.Reached.{marked_all, marked_from, marked_round, marked_rounds, reached_marks}
 use Rattle.alias_flow.proofs.EachEdge.{forward_is}
 use Rattle.alias_flow.proofs.check.Marks.{at, rounds_stay}

@@ -21,7 +21,7 @@ returns g c =
       c.entry-entry.ensures,
       c.blocks-count.ensures,
     ) at
-    c.in_ok-send.ensures.joined_input in
+    c.in_ok-send_state.ensures.joined_input in
     let whole =
     solution_is l.join l.below (g.F.Flow.rules start) tables (g.F.Flow.recorded start)
     ∙ sym (ap (λ d. work_list_rounds l.join l.below (g.F.Flow.rules start) 100
@@ -55,7 +55,7 @@ returns-in_err-rounds-clause-end g c =
       c.entry-entry.ensures,
       c.blocks-count.ensures,
     ) at
-    c.in_ok-send.ensures.joined_input in
+    c.in_ok-send_state.ensures.joined_input in
     let whole =
     solution_is l.join l.below (g.F.Flow.rules start) tables (g.F.Flow.recorded start)
     ∙ sym (ap (λ d. work_list_rounds l.join l.below (g.F.Flow.rules start) 100
