@@ -52,10 +52,10 @@ function refusalOf(text, unit, positions) {
 /** @param {import('./inference.js').Codes} codes of a unit @param {{status: number, text: string}} answer @returns {Array<Found>} */
 function foundIn(codes, {status, text}, positions) {
   if (status === 0 && !text.startsWith('lint ')) return [];
-  const unit = JSON.parse(codes.bytes().toString());
-  if (status !== 0) return [refusalOf(text, unit, positions)];
+  const unitOf = () => JSON.parse(codes.bytes().toString());
+  if (status !== 0) return [refusalOf(text, unitOf(), positions)];
   const lines = text.split('\n').filter(line => line.startsWith('lint '));
-  return reports(lines, unit, positions).map(report => ({category: report.category, message: messageOf(report), loc: locOf(report.range)}));
+  return reports(lines, unitOf, positions).map(report => ({category: report.category, message: messageOf(report), loc: locOf(report.range)}));
 }
 
 /** A function within one that has a unit of its own too may be told of twice. @param {Array<Found>} found */

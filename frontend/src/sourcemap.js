@@ -34,14 +34,22 @@ function sourceMap(unit, positions) {
   };
 }
 
+/** The span of what a line is about: an instruction, or a whole function. @param {string} fn @param {string} at */
+function spanOf(unit, fn, at) {
+  const named = fn === 'root' ? unit.root : unit.functions[Number(fn)];
+  return at === 'end' ? named.span : named.instructions[Number(at)].span;
+}
+
 /**
  * The lines of `lint` as reports with places in the text. One that is there twice counts once: a function
  * that is called twice tells its reports twice.
+ * @param {Array<string>} lines
+ * @param {() => any} unitOf the unit, which is asked for only where a line has no label, whose place it tells
+ * @param {import('./positions.js').Positions} positions
  * @returns {Array<{category: string, message: string, help: ?string, range: Range, labels: Array<{range: Range, text: ?string}>}>}
  */
-function reports(lines, unit, positions) {
+function reports(lines, unitOf, positions) {
   const ranges = new Ranges(positions);
-  const functions = [...unit.functions, unit.root];
   const seen = new Set();
   const out = [];
   for (const line of lines) {
@@ -53,9 +61,7 @@ function reports(lines, unit, positions) {
       const [start, end] = tokens[i].split('..').map(Number);
       labels.push({range: ranges.of([start, end]), text: text(tokens[i + 1])});
     }
-    const number = fn === 'root' ? unit.functions.length : Number(fn);
-    const range = labels.length > 0 ? labels[0].range
-      : ranges.of(at === 'end' ? functions[number].span : functions[number].instructions[Number(at)].span);
+    const range = labels.length > 0 ? labels[0].range : ranges.of(spanOf(unitOf(), fn, at));
     const key = JSON.stringify([category, text(tokens[0]), text(tokens[1]), labels]);
     if (seen.has(key)) continue;
     seen.add(key);

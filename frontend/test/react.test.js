@@ -24,7 +24,7 @@ cases.forEach(({name, source, reports: expected = []}, i) => {
   test(name, {skip}, async () => {
     const {status, lints, refused, text, unit} = (await all)[i];
     assert.strictEqual(status, 0, JSON.stringify(refused || text));
-    const found = reports(lints, unit, new Positions(source));
+    const found = reports(lints, () => unit, new Positions(source));
     assert.strictEqual(found.length, expected.length, lints.join('\n'));
     expected.forEach((part, k) => assert.ok(lints[k].includes(part), lints[k]));
     marks(source).forEach((column, k) => assert.deepStrictEqual([found[k].range.line, found[k].range.column], [2, column], name));
