@@ -52,13 +52,14 @@ return load(${JSON.stringify(first)});
 const BESIDES = ['export function C() { return <>text</>; }'];
 
 /** Has functions of the front end run, so that V8 compiles them: over the cases of its tests, as the plugin does too. */
-function used({unitsOf, unitsOfProgram, isIncompatible}) {
+function used({unitsOf, unitsOfProgram, isIncompatible, reports, Positions}) {
   const {moduleOf} = require('../frontend/src/parse.js');
   const {WRONG, RIGHT} = require(path.join(TABLES, 'react.js'));
   const {BY_HAND} = require(path.join(TABLES, 'byhand.js'));
   const options = {offsets: 'utf16', as: 'bytes', others: 'none'};
   const each = ({unit}) => unit && [unit.texts(), unit.lines(), unit.bytes()];
   isIncompatible('react');
+  reports(['lint root 1 0 Immutability "a text" - 0..1 "a text"'], () => null, new Positions('text', 'utf16'));
   for (const text of [...WRONG, ...RIGHT].map(one => one.source).concat(Object.values(BY_HAND), BESIDES)) {
     try {
       const {program} = moduleOf('@babel/parser').parse(text, {sourceType: 'module', plugins: ['jsx', 'estree']});
