@@ -4,9 +4,9 @@
  * What the plugin adds to ESLint's own time: bench/plugin.js [FILE..]
  *
  * Of each file, or of two made ones of 1,000 lines (143 small functions; 50 components), it prints in milliseconds what a
- * run with the recommended rules takes beyond one with a rule that does nothing: by the clock, and in brackets of the
- * processor, of the main thread and of all (which infer, compile and collect meanwhile). That of the first file of a
- * process, in which ESLint's own code runs for the first time too: the middle of PROCESSES=8 with the rules beyond the
+ * run with the recommended rules takes beyond one with a rule that is told of the program and does nothing: by the clock,
+ * and in brackets of the processor, of the main thread and of all (which infer, compile and collect meanwhile). That of the
+ * first file of a process, in which ESLint's own code runs for the first time too: the middle of PROCESSES=8 with the rules beyond the
  * middle of as many without, in turns. That of a file after others (the least and the middle of ROUNDS=12). And what it takes
  * to load the plugin, which is in none of them. The plugin is what `npm pack` makes of it. Without the built addon it is the
  * checkout's, units are made and nothing is inferred, and it says so. NODE_PATH=/usr/share/nodejs where Debian has ESLint.
@@ -99,7 +99,7 @@ function prepared(text, folder) {
   const loading = beyond(clocks(), begun);
   const linter = new Linter();
   for (const [name, rule] of Object.entries(plugin.rules)) linter.defineRule(`jirrambeo/${name}`, rule);
-  linter.defineRule('nothing', {create: () => ({})});
+  linter.defineRule('nothing', {create: () => ({Program() {}})});
   const timed = rules => {
     const begun = clocks();
     const [fatal] = linter.verify(text, {...OPTIONS, rules}, {filename: 'file.jsx'}).filter(one => one.fatal);
